@@ -1,0 +1,23 @@
+#![tactic(auto)]
+
+// Elements of BER.
+mod canonical;
+mod element;
+mod fault;
+mod framer;
+mod header;
+pub mod laws;
+mod node;
+mod seq;
+mod tag;
+mod value;
+
+pub use fault::{FaultKind, FrameError};
+pub use framer::Framer;
+pub use node::{Body, Node};
+pub use seq::Seq;
+pub use tag::{Class, Tag};
+pub use value::ValueError;
+
+#[cfg(test)]
+mod tests;
