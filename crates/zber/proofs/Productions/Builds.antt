@@ -74,3 +74,10 @@ constructed_none tag x e (Constructed t f) h =
 
 pub constructed_spelled : (tag : Name) → IsSpelled (tagged tag constructed) (constructed_spelt tag)
 constructed_spelled tag = record { makes = constructed_makes tag; none = constructed_none tag }
+
+-- a value whose one spelling is primitive, under whatever tag, and which every value of its type has
+pub octets_spelled : (tag : Name) (meaning : Element → Option (List ℕ)) → ((xs : List ℕ) → meaning (Primitive tag xs) ≡ Some xs) → IsSpelled (tagged tag meaning) (λ xs. Some (Primitive tag xs))
+octets_spelled tag meaning is = record {
+  makes = λ x n e. let same : Primitive tag x ≡ n = some_is (Primitive tag x) n e in subst (λ (m : Element). tagged tag meaning x m) same (refl, is x);
+  none = λ x e n h. absurd cc;
+}

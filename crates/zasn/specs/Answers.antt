@@ -1,0 +1,55 @@
+-- What readers and builders answer, against what reading and building give.
+use Rattle.std.specs.Prelude.{◌≡◌, List, Option, Some, None, Result, Ok, Err}
+use Rattle.zber.specs.Elements.{Element}
+use Rattle.zber.specs.declared.value.ValueError.{ValueError}
+use Rattle.zber.specs.declared.value.ValueError.TheVariants as values
+use Rattle.zasn.specs.declared.error.PartError.{PartError}
+use Rattle.zasn.specs.declared.error.PartError.TheVariants.{Misfit, Memory}
+use Rattle.zasn.specs.declared.error.BuildError.{BuildError}
+use Rattle.zasn.specs.declared.error.BuildError.TheVariants as builds
+
+-- a value that can't be read misfits, unless memory ran out
+abbrev pub part_error_of : ValueError → PartError
+part_error_of values.Memory = Memory
+part_error_of _ = Misfit
+
+-- what a reader of values answers, where only the value counts
+abbrev pub meant : {A : Type 0} → Result A ValueError → Option A
+meant (Ok x) = Some x
+meant (Err e) = None
+
+-- what the reader of one element returned is what the element means, unless memory ran out
+abbrev pub Means : {A : Type 0} → Option A → Result A PartError → Type 0
+Means meaning (Ok x) = meaning ≡ Some x
+Means meaning (Err Misfit) = meaning ≡ None
+Means meaning (Err Memory) = Unit {0}
+
+-- what a step over the elements returned and left is what reading gives, unless memory ran out
+abbrev pub Takes : {A : Type 0} → Result (A × List Element) (List Element) → Result A PartError → List Element → Type 0
+Takes reading (Ok x) left = reading ≡ Ok (x, left)
+Takes reading (Err Misfit) left = reading ≡ Err left
+Takes reading (Err Memory) left = Unit {0}
+
+-- the same of a whole production
+abbrev pub Finds : {A : Type 0} → Result A (List Element) → Result A PartError → List Element → Type 0
+Finds reading (Ok x) left = reading ≡ Ok x
+Finds reading (Err Misfit) left = reading ≡ Err left
+Finds reading (Err Memory) left = Unit {0}
+
+-- what a builder returned is what is made, unless memory ran out
+abbrev pub Makes : {A : Type 0} → Option A → Result A BuildError → Type 0
+Makes made (Ok x) = made ≡ Some x
+Makes made (Err builds.NotSpellable) = made ≡ None
+Makes made (Err builds.Memory) = Unit {0}
+
+-- the same of a step that adds elements
+abbrev pub Puts : {A : Type 0} → Option (List Element) → Result A BuildError → List Element → Type 0
+Puts made (Ok x) out = made ≡ Some out
+Puts made (Err builds.NotSpellable) out = made ≡ None
+Puts made (Err builds.Memory) out = Unit {0}
+
+-- an element that stands for the value, or that none does, unless memory ran out
+abbrev pub IsWritten : (Element → Type 0) → Result Element BuildError → Type 0
+IsWritten P (Ok n) = P n
+IsWritten P (Err builds.NotSpellable) = (n : Element) → P n → ⊥
+IsWritten P (Err builds.Memory) = Unit {0}

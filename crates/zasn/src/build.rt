@@ -1,0 +1,108 @@
+//! The elements of a production, built from left to right.
+ghost use Rattle.std.specs.Prelude.{◌≡◌, [], ◌∷◌, ◌++◌, Some};
+ghost use Rattle.zber.specs.Elements.{cons};
+ghost use Rattle.zber.specs.Productions.Building.{optional_put, required_put};
+ghost use Rattle.zber.specs.Productions.Place.{Place};
+ghost use Rattle.zasn.specs.Answers.{Puts};
+
+use crate::contents::{Contents, Tagged};
+use crate::error::BuildError;
+use std::alloc::Global;
+use std::marker::Model;
+use zber::{Node, Tag};
+
+/// The elements of a production that are built so far.
+#[derive(Drop)]
+pub struct PartsBuf {
+    nodes: Vec<Node>,
+}
+
+impl Model for PartsBuf {
+    ghost use Rattle.std.specs.Prelude.{List};
+    ghost use Rattle.std.specs.Coded.{coded_list};
+    ghost use Rattle.zber.specs.Elements.{Element};
+    ghost use Rattle.zber.specs.Coding.{coded_element};
+
+    ghost Value = { List Element };
+
+    ghost coded = { coded_list coded_element };
+
+    ghost view = { λ p. p.nodes.items };
+}
+
+impl PartsBuf {
+    /// No element yet.
+    pub fn new(alloc: Global) -> PartsBuf
+        ensures { result ≡ [] }
+    {
+        PartsBuf {
+            nodes: Vec::new(alloc),
+        }
+    }
+
+    /// Adds an element.
+    pub fn push(&mut self, node: Node) -> Result<(), BuildError>
+        ensures { Puts (Some (self.old ++ node ∷ [])) result self.new }
+    {
+        self.nodes.push(node)?;
+        Ok(())
+    }
+
+    /// Adds the element of a value under the tag.
+    pub fn required<T: Contents>(
+        &mut self,
+        alloc: Global,
+        tag: Tag,
+        value: &T,
+    ) -> Result<(), BuildError>
+        ensures { Puts (required_put (T.place tag).spelt value.now self.old) result self.new }
+    {
+        let node = value.to_node(alloc, tag)?;
+        self.push(node)
+    }
+
+    /// Adds the element of a value under the tag, where there is one.
+    pub fn optional<T: Contents>(
+        &mut self,
+        alloc: Global,
+        tag: Tag,
+        value: &Option<T>,
+    ) -> Result<(), BuildError>
+        ensures { Puts (optional_put (T.place tag).spelt value.now self.old) result self.new }
+    {
+        match value {
+            None => Ok(()),
+            Some(value) => self.required(alloc, tag, value),
+        }
+    }
+
+    /// Adds the element of a value with a tag of its own.
+    pub fn required_tagged<T: Tagged>(&mut self, alloc: Global, value: &T) -> Result<(), BuildError>
+        ensures { Puts (required_put T.place.spelt value.now self.old) result self.new }
+    {
+        let node = value.to_element(alloc)?;
+        self.push(node)
+    }
+
+    /// Adds the element of a value with a tag of its own, where there is one.
+    pub fn optional_tagged<T: Tagged>(
+        &mut self,
+        alloc: Global,
+        value: &Option<T>,
+    ) -> Result<(), BuildError>
+        ensures { Puts (optional_put T.place.spelt value.now self.old) result self.new }
+    {
+        match value {
+            None => Ok(()),
+            Some(value) => self.required_tagged(alloc, value),
+        }
+    }
+
+    /// The constructed element with the tag around these.
+    pub fn into_node(self, tag: Tag) -> Node
+        ensures { result ≡ cons tag self }
+    {
+        let PartsBuf { nodes } = self;
+        Node::cons(tag, nodes)
+    }
+}

@@ -1,0 +1,81 @@
+//! Values that stand in one element.
+ghost use Rattle.std.specs.Prelude.{◌≡◌};
+ghost use Rattle.zber.specs.Names.{Name};
+ghost use Rattle.zber.specs.Elements.{tag_of};
+ghost use Rattle.zber.specs.Productions.Tags.{among};
+ghost use Rattle.zber.specs.Productions.Place.{Place};
+ghost use Rattle.zasn.specs.Answers.{Means, Makes};
+ghost use Rattle.zasn.specs.Places.{octets, opaque};
+
+use crate::error::{BuildError, PartError};
+use bytes::Bytes;
+use std::alloc::Global;
+use zber::{Body, Node, Tag};
+
+/// A value whose element has the tag that its place gives it (implicit tagging).
+pub trait Contents: Sized + Drop {
+    /// Its place under a tag.
+    ghost place: { Name → Place Self };
+
+    /// The value that the element stands for, whatever its tag.
+    fn of_node(alloc: Global, node: &Node) -> Result<Self, PartError>
+        ensures { Means ((place (tag_of node.now)).meaning node.now) result };
+
+    /// The element with the tag that stands for the value.
+    fn to_node(&self, alloc: Global, tag: Tag) -> Result<Node, BuildError>
+        ensures { Makes ((place tag).spelt self.now) result };
+}
+
+/// A value whose element has a tag of its own: a choice, or a type with its own tag.
+pub trait Tagged: Sized + Drop {
+    /// Its place.
+    ghost place: { Place Self };
+
+    /// Whether an element with the tag may stand for such a value.
+    fn has(tag: Tag) -> bool
+        ensures { result ≡ among tag place.tags };
+
+    /// The value that the element stands for, where it has such a tag.
+    fn of_element(alloc: Global, node: &Node) -> Result<Self, PartError>
+        ensures { Means (place.meaning node.now) result };
+
+    /// The element that stands for the value.
+    fn to_element(&self, alloc: Global) -> Result<Node, BuildError>
+        ensures { Makes (place.spelt self.now) result };
+}
+
+impl Contents for Bytes {
+    ghost place = { octets };
+
+    fn of_node(_alloc: Global, node: &Node) -> Result<Self, PartError> {
+        let octets = node.as_octets()?;
+        Ok(octets)
+    }
+
+    fn to_node(&self, _alloc: Global, tag: Tag) -> Result<Node, BuildError> {
+        let octets = self.clone()?;
+        Ok(Node::prim(tag, octets))
+    }
+}
+
+/// A constructed element that is kept with whatever it holds.
+impl Contents for Node {
+    ghost place = { opaque };
+
+    fn of_node(alloc: Global, node: &Node) -> Result<Self, PartError> {
+        if let Body::Prim(_) = &node.body {
+            return Err(PartError::Misfit);
+        }
+        Ok(node.copy(alloc)?)
+    }
+
+    fn to_node(&self, alloc: Global, tag: Tag) -> Result<Node, BuildError> {
+        if let Body::Prim(_) = &self.body {
+            return Err(BuildError::NotSpellable);
+        }
+        if self.tag != tag {
+            return Err(BuildError::NotSpellable);
+        }
+        Ok(self.copy(alloc)?)
+    }
+}

@@ -1,0 +1,18 @@
+//! Productions of ASN.1 over elements: a SEQUENCE is read place by place from a cursor and built place by place.
+#![tactic(auto)]
+
+mod build;
+mod contents;
+mod error;
+mod parts;
+mod production;
+mod sequence_of;
+
+pub use build::PartsBuf;
+pub use contents::{Contents, Tagged};
+pub use error::{BuildError, PartError};
+pub use parts::Parts;
+pub use production::{
+    Production, read_alone, read_alone_tagged, read_within, write_alone, write_alone_tagged,
+    write_within,
+};

@@ -1,0 +1,125 @@
+//! The elements of a production, read from left to right.
+ghost use Rattle.std.specs.Prelude.{◌≡◌, [], ◌∷◌, length};
+ghost use Rattle.zber.specs.Productions.Reading.{optional_at, required_at, ended_at};
+ghost use Rattle.zber.specs.Productions.Place.{Place};
+ghost use Rattle.zasn.specs.Answers.{Takes, Finds};
+
+use crate::contents::{Contents, Tagged};
+use crate::error::PartError;
+use std::alloc::Global;
+use std::marker::Model;
+use zber::{Node, Tag};
+
+/// The elements of a production that are not yet read. Where reading one fails, they stand at the element that failed.
+#[derive(Drop)]
+pub struct Parts<'a> {
+    left: &'a [Node],
+}
+
+impl<'a> Model for Parts<'a> {
+    ghost use Rattle.std.specs.Prelude.{List};
+    ghost use Rattle.std.specs.Coded.{coded_list};
+    ghost use Rattle.zber.specs.Elements.{Element};
+    ghost use Rattle.zber.specs.Coding.{coded_element};
+
+    ghost Value = { List Element };
+
+    ghost coded = { coded_list coded_element };
+
+    ghost view = { λ p. p.left.now };
+}
+
+impl<'a> Parts<'a> {
+    /// All elements within one.
+    pub fn new(left: &'a [Node]) -> Self
+        ensures { result ≡ left.now }
+    {
+        Parts { left }
+    }
+
+    /// How many are not yet read.
+    pub fn len(&self) -> usize
+        ensures { result ≡ length self.now }
+    {
+        self.left.len()
+    }
+
+    /// The value of the next element, where it has the tag.
+    pub fn optional<T: Contents>(&mut self, alloc: Global, tag: Tag) -> Result<Option<T>, PartError>
+        ensures { Takes (optional_at (tag ∷ []) (T.place tag).meaning self.old) result self.new }
+    {
+        match self.left {
+            [] => Ok(None),
+            [first, others @ ..] => {
+                if first.tag != tag {
+                    return Ok(None);
+                }
+                let value = T::of_node(alloc, first)?;
+                self.left = others;
+                Ok(Some(value))
+            }
+        }
+    }
+
+    /// The value of the next element, which has the tag.
+    pub fn required<T: Contents>(&mut self, alloc: Global, tag: Tag) -> Result<T, PartError>
+        ensures { Takes (required_at (tag ∷ []) (T.place tag).meaning self.old) result self.new }
+    {
+        match self.left {
+            [] => Err(PartError::Misfit),
+            [first, others @ ..] => {
+                if first.tag != tag {
+                    return Err(PartError::Misfit);
+                }
+                let value = T::of_node(alloc, first)?;
+                self.left = others;
+                Ok(value)
+            }
+        }
+    }
+
+    /// The value of the next element, where it has one of the value's tags.
+    pub fn optional_tagged<T: Tagged>(&mut self, alloc: Global) -> Result<Option<T>, PartError>
+        ensures { Takes (optional_at T.place.tags T.place.meaning self.old) result self.new }
+    {
+        match self.left {
+            [] => Ok(None),
+            [first, others @ ..] => {
+                if !T::has(first.tag) {
+                    return Ok(None);
+                }
+                let value = T::of_element(alloc, first)?;
+                self.left = others;
+                Ok(Some(value))
+            }
+        }
+    }
+
+    /// The value of the next element, which has one of the value's tags.
+    pub fn required_tagged<T: Tagged>(&mut self, alloc: Global) -> Result<T, PartError>
+        ensures { Takes (required_at T.place.tags T.place.meaning self.old) result self.new }
+    {
+        match self.left {
+            [] => Err(PartError::Misfit),
+            [first, others @ ..] => {
+                if !T::has(first.tag) {
+                    return Err(PartError::Misfit);
+                }
+                let value = T::of_element(alloc, first)?;
+                self.left = others;
+                Ok(value)
+            }
+        }
+    }
+
+    /// Nothing is left.
+    pub fn end(&self) -> Result<(), PartError>
+        ensures { Finds (ended_at self.now) result self.now }
+    {
+        if self.left.is_empty() {
+            Ok(())
+        } else {
+            Err(PartError::Misfit)
+        }
+    }
+}

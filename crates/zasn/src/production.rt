@@ -1,0 +1,107 @@
+//! Values of several elements in order: a SEQUENCE.
+ghost use Rattle.std.specs.Prelude.{◌≡◌, [], ◌∷◌, Some};
+ghost use Rattle.zber.specs.Productions.Table.{Elements};
+ghost use Rattle.zber.specs.Productions.Place.{Place};
+ghost use Rattle.zber.specs.Productions.Within.{sequence_of, around, alone_at};
+ghost use Rattle.zasn.specs.Answers.{Finds, Puts, Means, Makes};
+ghost use Rattle.zasn.specs.Places.{explicit};
+
+use crate::build::PartsBuf;
+use crate::contents::{Contents, Tagged};
+use crate::error::{BuildError, PartError};
+use crate::parts::Parts;
+use std::alloc::Global;
+use zber::{Body, Node, Tag};
+
+/// A value of several elements in order.
+pub trait Production: Sized + Drop {
+    /// Its table.
+    ghost table: { Elements Self };
+
+    /// The value of all elements that are left. Where it fails, the element that failed is the first that is left.
+    fn read(alloc: Global, parts: &mut Parts<'_>) -> Result<Self, PartError>
+        ensures { Finds (table.at parts.old) result parts.new };
+
+    /// Adds the elements of the value.
+    fn write(&self, alloc: Global, out: &mut PartsBuf) -> Result<(), BuildError>
+        ensures { Puts (table.made self.now out.old) result out.new };
+}
+
+/// The value of the elements within one, whatever its tag.
+pub fn read_within<T: Production>(alloc: Global, node: &Node) -> Result<T, PartError>
+    ensures { Means (sequence_of T.table.at node.now) result }
+{
+    match &node.body {
+        Body::Prim(_) => Err(PartError::Misfit),
+        Body::Cons(nodes) => {
+            let mut parts = Parts::new(nodes.as_slice());
+            T::read(alloc, &mut parts)
+        }
+    }
+}
+
+/// The element with the tag around the elements of the value.
+pub fn write_within<T: Production>(alloc: Global, value: &T, tag: Tag) -> Result<Node, BuildError>
+    ensures { Makes (around tag (T.table.made value.now [])) result }
+{
+    let mut out = PartsBuf::new(alloc);
+    value.write(alloc, &mut out)?;
+    Ok(out.into_node(tag))
+}
+
+/// The value of the one element within an element, under the tag (explicit tagging).
+pub fn read_alone<T: Contents>(alloc: Global, node: &Node, tag: Tag) -> Result<T, PartError>
+    ensures { Means (sequence_of (alone_at (tag ∷ []) (T.place tag).meaning) node.now) result }
+{
+    match &node.body {
+        Body::Prim(_) => Err(PartError::Misfit),
+        Body::Cons(nodes) => {
+            let mut parts = Parts::new(nodes.as_slice());
+            let value = parts.required(alloc, tag)?;
+            parts.end()?;
+            Ok(value)
+        }
+    }
+}
+
+/// The value of the one element within an element, with a tag of its own.
+pub fn read_alone_tagged<T: Tagged>(alloc: Global, node: &Node) -> Result<T, PartError>
+    ensures { Means (sequence_of (alone_at T.place.tags T.place.meaning) node.now) result }
+{
+    match &node.body {
+        Body::Prim(_) => Err(PartError::Misfit),
+        Body::Cons(nodes) => {
+            let mut parts = Parts::new(nodes.as_slice());
+            let value = parts.required_tagged(alloc)?;
+            parts.end()?;
+            Ok(value)
+        }
+    }
+}
+
+/// The element with the outer tag around the element of the value under the inner one.
+pub fn write_alone<T: Contents>(
+    alloc: Global,
+    value: &T,
+    outer: Tag,
+    inner: Tag,
+) -> Result<Node, BuildError>
+    ensures { Makes ((explicit outer (T.place inner)).spelt value.now) result }
+{
+    let mut out = PartsBuf::new(alloc);
+    out.required(alloc, inner, value)?;
+    Ok(out.into_node(outer))
+}
+
+/// The element with the outer tag around the element of the value, which has a tag of its own.
+pub fn write_alone_tagged<T: Tagged>(
+    alloc: Global,
+    value: &T,
+    outer: Tag,
+) -> Result<Node, BuildError>
+    ensures { Makes ((explicit outer T.place).spelt value.now) result }
+{
+    let mut out = PartsBuf::new(alloc);
+    out.required_tagged(alloc, value)?;
+    Ok(out.into_node(outer))
+}

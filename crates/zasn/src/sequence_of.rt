@@ -1,0 +1,54 @@
+//! SEQUENCE OF: values in order, each in an element with a tag of its own.
+ghost use Rattle.std.specs.Prelude.{◌≡◌};
+ghost use Rattle.zber.specs.Productions.Within.{all_of, all_spelt, whole_of};
+ghost use Rattle.zasn.specs.Answers.{Means, Makes};
+ghost use Rattle.zasn.specs.Places.{list};
+
+use crate::build::PartsBuf;
+use crate::contents::{Contents, Tagged};
+use crate::error::{BuildError, PartError};
+use std::alloc::Global;
+use zber::{Body, Node, Seq, Tag};
+
+/// The values of elements, in order.
+fn all_in<T: Tagged>(alloc: Global, nodes: &[Node]) -> Result<Seq<T>, PartError>
+    ensures { Means (all_of (whole_of T.place) nodes.now) result }
+{
+    let mut values = Vec::new(alloc);
+    for node in nodes {
+        if !T::has(node.tag) {
+            return Err(PartError::Misfit);
+        }
+        let value = T::of_element(alloc, node)?;
+        values.push(value)?;
+    }
+    Ok(Seq::from_vec(values))
+}
+
+/// The elements of values, in order.
+fn all_of_them<T: Tagged>(alloc: Global, values: &[T]) -> Result<PartsBuf, BuildError>
+    ensures { Makes (all_spelt T.place.spelt values.now) result }
+{
+    let mut out = PartsBuf::new(alloc);
+    for value in values {
+        let node = value.to_element(alloc)?;
+        out.push(node)?;
+    }
+    Ok(out)
+}
+
+impl<T: Tagged> Contents for Seq<T> {
+    ghost place = { λ tag. list tag T.place };
+
+    fn of_node(alloc: Global, node: &Node) -> Result<Self, PartError> {
+        match &node.body {
+            Body::Prim(_) => Err(PartError::Misfit),
+            Body::Cons(nodes) => all_in(alloc, nodes.as_slice()),
+        }
+    }
+
+    fn to_node(&self, alloc: Global, tag: Tag) -> Result<Node, BuildError> {
+        let out = all_of_them(alloc, self.as_slice())?;
+        Ok(out.into_node(tag))
+    }
+}
