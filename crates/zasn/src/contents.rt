@@ -47,8 +47,8 @@ pub trait Tagged: Sized + Drop {
 impl Contents for Bytes {
     ghost place = { octets };
 
-    fn of_node(_alloc: Global, node: &Node) -> Result<Self, PartError> {
-        let octets = node.as_octets()?;
+    fn of_node(alloc: Global, node: &Node) -> Result<Self, PartError> {
+        let octets = node.as_octets(alloc)?;
         Ok(octets)
     }
 

@@ -4,14 +4,26 @@ ghost use Rattle.zber.specs.Values.{as_int, as_octets, integer, Gives};
 
 use crate::node::{Body, Node};
 use bytes::Bytes;
+use std::alloc::Global;
+use thiserror::Error;
 
-/// Why contents are no value of the kind that was asked.
-#[derive(Clone, Copy, Debug, PartialEq, Eq, Drop)]
+/// Why the contents of an element are no value of the kind that was asked.
+#[derive(Clone, Copy, Debug, PartialEq, Eq, Drop, Error)]
 pub enum ValueError {
+    /// The element is constructed.
+    #[error("the element is constructed")]
     WrongForm,
+    /// No value of this kind has so many contents octets.
+    #[error("the contents have a wrong length")]
     WrongLength,
+    /// The integer has more than eight octets.
+    #[error("the integer has more than eight octets")]
     IntegerTooLarge,
+    /// The contents are no object identifier.
+    #[error("the contents are no object identifier")]
     BadOid,
+    /// No memory was found.
+    #[error("out of memory")]
     Memory,
 }
 
@@ -53,7 +65,10 @@ impl Node {
         }
     }
 
-    pub fn as_octets(&self) -> Result<Bytes, ValueError>
+    /// The contents octets of an OCTET STRING, or of any string (X.690 8.7, 8.23). They are shared with the element.
+    ///
+    /// `WrongForm` where the element is constructed, `Memory` where none was found.
+    pub fn as_octets(&self, _alloc: Global) -> Result<Bytes, ValueError>
         ensures { Gives result (as_octets self.now) }
     {
         match &self.body {
