@@ -4,9 +4,11 @@ ghost use Rattle.zber.specs.Elements.{cons};
 ghost use Rattle.zber.specs.Productions.Building.{optional_put, required_put};
 ghost use Rattle.zber.specs.Productions.Place.{Place};
 ghost use Rattle.zasn.specs.Answers.{Puts};
+ghost use Rattle.zasn.specs.Places.{explicit};
 
 use crate::contents::{Contents, Tagged};
 use crate::error::BuildError;
+use crate::production::{write_alone, write_alone_tagged};
 use std::alloc::Global;
 use std::marker::Model;
 use zber::{Node, Tag};
@@ -96,6 +98,38 @@ impl PartsBuf {
             None => Ok(()),
             Some(value) => self.required_tagged(alloc, value),
         }
+    }
+
+    /// Adds the element with the outer tag around that of a value under the inner tag, where there is one.
+    pub fn optional_explicit<T: Contents>(
+        &mut self,
+        alloc: Global,
+        outer: Tag,
+        inner: Tag,
+        value: &Option<T>,
+    ) -> Result<(), BuildError>
+        ensures { Puts (optional_put (explicit outer (T.place inner)).spelt value.now self.old) result self.new }
+    {
+        match value {
+            None => Ok(()),
+            Some(value) => {
+                let node = write_alone(alloc, value, outer, inner)?;
+                self.push(node)
+            }
+        }
+    }
+
+    /// Adds the element with the outer tag around that of a value with a tag of its own.
+    pub fn required_explicit_tagged<T: Tagged>(
+        &mut self,
+        alloc: Global,
+        outer: Tag,
+        value: &T,
+    ) -> Result<(), BuildError>
+        ensures { Puts (required_put (explicit outer T.place).spelt value.now self.old) result self.new }
+    {
+        let node = write_alone_tagged(alloc, value, outer)?;
+        self.push(node)
     }
 
     /// The constructed element with the tag around these.

@@ -2,10 +2,12 @@
 ghost use Rattle.std.specs.Prelude.{◌≡◌, [], ◌∷◌, length};
 ghost use Rattle.zber.specs.Productions.Reading.{optional_at, required_at, ended_at};
 ghost use Rattle.zber.specs.Productions.Place.{Place};
+ghost use Rattle.zber.specs.Productions.Within.{alone_at, sequence_of};
 ghost use Rattle.zasn.specs.Answers.{Takes, Finds};
 
 use crate::contents::{Contents, Tagged};
 use crate::error::PartError;
+use crate::production::{read_alone, read_alone_tagged};
 use std::alloc::Global;
 use std::marker::Model;
 use zber::{Node, Tag};
@@ -106,6 +108,49 @@ impl<'a> Parts<'a> {
                     return Err(PartError::Misfit);
                 }
                 let value = T::of_element(alloc, first)?;
+                self.left = others;
+                Ok(value)
+            }
+        }
+    }
+
+    /// The value of the one element within the next, where that has the outer tag (explicit tagging).
+    pub fn optional_explicit<T: Contents>(
+        &mut self,
+        alloc: Global,
+        outer: Tag,
+        inner: Tag,
+    ) -> Result<Option<T>, PartError>
+        ensures { Takes (optional_at (outer ∷ []) (sequence_of (alone_at (inner ∷ []) (T.place inner).meaning)) self.old) result self.new }
+    {
+        match self.left {
+            [] => Ok(None),
+            [first, others @ ..] => {
+                if first.tag != outer {
+                    return Ok(None);
+                }
+                let value = read_alone(alloc, first, inner)?;
+                self.left = others;
+                Ok(Some(value))
+            }
+        }
+    }
+
+    /// The value of the one element within the next, which has the outer tag; that element has a tag of its own.
+    pub fn required_explicit_tagged<T: Tagged>(
+        &mut self,
+        alloc: Global,
+        outer: Tag,
+    ) -> Result<T, PartError>
+        ensures { Takes (required_at (outer ∷ []) (sequence_of (alone_at T.place.tags T.place.meaning)) self.old) result self.new }
+    {
+        match self.left {
+            [] => Err(PartError::Misfit),
+            [first, others @ ..] => {
+                if first.tag != outer {
+                    return Err(PartError::Misfit);
+                }
+                let value = read_alone_tagged(alloc, first)?;
                 self.left = others;
                 Ok(value)
             }

@@ -1,0 +1,73 @@
+-- The printed texts of octets, diagnostics and records.
+use Rattle.std.specs.Prelude.{◌≡◌, ℕ, ℤ, ◌==◌, ◌||◌, ◌&&◌, nat_le, if◌then◌else◌, Bool, Option, Some, None, List, [], ◌∷◌, ◌++◌, codes}
+use Rattle.std.specs.List.{flat_map}
+use Rattle.std.specs.Fmt.{signed_decimal}
+use Rattle.hex.specs.Hex.{encode_lower}
+use Rattle.zber.specs.Elements.{Element}
+use Rattle.zber.specs.Canonical.{canonical}
+use Rattle.zber.specs.Dotted.{dotted}
+use Rattle.zapdu.specs.declared.external.Content.{Content}
+use Rattle.zapdu.specs.declared.external.Content.TheVariants.{Aligned}
+use Rattle.zapdu.specs.declared.diagnostic.Info.{Info}
+use Rattle.zapdu.specs.declared.diagnostic.Info.TheVariants.{V2, V3}
+use Rattle.zapdu.specs.declared.diagnostic.DefaultDiag.{DefaultDiag}
+use Rattle.zapdu.specs.declared.diagnostic.DiagRec.{DiagRec}
+use Rattle.zapdu.specs.declared.diagnostic.DiagRec.TheVariants.{Default, Ext}
+use Rattle.zapdu.specs.declared.record.RecordBody.{RecordBody}
+use Rattle.zapdu.specs.declared.record.RecordBody.TheVariants.{Retrieval, Surrogate, Fragment}
+use Rattle.zapdu.specs.declared.record.Record.{Record}
+use Rattle.zapdu.specs.Diagnostics.{diag_rec}
+use Rattle.zapdu.specs.Records.{whole_record}
+
+-- an octet within quotes: 20 to 7E as it is, with a backslash before a quote and a backslash, another in hexadecimal
+unfoldable pub shown : ℕ → List ℕ
+shown b =
+    if b == 34 || b == 92 then 92 ∷ b ∷ [] else
+    if nat_le 32 b && nat_le b 126 then b ∷ [] else
+    codes "\\x" ++ encode_lower (b ∷ [])
+
+abbrev pub quoted : List ℕ → List ℕ
+quoted octets = 34 ∷ [] ++ flat_map shown octets ++ 34 ∷ []
+
+-- the text that may be absent: quoted, or a dash
+abbrev pub quoted_or_dash : Option (List ℕ) → List ℕ
+quoted_or_dash None = codes "-"
+quoted_or_dash (Some text) = quoted text
+
+-- the canonical encoding of the element that stands for the value, in hexadecimal
+abbrev pub ber_text : Option Element → List ℕ
+ber_text None = codes "ber "
+ber_text (Some n) = codes "ber " ++ encode_lower (canonical n)
+
+abbrev pub info_octets : Info → List ℕ
+info_octets (V2 xs) = xs
+info_octets (V3 xs) = xs
+
+-- OID CONDITION "INFO"
+abbrev pub default_text : DefaultDiag → List ℕ
+default_text d = dotted d.diag_set ++ codes " " ++ signed_decimal d.condition ++ codes " " ++ quoted (info_octets d.info)
+
+abbrev pub diag_text : DiagRec → List ℕ
+diag_text (Default d) = default_text d
+diag_text (Ext v) = ber_text (diag_rec.spelt (Ext v))
+
+-- the object identifier and the octets of an EXTERNAL that has no more than these
+abbrev pub octets_alone : Option (List ℕ) → Option ℤ → Option (List ℕ) → Content → Option (List ℕ × List ℕ)
+octets_alone (Some oid) None None (Aligned octets) = Some (oid, octets)
+octets_alone _ _ _ _ = None
+
+abbrev pub octets_text : Bool → List ℕ → List ℕ
+octets_text hex octets = if hex then encode_lower octets else quoted octets
+
+-- rec OID DB TEXT, or the whole record in hexadecimal
+abbrev pub retrieval_text : Bool → Record → Option (List ℕ × List ℕ) → List ℕ
+retrieval_text hex r (Some p) = codes "rec " ++ dotted p.0 ++ codes " " ++ quoted_or_dash r.name ++ codes " " ++ octets_text hex p.1
+retrieval_text hex r None = ber_text (whole_record.spelt r)
+
+abbrev pub body_text : Bool → Record → RecordBody → List ℕ
+body_text hex r (Retrieval v) = retrieval_text hex r (octets_alone v.direct v.indirect v.descriptor v.content)
+body_text hex r (Surrogate d) = codes "diag " ++ quoted_or_dash r.name ++ codes " " ++ diag_text d
+body_text hex r (Fragment m) = ber_text (whole_record.spelt r)
+
+abbrev pub record_text : Bool → Record → List ℕ
+record_text hex r = body_text hex r r.body

@@ -1,0 +1,78 @@
+-- Which element stands for an APDU (Z39.50-2003, 4.1), and where an element that stands for none goes wrong.
+use Rattle.std.specs.Prelude.{◌≡◌, ℕ, ◌<◌, ◌≤◌, List, [], ◌++◌, length, take, Option, Some, None, Result, Ok, Err, if◌then◌else◌}
+use Rattle.zber.specs.Names.{Name, context}
+use Rattle.zber.specs.Elements.{Element, Primitive, Constructed, elements}
+use Rattle.zber.specs.Productions.Tags.{same_tag}
+use Rattle.zber.specs.Productions.Standing.{sequence}
+use Rattle.zber.specs.Productions.Reading.{◌>>=◌}
+use Rattle.zber.specs.Productions.Within.{around}
+use Rattle.zapdu.specs.declared.apdu.Apdu.{Apdu}
+use Rattle.zapdu.specs.declared.apdu.Apdu.TheVariants as apdus
+use Rattle.zapdu.specs.declared.apdu.Kind.{Kind}
+use Rattle.zapdu.specs.declared.apdu.Kind.TheVariants as kinds
+use Rattle.zapdu.specs.declared.apdu.ApduError.{ApduError}
+use Rattle.zapdu.specs.declared.apdu.ApduError.TheVariants as errors
+use Rattle.zapdu.specs.PresentResponses.{present_response_parts}
+use Rattle.zapdu.specs.Closes.{close_parts}
+
+abbrev pub kind_of : Apdu → Kind
+kind_of (apdus.PresentResponse v) = kinds.PresentResponse
+kind_of (apdus.Close v) = kinds.Close
+
+abbrev pub tag_of_kind : Kind → Name
+tag_of_kind kinds.PresentResponse = context 25
+tag_of_kind kinds.Close = context 48
+
+-- these are the elements of the APDU
+abbrev pub parts_of : Apdu → List Element → Type 0
+parts_of (apdus.PresentResponse v) = present_response_parts.stand v
+parts_of (apdus.Close v) = close_parts.stand v
+
+-- the element stands for the APDU: an IMPLICIT SEQUENCE with its kind's tag
+abbrev pub Writes : Apdu → Element → Type 0
+Writes v n = sequence (tag_of_kind (kind_of v)) (parts_of v) n
+
+-- the kind that a tag names
+abbrev pub kind_at : Name → Option Kind
+kind_at t =
+    if same_tag t (context 25) then Some kinds.PresentResponse else
+    if same_tag t (context 48) then Some kinds.Close else
+    None
+
+-- some APDU of the kind has these elements and then more
+abbrev pub BeginsWith : Kind → List Element → Type 0
+BeginsWith kind ns = (v : Apdu) × (kind_of v ≡ kind) × (more : List Element) × parts_of v (ns ++ more)
+
+-- the largest number of first elements with which some APDU of the kind begins
+pub record IsMisfitAt (kind : Kind) (ns : List Element) (at : ℕ) : Type 0 where
+  pub within : at ≤ length ns
+  pub begins : BeginsWith kind (take at ns)
+  pub largest : (k : ℕ) → at < k → k ≤ length ns → BeginsWith kind (take k ns) → ⊥
+
+abbrev pub IsMalformed : Kind → ℕ → Element → Type 0
+IsMalformed kind at (Primitive t xs) = ⊥
+IsMalformed kind at (Constructed t f) = (t ≡ tag_of_kind kind) × IsMisfitAt kind (elements f) at
+
+-- not constructed, or with the tag of no APDU
+abbrev pub IsNoApdu : Element → Type 0
+IsNoApdu (Primitive t xs) = Unit {0}
+IsNoApdu (Constructed t f) = (kind : Kind) → t ≡ tag_of_kind kind → ⊥
+
+-- what decoding answers
+abbrev pub Decodes : Element → Result Apdu ApduError → Type 0
+Decodes n (Ok v) = Writes v n
+Decodes n (Err errors.NotApdu) = IsNoApdu n
+Decodes n (Err (errors.Malformed kind at)) = ((v : Apdu) → Writes v n → ⊥) × IsMalformed kind at n
+Decodes n (Err errors.Memory) = Unit {0}
+
+-- reading the elements of an APDU of the kind, and building those of an APDU
+abbrev pub apdu_at : Kind → List Element → Result Apdu (List Element)
+apdu_at kinds.PresentResponse ns = present_response_parts.at ns >>= λ v. Ok (apdus.PresentResponse v)
+apdu_at kinds.Close ns = close_parts.at ns >>= λ v. Ok (apdus.Close v)
+
+abbrev pub apdu_made : Apdu → Option (List Element)
+apdu_made (apdus.PresentResponse v) = present_response_parts.made v []
+apdu_made (apdus.Close v) = close_parts.made v []
+
+abbrev pub apdu_spelt : Apdu → Option Element
+apdu_spelt v = around (tag_of_kind (kind_of v)) (apdu_made v)

@@ -1,0 +1,38 @@
+//! An APDU of any kind.
+
+use crate::close::Close;
+use crate::present_response::PresentResponse;
+use thiserror::Error;
+
+/// An APDU (Z39.50-2003, 4.1).
+#[derive(Drop)]
+pub enum Apdu {
+    /// presentResponse `[25]`.
+    PresentResponse(PresentResponse),
+    /// close `[48]`.
+    Close(Close),
+}
+
+/// The kind of an APDU.
+#[derive(Clone, Copy, Debug, PartialEq, Eq)]
+pub enum Kind {
+    /// presentResponse `[25]`.
+    PresentResponse,
+    /// close `[48]`.
+    Close,
+}
+
+/// Why an element is no APDU.
+#[derive(Clone, Copy, Debug, PartialEq, Eq, Error)]
+pub enum ApduError {
+    /// The element is primitive, or its tag is none of an APDU.
+    #[error("not an APDU")]
+    NotApdu,
+    /// The element has the tag of an APDU of this kind, and is none: its first `at` elements are the first `at` elements
+    /// of some APDU of the kind, and no more are.
+    #[error("{kind:?} malformed at {at}")]
+    Malformed { kind: Kind, at: usize },
+    /// No memory was found.
+    #[error("out of memory")]
+    Memory,
+}

@@ -1,0 +1,101 @@
+//! Elements read as APDUs, records and diagnostics.
+ghost use Rattle.std.specs.Prelude.{◌≡◌, IfOk, IfSome, IfNone};
+ghost use Rattle.zasn.specs.Answers.{Finds};
+ghost use Rattle.zapdu.specs.declared.record.Record.{Record};
+ghost use Rattle.zapdu.specs.declared.diagnostic.DiagRec.{DiagRec};
+ghost use Rattle.zapdu.specs.Records.{WritesRecord};
+ghost use Rattle.zapdu.specs.Diagnostics.{WritesDiag};
+ghost use Rattle.zapdu.specs.Writes.{kind_at, Decodes, apdu_at};
+
+use crate::apdu::{Apdu, ApduError, Kind};
+use crate::close::Close;
+use crate::diagnostic::DiagRec;
+use crate::present_response::PresentResponse;
+use crate::record::Record;
+use std::alloc::{AllocError, Global};
+use zasn::{PartError, Parts, Production, Tagged};
+use zber::{Body, Node, Tag};
+
+fn kind_of_tag(tag: Tag) -> Option<Kind>
+    ensures { result ≡ kind_at tag }
+{
+    if tag == Tag::context(25) {
+        Some(Kind::PresentResponse)
+    } else if tag == Tag::context(48) {
+        Some(Kind::Close)
+    } else {
+        None
+    }
+}
+
+/// The APDU of a kind whose elements these are.
+fn apdu_of(alloc: Global, kind: Kind, parts: &mut Parts<'_>) -> Result<Apdu, PartError>
+    ensures { Finds (apdu_at kind parts.old) result parts.new }
+{
+    match kind {
+        Kind::PresentResponse => {
+            let apdu = PresentResponse::read(alloc, parts)?;
+            Ok(Apdu::PresentResponse(apdu))
+        }
+        Kind::Close => {
+            let apdu = Close::read(alloc, parts)?;
+            Ok(Apdu::Close(apdu))
+        }
+    }
+}
+
+/// The APDU that an element stands for (Z39.50-2003, 4.1).
+///
+/// Refused as `NotApdu` where the element is primitive or has the tag of no APDU, as `Malformed` where its elements are
+/// not those of an APDU of its kind, and as `Memory`.
+pub fn from_node(alloc: Global, node: &Node) -> Result<Apdu, ApduError>
+    ensures { Decodes node.now result }
+{
+    let Body::Cons(nodes) = &node.body else {
+        return Err(ApduError::NotApdu);
+    };
+    let Some(kind) = kind_of_tag(node.tag) else {
+        return Err(ApduError::NotApdu);
+    };
+    let mut parts = Parts::new(nodes.as_slice());
+    match apdu_of(alloc, kind, &mut parts) {
+        Ok(apdu) => Ok(apdu),
+        Err(PartError::Misfit) => {
+            let left = parts.len();
+            let at = nodes.len().saturating_sub(left);
+            Err(ApduError::Malformed { kind, at })
+        }
+        Err(PartError::Memory) => Err(ApduError::Memory),
+    }
+}
+
+/// The value of an element that may be another.
+fn tagged_of<T: Tagged>(alloc: Global, node: &Node) -> Result<Option<T>, AllocError>
+    ensures some { IfOk result (λ o. IfSome o (λ v. T.place.stands v node.now)) }
+    ensures none { IfOk result (λ o. IfNone o ((v : T) → T.place.stands v node.now → ⊥)) }
+{
+    if !T::has(node.tag) {
+        return Ok(None);
+    }
+    match T::of_element(alloc, node) {
+        Ok(value) => Ok(Some(value)),
+        Err(PartError::Misfit) => Ok(None),
+        Err(PartError::Memory) => Err(AllocError),
+    }
+}
+
+/// The record that an element stands for (NamePlusRecord), or `None` for another element.
+pub fn record_of(alloc: Global, node: &Node) -> Result<Option<Record>, AllocError>
+    ensures some { IfOk result (λ o. IfSome o (λ r. WritesRecord r node.now)) }
+    ensures none { IfOk result (λ o. IfNone o ((r : Record) → WritesRecord r node.now → ⊥)) }
+{
+    tagged_of(alloc, node)
+}
+
+/// The diagnostic that an element stands for (DiagRec), or `None` for another element.
+pub fn diag_of(alloc: Global, node: &Node) -> Result<Option<DiagRec>, AllocError>
+    ensures some { IfOk result (λ o. IfSome o (λ d. WritesDiag d node.now)) }
+    ensures none { IfOk result (λ o. IfNone o ((d : DiagRec) → WritesDiag d node.now → ⊥)) }
+{
+    tagged_of(alloc, node)
+}

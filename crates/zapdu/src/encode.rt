@@ -1,0 +1,51 @@
+//! APDUs, records and diagnostics built as elements.
+ghost use Rattle.zasn.specs.Answers.{Makes, IsWritten};
+ghost use Rattle.zapdu.specs.Records.{WritesRecord};
+ghost use Rattle.zapdu.specs.Diagnostics.{WritesDiag};
+ghost use Rattle.zapdu.specs.Writes.{Writes, apdu_spelt};
+
+use crate::apdu::Apdu;
+use crate::diagnostic::DiagRec;
+use crate::record::Record;
+use std::alloc::Global;
+use zasn::{BuildError, Tagged, write_within};
+use zber::{Node, Tag};
+
+fn built(alloc: Global, apdu: &Apdu) -> Result<Node, BuildError>
+    ensures { Makes (apdu_spelt apdu.now) result }
+{
+    match apdu {
+        Apdu::PresentResponse(value) => write_within(alloc, value, Tag::context(25)),
+        Apdu::Close(value) => write_within(alloc, value, Tag::context(48)),
+    }
+}
+
+/// The element that stands for an APDU (Z39.50-2003, 4.1).
+///
+/// Refused as `NotSpellable` where a part that the APDU keeps as an element has no lawful tag or form for its place, and
+/// as `Memory`.
+pub fn to_node(alloc: Global, apdu: &Apdu) -> Result<Node, BuildError>
+    ensures { IsWritten (Writes apdu.now) result }
+{
+    built(alloc, apdu)
+}
+
+fn element_of<T: Tagged>(alloc: Global, value: &T) -> Result<Node, BuildError>
+    ensures { IsWritten (T.place.stands value.now) result }
+{
+    value.to_element(alloc)
+}
+
+/// The element that stands for a record (NamePlusRecord). Refused as `to_node` is.
+pub fn record_node(alloc: Global, record: &Record) -> Result<Node, BuildError>
+    ensures { IsWritten (WritesRecord record.now) result }
+{
+    element_of(alloc, record)
+}
+
+/// The element that stands for a diagnostic (DiagRec). Refused as `to_node` is.
+pub fn diag_node(alloc: Global, diag: &DiagRec) -> Result<Node, BuildError>
+    ensures { IsWritten (WritesDiag diag.now) result }
+{
+    element_of(alloc, diag)
+}

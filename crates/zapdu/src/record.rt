@@ -1,0 +1,155 @@
+//! Records of a response.
+ghost use Rattle.zasn.specs.Places.{within};
+ghost use Rattle.zapdu.specs.Records.{body, record_parts, records, whole_record};
+
+use crate::diagnostic::{DefaultDiag, DiagRec};
+use crate::external::External;
+use bytes::Bytes;
+use std::alloc::Global;
+use zasn::{
+    BuildError, Contents, PartError, Parts, PartsBuf, Production, Tagged, read_alone,
+    read_alone_tagged, read_within, write_alone, write_alone_tagged, write_within,
+};
+use zber::{Node, Seq, Tag};
+
+/// What stands in the place of a record.
+#[derive(Drop)]
+pub enum RecordBody {
+    /// retrievalRecord: the record.
+    Retrieval(External),
+    /// surrogateDiagnostic: why the record could not be given.
+    Surrogate(DiagRec),
+    /// A fragment of a record, kept as its element `[3]`, `[4]` or `[5]`.
+    Fragment(Node),
+}
+
+/// A record with the name of its database (Z39.50-2003, 4.1: NamePlusRecord).
+#[derive(Drop)]
+pub struct Record {
+    /// The database's name.
+    pub name: Option<Bytes>,
+    /// The record, or what stands in its place.
+    pub body: RecordBody,
+}
+
+/// What a response has in the place of its records (Z39.50-2003, 4.1: Records).
+#[derive(Drop)]
+pub enum Records {
+    /// responseRecords: records, or surrogates for them.
+    List(Seq<Record>),
+    /// nonSurrogateDiagnostic: why there are none.
+    OneDiag(DefaultDiag),
+    /// multipleNonSurDiagnostics.
+    ManyDiags(Seq<DiagRec>),
+}
+
+impl Tagged for RecordBody {
+    ghost place = { body };
+
+    fn has(tag: Tag) -> bool {
+        tag == Tag::context(1)
+            || tag == Tag::context(2)
+            || tag == Tag::context(3)
+            || tag == Tag::context(4)
+            || tag == Tag::context(5)
+    }
+
+    fn of_element(alloc: Global, node: &Node) -> Result<Self, PartError> {
+        let tag = node.tag;
+        if tag == Tag::context(1) {
+            let external = read_alone(alloc, node, Tag::universal(8))?;
+            return Ok(RecordBody::Retrieval(external));
+        }
+        if tag == Tag::context(2) {
+            let diag = read_alone_tagged(alloc, node)?;
+            return Ok(RecordBody::Surrogate(diag));
+        }
+        if tag == Tag::context(3) || tag == Tag::context(4) || tag == Tag::context(5) {
+            let fragment = node.copy(alloc)?;
+            return Ok(RecordBody::Fragment(fragment));
+        }
+        Err(PartError::Misfit)
+    }
+
+    fn to_element(&self, alloc: Global) -> Result<Node, BuildError> {
+        match self {
+            RecordBody::Retrieval(external) => {
+                write_alone(alloc, external, Tag::context(1), Tag::universal(8))
+            }
+            RecordBody::Surrogate(diag) => write_alone_tagged(alloc, diag, Tag::context(2)),
+            RecordBody::Fragment(node) => {
+                let tag = node.tag;
+                if tag == Tag::context(3) || tag == Tag::context(4) || tag == Tag::context(5) {
+                    Ok(node.copy(alloc)?)
+                } else {
+                    Err(BuildError::NotSpellable)
+                }
+            }
+        }
+    }
+}
+
+#[tactic(auto, unfolding(crate::specs::Records::record_parts))]
+impl Production for Record {
+    ghost table = { record_parts };
+
+    fn read(alloc: Global, parts: &mut Parts<'_>) -> Result<Self, PartError> {
+        let name = parts.optional(alloc, Tag::context(0))?;
+        let body = parts.required_explicit_tagged(alloc, Tag::context(1))?;
+        parts.end()?;
+        Ok(Record { name, body })
+    }
+
+    fn write(&self, alloc: Global, out: &mut PartsBuf) -> Result<(), BuildError> {
+        out.optional(alloc, Tag::context(0), &self.name)?;
+        out.required_explicit_tagged(alloc, Tag::context(1), &self.body)
+    }
+}
+
+impl Tagged for Record {
+    ghost place = { whole_record };
+
+    fn has(tag: Tag) -> bool {
+        tag == Tag::universal(16)
+    }
+
+    fn of_element(alloc: Global, node: &Node) -> Result<Self, PartError> {
+        read_within(alloc, node)
+    }
+
+    fn to_element(&self, alloc: Global) -> Result<Node, BuildError> {
+        write_within(alloc, self, Tag::universal(16))
+    }
+}
+
+impl Tagged for Records {
+    ghost place = { records };
+
+    fn has(tag: Tag) -> bool {
+        tag == Tag::context(28) || tag == Tag::context(130) || tag == Tag::context(205)
+    }
+
+    fn of_element(alloc: Global, node: &Node) -> Result<Self, PartError> {
+        if node.tag == Tag::context(28) {
+            let list = Seq::of_node(alloc, node)?;
+            return Ok(Records::List(list));
+        }
+        if node.tag == Tag::context(130) {
+            let diag = DefaultDiag::of_node(alloc, node)?;
+            return Ok(Records::OneDiag(diag));
+        }
+        if node.tag == Tag::context(205) {
+            let diags = Seq::of_node(alloc, node)?;
+            return Ok(Records::ManyDiags(diags));
+        }
+        Err(PartError::Misfit)
+    }
+
+    fn to_element(&self, alloc: Global) -> Result<Node, BuildError> {
+        match self {
+            Records::List(list) => list.to_node(alloc, Tag::context(28)),
+            Records::OneDiag(diag) => diag.to_node(alloc, Tag::context(130)),
+            Records::ManyDiags(diags) => diags.to_node(alloc, Tag::context(205)),
+        }
+    }
+}

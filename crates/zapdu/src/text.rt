@@ -1,0 +1,222 @@
+//! The printed texts of octets, diagnostics and records.
+ghost use Rattle.std.specs.Prelude.{◌≡◌, ◌++◌, OnOk, OnErr, Option, MatchOption};
+ghost use Rattle.std.specs.Fmt.{signed_decimal};
+ghost use Rattle.hex.specs.Hex.{encode_lower};
+ghost use Rattle.zber.specs.Dotted.{dotted};
+ghost use Rattle.zapdu.specs.Text.{shown, quoted, quoted_or_dash, ber_text, info_octets, default_text, diag_text, octets_alone, octets_text, record_text};
+
+use crate::diagnostic::{DefaultDiag, DiagRec, Info};
+use crate::external::{Content, External};
+use crate::record::{Record, RecordBody};
+use bytes::Bytes;
+use std::alloc::{AllocError, Global};
+use zasn::{BuildError, Tagged};
+use zber::{Node, Oid};
+
+#[tactic(auto, unfolding(crate::specs::Text::shown))]
+fn put_octet(alloc: Global, octet: u8, out: &mut Vec<u8>) -> Result<(), AllocError>
+    ensures { OnOk result (out.new.items ≡ out.old.items ++ shown octet) }
+{
+    if octet == b'"' || octet == b'\\' {
+        out.extend_from_slice(&[b'\\', octet])
+    } else if 32 <= octet && octet <= 126 {
+        out.extend_from_slice(&[octet])
+    } else {
+        out.extend_from_slice(b"\\x")?;
+        put_hex(alloc, &[octet], out)
+    }
+}
+
+fn put_hex(alloc: Global, octets: &[u8], out: &mut Vec<u8>) -> Result<(), AllocError>
+    ensures { OnOk result (out.new.items ≡ out.old.items ++ encode_lower octets.now) }
+{
+    let text = hex::encode(alloc, octets)?;
+    out.extend_from_slice(text.as_bytes())
+}
+
+fn put_quoted(alloc: Global, octets: &[u8], out: &mut Vec<u8>) -> Result<(), AllocError>
+    ensures { OnOk result (out.new.items ≡ out.old.items ++ quoted octets.now) }
+{
+    out.extend_from_slice(b"\"")?;
+    for octet in octets {
+        put_octet(alloc, *octet, out)?;
+    }
+    out.extend_from_slice(b"\"")
+}
+
+fn put_quoted_or_dash(
+    alloc: Global,
+    text: &Option<Bytes>,
+    out: &mut Vec<u8>,
+) -> Result<(), AllocError>
+    ensures { OnOk result (out.new.items ≡ out.old.items ++ quoted_or_dash text.now) }
+{
+    match text {
+        None => out.extend_from_slice(b"-"),
+        Some(text) => put_quoted(alloc, text.as_slice(), out),
+    }
+}
+
+fn put_oid(alloc: Global, oid: &Oid, out: &mut Vec<u8>) -> Result<(), AllocError>
+    ensures { OnOk result (out.new.items ≡ out.old.items ++ dotted oid.now) }
+{
+    let text = oid.text(alloc)?;
+    out.extend_from_slice(text.as_bytes())
+}
+
+fn put_number(alloc: Global, number: i64, out: &mut Vec<u8>) -> Result<(), AllocError>
+    ensures { OnOk result (out.new.items ≡ out.old.items ++ signed_decimal number) }
+{
+    let text = number.to_string(alloc)?;
+    out.extend_from_slice(text.as_bytes())
+}
+
+/// The element's canonical encoding in hexadecimal.
+fn put_node(alloc: Global, node: &Node, out: &mut Vec<u8>) -> Result<(), AllocError>
+    ensures { OnOk result (out.new.items ≡ out.old.items ++ encode_lower (canonical node.now)) }
+{
+    let mut octets = Vec::new(alloc);
+    node.canonical(alloc, &mut octets)?;
+    put_hex(alloc, octets.as_slice(), out)
+}
+
+fn put_ber<T: Tagged>(alloc: Global, value: &T, out: &mut Vec<u8>) -> Result<(), AllocError>
+    ensures { OnOk result (out.new.items ≡ out.old.items ++ ber_text (T.place.spelt value.now)) }
+{
+    out.extend_from_slice(b"ber ")?;
+    match value.to_element(alloc) {
+        Ok(node) => put_node(alloc, &node, out),
+        Err(BuildError::NotSpellable) => Ok(()),
+        Err(BuildError::Memory) => Err(AllocError),
+    }
+}
+
+fn put_default(alloc: Global, diag: &DefaultDiag, out: &mut Vec<u8>) -> Result<(), AllocError>
+    ensures { OnOk result (out.new.items ≡ out.old.items ++ default_text diag.now) }
+{
+    put_oid(alloc, &diag.diag_set, out)?;
+    out.extend_from_slice(b" ")?;
+    put_number(alloc, diag.condition, out)?;
+    out.extend_from_slice(b" ")?;
+    match &diag.info {
+        Info::V2(text) => put_quoted(alloc, text.as_slice(), out),
+        Info::V3(text) => put_quoted(alloc, text.as_slice(), out),
+    }
+}
+
+fn put_diag(alloc: Global, diag: &DiagRec, out: &mut Vec<u8>) -> Result<(), AllocError>
+    ensures { OnOk result (out.new.items ≡ out.old.items ++ diag_text diag.now) }
+{
+    match diag {
+        DiagRec::Default(value) => put_default(alloc, value, out),
+        DiagRec::Ext(_) => put_ber(alloc, diag, out),
+    }
+}
+
+/// The object identifier and the octets, where the EXTERNAL has no more than these.
+fn octets_of(external: &External) -> Option<(&Oid, &Bytes)>
+    ensures { let v = external.now in MatchOption result (octets_alone v.direct v.indirect v.descriptor v.content ≡ None)
+        (λ p. octets_alone v.direct v.indirect v.descriptor v.content ≡ Some (p.0.now, p.1.now)) }
+{
+    match (
+        &external.direct,
+        &external.indirect,
+        &external.descriptor,
+        &external.content,
+    ) {
+        (Some(oid), None, None, Content::Aligned(octets)) => Some((oid, octets)),
+        _ => None,
+    }
+}
+
+fn put_octets(alloc: Global, hex: bool, octets: &[u8], out: &mut Vec<u8>) -> Result<(), AllocError>
+    ensures { OnOk result (out.new.items ≡ out.old.items ++ octets_text hex octets.now) }
+{
+    if hex {
+        put_hex(alloc, octets, out)
+    } else {
+        put_quoted(alloc, octets, out)
+    }
+}
+
+fn put_retrieval(
+    alloc: Global,
+    record: &Record,
+    external: &External,
+    hex: bool,
+    out: &mut Vec<u8>,
+) -> Result<(), AllocError>
+    ensures { let v = external.now in
+        OnOk result (out.new.items ≡ out.old.items ++ retrieval_text hex record.now (octets_alone v.direct v.indirect v.descriptor v.content)) }
+{
+    match octets_of(external) {
+        Some((oid, octets)) => {
+            out.extend_from_slice(b"rec ")?;
+            put_oid(alloc, oid, out)?;
+            out.extend_from_slice(b" ")?;
+            put_quoted_or_dash(alloc, &record.name, out)?;
+            out.extend_from_slice(b" ")?;
+            put_octets(alloc, hex, octets.as_slice(), out)
+        }
+        None => put_ber(alloc, record, out),
+    }
+}
+
+fn put_record(
+    alloc: Global,
+    record: &Record,
+    hex: bool,
+    out: &mut Vec<u8>,
+) -> Result<(), AllocError>
+    ensures { OnOk result (out.new.items ≡ out.old.items ++ record_text hex record.now) }
+{
+    match &record.body {
+        RecordBody::Retrieval(external) => put_retrieval(alloc, record, external, hex, out),
+        RecordBody::Surrogate(diag) => {
+            out.extend_from_slice(b"diag ")?;
+            put_quoted_or_dash(alloc, &record.name, out)?;
+            out.extend_from_slice(b" ")?;
+            put_diag(alloc, diag, out)
+        }
+        RecordBody::Fragment(_) => put_ber(alloc, record, out),
+    }
+}
+
+/// Appends the octets in quotes: 20 to 7E as they are, with a backslash before `"` and backslash, others as `\x` and two
+/// lower-case hexadecimal digits. Where no memory is found, nothing is appended.
+pub fn quote(alloc: Global, octets: &[u8], out: &mut Vec<u8>) -> Result<(), AllocError>
+    ensures ok { OnOk result (out.new.items ≡ out.old.items ++ quoted octets.now) }
+    ensures err { OnErr result (out.new.items ≡ out.old.items) }
+{
+    let mut text = Vec::new(alloc);
+    put_quoted(alloc, octets, &mut text)?;
+    out.extend_from_slice(&text)
+}
+
+/// Appends a diagnostic: `OID CONDITION "INFO"`, or `ber` and the canonical encoding of an EXTERNAL in hexadecimal.
+/// Where no memory is found, nothing is appended.
+pub fn print_diag(alloc: Global, diag: &DiagRec, out: &mut Vec<u8>) -> Result<(), AllocError>
+    ensures ok { OnOk result (out.new.items ≡ out.old.items ++ diag_text diag.now) }
+    ensures err { OnErr result (out.new.items ≡ out.old.items) }
+{
+    let mut text = Vec::new(alloc);
+    put_diag(alloc, diag, &mut text)?;
+    out.extend_from_slice(&text)
+}
+
+/// Appends a record: `rec OID DB TEXT` where it is octets in a named syntax, `diag DB DIAG` where it is a surrogate, else
+/// `ber` and its canonical encoding in hexadecimal. DB is quoted, or `-`; TEXT is quoted, or hexadecimal where `hex` is
+/// set. Where no memory is found, nothing is appended.
+pub fn print_record(
+    alloc: Global,
+    record: &Record,
+    hex: bool,
+    out: &mut Vec<u8>,
+) -> Result<(), AllocError>
+    ensures ok { OnOk result (out.new.items ≡ out.old.items ++ record_text hex record.now) }
+    ensures err { OnErr result (out.new.items ≡ out.old.items) }
+{
+    let mut text = Vec::new(alloc);
+    put_record(alloc, record, hex, &mut text)?;
+    out.extend_from_slice(&text)
+}
