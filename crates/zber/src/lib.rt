@@ -1,6 +1,7 @@
 #![tactic(auto)]
 
 // Elements of BER.
+mod bits;
 mod canonical;
 mod element;
 mod fault;
@@ -13,6 +14,7 @@ mod seq;
 mod tag;
 mod value;
 
+pub use bits::Bits;
 pub use fault::{FaultKind, FrameError};
 pub use framer::Framer;
 pub use node::{Body, Node};

@@ -4,7 +4,7 @@ ghost use Rattle.zber.specs.Values.{as_int, as_octets, integer, Gives};
 
 use crate::node::{Body, Node};
 use bytes::Bytes;
-use std::alloc::Global;
+use std::alloc::{AllocError, AllocFailed, Global};
 use thiserror::Error;
 
 /// Why the contents of an element are no value of the kind that was asked.
@@ -25,6 +25,28 @@ pub enum ValueError {
     /// No memory was found.
     #[error("out of memory")]
     Memory,
+}
+
+impl From<AllocError> for ValueError {
+    ghost use Rattle.std.specs.Prelude.{◌≡◌};
+    ghost use Rattle.zber.specs.declared.value.ValueError.TheVariants.{Memory};
+
+    ghost from_gives = { λ _ e. e ≡ Memory };
+
+    fn from(_: AllocError) -> ValueError {
+        ValueError::Memory
+    }
+}
+
+impl<T: Drop> From<AllocFailed<T>> for ValueError {
+    ghost use Rattle.std.specs.Prelude.{◌≡◌};
+    ghost use Rattle.zber.specs.declared.value.ValueError.TheVariants.{Memory};
+
+    ghost from_gives = { λ _ e. e ≡ Memory };
+
+    fn from(_: AllocFailed<T>) -> ValueError {
+        ValueError::Memory
+    }
 }
 
 /// The number in two's complement.
@@ -73,10 +95,7 @@ impl Node {
     {
         match &self.body {
             Body::Cons(_) => Err(ValueError::WrongForm),
-            Body::Prim(contents) => match contents.clone() {
-                Ok(contents) => Ok(contents),
-                Err(_) => Err(ValueError::Memory),
-            },
+            Body::Prim(contents) => Ok(contents.clone()?),
         }
     }
 }
