@@ -1,5 +1,5 @@
 -- Which element stands for an APDU (Z39.50-2003, 4.1), and where an element that stands for none goes wrong.
-use Rattle.std.specs.Prelude.{◌≡◌, ℕ, ◌<◌, ◌≤◌, List, [], ◌++◌, length, take, Option, Some, None, Result, Ok, Err, if◌then◌else◌}
+use Rattle.std.specs.Prelude.{◌≡◌, ℕ, ◌<◌, ◌≤◌, List, [], ◌∷◌, ◌++◌, length, take, Option, Some, None, Result, Ok, Err, if◌then◌else◌}
 use Rattle.zber.specs.Names.{Name, context}
 use Rattle.zber.specs.Elements.{Element, Primitive, Constructed, elements}
 use Rattle.zber.specs.Productions.Tags.{same_tag}
@@ -33,11 +33,15 @@ abbrev pub Writes : Apdu → Element → Type 0
 Writes v n = sequence (tag_of_kind (kind_of v)) (parts_of v) n
 
 -- the kind that a tag names
+abbrev pub kinds_in_order : List Kind
+kinds_in_order = kinds.PresentResponse ∷ kinds.Close ∷ []
+
+abbrev pub kind_among : Name → List Kind → Option Kind
+kind_among t [] = None
+kind_among t (k ∷ ks) = if same_tag t (tag_of_kind k) then Some k else kind_among t ks
+
 abbrev pub kind_at : Name → Option Kind
-kind_at t =
-    if same_tag t (context 25) then Some kinds.PresentResponse else
-    if same_tag t (context 48) then Some kinds.Close else
-    None
+kind_at t = kind_among t kinds_in_order
 
 -- some APDU of the kind has these elements and then more
 abbrev pub BeginsWith : Kind → List Element → Type 0

@@ -3,6 +3,7 @@
 // Elements of BER.
 mod bits;
 mod canonical;
+mod duplicate;
 mod element;
 mod fault;
 mod framer;
@@ -15,6 +16,7 @@ mod tag;
 mod value;
 
 pub use bits::Bits;
+pub use duplicate::Duplicate;
 pub use fault::{FaultKind, FrameError};
 pub use framer::Framer;
 pub use node::{Body, Node};

@@ -1,0 +1,90 @@
+-- The kinds of APDUs, each with its table.
+use Rattle.std.proofs.Common.{◌≡◌, List, [], ◌∷◌, ◌++◌, Option, Some, None, Result, Ok, Err, Bool, true, false, cond, refl, sym, ap, subst, ◌∙◌}
+use Rattle.zber.specs.Names.{Name}
+use Rattle.zber.specs.Elements.{Element}
+use Rattle.zber.specs.Productions.Tags.{same_tag}
+use Rattle.zber.specs.Productions.Reading.{◌>>=◌}
+use Rattle.zber.specs.Productions.Laws.{IsMisfit, IsExact}
+use Rattle.zber.proofs.Productions.Reads.{same_tag-true}
+use Rattle.zber.proofs.Productions.Tables.{elements_exact}
+use Rattle.zapdu.specs.declared.apdu.Apdu.{Apdu}
+use Rattle.zapdu.specs.declared.apdu.Apdu.TheVariants as apdus
+use Rattle.zapdu.specs.declared.apdu.Kind.{Kind}
+use Rattle.zapdu.specs.declared.apdu.Kind.TheVariants as kinds
+use Rattle.zapdu.specs.Writes.{kind_of, tag_of_kind, parts_of, kind_at, kind_among, kinds_in_order, apdu_at}
+use Rattle.zapdu.specs.PresentResponses.{present_response_parts}
+use Rattle.zapdu.specs.Closes.{close_parts}
+
+abbrev pub Of : Kind → Apdu → List Element → Type 0
+Of kind v ns = (kind_of v ≡ kind) × parts_of v ns
+
+abbrev ok : {V : Type 0} → V → Result V (List Element)
+ok v = Ok v
+
+ok_is : {V : Type 0} (x y : V) → ok x ≡ ok y → x ≡ y
+ok_is x y e = cc
+
+abbrev err : {V : Type 0} → List Element → Result V (List Element)
+err r = Err r
+
+err_is : {V : Type 0} (x y : List Element) → err {V = V} x ≡ err y → x ≡ y
+err_is x y e = cc
+
+module _ {V : Type 0} (kind : Kind) (wrap : V → Apdu) (is_kind : (v : V) → kind_of (wrap v) ≡ kind) (back : (a : Apdu) → kind_of a ≡ kind → (v : V) × (wrap v ≡ a))
+    (walk : List Element → Result V (List Element)) (read : IsExact (λ v. parts_of (wrap v)) walk) where
+  reads_wrapped : (ns : List Element) (a : Apdu) (r : Result V (List Element)) → walk ns ≡ r → (r >>= λ v. ok (wrap v)) ≡ Ok a → Of kind a ns
+  reads_wrapped ns a (Ok v) e f = subst (λ (b : Apdu). Of kind b ns) (ok_is (wrap v) a f) (is_kind v, read.reads ns v e)
+  reads_wrapped ns a (Err r) e f = absurd cc
+
+  unwrapped : (a : Apdu) (ns : List Element) → Of kind a ns → (v : V) × (wrap v ≡ a) × parts_of (wrap v) ns
+  unwrapped a ns h = let b = back a h.0 in (b.0, b.1, subst (λ (c : Apdu). parts_of c ns) (sym b.1) h.1)
+
+  finds_wrapped : (ns : List Element) (a : Apdu) → Of kind a ns → (walk ns >>= λ v. ok (wrap v)) ≡ Ok a
+  finds_wrapped ns a h = let b = unwrapped a ns h in rw (read.finds ns b.0 b.2) (ap (λ (c : Apdu). ok c) b.1)
+
+  fails_wrapped : (ns s : List Element) (r : Result V (List Element)) → walk ns ≡ r → (r >>= λ v. ok (wrap v)) ≡ Err s → IsMisfit (Of kind) ns s
+  fails_wrapped ns s (Ok v) e f = absurd cc
+  fails_wrapped ns s (Err r) e f =
+      let m = read.fails ns s (e ∙ ap (λ (t : List Element). err t) (err_is {V = Apdu} r s f)) in
+      record {
+        front = m.front;
+        parts = m.parts;
+        goes = (wrap m.goes.0, m.goes.1, (is_kind m.goes.0, m.goes.2));
+        stops = λ n after g a more h. let b = unwrapped a (m.front ++ n ∷ more) h in m.stops n after g b.0 more b.2;
+      }
+
+  pub wrapped_exact : IsExact (Of kind) (λ ns. walk ns >>= λ v. ok (wrap v))
+  wrapped_exact = record {
+    reads = λ ns a e. reads_wrapped ns a (walk ns) refl e;
+    finds = finds_wrapped;
+    fails = λ ns s e. fails_wrapped ns s (walk ns) refl e;
+  }
+
+abbrev kind_cases : Kind → Apdu → Type 0
+kind_cases kinds.PresentResponse a = (v : _) × (apdus.PresentResponse v ≡ a)
+kind_cases kinds.Close a = (v : _) × (apdus.Close v ≡ a)
+
+back : (kind : Kind) (a : Apdu) → kind_of a ≡ kind → kind_cases kind a
+back kinds.PresentResponse (apdus.PresentResponse v) e = (v, refl)
+back kinds.Close (apdus.Close v) e = (v, refl)
+back kind a e = absurd cc
+
+-- reading the elements of a kind is exact, with the misfit
+pub apdu_exact : (kind : Kind) → IsExact (Of kind) (apdu_at kind)
+apdu_exact kinds.PresentResponse = wrapped_exact kinds.PresentResponse apdus.PresentResponse (λ v. refl) (back kinds.PresentResponse) _ (elements_exact present_response_parts)
+apdu_exact kinds.Close = wrapped_exact kinds.Close apdus.Close (λ v. refl) (back kinds.Close) _ (elements_exact close_parts)
+
+pub kind_at-tag_of_kind : (kind : Kind) → kind_at (tag_of_kind kind) ≡ Some kind
+kind_at-tag_of_kind kinds.PresentResponse = refl
+kind_at-tag_of_kind kinds.Close = refl
+
+tag_among : (t : Name) (kind : Kind) (ks : List Kind) → kind_among t ks ≡ Some kind → t ≡ tag_of_kind kind
+tag_among t kind [] e = absurd cc
+tag_among t kind (k ∷ ks) e = turn (same_tag t (tag_of_kind k)) refl e
+  where
+    turn : (b : Bool) → same_tag t (tag_of_kind k) ≡ b → cond b (Some k) (kind_among t ks) ≡ Some kind → t ≡ tag_of_kind kind
+    turn true p f = let same : k ≡ kind = cc in same_tag-true t (tag_of_kind k) p ∙ ap tag_of_kind same
+    turn false p f = tag_among t kind ks f
+
+pub tag_from_kind : (t : Name) (kind : Kind) → kind_at t ≡ Some kind → t ≡ tag_of_kind kind
+tag_from_kind t kind e = tag_among t kind kinds_in_order e

@@ -1,0 +1,23 @@
+-- What is spelled is written.
+use Rattle.std.proofs.Common.{Result, Ok, Err}
+use Rattle.zber.specs.Names.{context}
+use Rattle.zber.specs.Elements.{Element}
+use Rattle.zber.specs.Productions.Place.{Place}
+use Rattle.zasn.specs.declared.error.BuildError.{BuildError}
+use Rattle.zasn.specs.declared.error.BuildError.TheVariants.{NotSpellable, Memory}
+use Rattle.zasn.specs.Answers.{IsWritten, Makes}
+use Rattle.zasn.specs.Places.{within}
+use Rattle.zapdu.specs.declared.apdu.Apdu.{Apdu}
+use Rattle.zapdu.specs.declared.apdu.Apdu.TheVariants as apdus
+use Rattle.zapdu.specs.PresentResponses.{present_response_parts}
+use Rattle.zapdu.specs.Closes.{close_parts}
+use Rattle.zapdu.specs.Writes.{Writes, apdu_spelt}
+
+pub place_written : {A : Type 0} (p : Place A) (v : A) (r : Result Element BuildError) → Makes (p.spelt v) r → IsWritten (p.stands v) r
+place_written p v (Ok n) h = p.makes v n h
+place_written p v (Err NotSpellable) h = p.none v h
+place_written p v (Err Memory) h = tt
+
+pub apdu_written : (v : Apdu) (r : Result Element BuildError) → Makes (apdu_spelt v) r → IsWritten (Writes v) r
+apdu_written (apdus.PresentResponse v) r h = place_written (within (context 25) present_response_parts) v r h
+apdu_written (apdus.Close v) r h = place_written (within (context 48) close_parts) v r h

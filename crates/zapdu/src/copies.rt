@@ -1,0 +1,151 @@
+//! Equal values, kept apart.
+ghost use Rattle.std.specs.Prelude.{◌≡◌, IfOk};
+
+use crate::apdu::Apdu;
+use crate::close::Close;
+use crate::diagnostic::{DefaultDiag, DiagRec, Info};
+use crate::external::{Content, External};
+use crate::present_response::PresentResponse;
+use crate::record::{Record, RecordBody, Records};
+use std::alloc::{AllocError, Global};
+use zber::Duplicate;
+
+impl Duplicate for Content {
+    fn duplicate(&self, alloc: Global) -> Result<Self, AllocError> {
+        match self {
+            Content::Single(node) => Ok(Content::Single(node.duplicate(alloc)?)),
+            Content::Aligned(octets) => Ok(Content::Aligned(octets.duplicate(alloc)?)),
+            Content::Arbitrary(bits) => Ok(Content::Arbitrary(bits.duplicate(alloc)?)),
+        }
+    }
+}
+
+impl Duplicate for External {
+    fn duplicate(&self, alloc: Global) -> Result<Self, AllocError> {
+        Ok(External {
+            direct: self.direct.duplicate(alloc)?,
+            indirect: self.indirect,
+            descriptor: self.descriptor.duplicate(alloc)?,
+            content: self.content.duplicate(alloc)?,
+        })
+    }
+}
+
+impl Duplicate for Info {
+    fn duplicate(&self, alloc: Global) -> Result<Self, AllocError> {
+        match self {
+            Info::V2(text) => Ok(Info::V2(text.duplicate(alloc)?)),
+            Info::V3(text) => Ok(Info::V3(text.duplicate(alloc)?)),
+        }
+    }
+}
+
+impl Duplicate for DefaultDiag {
+    fn duplicate(&self, alloc: Global) -> Result<Self, AllocError> {
+        Ok(DefaultDiag {
+            diag_set: self.diag_set.duplicate(alloc)?,
+            condition: self.condition,
+            info: self.info.duplicate(alloc)?,
+        })
+    }
+}
+
+impl Duplicate for DiagRec {
+    fn duplicate(&self, alloc: Global) -> Result<Self, AllocError> {
+        match self {
+            DiagRec::Default(diag) => Ok(DiagRec::Default(diag.duplicate(alloc)?)),
+            DiagRec::Ext(external) => Ok(DiagRec::Ext(external.duplicate(alloc)?)),
+        }
+    }
+}
+
+impl Duplicate for RecordBody {
+    fn duplicate(&self, alloc: Global) -> Result<Self, AllocError> {
+        match self {
+            RecordBody::Retrieval(external) => Ok(RecordBody::Retrieval(external.duplicate(alloc)?)),
+            RecordBody::Surrogate(diag) => Ok(RecordBody::Surrogate(diag.duplicate(alloc)?)),
+            RecordBody::Fragment(node) => Ok(RecordBody::Fragment(node.duplicate(alloc)?)),
+        }
+    }
+}
+
+impl Duplicate for Record {
+    fn duplicate(&self, alloc: Global) -> Result<Self, AllocError> {
+        Ok(Record {
+            name: self.name.duplicate(alloc)?,
+            body: self.body.duplicate(alloc)?,
+        })
+    }
+}
+
+impl Duplicate for Records {
+    fn duplicate(&self, alloc: Global) -> Result<Self, AllocError> {
+        match self {
+            Records::List(list) => Ok(Records::List(list.duplicate(alloc)?)),
+            Records::OneDiag(diag) => Ok(Records::OneDiag(diag.duplicate(alloc)?)),
+            Records::ManyDiags(diags) => Ok(Records::ManyDiags(diags.duplicate(alloc)?)),
+        }
+    }
+}
+
+impl Duplicate for PresentResponse {
+    fn duplicate(&self, alloc: Global) -> Result<Self, AllocError> {
+        Ok(PresentResponse {
+            reference_id: self.reference_id.duplicate(alloc)?,
+            number_of_records_returned: self.number_of_records_returned,
+            next_result_set_position: self.next_result_set_position,
+            present_status: self.present_status,
+            records: self.records.duplicate(alloc)?,
+            other_info: self.other_info.duplicate(alloc)?,
+        })
+    }
+}
+
+impl Duplicate for Close {
+    fn duplicate(&self, alloc: Global) -> Result<Self, AllocError> {
+        Ok(Close {
+            reference_id: self.reference_id.duplicate(alloc)?,
+            close_reason: self.close_reason,
+            diagnostic_information: self.diagnostic_information.duplicate(alloc)?,
+            resource_report_format: self.resource_report_format.duplicate(alloc)?,
+            resource_report: self.resource_report.duplicate(alloc)?,
+            other_info: self.other_info.duplicate(alloc)?,
+        })
+    }
+}
+
+impl Duplicate for Apdu {
+    fn duplicate(&self, alloc: Global) -> Result<Self, AllocError> {
+        match self {
+            Apdu::PresentResponse(apdu) => Ok(Apdu::PresentResponse(apdu.duplicate(alloc)?)),
+            Apdu::Close(apdu) => Ok(Apdu::Close(apdu.duplicate(alloc)?)),
+        }
+    }
+}
+
+impl Apdu {
+    /// An equal APDU.
+    pub fn copy(&self, alloc: Global) -> Result<Apdu, AllocError>
+        ensures { IfOk result (λ copy. copy ≡ self.now) }
+    {
+        self.duplicate(alloc)
+    }
+}
+
+impl Record {
+    /// An equal record.
+    pub fn copy(&self, alloc: Global) -> Result<Record, AllocError>
+        ensures { IfOk result (λ copy. copy ≡ self.now) }
+    {
+        self.duplicate(alloc)
+    }
+}
+
+impl DiagRec {
+    /// An equal diagnostic.
+    pub fn copy(&self, alloc: Global) -> Result<DiagRec, AllocError>
+        ensures { IfOk result (λ copy. copy ≡ self.now) }
+    {
+        self.duplicate(alloc)
+    }
+}

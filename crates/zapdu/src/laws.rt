@@ -1,0 +1,11 @@
+//! Laws of the definitions, each the contract of a function that does nothing.
+ghost use Rattle.std.specs.Prelude.{◌≡◌};
+ghost use Rattle.zber.specs.Elements.{Element};
+ghost use Rattle.zapdu.specs.declared.apdu.Apdu.{Apdu};
+ghost use Rattle.zapdu.specs.Writes.{Writes};
+
+/// An element stands for at most one APDU.
+pub fn one_value()
+    ensures { (v w : Apdu) (n : Element) → Writes v n → Writes w n → v ≡ w }
+{
+}
