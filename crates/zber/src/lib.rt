@@ -2,6 +2,7 @@
 
 // Elements of BER.
 mod canonical;
+mod dotted;
 mod element;
 mod fault;
 mod framer;
@@ -9,6 +10,7 @@ mod header;
 pub mod laws;
 mod node;
 mod oid;
+mod oid_octets;
 mod seq;
 mod tag;
 mod value;
