@@ -127,3 +127,9 @@ oid_spelled xs arcs e = elim (outcome xs) [
   | inl f ↦ (let same : f.0 ≡ arcs = cc (f.2, e) in subst (λ as'. SpellsOid as' xs) same f.1)
   | inr g ↦ absurd (cc (e, g))
 ]
+
+pub oid_one : {a b xs : List ℕ} → SpellsOid a xs → SpellsOid b xs → a ≡ b
+oid_one s t = let e = oid_is s in let f = oid_is t in cc (e, f)
+
+pub oid_not_refused : {arcs xs : List ℕ} → oid_in xs ≡ Err error.BadOid → SpellsOid arcs xs → ⊥
+oid_not_refused e s = let f = oid_is s in cc (e, f)

@@ -1,6 +1,7 @@
 -- Object identifiers: their arcs, and the contents octets that spell them (X.690, 8.19).
-use Rattle.std.specs.Prelude.{ℕ, ◌+◌, ◌*◌, ◌/◌, ◌-◌, ◌^◌, ◌<◌, ◌≤◌, min, nat_lt, nat_le, ◌==◌, Bool, false, not, ◌&&◌, if◌then◌else◌, List, [], ◌∷◌, ◌++◌, map, All, Result, Ok, Err}
-use Rattle.std.specs.List.{list_all}
+use Rattle.std.specs.Prelude.{ℕ, ◌+◌, ◌*◌, ◌/◌, ◌%◌, ◌-◌, ◌^◌, ◌<◌, ◌≤◌, min, nat_lt, nat_le, ◌==◌, Bool, false, not, ◌&&◌, if◌then◌else◌, List, [], ◌∷◌, ◌++◌, map, All, Result, Ok, Err}
+use Rattle.std.specs.Int.Digits.{digits_of}
+use Rattle.std.specs.List.{flat_map, list_all}
 use Rattle.zber.specs.declared.value.ValueError.{ValueError}
 use Rattle.zber.specs.declared.value.ValueError.TheVariants as error
 use Rattle.zber.specs.Elements.{Element}
@@ -63,3 +64,19 @@ oid_in xs = if list_all is_number (cut xs) && are_arcs (arcs_in (map (groups_fro
 
 abbrev pub as_oid : Element → Result (List ℕ) ValueError
 as_oid = in_octets oid_in
+
+-- the groups of a number, with none idle: seven bits each, and the high bit on all but the last
+abbrev pub fronts : ℕ → List ℕ
+fronts n = map (λ d. 128 + d) (digits_of 128 n)
+
+abbrev pub groups : ℕ → List ℕ
+groups n = fronts (n / 128) ++ n % 128 ∷ []
+
+-- the numbers that the octets stand for
+abbrev pub subidentifiers : List ℕ → List ℕ
+subidentifiers [] = []
+subidentifiers (a ∷ []) = []
+subidentifiers (a ∷ b ∷ arcs) = (40 * a + b) ∷ arcs
+
+abbrev pub oid_octets : List ℕ → List ℕ
+oid_octets arcs = flat_map groups (subidentifiers arcs)

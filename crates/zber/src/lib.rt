@@ -3,6 +3,7 @@
 // Elements of BER.
 mod bits;
 mod canonical;
+mod dotted;
 mod duplicate;
 mod element;
 mod fault;
@@ -11,6 +12,7 @@ mod header;
 pub mod laws;
 mod node;
 mod oid;
+mod oid_octets;
 mod seq;
 mod tag;
 mod value;
