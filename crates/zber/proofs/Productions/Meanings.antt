@@ -1,0 +1,45 @@
+-- Values are read as they are spelled, under whatever tag.
+use Rattle.std.proofs.Common.{◌≡◌, ℕ, List, [], ◌∷◌, Bool, true, Option, Some, None, Result, Ok, Err, refl, ap}
+use Rattle.zber.specs.declared.value.ValueError.{ValueError}
+use Rattle.zber.specs.Names.{Name}
+use Rattle.zber.specs.Elements.{Element, Primitive, Constructed}
+use Rattle.zber.specs.Oids.{as_oid, is_oid, oid_octets}
+use Rattle.zber.specs.Bits.{as_bits, bit_octets}
+use Rattle.zber.specs.Productions.Standing.{tagged}
+use Rattle.zber.specs.Productions.Meanings.{meant, octets_of, octets_spelt, oid_of, oid_spelt, bits_of, bits_spelt}
+use Rattle.zber.specs.Productions.Laws.{IsPlace, IsSpelled}
+use Rattle.zber.proofs.OidMeaning.{oid_is, oid_spelled as oid_is_spelled}
+use Rattle.zber.proofs.OidSpelling.{oid_written, oid_arcs}
+use Rattle.zber.proofs.OidTest.{is_oid_pass, is_oid_from_pass}
+use Rattle.zber.proofs.BitLemmas.{read_back}
+use Rattle.zber.proofs.Productions.Reads.{tagged_place}
+use Rattle.zber.proofs.Productions.Builds.{contents_spelled, fitting_spelled}
+
+pub meant_ok : {A : Type 0} (r : Result A ValueError) (x : A) → meant r ≡ Some x → r ≡ Ok x
+meant_ok (Ok y) x e = let same : y ≡ x = cc in ap (λ (z : _). Ok z) same
+meant_ok (Err v) x e = absurd cc
+
+pub octets_place : (tag : Name) → IsPlace (tagged tag octets_of) (tag ∷ []) octets_of
+octets_place tag = tagged_place tag octets_of [] (Primitive tag []) refl refl
+
+pub octets_spelled : (tag : Name) → IsSpelled (tagged tag octets_of) (octets_spelt tag)
+octets_spelled tag = contents_spelled tag octets_of (λ xs. xs) (λ xs. refl)
+
+pub oid_place : (tag : Name) → IsPlace (tagged tag oid_of) (tag ∷ []) oid_of
+oid_place tag = tagged_place tag oid_of (1 ∷ 2 ∷ []) (Primitive tag (42 ∷ [])) refl refl
+
+oid_back : (tag : Name) (arcs : List ℕ) → is_oid arcs ≡ true → oid_of (Primitive tag (oid_octets arcs)) ≡ Some arcs
+oid_back tag arcs e = ap (λ (r : Result (List ℕ) ValueError). meant r) (oid_is (oid_written arcs (is_oid_from_pass arcs e)))
+
+oid_found : (arcs : List ℕ) (n : Element) → oid_of n ≡ Some arcs → is_oid arcs ≡ true
+oid_found arcs (Primitive t xs) e = is_oid_pass arcs (oid_arcs (oid_is_spelled xs arcs (meant_ok (as_oid (Primitive t xs)) arcs e)))
+oid_found arcs (Constructed t f) e = absurd cc
+
+pub oid_spelled : (tag : Name) → IsSpelled (tagged tag oid_of) (oid_spelt tag)
+oid_spelled tag = fitting_spelled tag oid_of oid_octets is_oid (oid_back tag) oid_found
+
+pub bits_place : (tag : Name) → IsPlace (tagged tag bits_of) (tag ∷ []) bits_of
+bits_place tag = tagged_place tag bits_of [] (Primitive tag (0 ∷ [])) refl refl
+
+pub bits_spelled : (tag : Name) → IsSpelled (tagged tag bits_of) (bits_spelt tag)
+bits_spelled tag = contents_spelled tag bits_of bit_octets (λ bits. ap (λ (r : Result (List Bool) ValueError). meant r) (read_back bits))
