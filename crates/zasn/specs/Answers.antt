@@ -13,11 +13,6 @@ abbrev pub part_error_of : ValueError → PartError
 part_error_of values.Memory = Memory
 part_error_of _ = Misfit
 
--- what a reader of values answers, where only the value counts
-abbrev pub meant : {A : Type 0} → Result A ValueError → Option A
-meant (Ok x) = Some x
-meant (Err e) = None
-
 -- what the reader of one element returned is what the element means, unless memory ran out
 abbrev pub Means : {A : Type 0} → Option A → Result A PartError → Type 0
 Means meaning (Ok x) = meaning ≡ Some x

@@ -1,23 +1,23 @@
 -- The places of productions, each one record with its laws, and a table as the elements of a value.
-use Rattle.std.specs.Prelude.{◌≡◌, ℕ, ℤ, true, List, [], ◌∷◌, Option, Some, None, if◌then◌else◌, refl}
+use Rattle.std.specs.Prelude.{◌≡◌, ℕ, Bool, true, List, [], ◌∷◌, Option, Some, None, if◌then◌else◌, refl}
 use Rattle.zber.specs.Names.{Name}
-use Rattle.zber.specs.Elements.{Element, Primitive, tag_of}
-use Rattle.zber.specs.Values.{as_octets}
+use Rattle.zber.specs.Elements.{Element, tag_of}
 use Rattle.zber.specs.Productions.Tags.{among}
 use Rattle.zber.specs.Productions.Standing.{required as one, ended as no_more, tagged, sequence}
 use Rattle.zber.specs.Productions.Reading.{constructed}
 use Rattle.zber.specs.Productions.Building.{constructed_spelt}
 use Rattle.zber.specs.Productions.Laws.{IsPlace, IsSpelled}
+use Rattle.zber.specs.Productions.Meanings.{octets_of, octets_spelt, oid_of, oid_spelt, bits_of, bits_spelt}
 use Rattle.zber.specs.Productions.Place.{Place}
 use Rattle.zber.specs.Productions.Within.{sequence_of, around, itself, any_at, is_kept, each, list_of, whole_of, all_spelt}
 use Rattle.zber.specs.Productions.Choice.{Choice, Pick, picked, Says, choice_of, choice_spelt, choice_tags, distinct}
 use Rattle.zber.specs.Productions.Table.{Table, required, ended, Elements, Fields, fields, Maker, make_of, Stand, walk, put, tags_of, clear}
-use Rattle.zber.proofs.Productions.Reads.{constructed_at_tag, tagged_place}
-use Rattle.zber.proofs.Productions.Builds.{constructed_spelled, octets_spelled}
+use Rattle.zber.proofs.Productions.Reads.{constructed_at_tag}
+use Rattle.zber.proofs.Productions.Builds.{constructed_spelled}
+use Rattle.zber.proofs.Productions.Meanings.{octets_place, octets_spelled, oid_place, oid_spelled, bits_place, bits_spelled}
 use Rattle.zber.proofs.Productions.Tables.{value_read, value_made}
 use Rattle.zber.proofs.Productions.Choices.{pick_some, choice_begins, pick_reads, pick_finds, choice_makes, choice_none}
 use Rattle.zber.proofs.Productions.Withins.{within_place, within_spelled, any_place, any_spelled, kept_place, kept_spelled, list_place, list_spelled}
-use Rattle.zasn.specs.Answers.{meant}
 
 -- the elements of a value that is made of the table's fields
 abbrev pub of_table : {V : Type 0} (t : Table V) (make : Maker t V) → ((v : V) → make_of t make (fields t v) ≡ v) → ((x : Fields t) → fields t (make_of t make x) ≡ x) → clear t ≡ true → Elements V
@@ -45,12 +45,15 @@ lawful {P = P} {tags = tags} {meaning = meaning} {spelt = spelt} place spelled =
   none = spelled.none;
 }
 
--- OCTET STRING and the character strings, whose octets are kept as they are (X.690, 8.7 and 8.23)
-abbrev pub octets_of : Element → Option (List ℕ)
-octets_of e = meant (as_octets e)
-
+-- OCTET STRING and the character strings, whose octets are kept as they are; OBJECT IDENTIFIER; BIT STRING
 abbrev pub octets : Name → Place (List ℕ)
-octets tag = lawful {P = tagged tag octets_of} {tags = tag ∷ []} {meaning = octets_of} {spelt = λ xs. Some (Primitive tag xs)} (tagged_place tag octets_of [] (Primitive tag []) refl refl) (octets_spelled tag octets_of (λ xs. refl))
+octets tag = lawful {P = tagged tag octets_of} {tags = tag ∷ []} {meaning = octets_of} {spelt = octets_spelt tag} (octets_place tag) (octets_spelled tag)
+
+abbrev pub oid : Name → Place (List ℕ)
+oid tag = lawful {P = tagged tag oid_of} {tags = tag ∷ []} {meaning = oid_of} {spelt = oid_spelt tag} (oid_place tag) (oid_spelled tag)
+
+abbrev pub bits : Name → Place (List Bool)
+bits tag = lawful {P = tagged tag bits_of} {tags = tag ∷ []} {meaning = bits_of} {spelt = bits_spelt tag} (bits_place tag) (bits_spelled tag)
 
 -- a constructed element, kept with whatever it holds
 abbrev pub opaque : Name → Place Element

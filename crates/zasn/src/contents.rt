@@ -5,12 +5,12 @@ ghost use Rattle.zber.specs.Elements.{tag_of};
 ghost use Rattle.zber.specs.Productions.Tags.{among};
 ghost use Rattle.zber.specs.Productions.Place.{Place};
 ghost use Rattle.zasn.specs.Answers.{Means, Makes};
-ghost use Rattle.zasn.specs.Places.{octets, opaque};
+ghost use Rattle.zasn.specs.Places.{octets, oid, bits, opaque};
 
 use crate::error::{BuildError, PartError};
 use bytes::Bytes;
 use std::alloc::Global;
-use zber::{Body, Node, Tag};
+use zber::{Bits, Body, Node, Oid, Tag};
 
 /// A value whose element has the tag that its place gives it (implicit tagging).
 pub trait Contents: Sized + Drop {
@@ -55,6 +55,34 @@ impl Contents for Bytes {
     fn to_node(&self, _alloc: Global, tag: Tag) -> Result<Node, BuildError> {
         let octets = self.clone()?;
         Ok(Node::prim(tag, octets))
+    }
+}
+
+impl Contents for Oid {
+    ghost place = { oid };
+
+    fn of_node(alloc: Global, node: &Node) -> Result<Self, PartError> {
+        let oid = node.as_oid(alloc)?;
+        Ok(oid)
+    }
+
+    fn to_node(&self, alloc: Global, tag: Tag) -> Result<Node, BuildError> {
+        // Tells that the arcs are those of an identifier.
+        let _arcs = self.arcs();
+        Ok(Node::of_oid(alloc, tag, self)?)
+    }
+}
+
+impl Contents for Bits {
+    ghost place = { bits };
+
+    fn of_node(alloc: Global, node: &Node) -> Result<Self, PartError> {
+        let bits = node.as_bits(alloc)?;
+        Ok(bits)
+    }
+
+    fn to_node(&self, alloc: Global, tag: Tag) -> Result<Node, BuildError> {
+        Ok(Node::of_bits(alloc, tag, self)?)
     }
 }
 
