@@ -1,28 +1,37 @@
--- What the contents of an element mean as a value.
-use Rattle.std.specs.Prelude.{◌≡◌, ◌≢◌, ℕ, ℤ, pos, negsuc, ◌+◌, ◌*◌, ◌-◌, ◌^◌, ◌<◌, ◌≤◌, nat_lt, if◌then◌else◌, List, [], ◌∷◌, ◌++◌, length, Result, Ok, Err}
+-- What the contents of an element mean as a value (X.690, 8).
+use Rattle.std.specs.Prelude.{◌≡◌, ℕ, ◌+◌, ◌*◌, ◌^◌, ◌<◌, ◌≤◌, Bool, nat_lt, if◌then◌else◌, List, [], ◌∷◌, ◌++◌, Result, Ok, Err}
 use Rattle.zber.specs.declared.value.ValueError.{ValueError}
 use Rattle.zber.specs.declared.value.ValueError.TheVariants as error
 use Rattle.zber.specs.Elements.{Element, Primitive, Constructed}
-use Rattle.zber.specs.Spelling.{first, octets_from, GroupsOf}
-
--- two's complement
-abbrev pub integer : List ℕ → ℤ
-integer xs = if nat_lt (first xs) 128 then pos (octets_from 0 xs) else negsuc (256 ^ length xs - 1 - octets_from 0 xs)
-
-abbrev pub integer_in : List ℕ → Result ℤ ValueError
-integer_in [] = Err error.WrongLength
-integer_in (x ∷ xs) = if nat_lt 8 (length (x ∷ xs)) then Err error.IntegerTooLarge else Ok (integer (x ∷ xs))
+use Rattle.zber.specs.Spelling.{GroupsOf}
 
 -- the octets of a primitive element, as a reader takes them
 abbrev pub in_octets : {A : Type 0} → (List ℕ → Result A ValueError) → Element → Result A ValueError
 in_octets read (Primitive n xs) = read xs
 in_octets read (Constructed n f) = Err error.WrongForm
 
-abbrev pub as_int : Element → Result ℤ ValueError
-as_int = in_octets integer_in
-
 abbrev pub as_octets : Element → Result (List ℕ) ValueError
 as_octets = in_octets Ok
+
+-- a truth value is one octet, and false is 0 (8.2)
+abbrev pub bool_in : List ℕ → Result Bool ValueError
+bool_in [] = Err error.WrongLength
+bool_in (x ∷ []) = Ok (nat_lt 0 x)
+bool_in (x ∷ y ∷ xs) = Err error.WrongLength
+
+abbrev pub as_bool : Element → Result Bool ValueError
+as_bool = in_octets bool_in
+
+abbrev pub bool_octets : Bool → List ℕ
+bool_octets b = (if b then 255 else 0) ∷ []
+
+-- a null has no contents (8.8)
+abbrev pub null_in : List ℕ → Result (Unit {0}) ValueError
+null_in [] = Ok tt
+null_in (x ∷ xs) = Err error.WrongLength
+
+abbrev pub as_null : Element → Result (Unit {0}) ValueError
+as_null = in_octets null_in
 
 -- a reader that takes memory gives this, unless memory ran out
 abbrev pub Gives : {A : Type 0} → Result A ValueError → Result A ValueError → Type 0
