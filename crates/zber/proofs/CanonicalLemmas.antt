@@ -1,12 +1,12 @@
 -- The canonical encoding is a spelling.
-use Rattle.std.proofs.Common.{◌≡◌, ◌≢◌, ℕ, zero, suc, ◌+◌, ◌*◌, ◌-◌, ◌/◌, ◌%◌, ◌^◌, ◌<◌, ◌≤◌, max, cond, Bool, true, false, ◌⊎◌, inl, inr, subst, List, [], ◌∷◌, ◌++◌, length, refl, sym, ap, ◌∙◌, arith, add-one, append_assoc, length-append}
-use Rattle.std.proofs.Math.Dec.{ltb, lit<}
+use Rattle.std.proofs.Common.{◌≡◌, ◌≢◌, ℕ, zero, suc, ◌+◌, ◌/◌, ◌%◌, ◌^◌, ◌<◌, ◌≤◌, cond, Bool, true, false, inl, inr, subst, List, [], ◌∷◌, ◌++◌, length, refl, sym, arith, length-append}
+use Rattle.std.proofs.Math.Dec.{ltb}
 use Rattle.std.proofs.lemmas.Bool.{le-ltb, lt-ltb, cases_order}
 use Rattle.std.proofs.lemmas.List.{append-nil}
 use native.Mathlib.Nat.{pow-suc}
 use Rattle.zber.specs.Names.{Name, IsTag}
-use Rattle.zber.specs.Elements.{Element, Forest, end, leaf, branch, Primitive, Constructed, before, prim, cons, forest, elements, one, height_of, height}
-use Rattle.zber.specs.Spelling.{AreGroups, GroupsOf, groups_from, octets_from, first, lead, Identifier, low, high, Length, short, long, Spells, primitive, definite, SpellsAll, none, more}
+use Rattle.zber.specs.Elements.{Element, Forest, end, leaf, branch, Primitive, Constructed, cons, elements, one, height_of, height}
+use Rattle.zber.specs.Spelling.{GroupsOf, groups_from, octets_from, first, lead, Identifier, low, high, Length, short, long, Spells, primitive, definite, SpellsAll, none, more}
 use Rattle.zber.specs.Stopping.{GoOn}
 use Rattle.zber.specs.Canonical.{places, fronts, identifier, size, canonical_run, canonical, AreLawful, IsLawful}
 use Rattle.zber.proofs.GroupLemmas.{groups_from-append, GoOn-append, AreGroups-append, first-append}

@@ -1,5 +1,5 @@
 -- The steps of the canonical encoding.
-use Rattle.std.proofs.Common.{◌≡◌, ◌≢◌, ℕ, zero, suc, ◌+◌, ◌-◌, ◌/◌, ◌%◌, ◌<◌, ◌≤◌, List, [], ◌∷◌, ◌++◌, true, false, Result, Ok, Err, OnOk, length, take, get_or, refl, sym, ap, ◌∙◌, arith, append_assoc, sub-one, subst}
+use Rattle.std.proofs.Common.{◌≡◌, ◌≢◌, ℕ, zero, suc, ◌+◌, ◌-◌, ◌/◌, ◌%◌, ◌<◌, ◌≤◌, List, [], ◌∷◌, ◌++◌, true, false, Result, Ok, Err, OnOk, length, take, get_or, refl, sym, ap, ◌∙◌, arith, append_assoc, sub-one}
 use Rattle.std.proofs.lemmas.Bool.{le-ltb, lt-ltb}
 use Rattle.std.proofs.lemmas.List.{append-nil, take_more}
 use Rattle.std.proofs.Math.Seq.{take-length}
@@ -8,7 +8,7 @@ use Rattle.zber.specs.declared.node.Body.TheVariants.{Cons}
 use Rattle.zber.specs.Viewed.{element_of}
 use Rattle.zber.proofs.Runs.{seen_cons}
 use Rattle.zber.specs.Names.{Name}
-use Rattle.zber.specs.Elements.{Element, Forest, end, leaf, branch, Primitive, Constructed, forest, before, one, prim, cons}
+use Rattle.zber.specs.Elements.{Element, Forest, Primitive, Constructed, forest, before, prim, cons}
 use Rattle.zber.specs.Canonical.{places, fronts, identifier, size, canonical_run, canonical}
 
 pub fronts_step : (k n : ℕ) → k ≢ 0 → n ≢ 0 → fronts k n ≡ fronts (k - 1) (n / 128) ++ (128 + n % 128) ∷ []

@@ -9,6 +9,7 @@ mod element;
 mod fault;
 mod framer;
 mod header;
+mod integer;
 pub mod laws;
 mod node;
 mod oid;

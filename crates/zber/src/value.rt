@@ -1,8 +1,10 @@
-// Readers of the contents.
-ghost use Rattle.std.specs.Prelude.{◌≡◌, ◌<◌, ◌≤◌, ◌^◌, ◌-◌, length};
-ghost use Rattle.zber.specs.Values.{as_int, as_octets, integer, Gives};
+// Values of elements: octets, truth values and nulls (X.690 8).
+ghost use Rattle.std.specs.Prelude.{◌≡◌, [], IfOk};
+ghost use Rattle.zber.specs.Elements.{prim};
+ghost use Rattle.zber.specs.Values.{as_octets, as_bool, as_null, bool_octets, Gives};
 
 use crate::node::{Body, Node};
+use crate::tag::Tag;
 use bytes::Bytes;
 use std::alloc::{AllocError, AllocFailed, Global};
 use thiserror::Error;
@@ -49,44 +51,7 @@ impl<T: Drop> From<AllocFailed<T>> for ValueError {
     }
 }
 
-/// The number in two's complement.
-fn integer(octets: &[u8]) -> i64
-    requires some { 0 < length octets.now }
-    requires few { length octets.now ≤ 8 }
-    ensures { result ≡ integer octets.now }
-{
-    let mut number: u64 = 0;
-    let mut top: u64 = 0;
-    for x in octets {
-        number = number * 256 + u64::from(*x);
-        top = top * 256 + 255;
-    }
-    if octets[0] < 128 {
-        number as i64
-    } else {
-        -((top - number) as i64) - 1
-    }
-}
-
 impl Node {
-    pub fn as_int(&self) -> Result<i64, ValueError>
-        ensures { result ≡ as_int self.now }
-    {
-        match &self.body {
-            Body::Cons(_) => Err(ValueError::WrongForm),
-            Body::Prim(contents) => {
-                let octets = contents.as_slice();
-                if octets.is_empty() {
-                    return Err(ValueError::WrongLength);
-                }
-                if octets.len() > 8 {
-                    return Err(ValueError::IntegerTooLarge);
-                }
-                Ok(integer(octets))
-            }
-        }
-    }
-
     /// The contents octets of an OCTET STRING, or of any string (X.690 8.7, 8.23). They are shared with the element.
     ///
     /// `WrongForm` where the element is constructed, `Memory` where none was found.
@@ -97,5 +62,60 @@ impl Node {
             Body::Cons(_) => Err(ValueError::WrongForm),
             Body::Prim(contents) => Ok(contents.clone()?),
         }
+    }
+
+    /// A primitive element with this tag that shares the octets as its contents (X.690 8.7).
+    pub fn of_octets(_alloc: Global, tag: Tag, octets: &Bytes) -> Result<Node, AllocError>
+        ensures { IfOk result (λ n. n ≡ prim tag octets.now) }
+    {
+        Ok(Node::prim(tag, octets.clone()?))
+    }
+
+    /// The truth value of a BOOLEAN (X.690 8.2): false where its octet is 0, and true where it is any other.
+    ///
+    /// `WrongForm` where the element is constructed, `WrongLength` where the contents are not one octet.
+    pub fn as_bool(&self) -> Result<bool, ValueError>
+        ensures { result ≡ as_bool self.now }
+    {
+        match &self.body {
+            Body::Cons(_) => Err(ValueError::WrongForm),
+            Body::Prim(contents) => match contents.as_slice() {
+                [octet] => Ok(*octet > 0),
+                _ => Err(ValueError::WrongLength),
+            },
+        }
+    }
+
+    /// A primitive element with this tag that holds the truth value, true as FF (X.690 8.2, 11.1). It takes no memory.
+    pub fn of_bool(tag: Tag, value: bool) -> Node
+        ensures { result ≡ prim tag (bool_octets value) }
+    {
+        let octets: &'static [u8] = if value { &[0xff] } else { &[0] };
+        Node::prim(tag, Bytes::from_static(octets))
+    }
+
+    /// Whether the element is a NULL: primitive and with no contents (X.690 8.8).
+    ///
+    /// `WrongForm` where the element is constructed, `WrongLength` where there are contents.
+    pub fn as_null(&self) -> Result<(), ValueError>
+        ensures { result ≡ as_null self.now }
+    {
+        match &self.body {
+            Body::Cons(_) => Err(ValueError::WrongForm),
+            Body::Prim(contents) => {
+                if contents.is_empty() {
+                    Ok(())
+                } else {
+                    Err(ValueError::WrongLength)
+                }
+            }
+        }
+    }
+
+    /// A primitive element with this tag and no contents (X.690 8.8). It takes no memory.
+    pub fn of_null(tag: Tag) -> Node
+        ensures { result ≡ prim tag [] }
+    {
+        Node::prim(tag, Bytes::new())
     }
 }
