@@ -1,5 +1,5 @@
 -- The places of productions, each one record with its laws, and a table as the elements of a value.
-use Rattle.std.specs.Prelude.{◌≡◌, ℕ, Bool, true, List, [], ◌∷◌, Option, Some, None, if◌then◌else◌, refl}
+use Rattle.std.specs.Prelude.{◌≡◌, ℕ, ℤ, Bool, true, List, [], ◌∷◌, Option, Some, None, if◌then◌else◌, refl}
 use Rattle.zber.specs.Names.{Name}
 use Rattle.zber.specs.Elements.{Element, tag_of}
 use Rattle.zber.specs.Productions.Tags.{among}
@@ -7,14 +7,14 @@ use Rattle.zber.specs.Productions.Standing.{required as one, ended as no_more, t
 use Rattle.zber.specs.Productions.Reading.{constructed}
 use Rattle.zber.specs.Productions.Building.{constructed_spelt}
 use Rattle.zber.specs.Productions.Laws.{IsPlace, IsSpelled}
-use Rattle.zber.specs.Productions.Meanings.{octets_of, octets_spelt, oid_of, oid_spelt, bits_of, bits_spelt}
+use Rattle.zber.specs.Productions.Meanings.{octets_of, octets_spelt, oid_of, oid_spelt, bits_of, bits_spelt, int_of, int_spelt, bool_of, bool_spelt}
 use Rattle.zber.specs.Productions.Place.{Place}
 use Rattle.zber.specs.Productions.Within.{sequence_of, around, itself, any_at, is_kept, each, list_of, whole_of, all_spelt}
 use Rattle.zber.specs.Productions.Choice.{Choice, Pick, picked, Says, choice_of, choice_spelt, choice_tags, distinct}
 use Rattle.zber.specs.Productions.Table.{Table, required, ended, Elements, Fields, fields, Maker, make_of, Stand, walk, put, tags_of, clear}
 use Rattle.zber.proofs.Productions.Reads.{constructed_at_tag}
 use Rattle.zber.proofs.Productions.Builds.{constructed_spelled}
-use Rattle.zber.proofs.Productions.Meanings.{octets_place, octets_spelled, oid_place, oid_spelled, bits_place, bits_spelled}
+use Rattle.zber.proofs.Productions.Meanings.{octets_place, octets_spelled, oid_place, oid_spelled, bits_place, bits_spelled, int_place, int_spelled, bool_place, bool_spelled}
 use Rattle.zber.proofs.Productions.Tables.{value_read, value_made}
 use Rattle.zber.proofs.Productions.Choices.{pick_some, choice_begins, pick_reads, pick_finds, choice_makes, choice_none}
 use Rattle.zber.proofs.Productions.Withins.{within_place, within_spelled, any_place, any_spelled, kept_place, kept_spelled, list_place, list_spelled}
@@ -54,6 +54,13 @@ oid tag = lawful {P = tagged tag oid_of} {tags = tag ∷ []} {meaning = oid_of} 
 
 abbrev pub bits : Name → Place (List Bool)
 bits tag = lawful {P = tagged tag bits_of} {tags = tag ∷ []} {meaning = bits_of} {spelt = bits_spelt tag} (bits_place tag) (bits_spelled tag)
+
+-- INTEGER, BOOLEAN
+abbrev pub integer : Name → Place ℤ
+integer tag = lawful {P = tagged tag int_of} {tags = tag ∷ []} {meaning = int_of} {spelt = int_spelt tag} (int_place tag) (int_spelled tag)
+
+abbrev pub boolean : Name → Place Bool
+boolean tag = lawful {P = tagged tag bool_of} {tags = tag ∷ []} {meaning = bool_of} {spelt = bool_spelt tag} (bool_place tag) (bool_spelled tag)
 
 -- a constructed element, kept with whatever it holds
 abbrev pub opaque : Name → Place Element

@@ -5,7 +5,7 @@ ghost use Rattle.zber.specs.Elements.{tag_of};
 ghost use Rattle.zber.specs.Productions.Tags.{among};
 ghost use Rattle.zber.specs.Productions.Place.{Place};
 ghost use Rattle.zasn.specs.Answers.{Means, Makes};
-ghost use Rattle.zasn.specs.Places.{octets, oid, bits, opaque};
+ghost use Rattle.zasn.specs.Places.{octets, integer, boolean, oid, bits, opaque};
 
 use crate::error::{BuildError, PartError};
 use bytes::Bytes;
@@ -58,6 +58,34 @@ impl Contents for Bytes {
     }
 }
 
+#[tactic(auto, using(zber::proofs::Productions::Meanings::fits_i64))]
+impl Contents for i64 {
+    ghost place = { integer };
+
+    fn of_node(_alloc: Global, node: &Node) -> Result<Self, PartError> {
+        let number = node.as_int()?;
+        Ok(number)
+    }
+
+    fn to_node(&self, alloc: Global, tag: Tag) -> Result<Node, BuildError> {
+        Ok(Node::of_int(alloc, tag, *self)?)
+    }
+}
+
+impl Contents for bool {
+    ghost place = { boolean };
+
+    fn of_node(_alloc: Global, node: &Node) -> Result<Self, PartError> {
+        let value = node.as_bool()?;
+        Ok(value)
+    }
+
+    fn to_node(&self, alloc: Global, tag: Tag) -> Result<Node, BuildError> {
+        Ok(Node::of_bool(tag, *self))
+    }
+}
+
+#[tactic(auto, using(zber::proofs::OidTest::is_oid_pass))]
 impl Contents for Oid {
     ghost place = { oid };
 

@@ -1,17 +1,22 @@
 -- Values are read as they are spelled, under whatever tag.
-use Rattle.std.proofs.Common.{◌≡◌, ℕ, List, [], ◌∷◌, Bool, true, Option, Some, None, Result, Ok, Err, refl, ap}
+use Rattle.std.proofs.Common.{◌≡◌, ℕ, ℤ, pos, negsuc, FitsSigned, List, [], ◌∷◌, Bool, true, false, Option, Some, None, Result, Ok, Err, refl, ap}
 use Rattle.zber.specs.declared.value.ValueError.{ValueError}
 use Rattle.zber.specs.Names.{Name}
 use Rattle.zber.specs.Elements.{Element, Primitive, Constructed}
+use Rattle.std.specs.Int.{w64}
+use Rattle.std.proofs.lemmas.Bool.{ltb-true, lt-ltb}
+use Rattle.zber.specs.Values.{bool_octets}
+use Rattle.zber.specs.Integers.{as_int, integer_octets}
 use Rattle.zber.specs.Oids.{as_oid, is_oid, oid_octets}
 use Rattle.zber.specs.Bits.{as_bits, bit_octets}
 use Rattle.zber.specs.Productions.Standing.{tagged}
-use Rattle.zber.specs.Productions.Meanings.{meant, octets_of, octets_spelt, oid_of, oid_spelt, bits_of, bits_spelt}
+use Rattle.zber.specs.Productions.Meanings.{meant, octets_of, octets_spelt, oid_of, oid_spelt, bits_of, bits_spelt, is_i64, int_of, int_spelt, bool_of, bool_spelt}
 use Rattle.zber.specs.Productions.Laws.{IsPlace, IsSpelled}
 use Rattle.zber.proofs.OidMeaning.{oid_is, oid_spelled as oid_is_spelled}
 use Rattle.zber.proofs.OidSpelling.{oid_written, oid_arcs}
 use Rattle.zber.proofs.OidTest.{is_oid_pass, is_oid_from_pass}
 use Rattle.zber.proofs.BitLemmas.{read_back}
+use Rattle.zber.proofs.IntegerLaws.{int_back, read_fits}
 use Rattle.zber.proofs.Productions.Reads.{tagged_place}
 use Rattle.zber.proofs.Productions.Builds.{contents_spelled, fitting_spelled}
 
@@ -43,3 +48,34 @@ bits_place tag = tagged_place tag bits_of [] (Primitive tag (0 ∷ [])) refl ref
 
 pub bits_spelled : (tag : Name) → IsSpelled (tagged tag bits_of) (bits_spelt tag)
 bits_spelled tag = contents_spelled tag bits_of bit_octets (λ bits. ap (λ (r : Result (List Bool) ValueError). meant r) (read_back bits))
+
+i64_fits : (z : ℤ) → is_i64 z ≡ true → FitsSigned w64 z
+i64_fits (pos n) e = record { sfits = ltb-true _ _ e }
+i64_fits (negsuc n) e = record { sfits = ltb-true _ _ e }
+
+pub fits_i64 : (z : ℤ) → FitsSigned w64 z → is_i64 z ≡ true
+fits_i64 (pos n) h = lt-ltb _ _ h.sfits
+fits_i64 (negsuc n) h = lt-ltb _ _ h.sfits
+
+pub int_place : (tag : Name) → IsPlace (tagged tag int_of) (tag ∷ []) int_of
+int_place tag = tagged_place tag int_of (pos 0) (Primitive tag (0 ∷ [])) refl refl
+
+int_written : (tag : Name) (z : ℤ) → is_i64 z ≡ true → int_of (Primitive tag (integer_octets z)) ≡ Some z
+int_written tag z e = ap (λ (r : Result ℤ ValueError). meant r) (int_back z (i64_fits z e))
+
+int_found : (z : ℤ) (n : Element) → int_of n ≡ Some z → is_i64 z ≡ true
+int_found z (Primitive t xs) e = fits_i64 z (read_fits xs z (meant_ok (as_int (Primitive t xs)) z e))
+int_found z (Constructed t f) e = absurd cc
+
+pub int_spelled : (tag : Name) → IsSpelled (tagged tag int_of) (int_spelt tag)
+int_spelled tag = fitting_spelled tag int_of integer_octets is_i64 (int_written tag) int_found
+
+pub bool_place : (tag : Name) → IsPlace (tagged tag bool_of) (tag ∷ []) bool_of
+bool_place tag = tagged_place tag bool_of false (Primitive tag (0 ∷ [])) refl refl
+
+bool_written : (tag : Name) (b : Bool) → bool_of (Primitive tag (bool_octets b)) ≡ Some b
+bool_written tag true = refl
+bool_written tag false = refl
+
+pub bool_spelled : (tag : Name) → IsSpelled (tagged tag bool_of) (bool_spelt tag)
+bool_spelled tag = contents_spelled tag bool_of bool_octets (bool_written tag)
