@@ -9,7 +9,7 @@ use Rattle.zber.proofs.Runs.{elements-forest}
 use Rattle.zapdu.specs.declared.apdu.Apdu.{Apdu}
 use Rattle.zapdu.specs.declared.apdu.Kind.{Kind}
 use Rattle.zapdu.specs.Writes.{kind_of, tag_of_kind, parts_of, Writes, kind_at, BeginsWith, IsMisfitAt, IsMalformed, IsNoApdu, apdu_at}
-use Rattle.zapdu.proofs.Kinds.{Of, apdu_exact, kind_at-tag_of_kind, tag_from_kind}
+use Rattle.zapdu.proofs.ApduKinds.{Of, apdu_exact, kind_at-tag_of_kind, tag_from_kind}
 
 -- ---- the misfit's place
 

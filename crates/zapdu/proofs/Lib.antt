@@ -1,3 +1,4 @@
+pub mod ApduKinds
 pub mod Decoding
-pub mod Kinds
+pub mod Tagged
 pub mod Written

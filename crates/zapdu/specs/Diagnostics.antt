@@ -2,6 +2,7 @@
 use Rattle.std.specs.Prelude.{◌≡◌, refl}
 use Rattle.std.proofs.Common.{inl, inr}
 use Rattle.zber.specs.Names.{context, universal}
+use Rattle.zber.specs.Elements.{Element}
 use Rattle.zber.specs.Productions.Place.{Place}
 use Rattle.zber.specs.Productions.Choice.{Choice, either, finally, Pick, picked}
 use Rattle.zber.specs.Productions.Table.{Table, required, ended, ◌⨾◌, Elements}
@@ -66,5 +67,5 @@ abbrev pub diag_rec : Place DiagRec
 diag_rec = of_choice diag_recs diag_pick diag-same diag-back refl
 
 -- the element stands for the diagnostic
-abbrev pub WritesDiag : DiagRec → _ → Type 0
+abbrev pub WritesDiag : DiagRec → Element → Type 0
 WritesDiag v n = diag_rec.stands v n

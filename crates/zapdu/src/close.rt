@@ -33,8 +33,7 @@ impl Production for Close {
         let close_reason = parts.required(alloc, Tag::context(211))?;
         let diagnostic_information = parts.optional(alloc, Tag::context(3))?;
         let resource_report_format = parts.optional(alloc, Tag::context(4))?;
-        let resource_report =
-            parts.optional_explicit(alloc, Tag::context(5), Tag::universal(8))?;
+        let resource_report = parts.optional_explicit(alloc, Tag::context(5), Tag::universal(8))?;
         let other_info = parts.optional(alloc, Tag::context(201))?;
         parts.end()?;
         Ok(Close {

@@ -62,7 +62,9 @@ impl Duplicate for DiagRec {
 impl Duplicate for RecordBody {
     fn duplicate(&self, alloc: Global) -> Result<Self, AllocError> {
         match self {
-            RecordBody::Retrieval(external) => Ok(RecordBody::Retrieval(external.duplicate(alloc)?)),
+            RecordBody::Retrieval(external) => Ok(RecordBody::Retrieval(external.duplicate(
+                alloc,
+            )?)),
             RecordBody::Surrogate(diag) => Ok(RecordBody::Surrogate(diag.duplicate(alloc)?)),
             RecordBody::Fragment(node) => Ok(RecordBody::Fragment(node.duplicate(alloc)?)),
         }

@@ -58,11 +58,12 @@ pub fn from_node(alloc: Global, node: &Node) -> Result<Apdu, ApduError>
         return Err(ApduError::NotApdu);
     };
     let mut parts = Parts::new(nodes.as_slice());
+    let all = parts.len();
     match apdu_of(alloc, kind, &mut parts) {
         Ok(apdu) => Ok(apdu),
         Err(PartError::Misfit) => {
             let left = parts.len();
-            let at = nodes.len().saturating_sub(left);
+            let at = all.saturating_sub(left);
             Err(ApduError::Malformed { kind, at })
         }
         Err(PartError::Memory) => Err(ApduError::Memory),

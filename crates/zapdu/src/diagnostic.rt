@@ -5,7 +5,9 @@ ghost use Rattle.zapdu.specs.Diagnostics.{default_parts, diag_rec, info};
 use crate::external::External;
 use bytes::Bytes;
 use std::alloc::Global;
-use zasn::{BuildError, Contents, PartError, Parts, PartsBuf, Production, Tagged, read_within, write_within};
+use zasn::{
+    BuildError, Contents, PartError, Parts, PartsBuf, Production, Tagged, read_within, write_within,
+};
 use zber::{Node, Oid, Tag};
 
 /// The additional information of a diagnostic.

@@ -7,7 +7,9 @@ ghost use Rattle.zapdu.specs.Externals.{content, external_parts};
 
 use bytes::Bytes;
 use std::alloc::Global;
-use zasn::{BuildError, Contents, PartError, Parts, PartsBuf, Production, Tagged, read_within, write_within};
+use zasn::{
+    BuildError, Contents, PartError, Parts, PartsBuf, Production, Tagged, read_within, write_within,
+};
 use zber::{Bits, Body, Node, Oid, Tag};
 
 /// What an EXTERNAL holds (X.690, 8.18).
@@ -22,7 +24,6 @@ pub enum Content {
 }
 
 /// An EXTERNAL (X.208, 34): what names the syntax, and the content.
-#[derive(Drop)]
 pub struct External {
     /// direct-reference: the syntax's object identifier.
     pub direct: Option<Oid>,
@@ -34,6 +35,17 @@ pub struct External {
     pub content: Content,
 }
 
+impl Drop for External {
+    fn drop(self) {
+        let External {
+            direct: _,
+            indirect: _,
+            descriptor: _,
+            content: _,
+        } = self;
+    }
+}
+
 /// The one element within an element.
 fn read_any(alloc: Global, node: &Node) -> Result<Node, PartError>
     ensures { Means ((any (context 0)).meaning node.now) result }
@@ -41,8 +53,9 @@ fn read_any(alloc: Global, node: &Node) -> Result<Node, PartError>
     match &node.body {
         Body::Prim(_) => Err(PartError::Misfit),
         Body::Cons(nodes) => match nodes.as_slice() {
+            [] => Err(PartError::Misfit),
             [only] => Ok(only.copy(alloc)?),
-            _ => Err(PartError::Misfit),
+            [_, _, ..] => Err(PartError::Misfit),
         },
     }
 }

@@ -7,5 +7,4 @@ ghost use Rattle.zapdu.specs.Writes.{Writes};
 /// An element stands for at most one APDU.
 pub fn one_value()
     ensures { (v w : Apdu) (n : Element) → Writes v n → Writes w n → v ≡ w }
-{
-}
+{}

@@ -13,7 +13,6 @@ use zasn::{
 use zber::{Node, Seq, Tag};
 
 /// What stands in the place of a record.
-#[derive(Drop)]
 pub enum RecordBody {
     /// retrievalRecord: the record.
     Retrieval(External),
@@ -41,6 +40,16 @@ pub enum Records {
     OneDiag(DefaultDiag),
     /// multipleNonSurDiagnostics.
     ManyDiags(Seq<DiagRec>),
+}
+
+impl Drop for RecordBody {
+    fn drop(self) {
+        match self {
+            RecordBody::Retrieval(_) => {}
+            RecordBody::Surrogate(_) => {}
+            RecordBody::Fragment(_) => {}
+        }
+    }
 }
 
 impl Tagged for RecordBody {

@@ -1,9 +1,10 @@
 //! The printed texts of octets, diagnostics and records.
-ghost use Rattle.std.specs.Prelude.{◌≡◌, ◌++◌, OnOk, OnErr, Option, MatchOption};
+ghost use Rattle.std.specs.Prelude.{◌≡◌, ◌++◌, OnOk, OnErr, Option, MatchOption, Some, None};
 ghost use Rattle.std.specs.Fmt.{signed_decimal};
 ghost use Rattle.hex.specs.Hex.{encode_lower};
+ghost use Rattle.zber.specs.Canonical.{canonical};
 ghost use Rattle.zber.specs.Dotted.{dotted};
-ghost use Rattle.zapdu.specs.Text.{shown, quoted, quoted_or_dash, ber_text, info_octets, default_text, diag_text, octets_alone, octets_text, record_text};
+ghost use Rattle.zapdu.specs.Text.{shown, quoted, quoted_or_dash, ber_text, info_octets, default_text, diag_text, octets_alone, octets_text, retrieval_text, record_text};
 
 use crate::diagnostic::{DefaultDiag, DiagRec, Info};
 use crate::external::{Content, External};

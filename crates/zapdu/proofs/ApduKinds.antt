@@ -78,13 +78,13 @@ pub kind_at-tag_of_kind : (kind : Kind) → kind_at (tag_of_kind kind) ≡ Some 
 kind_at-tag_of_kind kinds.PresentResponse = refl
 kind_at-tag_of_kind kinds.Close = refl
 
+tag_turn : (t : Name) (kind k : Kind) (ks : List Kind) (b : Bool) → (kind_among t ks ≡ Some kind → t ≡ tag_of_kind kind) → same_tag t (tag_of_kind k) ≡ b → cond b (Some k) (kind_among t ks) ≡ Some kind → t ≡ tag_of_kind kind
+tag_turn t kind k ks true later p f = let same : k ≡ kind = cc in same_tag-true t (tag_of_kind k) p ∙ ap tag_of_kind same
+tag_turn t kind k ks false later p f = later f
+
 tag_among : (t : Name) (kind : Kind) (ks : List Kind) → kind_among t ks ≡ Some kind → t ≡ tag_of_kind kind
 tag_among t kind [] e = absurd cc
-tag_among t kind (k ∷ ks) e = turn (same_tag t (tag_of_kind k)) refl e
-  where
-    turn : (b : Bool) → same_tag t (tag_of_kind k) ≡ b → cond b (Some k) (kind_among t ks) ≡ Some kind → t ≡ tag_of_kind kind
-    turn true p f = let same : k ≡ kind = cc in same_tag-true t (tag_of_kind k) p ∙ ap tag_of_kind same
-    turn false p f = tag_among t kind ks f
+tag_among t kind (k ∷ ks) e = tag_turn t kind k ks (same_tag t (tag_of_kind k)) (tag_among t kind ks) refl e
 
 pub tag_from_kind : (t : Name) (kind : Kind) → kind_at t ≡ Some kind → t ≡ tag_of_kind kind
 tag_from_kind t kind e = tag_among t kind kinds_in_order e
