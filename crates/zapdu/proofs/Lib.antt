@@ -1,4 +1,5 @@
 pub mod ApduKinds
 pub mod Decoding
+pub mod Refusals
 pub mod Tagged
 pub mod Written

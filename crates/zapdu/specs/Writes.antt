@@ -80,3 +80,9 @@ apdu_made (apdus.Close v) = close_parts.made v []
 
 abbrev pub apdu_spelt : Apdu → Option Element
 apdu_spelt v = around (tag_of_kind (kind_of v)) (apdu_made v)
+
+-- an element is refused in one way, and only where it stands for no APDU
+pub record OneRefusal : Type 0 where
+  pub written : (v : Apdu) (n : Element) → Writes v n → IsNoApdu n → ⊥
+  pub known : (kind : Kind) (at : ℕ) (n : Element) → IsNoApdu n → IsMalformed kind at n → ⊥
+  pub one_place : (j k : Kind) (a b : ℕ) (n : Element) → IsMalformed j a n → IsMalformed k b n → (j ≡ k) × (a ≡ b)

@@ -2,9 +2,14 @@
 ghost use Rattle.std.specs.Prelude.{◌≡◌};
 ghost use Rattle.zber.specs.Elements.{Element};
 ghost use Rattle.zapdu.specs.declared.apdu.Apdu.{Apdu};
-ghost use Rattle.zapdu.specs.Writes.{Writes};
+ghost use Rattle.zapdu.specs.Writes.{Writes, OneRefusal};
 
 /// An element stands for at most one APDU.
 pub fn one_value()
     ensures { (v w : Apdu) (n : Element) → Writes v n → Writes w n → v ≡ w }
+{}
+
+/// An element that stands for no APDU is refused in one way.
+pub fn one_refusal()
+    ensures { OneRefusal }
 {}
