@@ -1,9 +1,11 @@
 #![tactic(auto)]
 
 // Elements of BER.
+mod backward;
 mod bits;
 mod canonical;
 mod element;
+mod encode;
 mod fault;
 mod framer;
 mod header;
@@ -15,6 +17,7 @@ mod tag;
 mod value;
 
 pub use bits::Bits;
+pub use encode::EncodeError;
 pub use fault::{FaultKind, FrameError};
 pub use framer::Framer;
 pub use node::{Body, Node};
