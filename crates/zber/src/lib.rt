@@ -1,11 +1,13 @@
 #![tactic(auto)]
 
 // Elements of BER.
+mod backward;
 mod bits;
 mod canonical;
 mod dotted;
 mod duplicate;
 mod element;
+mod encode;
 mod fault;
 mod framer;
 mod header;
@@ -20,6 +22,7 @@ mod value;
 
 pub use bits::Bits;
 pub use duplicate::Duplicate;
+pub use encode::EncodeError;
 pub use fault::{FaultKind, FrameError};
 pub use framer::Framer;
 pub use node::{Body, Node};

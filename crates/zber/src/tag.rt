@@ -81,4 +81,11 @@ impl Tag {
     {
         self.number
     }
+
+    /// Does nothing: it tells that this is a tag.
+    pub fn lawful(&self)
+        ensures { IsTag self.now }
+    {
+        let _ = &self.number;
+    }
 }
