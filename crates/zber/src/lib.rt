@@ -18,7 +18,7 @@ mod value;
 pub use fault::{FaultKind, FrameError};
 pub use framer::Framer;
 pub use node::{Body, Node};
-pub use oid::Oid;
+pub use oid::{Oid, OidError};
 pub use seq::Seq;
 pub use tag::{Class, Tag};
 pub use value::ValueError;
