@@ -26,7 +26,7 @@ pub use encode::EncodeError;
 pub use fault::{FaultKind, FrameError};
 pub use framer::Framer;
 pub use node::{Body, Node};
-pub use oid::Oid;
+pub use oid::{Oid, OidError};
 pub use seq::Seq;
 pub use tag::{Class, Tag};
 pub use value::ValueError;

@@ -1,11 +1,53 @@
 // Object identifiers.
-ghost use Rattle.std.specs.Prelude.{◌≡◌, IfOk, string_bytes};
+ghost use Rattle.std.specs.Prelude.{◌≡◌, ℕ, true, false, ◌∷◌, List, Ok, Err, IfOk, string_bytes, MatchResult};
 ghost use Rattle.zber.specs.Dotted.{dotted};
-ghost use Rattle.zber.specs.Oids.{IsOid};
+ghost use Rattle.zber.specs.OidAnswers.{FromArcs, FromDotted, HasNoRoot};
+ghost use Rattle.zber.specs.Oids.{IsOid, HasRoot};
 
-use crate::dotted::text_of;
+use crate::dotted::{check_root, check_text, read_arcs, text_of};
 use std::alloc::{AllocError, Global};
 use std::marker::Model;
+use thiserror::Error;
+
+/// Why arcs, or a text, give no object identifier. Of several reasons it is the first here.
+#[derive(Clone, Copy, Debug, PartialEq, Eq, Drop, Error)]
+pub enum OidError {
+    /// The text is not of arcs in decimal with a dot between each two, or an arc has an idle zero.
+    #[error("not arcs in decimal with dots between them")]
+    OidText,
+    /// An arc is above 4,294,967,295.
+    #[error("an arc above 4294967295")]
+    OidArc,
+    /// There are fewer than two arcs.
+    #[error("fewer than two arcs")]
+    OidTooShort,
+    /// The first arc is above 2, or the second is 40 or more and the first 0 or 1.
+    #[error("a first arc above 2, or a second above 39 under 0 or 1")]
+    OidFirst,
+    /// No memory was found.
+    #[error("out of memory")]
+    Memory,
+}
+
+/// Whether two arcs may stand first.
+pub(crate) fn is_root(first: u32, second: u32) -> bool
+    ensures yes { result ≡ true → (arcs : List ℕ) → HasRoot (first ∷ second ∷ arcs) }
+    ensures no { result ≡ false → (arcs : List ℕ) → HasNoRoot (first ∷ second ∷ arcs) }
+{
+    first == 2 || (first < 2 && second < 40)
+}
+
+fn check_arcs(arcs: &[u32]) -> Result<(), OidError>
+    ensures { MatchResult result (λ _. HasRoot arcs.now) (λ e. FromArcs arcs.now (Err e)) }
+{
+    if arcs.len() < 2 {
+        return Err(OidError::OidTooShort);
+    }
+    if !is_root(arcs[0], arcs[1]) {
+        return Err(OidError::OidFirst);
+    }
+    Ok(())
+}
 
 /// An object identifier. Contracts see the list of its arcs: at least two, the first 0 to 2, the
 /// second below 40 where the first is 0 or 1, and each within 32 bits.
@@ -31,6 +73,34 @@ impl Oid {
         ensures { result ≡ arcs.items }
     {
         Oid { arcs }
+    }
+
+    /// The identifier of these arcs.
+    ///
+    /// Refusals: `OidTooShort`, `OidFirst`, `Memory`.
+    pub fn from_arcs(alloc: Global, arcs: &[u32]) -> Result<Oid, OidError>
+        ensures { FromArcs arcs.now result }
+    {
+        check_arcs(arcs)?;
+        match Vec::from_slice(alloc, arcs) {
+            Ok(arcs) => Ok(Oid { arcs }),
+            Err(_) => Err(OidError::Memory),
+        }
+    }
+
+    /// The identifier of arcs in decimal with a dot between each two, as `1.2.840.10003.5.10`.
+    /// An arc has no leading zero but in `0` itself.
+    ///
+    /// Refusals: all of `OidError`, the first that holds.
+    pub fn parse_dotted(alloc: Global, text: &[u8]) -> Result<Oid, OidError>
+        ensures { FromDotted text.now result }
+    {
+        check_text(text)?;
+        check_root(text)?;
+        match read_arcs(alloc, text) {
+            Ok(arcs) => Ok(Oid { arcs }),
+            Err(_) => Err(OidError::Memory),
+        }
     }
 
     /// The arcs.
