@@ -6,3 +6,7 @@ mod apdus;
 pub mod encodings;
 #[cfg(test)]
 mod framing;
+#[cfg(test)]
+mod identifiers;
+#[cfg(test)]
+mod values;
