@@ -1,8 +1,8 @@
 // Arcs in decimal, with dots.
-ghost use Rattle.std.specs.Prelude.{◌≡◌, ◌≢◌, ◌++◌, ℕ, true, false, ◌<◌, ◌≤◌, ◌^◌, List, Option, Some, None, Ok, Err, IfOk, IfSome, IfNone, IsTrue, ◌↔◌, All, length, string_bytes, MatchResult, MatchOption};
+ghost use Rattle.std.specs.Prelude.{◌≡◌, ◌≢◌, ◌++◌, ℕ, true, false, ◌<◌, ◌≤◌, ◌^◌, List, Option, Some, None, Ok, Err, IfOk, IfSome, IfNone, IsTrue, ◌↔◌, All, length, string_bytes, MatchResult};
 ghost use Rattle.std.specs.Option.{option_map};
 ghost use Rattle.zber.specs.Dotted.{dotted, numeral, behind};
-ghost use Rattle.zber.specs.OidAnswers.{FromDotted, IsDotted, IsArc};
+ghost use Rattle.zber.specs.OidAnswers.{FromDotted, IsArc, IsDotted};
 ghost use Rattle.zber.specs.Oids.{HasRoot};
 
 use crate::oid::{OidError, is_root};

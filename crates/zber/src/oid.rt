@@ -68,6 +68,7 @@ impl Model for Oid {
 }
 
 impl Oid {
+    /// The identifier of arcs that are known to be one's.
     pub(crate) fn from_vec(arcs: Vec<u32>) -> Oid
         requires { IsOid arcs.items }
         ensures { result ≡ arcs.items }
@@ -77,7 +78,8 @@ impl Oid {
 
     /// The identifier of these arcs.
     ///
-    /// Refusals: `OidTooShort`, `OidFirst`, `Memory`.
+    /// Refusals: `OidTooShort` for fewer than two; `OidFirst` where the first is above 2, or the
+    /// second above 39 and the first 0 or 1; `Memory`.
     pub fn from_arcs(alloc: Global, arcs: &[u32]) -> Result<Oid, OidError>
         ensures { FromArcs arcs.now result }
     {
@@ -91,7 +93,8 @@ impl Oid {
     /// The identifier of arcs in decimal with a dot between each two, as `1.2.840.10003.5.10`.
     /// An arc has no leading zero but in `0` itself.
     ///
-    /// Refusals: all of `OidError`, the first that holds.
+    /// Refusals: `OidText`, `OidArc`, `OidTooShort`, `OidFirst`, `Memory`; of several reasons the
+    /// first of these.
     pub fn parse_dotted(alloc: Global, text: &[u8]) -> Result<Oid, OidError>
         ensures { FromDotted text.now result }
     {
