@@ -1,4 +1,4 @@
-// Octets written from the last to the first.
+//! Octets written from the last to the first.
 ghost use Rattle.std.specs.Prelude.{◌≡◌, ◌∷◌, ◌++◌, [], length, OnOk, OnErr};
 
 use std::alloc::{AllocError, Global};

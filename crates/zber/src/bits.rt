@@ -1,4 +1,4 @@
-// Bit strings (X.690 8.6).
+//! Bit strings (X.690 8.6).
 ghost use Rattle.std.specs.Prelude.{◌≡◌, ◌++◌, ◌*◌, ◌-◌, ◌≤◌, false, length, take, slice_index_or, OnOk, IfOk};
 ghost use Rattle.zber.specs.Elements.{prim};
 ghost use Rattle.zber.specs.Bits.{bit_values, octet_bits, all_bits, as_bits, weight_by, bit_octets};

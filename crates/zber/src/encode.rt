@@ -1,4 +1,4 @@
-// The encoding of an element that a framer takes.
+//! The encoding of an element that a framer takes.
 ghost use Rattle.std.specs.Prelude.{◌≡◌, ◌≤◌, ◌<◌, ◌↔◌, ◌+◌, ◌++◌, ℕ, Bool, List, length, IsTrue, OnOk, OnErr, IfSome, IfNone, IsErrOf};
 ghost use Rattle.zber.specs.Elements.{height};
 ghost use Rattle.zber.specs.Spelling.{Begins};

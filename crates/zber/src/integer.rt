@@ -1,4 +1,4 @@
-// Integers (X.690 8.3).
+//! Integers (X.690 8.3).
 ghost use Rattle.std.specs.Prelude.{◌≡◌, ◌<◌, ◌≤◌, ◌++◌, true, nat_lt, length, OnOk, IfOk};
 ghost use Rattle.std.specs.List.{list_all};
 ghost use Rattle.zber.specs.Elements.{prim};

@@ -1,4 +1,4 @@
-// Values of elements: octets, truth values and nulls (X.690 8).
+//! Values of elements: octets, truth values and nulls (X.690 8).
 ghost use Rattle.std.specs.Prelude.{◌≡◌, [], IfOk};
 ghost use Rattle.zber.specs.Elements.{prim};
 ghost use Rattle.zber.specs.Values.{as_octets, as_bool, as_null, bool_octets, Gives};
