@@ -1,5 +1,5 @@
 -- What has been shown so far, and how it goes on or ends.
-use Rattle.std.proofs.Common.{◌≡◌, ℕ, suc, ◌+◌, ◌<◌, ◌⊎◌, inl, inr, List, [], ◌∷◌, ◌++◌, length, Bool, true, false, Option, Some, None, Result, Ok, Err, IsErrAnd, IfSome, refl, ap, sym, ◌∙◌, subst, append_assoc, append-nil, arith, length-append}
+use Rattle.std.proofs.Common.{◌≡◌, ℕ, ◌<◌, inl, inr, List, [], ◌∷◌, ◌++◌, length, Bool, true, false, Option, Some, None, Result, Ok, Err, IsErrAnd, IfSome, refl, ap, sym, ◌∙◌, subst, append_assoc, append-nil, arith, length-append}
 use Rattle.zber.specs.declared.fault.FaultKind.{FaultKind}
 use Rattle.zber.specs.declared.fault.FaultKind.TheVariants as kinds
 use Rattle.zber.specs.declared.fault.FrameError.{FrameError}
@@ -18,7 +18,8 @@ use Rattle.std.specs.Io.KnownBytes.{Appends}
 use Rattle.zmeta.specs.Digits.{octets_of}
 use Rattle.zmeta.specs.Faults.{of_frame, of_apdu}
 use Rattle.zmeta.specs.Lines.{apdu_text}
-use Rattle.zmeta.specs.Show.{limit, Shown, nothing_left, apdu, fault, unfinished, no_apdu, malformed, ShowsNext, ShowsOctets, PrintsLines, ShowsDigits, ShowsText}
+use Rattle.zmeta.specs.Show.{limit, Shown, nothing_left, apdu, fault, unfinished, no_apdu, malformed, ShowsDigits, ShowsText}
+use Rattle.zmeta.specs.Steps.{ShowsNext, ShowsOctets, PrintsLines}
 use Rattle.zmeta.specs.declared.fault.Fault.{Fault}
 use Rattle.zmeta.specs.declared.fault.Fault.TheVariants.{Read, Write, Hex, Frame, NotApdu, Malformed, Memory}
 
@@ -155,7 +156,7 @@ text_shown digits xs lines old new answer (Err Hex) q s p = absurd (is_end (let 
 text_shown digits xs lines old new answer (Err (Frame kind at)) q s p = digits_shown digits xs lines old new (Err (Frame kind at)) q (subst (ShowsOctets xs [] lines) (sym p.0) s) p.1
 text_shown digits xs lines old new answer (Err NotApdu) q s p = digits_shown digits xs lines old new (Err NotApdu) q (subst (ShowsOctets xs [] lines) (sym p.0) s) p.1
 text_shown digits xs lines old new answer (Err (Malformed kind at)) q s p = digits_shown digits xs lines old new (Err (Malformed kind at)) q (subst (ShowsOctets xs [] lines) (sym p.0) s) p.1
-text_shown digits xs lines old new answer (Err Memory) q s p = p
+text_shown digits xs lines old new answer (Err Memory) q s p = p.1
 
 -- the same for the input of a reader that tells its octets, each value behind its name
 pub input_shown : (known : Option (List ℕ)) (input digits octets xs start lines printed : List ℕ) (old new : Option (List ℕ)) (answer end : Result (Unit {0}) Fault)

@@ -34,3 +34,48 @@ pub fn read_all<'a, R: Read>(
     }
     Err(Fault::Read(path))
 }
+
+#[cfg(test)]
+mod tests {
+    use super::*;
+    use std::io;
+    use std::test::Fail;
+
+    /// A reader of so many octets that gives one at a time.
+    #[derive(Drop)]
+    struct Drip {
+        left: u32,
+        calls: u32,
+    }
+
+    impl Read for Drip {
+        fn read(&mut self, buf: &mut [u8]) -> io::Result<usize> {
+            self.calls = self.calls.saturating_add(1);
+            if self.left == 0 || buf.is_empty() {
+                return Ok(0);
+            }
+            self.left -= 1;
+            buf[0] = 7;
+            Ok(1)
+        }
+    }
+
+    #[test]
+    fn reads_no_more_than_a_million_times(rt: HostRuntime) -> Result<(), Fail> {
+        let mut reader = Drip {
+            left: 999_999,
+            calls: 0,
+        };
+        let octets = read_all(rt.alloc(), &mut reader, "-");
+        assert!(rt; octets.is_ok());
+        assert_eq!(rt; reader.calls, 1_000_000);
+        let mut reader = Drip {
+            left: 1_000_000,
+            calls: 0,
+        };
+        let octets = read_all(rt.alloc(), &mut reader, "-");
+        assert!(rt; matches!(octets, Err(Fault::Read("-"))));
+        assert_eq!(rt; reader.calls, 1_000_000);
+        Ok(())
+    }
+}

@@ -1,14 +1,14 @@
 //! The words of the command line, read with `clap`.
 
-ghost use Rattle.std.specs.Prelude.{◌≡◌, ◌≢◌, ◌⊎◌};
+ghost use Rattle.std.specs.Prelude.{◌≡◌, ◌≢◌, ◌⊎◌, IfOk};
 ghost use Rattle.clap.specs.Words.{kind_of};
-ghost use Rattle.zmeta.specs.Faults.{status_of};
-ghost use Rattle.clap.specs.declared.error.kind.ErrorKind.TheVariants.{OutOfMemory, DisplayHelp, DisplayVersion};
+ghost use Rattle.clap.specs.declared.error.kind.ErrorKind.TheVariants.{OutOfMemory, InvalidValue, DisplayHelp, DisplayVersion};
 
 use crate::fault::{Fault, Status};
 use clap::error::ErrorKind;
-use clap::{Arg, ArgAction, ArgMatches, Command, Error, value_parser};
+use clap::{Arg, ArgAction, Command, Error, value_parser};
 use std::alloc::{AllocError, Global};
+use std::io::Write;
 
 /// What the words ask for.
 #[derive(Clone, Copy, Debug, PartialEq, Eq)]
@@ -38,6 +38,9 @@ struct Word {
 }
 
 const ABOUT: &str = "Asks library catalogues over Z39.50, and shows what they answer";
+
+const ADVICE: &str =
+    "'zmeta help COMMAND' says what a command reads and prints, with an example, as\n  zmeta help show";
 
 const FORMS: [Form; 1] = [Form {
     name: "show",
@@ -100,6 +103,7 @@ fn subcommand<'a>(alloc: Global, form: &Form) -> Result<Command<'a>, AllocError>
 fn command<'a>(alloc: Global, forms: &[Form]) -> Result<Command<'a>, AllocError> {
     let mut command = Command::new(alloc, "zmeta")
         .about(ABOUT)
+        .after_help(ADVICE)
         .subcommand_required(true);
     for form in forms {
         command = command.subcommand(subcommand(alloc, form)?)?;
@@ -110,24 +114,24 @@ fn command<'a>(alloc: Global, forms: &[Form]) -> Result<Command<'a>, AllocError>
 /// What the words ask for, the first being the program's name. Else the text for words that are wrong or that ask for
 /// help; its kind is `OutOfMemory` where memory ran out.
 pub fn parse<'a>(alloc: Global, words: &'a [String]) -> Result<Words, Error> {
-    let matches = command(alloc, &FORMS)?.try_get_matches_from(words)?;
-    Ok(words_of(&matches))
+    let mut command = command(alloc, &FORMS)?;
+    let matches = command.try_get_matches_from_mut(words)?;
+    match matches.subcommand_name() {
+        Some("show") => Ok(Words::Show),
+        _ => Err(command.error(ErrorKind::InvalidSubcommand, "no such command")?),
+    }
 }
 
-fn words_of(_matches: &ArgMatches<'_>) -> Words {
-    Words::Show
+/// The text for words that are not UTF-8.
+pub fn odd_words(alloc: Global) -> Result<Error, AllocError>
+    ensures { IfOk result (λ e. kind_of e ≡ InvalidValue) }
+{
+    let message = "invalid UTF-8 was detected in one or more arguments";
+    command(alloc, &FORMS)?.error(ErrorKind::InvalidValue, message)
 }
 
-/// The error for words that are not UTF-8.
-pub fn odd_words(alloc: Global) -> Result<Error, AllocError> {
-    command(alloc, &FORMS)?.error(
-        ErrorKind::InvalidValue,
-        "invalid UTF-8 was detected in one or more arguments",
-    )
-}
-
-/// Tells why there is nothing to do: wrong words on standard error, help that was asked for on standard output.
-pub fn tell<R: Print + Eprint>(rt: &R, error: &Error) -> Status
+/// Prints the text of `parse` and answers the status: of wrong words on standard error, of help on standard output.
+pub fn tell<R: Print + Eprint, E: Write>(rt: &R, error: &Error, errors: &mut E) -> Status
     ensures memory { kind_of error.now ≡ OutOfMemory → result ≡ Status.Memory }
     ensures help { (kind_of error.now ≡ DisplayHelp) ⊎ (kind_of error.now ≡ DisplayVersion)
         → (result ≡ Status.Done) ⊎ (result ≡ Status.Refused) }
@@ -135,23 +139,94 @@ pub fn tell<R: Print + Eprint>(rt: &R, error: &Error) -> Status
         → kind_of error.now ≢ DisplayVersion → result ≡ Status.Words }
 {
     if error.kind() == ErrorKind::OutOfMemory {
-        return report(rt, &Fault::Memory);
+        return Fault::Memory.report(errors);
     }
     let printed = error.print(rt);
     if error.use_stderr() {
-        // Words stay wrong where that cannot be told.
+        // Words that cannot be told to be wrong are wrong all the same.
         return Status::Words;
     }
     match printed {
         Ok(()) => Status::Done,
-        Err(_) => report(rt, &Fault::Write("-")),
+        Err(_) => Fault::Write("-").report(errors),
     }
 }
 
-fn report<R: Eprint>(rt: &R, fault: &Fault<'_>) -> Status
-    ensures { result ≡ status_of fault.now }
-{
-    // A fault that cannot be told keeps its status.
-    let _ = eprintln!(rt; "zmeta: {fault}");
-    fault.status()
+#[cfg(test)]
+mod tests {
+    use super::*;
+    use std::test::Fail;
+
+    const RUN: Form = Form {
+        name: "run",
+        about: "Runs",
+        example: "Example",
+        wants: &[
+            Word {
+                id: "FILE",
+                help: "A file",
+                is_number: false,
+            },
+            Word {
+                id: "N",
+                help: "A number",
+                is_number: true,
+            },
+        ],
+        has_hex: true,
+        has_save: true,
+    };
+
+    fn words_of(alloc: Global, line: &str) -> Result<Vec<String>, AllocError> {
+        let mut words = Vec::new(alloc);
+        for word in line.split(' ') {
+            words.push(String::from_str(alloc, word)?)?;
+        }
+        Ok(words)
+    }
+
+    #[test]
+    fn shows(rt: HostRuntime) -> Result<(), Fail> {
+        let words = words_of(rt.alloc(), "zmeta show")?;
+        assert_eq!(rt; parse(rt.alloc(), words.as_slice())?, Words::Show);
+        Ok(())
+    }
+
+    #[test]
+    fn refuses_other_words(rt: HostRuntime) -> Result<(), Fail> {
+        for (line, status) in [
+            ("zmeta", 2),
+            ("zmeta shew", 2),
+            ("zmeta show x", 2),
+            ("zmeta show --hex", 2),
+            ("zmeta --version", 2),
+            ("zmeta --help", 0),
+            ("zmeta help show", 0),
+            ("zmeta show -h", 0),
+        ] {
+            let words = words_of(rt.alloc(), line)?;
+            match parse(rt.alloc(), words.as_slice()) {
+                Ok(_) => assert!(rt; false, "{line}"),
+                Err(error) => assert_eq!(rt; error.exit_code(), status, "{line}"),
+            }
+        }
+        Ok(())
+    }
+
+    #[test]
+    fn a_command_is_one_entry(rt: HostRuntime) -> Result<(), Fail> {
+        let words = words_of(rt.alloc(), "zmeta run w 7 --save s --hex")?;
+        let command = command(rt.alloc(), &[RUN])?;
+        let matches = command.try_get_matches_from(words.as_slice())?;
+        let Some((name, found)) = matches.subcommand() else {
+            assert!(rt; false, "no command");
+            return Ok(());
+        };
+        assert_eq!(rt; name, "run");
+        assert_eq!(rt; found.get_str("FILE"), Some("w"));
+        assert_eq!(rt; found.get_one::<u32>("N"), Some(7));
+        assert_eq!(rt; found.get_str("save"), Some("s"));
+        assert!(rt; found.get_flag("hex"));
+        Ok(())
+    }
 }
