@@ -21,7 +21,7 @@ use Rattle.zmeta.specs.Lines.{apdu_text}
 use Rattle.zmeta.specs.Show.{limit, Shown, nothing_left, apdu, fault, unfinished, no_apdu, malformed, ShowsDigits, ShowsText}
 use Rattle.zmeta.specs.Steps.{ShowsNext, ShowsOctets, PrintsLines}
 use Rattle.zmeta.specs.declared.fault.Fault.{Fault}
-use Rattle.zmeta.specs.declared.fault.Fault.TheVariants.{Read, Write, Hex, Frame, NotApdu, Malformed, Memory}
+use Rattle.zmeta.specs.declared.fault.Fault.TheVariants.{Read, Write, Hex, Frame, Memory}
 
 identifier_some : {n : Name} {c : Bool} {i : List ℕ} (x : List ℕ) → Identifier n c i → 0 < length (i ++ x)
 identifier_some x (low t p) = omega arith
@@ -149,14 +149,11 @@ digits_shown : (digits xs lines : List ℕ) (old new : Option (List ℕ)) (end :
 digits_shown digits xs lines old new end q s a = (xs, s.0, q, s.1, subst (Appends old new) s.2 a)
 
 text_shown : (digits xs lines : List ℕ) (old new : Option (List ℕ)) (answer end : Result (Unit {0}) Fault) → octets_of digits ≡ Ok xs → ShowsOctets xs [] lines answer → PrintsLines lines answer old new end → ShowsText digits old new end
-text_shown digits xs lines old new answer (Ok tt) q s p = digits_shown digits xs lines old new (Ok tt) q (subst (ShowsOctets xs [] lines) (sym p.0) s) p.1
-text_shown digits xs lines old new answer (Err (Read path)) q s p = absurd (is_end (let t = subst (ShowsOctets xs [] lines) (sym p.0) s in t.1))
 text_shown digits xs lines old new answer (Err (Write path)) q s p = tt
-text_shown digits xs lines old new answer (Err Hex) q s p = absurd (is_end (let t = subst (ShowsOctets xs [] lines) (sym p.0) s in t.1))
-text_shown digits xs lines old new answer (Err (Frame kind at)) q s p = digits_shown digits xs lines old new (Err (Frame kind at)) q (subst (ShowsOctets xs [] lines) (sym p.0) s) p.1
-text_shown digits xs lines old new answer (Err NotApdu) q s p = digits_shown digits xs lines old new (Err NotApdu) q (subst (ShowsOctets xs [] lines) (sym p.0) s) p.1
-text_shown digits xs lines old new answer (Err (Malformed kind at)) q s p = digits_shown digits xs lines old new (Err (Malformed kind at)) q (subst (ShowsOctets xs [] lines) (sym p.0) s) p.1
 text_shown digits xs lines old new answer (Err Memory) q s p = p.1
+text_shown digits xs lines old new answer (Err (Read path)) q s p = absurd (is_end (let t = subst (ShowsOctets xs [] lines) (sym p.0) s in t.1))
+text_shown digits xs lines old new answer (Err Hex) q s p = absurd (is_end (let t = subst (ShowsOctets xs [] lines) (sym p.0) s in t.1))
+text_shown digits xs lines old new answer end q s p = digits_shown digits xs lines old new end q (subst (ShowsOctets xs [] lines) (sym p.0) s) p.1
 
 -- the same for the input of a reader that tells its octets, each value behind its name
 pub input_shown : (known : Option (List ℕ)) (input digits octets xs start lines printed : List ℕ) (old new : Option (List ℕ)) (answer end : Result (Unit {0}) Fault)
