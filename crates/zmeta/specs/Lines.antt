@@ -3,13 +3,15 @@ use Rattle.std.specs.Prelude.{ℕ, ℤ, List, [], ◌∷◌, ◌++◌, Option, S
 use Rattle.std.specs.List.{flat_map}
 use Rattle.std.specs.Fmt.{signed_decimal}
 use Rattle.hex.specs.Hex.{encode_lower}
-use Rattle.zapdu.specs.Text.{quoted, record_text}
+use Rattle.zapdu.specs.Text.{quoted, record_text, default_text, diag_text}
 use Rattle.zapdu.specs.declared.apdu.Apdu.{Apdu}
 use Rattle.zapdu.specs.declared.apdu.Apdu.TheVariants as apdus
 use Rattle.zapdu.specs.declared.apdu.Kind.{Kind}
 use Rattle.zapdu.specs.declared.apdu.Kind.TheVariants as kinds
-use Rattle.zapdu.specs.declared.apdu.Close.{Close}
-use Rattle.zapdu.specs.declared.apdu.PresentResponse.{PresentResponse}
+use Rattle.zapdu.specs.declared.close.Close.{Close}
+use Rattle.zapdu.specs.declared.diagnostic.DefaultDiag.{DefaultDiag}
+use Rattle.zapdu.specs.declared.diagnostic.DiagRec.{DiagRec}
+use Rattle.zapdu.specs.declared.present_response.PresentResponse.{PresentResponse}
 use Rattle.zapdu.specs.declared.record.Record.{Record}
 use Rattle.zapdu.specs.declared.record.Records.{Records}
 use Rattle.zapdu.specs.declared.record.Records.TheVariants as records
@@ -39,8 +41,20 @@ record_line r = codes "  " ++ record_text false r ++ codes "\n"
 abbrev pub record_lines : List Record → List ℕ
 record_lines rs = flat_map record_line rs
 
+-- a diagnostic that stands for no record
+abbrev pub default_line : DefaultDiag → List ℕ
+default_line d = codes "  nonsurrogate " ++ default_text d ++ codes "\n"
+
+abbrev pub diag_line : DiagRec → List ℕ
+diag_line d = codes "  nonsurrogate " ++ diag_text d ++ codes "\n"
+
+abbrev pub diag_lines : List DiagRec → List ℕ
+diag_lines ds = flat_map diag_line ds
+
 abbrev pub records_text : Records → List ℕ
 records_text (records.List rs) = record_lines rs
+records_text (records.OneDiag d) = default_line d
+records_text (records.ManyDiags ds) = diag_lines ds
 
 abbrev pub optional_records : Option Records → List ℕ
 optional_records None = []

@@ -1,10 +1,13 @@
 //! The lines of an APDU, as `show` prints them.
 ghost use Rattle.std.specs.Prelude.{◌≡◌, ◌++◌, OnOk, OnErr};
-ghost use Rattle.zmeta.specs.Lines.{apdu_word, apdu_text, response_text, close_text, head_line, reference_text, numbers_text, number_text, records_text, record_lines, record_line, info_text};
+ghost use Rattle.zmeta.specs.Lines.{apdu_word, apdu_text, response_text, close_text, head_line, reference_text, numbers_text, number_text, records_text, record_lines, record_line, default_line, diag_lines, diag_line, info_text};
 
 use bytes::Bytes;
 use std::alloc::{AllocError, Global};
-use zapdu::{Apdu, Close, Kind, PresentResponse, Record, Records, print_record, quote};
+use zapdu::{
+    Apdu, Close, DefaultDiag, DiagRec, Kind, PresentResponse, Record, Records, print_default_diag,
+    print_diag, print_record, quote,
+};
 
 /// The word of a kind of APDU.
 pub fn apdu_word(kind: Kind) -> &'static str
@@ -134,6 +137,8 @@ fn put_records(alloc: Global, records: &Records, text: &mut Vec<u8>) -> Result<(
 {
     match records {
         Records::List(list) => put_list(alloc, list.as_slice(), text),
+        Records::OneDiag(diag) => put_default(alloc, diag, text),
+        Records::ManyDiags(diags) => put_diags(alloc, diags.as_slice(), text),
     }
 }
 
@@ -151,5 +156,30 @@ fn put_record(alloc: Global, value: &Record, text: &mut Vec<u8>) -> Result<(), A
 {
     text.extend_from_slice(b"  ")?;
     print_record(alloc, value, false, text)?;
+    text.extend_from_slice(b"\n")
+}
+
+fn put_default(alloc: Global, diag: &DefaultDiag, text: &mut Vec<u8>) -> Result<(), AllocError>
+    ensures { OnOk result (text.new.items ≡ text.old.items ++ default_line diag.now) }
+{
+    text.extend_from_slice(b"  nonsurrogate ")?;
+    print_default_diag(alloc, diag, text)?;
+    text.extend_from_slice(b"\n")
+}
+
+fn put_diags(alloc: Global, diags: &[DiagRec], text: &mut Vec<u8>) -> Result<(), AllocError>
+    ensures { OnOk result (text.new.items ≡ text.old.items ++ diag_lines diags.now) }
+{
+    for diag in diags {
+        put_diag(alloc, diag, text)?;
+    }
+    Ok(())
+}
+
+fn put_diag(alloc: Global, diag: &DiagRec, text: &mut Vec<u8>) -> Result<(), AllocError>
+    ensures { OnOk result (text.new.items ≡ text.old.items ++ diag_line diag.now) }
+{
+    text.extend_from_slice(b"  nonsurrogate ")?;
+    print_diag(alloc, diag, text)?;
     text.extend_from_slice(b"\n")
 }

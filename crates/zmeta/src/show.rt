@@ -11,12 +11,13 @@ use crate::input::read_all;
 use crate::lines::print_apdu;
 use std::alloc::Global;
 use std::io::{Read, Write};
-use zapdu::{from_node, one_refusal, one_value};
+use zapdu::from_node;
+use zapdu::laws::{one_refusal, one_value};
 use zber::Framer;
 use zber::laws::one_answer;
 
 /// The most octets of one message.
-const MESSAGE_LIMIT: usize = 2_097_152;
+const MESSAGE_LIMIT: u32 = 2_097_152;
 
 /// Prints each APDU of the octets whose hexadecimal digits the input has, and tells on standard error why it stopped
 /// before their end. What was printed before a fault stands; where memory runs out, nothing is printed.
