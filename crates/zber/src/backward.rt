@@ -4,8 +4,8 @@ ghost use Rattle.std.specs.Prelude.{◌≡◌, ◌∷◌, ◌++◌, [], length, 
 use std::alloc::{AllocError, Global};
 use std::marker::Model;
 
-/// Octets that are written from the last to the first, so that the length of contents is known where it is written. Contracts see
-/// them in their own order.
+/// Octets that are written from the last to the first, so that the length of contents is known
+/// where it is written. Contracts see them in their own order.
 #[derive(Drop)]
 pub(crate) struct Backward {
     octets: Vec<u8>,

@@ -36,7 +36,7 @@ impl Bits {
         Bits { bits }
     }
 
-    /// A copy of these bits.
+    /// A copy of these bits. An error only where no memory was found.
     pub fn from_slice(alloc: Global, bits: &[bool]) -> Result<Bits, AllocError>
         ensures { IfOk result (λ b. b ≡ bits.now) }
     {
@@ -66,7 +66,7 @@ impl Bits {
         self.bits.as_slice()
     }
 
-    /// Equal bits.
+    /// Equal bits. An error only where no memory was found.
     pub fn copy(&self, alloc: Global) -> Result<Bits, AllocError>
         ensures { IfOk result (λ b. b ≡ self.now) }
     {
@@ -112,11 +112,11 @@ fn weight(bits: &[bool]) -> u8
 }
 
 impl Node {
-    /// The bits of a BIT STRING (X.690 8.6). Bit 0 is the most significant bit of the second contents octet; the first counts the
-    /// unused bits at the end.
+    /// The bits of a BIT STRING (X.690 8.6). The first contents octet counts the unused bits at the
+    /// end, and bit 0 is the most significant bit of the second.
     ///
-    /// `WrongForm` where the element is constructed; `WrongLength` where there are no contents, or where they count more unused
-    /// bits than seven or than there are; `Memory` where none was found.
+    /// `WrongForm` where the element is constructed; `WrongLength` where there are no contents, or
+    /// where they count more unused bits than seven or than there are; `Memory` where none was found.
     pub fn as_bits(&self, alloc: Global) -> Result<Bits, ValueError>
         ensures { Gives result (as_bits self.now) }
     {
@@ -135,7 +135,8 @@ impl Node {
         }
     }
 
-    /// A primitive element with this tag that holds the bits, the unused ones of the last octet zero (X.690 8.6.2, 11.2.1).
+    /// A primitive element with this tag that holds the bits, with the unused bits of the last octet
+    /// zero (X.690 8.6.2, 11.2.1). An error only where no memory was found.
     pub fn of_bits(alloc: Global, tag: Tag, bits: &Bits) -> Result<Node, AllocError>
         ensures { IfOk result (λ n. n ≡ prim tag (bit_octets bits.now)) }
     {

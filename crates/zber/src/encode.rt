@@ -142,15 +142,17 @@ impl Node {
         }
     }
 
-    /// Appends the canonical encoding: definite lengths, and each in its shortest form (X.690 10.1).
+    /// Appends the canonical encoding: definite lengths, each in its shortest form (X.690 10.1).
     ///
-    /// `TooDeep` exactly where more than 64 constructed elements stand within one another, `TooLong` exactly where not so, and the
-    /// encoding has more octets than the limit. Both are told before any memory is taken. Every refusal leaves the octets as they
-    /// were. A framer with this limit gives the element back, whatever follows it.
+    /// `TooDeep` exactly where more than 64 constructed elements stand within one another; `TooLong`
+    /// exactly where no more do, and the encoding has more octets than the limit. Both are told before
+    /// any memory is taken. Every refusal leaves `out` as it was. A framer with this limit gives the
+    /// element back, whatever follows it.
     pub fn encode(&self, alloc: Global, limit: u32, out: &mut Vec<u8>) -> Result<(), EncodeError>
         ensures ok { OnOk result (out.new.items ≡ out.old.items ++ canonical self.now) }
         ensures lawful { OnOk result (IsLawful self.now) }
-        ensures framed { OnOk result ((more : List ℕ) → Begins limit (canonical self.now ++ more) self.now more) }
+        ensures framed { OnOk result ((more : List ℕ)
+            → Begins limit (canonical self.now ++ more) self.now more) }
         ensures too_deep { IsErrOf result EncodeError.TooDeep ↔ (64 < height self.now) }
         ensures too_long { IsErrOf result EncodeError.TooLong
             ↔ ((height self.now ≤ 64) × (limit < length (canonical self.now))) }

@@ -18,6 +18,7 @@ fn integer(octets: &[u8]) -> i64
     ensures octets { list_all (λ y. nat_lt y 256) octets.now ≡ true }
 {
     let mut number: u64 = 0;
+    // the greatest number of as many octets
     let mut top: u64 = 0;
     for x in octets {
         number = number * 256 + u64::from(*x);
@@ -56,10 +57,11 @@ fn put_integer(out: &mut Vec<u8>, most: u32, number: i64) -> Result<(), AllocErr
 }
 
 impl Node {
-    /// The number of an INTEGER or ENUMERATED (X.690 8.3): two's complement, also where it has more octets than it needs.
+    /// The number of an INTEGER or ENUMERATED (X.690 8.3): two's complement, also where it has more
+    /// octets than it needs.
     ///
-    /// `WrongForm` where the element is constructed, `WrongLength` where there are no contents, `IntegerTooLarge` where they are
-    /// more than eight octets.
+    /// `WrongForm` where the element is constructed, `WrongLength` where there are no contents,
+    /// `IntegerTooLarge` where they are more than eight octets.
     pub fn as_int(&self) -> Result<i64, ValueError>
         ensures { result ≡ as_int self.now }
     {
@@ -78,7 +80,8 @@ impl Node {
         }
     }
 
-    /// A primitive element with this tag that holds the number in as few octets as it needs (X.690 8.3.2).
+    /// A primitive element with this tag that holds the number in as few octets as it needs
+    /// (X.690 8.3.2). An error only where no memory was found.
     #[tactic(auto, unfolding(crate::specs::Integers::integer_octets))]
     pub fn of_int(alloc: Global, tag: Tag, number: i64) -> Result<Node, AllocError>
         ensures { IfOk result (λ n. n ≡ prim tag (integer_octets number)) }

@@ -52,7 +52,8 @@ impl<T: Drop> From<AllocFailed<T>> for ValueError {
 }
 
 impl Node {
-    /// The contents octets of an OCTET STRING, or of any string (X.690 8.7, 8.23). They are shared with the element.
+    /// The contents octets of an OCTET STRING, or of any string (X.690 8.7, 8.23). They are shared
+    /// with the element.
     ///
     /// `WrongForm` where the element is constructed, `Memory` where none was found.
     pub fn as_octets(&self, _alloc: Global) -> Result<Bytes, ValueError>
@@ -64,14 +65,15 @@ impl Node {
         }
     }
 
-    /// A primitive element with this tag that shares the octets as its contents (X.690 8.7).
+    /// A primitive element with this tag that shares the octets as its contents (X.690 8.7). An error
+    /// only where no memory was found.
     pub fn of_octets(_alloc: Global, tag: Tag, octets: &Bytes) -> Result<Node, AllocError>
         ensures { IfOk result (λ n. n ≡ prim tag octets.now) }
     {
         Ok(Node::prim(tag, octets.clone()?))
     }
 
-    /// The truth value of a BOOLEAN (X.690 8.2): false where its octet is 0, and true where it is any other.
+    /// The truth value of a BOOLEAN (X.690 8.2): false where its octet is 0, true where it is another.
     ///
     /// `WrongForm` where the element is constructed, `WrongLength` where the contents are not one octet.
     pub fn as_bool(&self) -> Result<bool, ValueError>
@@ -86,7 +88,8 @@ impl Node {
         }
     }
 
-    /// A primitive element with this tag that holds the truth value, true as FF (X.690 8.2, 11.1). It takes no memory.
+    /// A primitive element with this tag that holds the truth value, true as FF (X.690 8.2, 11.1). It
+    /// takes no memory.
     pub fn of_bool(tag: Tag, value: bool) -> Node
         ensures { result ≡ prim tag (bool_octets value) }
     {
