@@ -21,5 +21,5 @@ pub use encode::{diag_node, record_node, to_node};
 pub use external::{Content, External};
 pub use present_response::PresentResponse;
 pub use record::{Record, RecordBody, Records};
-pub use text::{print_diag, print_record, quote};
+pub use text::{print_default_diag, print_diag, print_record, quote};
 pub use zasn::BuildError;

@@ -92,6 +92,7 @@ fn put_ber<T: Tagged>(alloc: Global, value: &T, out: &mut Vec<u8>) -> Result<(),
     }
 }
 
+#[tactic(auto, unfolding(crate::specs::Text::default_text))]
 fn put_default(alloc: Global, diag: &DefaultDiag, out: &mut Vec<u8>) -> Result<(), AllocError>
     ensures { OnOk result (out.new.items ≡ out.old.items ++ default_text diag.now) }
 {
@@ -105,6 +106,7 @@ fn put_default(alloc: Global, diag: &DefaultDiag, out: &mut Vec<u8>) -> Result<(
     }
 }
 
+#[tactic(auto, unfolding(crate::specs::Text::diag_text))]
 fn put_diag(alloc: Global, diag: &DiagRec, out: &mut Vec<u8>) -> Result<(), AllocError>
     ensures { OnOk result (out.new.items ≡ out.old.items ++ diag_text diag.now) }
 {
@@ -202,6 +204,20 @@ pub fn print_diag(alloc: Global, diag: &DiagRec, out: &mut Vec<u8>) -> Result<()
 {
     let mut text = Vec::new(alloc);
     put_diag(alloc, diag, &mut text)?;
+    out.extend_from_slice(&text)
+}
+
+/// Appends a diagnostic in the default format: `OID CONDITION "INFO"`. Where no memory is found, nothing is appended.
+pub fn print_default_diag(
+    alloc: Global,
+    diag: &DefaultDiag,
+    out: &mut Vec<u8>,
+) -> Result<(), AllocError>
+    ensures ok { OnOk result (out.new.items ≡ out.old.items ++ default_text diag.now) }
+    ensures err { OnErr result (out.new.items ≡ out.old.items) }
+{
+    let mut text = Vec::new(alloc);
+    put_default(alloc, diag, &mut text)?;
     out.extend_from_slice(&text)
 }
 

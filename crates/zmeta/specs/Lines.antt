@@ -42,11 +42,14 @@ abbrev pub record_lines : List Record → List ℕ
 record_lines rs = flat_map record_line rs
 
 -- a diagnostic that stands for no record
+unfoldable pub nonsurrogate : List ℕ
+nonsurrogate = codes "  nonsurrogate "
+
 abbrev pub default_line : DefaultDiag → List ℕ
-default_line d = codes "  nonsurrogate " ++ default_text d ++ codes "\n"
+default_line d = nonsurrogate ++ default_text d ++ codes "\n"
 
 abbrev pub diag_line : DiagRec → List ℕ
-diag_line d = codes "  nonsurrogate " ++ diag_text d ++ codes "\n"
+diag_line d = nonsurrogate ++ diag_text d ++ codes "\n"
 
 abbrev pub diag_lines : List DiagRec → List ℕ
 diag_lines ds = flat_map diag_line ds

@@ -1,6 +1,6 @@
 //! The lines of an APDU, as `show` prints them.
 ghost use Rattle.std.specs.Prelude.{◌≡◌, ◌++◌, OnOk, OnErr};
-ghost use Rattle.zmeta.specs.Lines.{apdu_word, apdu_text, response_text, close_text, head_line, reference_text, numbers_text, number_text, records_text, record_lines, record_line, default_line, diag_lines, diag_line, info_text};
+ghost use Rattle.zmeta.specs.Lines.{apdu_word, apdu_text, response_text, close_text, head_line, reference_text, numbers_text, number_text, records_text, record_lines, record_line, nonsurrogate, default_line, diag_lines, diag_line, info_text};
 
 use bytes::Bytes;
 use std::alloc::{AllocError, Global};
@@ -159,10 +159,17 @@ fn put_record(alloc: Global, value: &Record, text: &mut Vec<u8>) -> Result<(), A
     text.extend_from_slice(b"\n")
 }
 
+#[tactic(auto, unfolding(crate::specs::Lines::nonsurrogate))]
+fn put_nonsurrogate(text: &mut Vec<u8>) -> Result<(), AllocError>
+    ensures { OnOk result (text.new.items ≡ text.old.items ++ nonsurrogate) }
+{
+    text.extend_from_slice(b"  nonsurrogate ")
+}
+
 fn put_default(alloc: Global, diag: &DefaultDiag, text: &mut Vec<u8>) -> Result<(), AllocError>
     ensures { OnOk result (text.new.items ≡ text.old.items ++ default_line diag.now) }
 {
-    text.extend_from_slice(b"  nonsurrogate ")?;
+    put_nonsurrogate(text)?;
     print_default_diag(alloc, diag, text)?;
     text.extend_from_slice(b"\n")
 }
@@ -179,7 +186,7 @@ fn put_diags(alloc: Global, diags: &[DiagRec], text: &mut Vec<u8>) -> Result<(),
 fn put_diag(alloc: Global, diag: &DiagRec, text: &mut Vec<u8>) -> Result<(), AllocError>
     ensures { OnOk result (text.new.items ≡ text.old.items ++ diag_line diag.now) }
 {
-    text.extend_from_slice(b"  nonsurrogate ")?;
+    put_nonsurrogate(text)?;
     print_diag(alloc, diag, text)?;
     text.extend_from_slice(b"\n")
 }
