@@ -37,10 +37,10 @@ fn element_of<T: Tagged>(alloc: Global, value: &T) -> Result<Node, BuildError>
 }
 
 /// The element that stands for a record (NamePlusRecord). Refused as `to_node` is.
-pub fn record_node(alloc: Global, record: &Record) -> Result<Node, BuildError>
-    ensures { IsWritten (WritesRecord record.now) result }
+pub fn record_node(alloc: Global, value: &Record) -> Result<Node, BuildError>
+    ensures { IsWritten (WritesRecord value.now) result }
 {
-    element_of(alloc, record)
+    element_of(alloc, value)
 }
 
 /// The element that stands for a diagnostic (DiagRec). Refused as `to_node` is.

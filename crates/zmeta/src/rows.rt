@@ -3,7 +3,9 @@
 use crate::devices::{Full, run_of};
 use crate::fault::Status;
 use crate::show::show;
+use std::alloc::{AllocError, Global};
 use std::io::Cursor;
+use std::test::Fail;
 
 /// A Close with the reason "finished".
 const CLOSE: &[u8] = b"BF 30 05 9F 81 53 01 00";
@@ -86,4 +88,38 @@ fn a_failed_write_is_told(rt: HostRuntime) {
             assert_eq!(rt; &told[..22], b"zmeta: cannot write -\n".as_slice());
         }
     }
+}
+
+/// A Present response with so many records of 3,000 octets from the database `d`, in hexadecimal. Each element that holds
+/// elements has an indefinite length, as many servers send them.
+fn large(alloc: Global, records: u8) -> Result<Vec<u8>, AllocError> {
+    let mut text = Vec::new(alloc);
+    text.extend_from_slice(b"B980 820400000002 9801")?;
+    text.extend_from_slice(hex::encode(alloc, &[records])?.as_bytes())?;
+    text.extend_from_slice(b"990100 9B0100 BC80")?;
+    for _ in 0..records {
+        text.extend_from_slice(b"3080 800164 A180 A180 2880 06072A8648CE13050A 81820BB8")?;
+        for _ in 0..3000 {
+            text.extend_from_slice(b"41")?;
+        }
+        text.extend_from_slice(b"0000 0000 0000 0000\n")?;
+    }
+    text.extend_from_slice(b"0000 0000")?;
+    Ok(text)
+}
+
+#[test]
+fn prints_records_of_some_kilobytes(rt: HostRuntime) -> Result<(), Fail> {
+    for records in [1u8, 7, 100] {
+        let run = run_of(rt.alloc(), large(rt.alloc(), records)?.as_slice());
+        assert_eq!(rt; run.status, Status::Done);
+        let mut lines = 0u32;
+        for line in run.printed.as_slice().split(|octet| *octet == b'\n') {
+            if line.len() == 3031 && line.starts_with(b"  rec 1.2.840.10003.5.10 \"d\" \"AAAA") {
+                lines = lines.saturating_add(1);
+            }
+        }
+        assert_eq!(rt; lines, u32::from(records));
+    }
+    Ok(())
 }
