@@ -1,6 +1,9 @@
 pub mod Closes
 pub mod Diagnostics
 pub mod Externals
+pub mod Implementations
+pub mod InitRequests
+pub mod InitResponses
 pub mod PresentResponses
 pub mod Records
 pub mod Text

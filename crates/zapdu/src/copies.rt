@@ -5,6 +5,8 @@ use crate::apdu::Apdu;
 use crate::close::Close;
 use crate::diagnostic::{DefaultDiag, DiagRec, Info};
 use crate::external::{Content, External};
+use crate::init_request::InitRequest;
+use crate::init_response::InitResponse;
 use crate::present_response::PresentResponse;
 use crate::record::{Record, RecordBody, Records};
 use std::alloc::{AllocError, Global};
@@ -90,6 +92,42 @@ impl Duplicate for Records {
     }
 }
 
+impl Duplicate for InitRequest {
+    fn duplicate(&self, alloc: Global) -> Result<Self, AllocError> {
+        Ok(InitRequest {
+            reference_id: self.reference_id.duplicate(alloc)?,
+            protocol_version: self.protocol_version.duplicate(alloc)?,
+            options: self.options.duplicate(alloc)?,
+            preferred_message_size: self.preferred_message_size,
+            exceptional_record_size: self.exceptional_record_size,
+            id_authentication: self.id_authentication.duplicate(alloc)?,
+            implementation_id: self.implementation_id.duplicate(alloc)?,
+            implementation_name: self.implementation_name.duplicate(alloc)?,
+            implementation_version: self.implementation_version.duplicate(alloc)?,
+            user_information_field: self.user_information_field.duplicate(alloc)?,
+            other_info: self.other_info.duplicate(alloc)?,
+        })
+    }
+}
+
+impl Duplicate for InitResponse {
+    fn duplicate(&self, alloc: Global) -> Result<Self, AllocError> {
+        Ok(InitResponse {
+            reference_id: self.reference_id.duplicate(alloc)?,
+            protocol_version: self.protocol_version.duplicate(alloc)?,
+            options: self.options.duplicate(alloc)?,
+            preferred_message_size: self.preferred_message_size,
+            exceptional_record_size: self.exceptional_record_size,
+            result: self.result,
+            implementation_id: self.implementation_id.duplicate(alloc)?,
+            implementation_name: self.implementation_name.duplicate(alloc)?,
+            implementation_version: self.implementation_version.duplicate(alloc)?,
+            user_information_field: self.user_information_field.duplicate(alloc)?,
+            other_info: self.other_info.duplicate(alloc)?,
+        })
+    }
+}
+
 impl Duplicate for PresentResponse {
     fn duplicate(&self, alloc: Global) -> Result<Self, AllocError> {
         Ok(PresentResponse {
@@ -119,6 +157,8 @@ impl Duplicate for Close {
 impl Duplicate for Apdu {
     fn duplicate(&self, alloc: Global) -> Result<Self, AllocError> {
         match self {
+            Apdu::InitRequest(apdu) => Ok(Apdu::InitRequest(apdu.duplicate(alloc)?)),
+            Apdu::InitResponse(apdu) => Ok(Apdu::InitResponse(apdu.duplicate(alloc)?)),
             Apdu::PresentResponse(apdu) => Ok(Apdu::PresentResponse(apdu.duplicate(alloc)?)),
             Apdu::Close(apdu) => Ok(Apdu::Close(apdu.duplicate(alloc)?)),
         }

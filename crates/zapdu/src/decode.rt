@@ -10,6 +10,8 @@ ghost use Rattle.zapdu.specs.Writes.{kind_at, Decodes, apdu_at};
 use crate::apdu::{Apdu, ApduError, Kind};
 use crate::close::Close;
 use crate::diagnostic::DiagRec;
+use crate::init_request::InitRequest;
+use crate::init_response::InitResponse;
 use crate::present_response::PresentResponse;
 use crate::record::Record;
 use std::alloc::{AllocError, Global};
@@ -19,7 +21,11 @@ use zber::{Body, Node, Tag};
 fn kind_of_tag(tag: Tag) -> Option<Kind>
     ensures { result ≡ kind_at tag }
 {
-    if tag == Tag::context(25) {
+    if tag == Tag::context(20) {
+        Some(Kind::InitRequest)
+    } else if tag == Tag::context(21) {
+        Some(Kind::InitResponse)
+    } else if tag == Tag::context(25) {
         Some(Kind::PresentResponse)
     } else if tag == Tag::context(48) {
         Some(Kind::Close)
@@ -33,6 +39,14 @@ fn apdu_of(alloc: Global, kind: Kind, parts: &mut Parts<'_>) -> Result<Apdu, Par
     ensures { Finds (apdu_at kind parts.old) result parts.new }
 {
     match kind {
+        Kind::InitRequest => {
+            let apdu = InitRequest::read(alloc, parts)?;
+            Ok(Apdu::InitRequest(apdu))
+        }
+        Kind::InitResponse => {
+            let apdu = InitResponse::read(alloc, parts)?;
+            Ok(Apdu::InitResponse(apdu))
+        }
         Kind::PresentResponse => {
             let apdu = PresentResponse::read(alloc, parts)?;
             Ok(Apdu::PresentResponse(apdu))

@@ -15,6 +15,8 @@ fn built(alloc: Global, apdu: &Apdu) -> Result<Node, BuildError>
     ensures { Makes (apdu_spelt apdu.now) result }
 {
     match apdu {
+        Apdu::InitRequest(value) => write_within(alloc, value, Tag::context(20)),
+        Apdu::InitResponse(value) => write_within(alloc, value, Tag::context(21)),
         Apdu::PresentResponse(value) => write_within(alloc, value, Tag::context(25)),
         Apdu::Close(value) => write_within(alloc, value, Tag::context(48)),
     }
