@@ -6,5 +6,6 @@ pub mod InitRequests
 pub mod InitResponses
 pub mod PresentResponses
 pub mod Records
+pub mod SearchResponses
 pub mod Text
 pub mod Writes

@@ -4,6 +4,7 @@ use crate::close::Close;
 use crate::init_request::InitRequest;
 use crate::init_response::InitResponse;
 use crate::present_response::PresentResponse;
+use crate::search_response::SearchResponse;
 use thiserror::Error;
 
 /// An APDU (Z39.50-2003, 4.1).
@@ -13,6 +14,8 @@ pub enum Apdu {
     InitRequest(InitRequest),
     /// initResponse `[21]`.
     InitResponse(InitResponse),
+    /// searchResponse `[23]`.
+    SearchResponse(SearchResponse),
     /// presentResponse `[25]`.
     PresentResponse(PresentResponse),
     /// close `[48]`.
@@ -26,6 +29,8 @@ pub enum Kind {
     InitRequest,
     /// initResponse `[21]`.
     InitResponse,
+    /// searchResponse `[23]`.
+    SearchResponse,
     /// presentResponse `[25]`.
     PresentResponse,
     /// close `[48]`.

@@ -9,6 +9,7 @@ use crate::init_request::InitRequest;
 use crate::init_response::InitResponse;
 use crate::present_response::PresentResponse;
 use crate::record::{Record, RecordBody, Records};
+use crate::search_response::SearchResponse;
 use std::alloc::{AllocError, Global};
 use zber::Duplicate;
 
@@ -128,6 +129,23 @@ impl Duplicate for InitResponse {
     }
 }
 
+impl Duplicate for SearchResponse {
+    fn duplicate(&self, alloc: Global) -> Result<Self, AllocError> {
+        Ok(SearchResponse {
+            reference_id: self.reference_id.duplicate(alloc)?,
+            result_count: self.result_count,
+            number_of_records_returned: self.number_of_records_returned,
+            next_result_set_position: self.next_result_set_position,
+            search_status: self.search_status,
+            result_set_status: self.result_set_status,
+            present_status: self.present_status,
+            records: self.records.duplicate(alloc)?,
+            additional_search_info: self.additional_search_info.duplicate(alloc)?,
+            other_info: self.other_info.duplicate(alloc)?,
+        })
+    }
+}
+
 impl Duplicate for PresentResponse {
     fn duplicate(&self, alloc: Global) -> Result<Self, AllocError> {
         Ok(PresentResponse {
@@ -159,6 +177,7 @@ impl Duplicate for Apdu {
         match self {
             Apdu::InitRequest(apdu) => Ok(Apdu::InitRequest(apdu.duplicate(alloc)?)),
             Apdu::InitResponse(apdu) => Ok(Apdu::InitResponse(apdu.duplicate(alloc)?)),
+            Apdu::SearchResponse(apdu) => Ok(Apdu::SearchResponse(apdu.duplicate(alloc)?)),
             Apdu::PresentResponse(apdu) => Ok(Apdu::PresentResponse(apdu.duplicate(alloc)?)),
             Apdu::Close(apdu) => Ok(Apdu::Close(apdu.duplicate(alloc)?)),
         }

@@ -14,6 +14,7 @@ use crate::init_request::InitRequest;
 use crate::init_response::InitResponse;
 use crate::present_response::PresentResponse;
 use crate::record::Record;
+use crate::search_response::SearchResponse;
 use std::alloc::{AllocError, Global};
 use zasn::{PartError, Parts, Production, Tagged};
 use zber::{Body, Node, Tag};
@@ -25,6 +26,8 @@ fn kind_of_tag(tag: Tag) -> Option<Kind>
         Some(Kind::InitRequest)
     } else if tag == Tag::context(21) {
         Some(Kind::InitResponse)
+    } else if tag == Tag::context(23) {
+        Some(Kind::SearchResponse)
     } else if tag == Tag::context(25) {
         Some(Kind::PresentResponse)
     } else if tag == Tag::context(48) {
@@ -46,6 +49,10 @@ fn apdu_of(alloc: Global, kind: Kind, parts: &mut Parts<'_>) -> Result<Apdu, Par
         Kind::InitResponse => {
             let apdu = InitResponse::read(alloc, parts)?;
             Ok(Apdu::InitResponse(apdu))
+        }
+        Kind::SearchResponse => {
+            let apdu = SearchResponse::read(alloc, parts)?;
+            Ok(Apdu::SearchResponse(apdu))
         }
         Kind::PresentResponse => {
             let apdu = PresentResponse::read(alloc, parts)?;

@@ -14,6 +14,7 @@ mod init_response;
 pub mod laws;
 mod present_response;
 mod record;
+mod search_response;
 mod text;
 
 pub use apdu::{Apdu, ApduError, Kind};
@@ -26,5 +27,6 @@ pub use init_request::InitRequest;
 pub use init_response::InitResponse;
 pub use present_response::PresentResponse;
 pub use record::{Record, RecordBody, Records};
+pub use search_response::SearchResponse;
 pub use text::{print_diag, print_record, quote};
 pub use zasn::BuildError;
