@@ -3,6 +3,7 @@
 use crate::close::Close;
 use crate::init_request::InitRequest;
 use crate::init_response::InitResponse;
+use crate::present_request::PresentRequest;
 use crate::present_response::PresentResponse;
 use crate::search_response::SearchResponse;
 use thiserror::Error;
@@ -16,6 +17,8 @@ pub enum Apdu {
     InitResponse(InitResponse),
     /// searchResponse `[23]`.
     SearchResponse(SearchResponse),
+    /// presentRequest `[24]`.
+    PresentRequest(PresentRequest),
     /// presentResponse `[25]`.
     PresentResponse(PresentResponse),
     /// close `[48]`.
@@ -31,6 +34,8 @@ pub enum Kind {
     InitResponse,
     /// searchResponse `[23]`.
     SearchResponse,
+    /// presentRequest `[24]`.
+    PresentRequest,
     /// presentResponse `[25]`.
     PresentResponse,
     /// close `[48]`.

@@ -4,11 +4,15 @@ ghost use Rattle.std.specs.Prelude.{◌≡◌, IfOk};
 use crate::apdu::Apdu;
 use crate::close::Close;
 use crate::diagnostic::{DefaultDiag, DiagRec, Info};
+use crate::element_set_names::{DatabaseElementSet, ElementSetNames};
 use crate::external::{Content, External};
 use crate::init_request::InitRequest;
 use crate::init_response::InitResponse;
+use crate::present_request::PresentRequest;
 use crate::present_response::PresentResponse;
+use crate::range::Range;
 use crate::record::{Record, RecordBody, Records};
+use crate::record_composition::RecordComposition;
 use crate::search_response::SearchResponse;
 use std::alloc::{AllocError, Global};
 use zber::Duplicate;
@@ -146,6 +150,66 @@ impl Duplicate for SearchResponse {
     }
 }
 
+impl Duplicate for DatabaseElementSet {
+    fn duplicate(&self, alloc: Global) -> Result<Self, AllocError> {
+        Ok(DatabaseElementSet {
+            database_name: self.database_name.duplicate(alloc)?,
+            element_set_name: self.element_set_name.duplicate(alloc)?,
+        })
+    }
+}
+
+impl Duplicate for ElementSetNames {
+    fn duplicate(&self, alloc: Global) -> Result<Self, AllocError> {
+        match self {
+            ElementSetNames::Generic(name) => Ok(ElementSetNames::Generic(name.duplicate(alloc)?)),
+            ElementSetNames::DatabaseSpecific(names) => Ok(ElementSetNames::DatabaseSpecific(
+                names.duplicate(alloc)?,
+            )),
+        }
+    }
+}
+
+impl Duplicate for RecordComposition {
+    fn duplicate(&self, alloc: Global) -> Result<Self, AllocError> {
+        match self {
+            RecordComposition::Simple(names) => Ok(RecordComposition::Simple(names.duplicate(
+                alloc,
+            )?)),
+            RecordComposition::Complex(node) => Ok(RecordComposition::Complex(node.duplicate(
+                alloc,
+            )?)),
+        }
+    }
+}
+
+impl Duplicate for Range {
+    fn duplicate(&self, _alloc: Global) -> Result<Self, AllocError> {
+        Ok(Range {
+            starting_position: self.starting_position,
+            number_of_records: self.number_of_records,
+        })
+    }
+}
+
+impl Duplicate for PresentRequest {
+    fn duplicate(&self, alloc: Global) -> Result<Self, AllocError> {
+        Ok(PresentRequest {
+            reference_id: self.reference_id.duplicate(alloc)?,
+            result_set_id: self.result_set_id.duplicate(alloc)?,
+            result_set_start_point: self.result_set_start_point,
+            number_of_records_requested: self.number_of_records_requested,
+            additional_ranges: self.additional_ranges.duplicate(alloc)?,
+            record_composition: self.record_composition.duplicate(alloc)?,
+            preferred_record_syntax: self.preferred_record_syntax.duplicate(alloc)?,
+            max_segment_count: self.max_segment_count.duplicate(alloc)?,
+            max_record_size: self.max_record_size.duplicate(alloc)?,
+            max_segment_size: self.max_segment_size.duplicate(alloc)?,
+            other_info: self.other_info.duplicate(alloc)?,
+        })
+    }
+}
+
 impl Duplicate for PresentResponse {
     fn duplicate(&self, alloc: Global) -> Result<Self, AllocError> {
         Ok(PresentResponse {
@@ -178,6 +242,7 @@ impl Duplicate for Apdu {
             Apdu::InitRequest(apdu) => Ok(Apdu::InitRequest(apdu.duplicate(alloc)?)),
             Apdu::InitResponse(apdu) => Ok(Apdu::InitResponse(apdu.duplicate(alloc)?)),
             Apdu::SearchResponse(apdu) => Ok(Apdu::SearchResponse(apdu.duplicate(alloc)?)),
+            Apdu::PresentRequest(apdu) => Ok(Apdu::PresentRequest(apdu.duplicate(alloc)?)),
             Apdu::PresentResponse(apdu) => Ok(Apdu::PresentResponse(apdu.duplicate(alloc)?)),
             Apdu::Close(apdu) => Ok(Apdu::Close(apdu.duplicate(alloc)?)),
         }

@@ -12,6 +12,7 @@ use crate::close::Close;
 use crate::diagnostic::DiagRec;
 use crate::init_request::InitRequest;
 use crate::init_response::InitResponse;
+use crate::present_request::PresentRequest;
 use crate::present_response::PresentResponse;
 use crate::record::Record;
 use crate::search_response::SearchResponse;
@@ -28,6 +29,8 @@ fn kind_of_tag(tag: Tag) -> Option<Kind>
         Some(Kind::InitResponse)
     } else if tag == Tag::context(23) {
         Some(Kind::SearchResponse)
+    } else if tag == Tag::context(24) {
+        Some(Kind::PresentRequest)
     } else if tag == Tag::context(25) {
         Some(Kind::PresentResponse)
     } else if tag == Tag::context(48) {
@@ -53,6 +56,10 @@ fn apdu_of(alloc: Global, kind: Kind, parts: &mut Parts<'_>) -> Result<Apdu, Par
         Kind::SearchResponse => {
             let apdu = SearchResponse::read(alloc, parts)?;
             Ok(Apdu::SearchResponse(apdu))
+        }
+        Kind::PresentRequest => {
+            let apdu = PresentRequest::read(alloc, parts)?;
+            Ok(Apdu::PresentRequest(apdu))
         }
         Kind::PresentResponse => {
             let apdu = PresentResponse::read(alloc, parts)?;
