@@ -20,6 +20,8 @@ mod range;
 mod record;
 mod record_composition;
 mod search_response;
+#[cfg(test)]
+mod tests;
 mod text;
 
 pub use apdu::{Apdu, ApduError, Kind};
