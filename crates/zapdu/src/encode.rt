@@ -15,6 +15,10 @@ fn built(alloc: Global, apdu: &Apdu) -> Result<Node, BuildError>
     ensures { Makes (apdu_spelt apdu.now) result }
 {
     match apdu {
+        Apdu::InitRequest(value) => write_within(alloc, value, Tag::context(20)),
+        Apdu::InitResponse(value) => write_within(alloc, value, Tag::context(21)),
+        Apdu::SearchResponse(value) => write_within(alloc, value, Tag::context(23)),
+        Apdu::PresentRequest(value) => write_within(alloc, value, Tag::context(24)),
         Apdu::PresentResponse(value) => write_within(alloc, value, Tag::context(25)),
         Apdu::Close(value) => write_within(alloc, value, Tag::context(48)),
     }
