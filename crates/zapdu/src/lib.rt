@@ -19,10 +19,7 @@ mod present_response;
 mod range;
 mod record;
 mod record_composition;
-mod search_response;
-#[cfg(test)]
-mod tests;
-mod text;
+mod search_response;mod text;
 
 pub use apdu::{Apdu, ApduError, Kind};
 pub use close::Close;

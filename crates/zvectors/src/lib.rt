@@ -9,4 +9,6 @@ mod framing;
 #[cfg(test)]
 mod identifiers;
 #[cfg(test)]
+mod kinds;
+#[cfg(test)]
 mod values;

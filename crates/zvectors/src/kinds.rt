@@ -1,11 +1,11 @@
-//! APDUs in octets worked out by hand from Z39.50-2003, 4.1, and X.690: each tag of each production stands in one of them.
-use crate::{
-    Apdu, ApduError, Content, ElementSetNames, External, Kind, RecordComposition, Records,
-    from_node, to_node,
-};
+// APDUs in octets worked out by hand from Z39.50-2003, 4.1, and X.690: each tag of each production stands in one of them.
 use bytes::Bytes;
 use std::process::Abort;
 use std::test::Fail;
+use zapdu::{
+    Apdu, ApduError, Content, ElementSetNames, External, Kind, RecordComposition, Records,
+    from_node, to_node,
+};
 use zber::{Framer, Node};
 
 /// What an origin named zmeta proposes, and what a target answers.
