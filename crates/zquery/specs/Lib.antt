@@ -1,0 +1,3 @@
+pub mod Faults
+pub mod Lexing
+pub mod Tokens
