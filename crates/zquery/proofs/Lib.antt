@@ -1,2 +1,5 @@
+pub mod NumberLemmas
+pub mod PairLemmas
+pub mod PutLemmas
 pub mod Quoting
 pub mod TokenLists

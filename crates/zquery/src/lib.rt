@@ -1,10 +1,19 @@
 #![tactic(auto)]
 
 // Type-1 queries and the prefix notation for them.
+mod attribute;
+mod cursor;
 mod error;
 mod lexer;
+mod number;
+mod oid;
+mod query;
 mod token;
+mod value;
+mod word;
 
 pub use error::{PqfError, PqfErrorKind};
 pub use lexer::tokens;
+pub use oid::Oid;
+pub use query::{Attr, AttrValue, Query, Rpn, TermValue};
 pub use token::Token;
