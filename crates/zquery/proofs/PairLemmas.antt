@@ -1,8 +1,8 @@
 -- A type and a value, before and behind an equals sign.
-use Rattle.std.proofs.Common.{◌≡◌, refl, sym, ◌∙◌, ap, ℕ, ◌+◌, ◌-◌, ◌≤◌, ◌<◌, List, [], length, take, drop, Option, Some, None, arith}
+use Rattle.std.proofs.Common.{◌≡◌, refl, sym, ◌∙◌, ap, ℕ, ◌+◌, ◌-◌, List, [], length, take, drop, Option, Some, None, arith}
 use Rattle.std.proofs.Math.ListN.{drop_of_length-le}
 use Rattle.std.proofs.lemmas.List.{length-drop, take_all}
-use Rattle.std.specs.List.{position, position_or_len, before_first, after_first}
+use Rattle.std.specs.List.{position, before_first, after_first}
 use Rattle.zquery.specs.Numbers.{number_of}
 use Rattle.zquery.specs.Values.{is_equals, most, pair_of, numbers_of}
 use Rattle.zquery.proofs.PutLemmas.{position-is, position-none}

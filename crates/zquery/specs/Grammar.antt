@@ -1,5 +1,5 @@
 -- The notation: which tokens stand for which query (YAZ's prefix query format).
-use Rattle.std.specs.Prelude.{◌≡◌, ℕ, ◌+◌, pos, List, [], ◌∷◌, ◌++◌, Bool, true, false, Option, Some, None, if◌then◌else◌, map}
+use Rattle.std.specs.Prelude.{◌≡◌, ℕ, ◌+◌, pos, List, [], ◌∷◌, ◌++◌, true, false, Option, Some, None, if◌then◌else◌, map}
 use Rattle.std.specs.Str.{bytes_eq}
 use Rattle.zquery.specs.declared.token.Token.{Token}
 use Rattle.zquery.specs.declared.word.Word.TheVariants.{AttrSet, Attribute, Op, NamedSet, TypeOfTerm, Plain}

@@ -1,5 +1,5 @@
 -- What a token is in the place of a query.
-use Rattle.std.specs.Prelude.{true, false, codes, nat_eq, if◌then◌else◌}
+use Rattle.std.specs.Prelude.{codes, nat_eq, if◌then◌else◌}
 use Rattle.std.specs.Str.{bytes_eq}
 use Rattle.std.specs.List.{starts_with}
 use Rattle.zquery.specs.declared.token.Token.{Token}

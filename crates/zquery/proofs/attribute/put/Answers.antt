@@ -1,4 +1,4 @@
-use Rattle.std.proofs.Common.{◌≡◌, ◌∙◌, sym, ap, List, get_or, Some}
+use Rattle.std.proofs.Common.{◌≡◌, ◌∙◌, sym, ap, List, Some}
 use Rattle.std.proofs.Math.ListN.{set}
 use Rattle.std.specs.List.{position}
 use Rattle.zquery.specs.declared.query.Attr.{Attr}

@@ -1,4 +1,4 @@
-use Rattle.std.proofs.Common.{◌≡◌, ◌∙◌, sym, ap, subst, Some, List, ℕ, true, rules, arith}
+use Rattle.std.proofs.Common.{◌≡◌, ◌∙◌, sym, ap, Some, true, rules, arith}
 use Rattle.std.specs.Str.Parse.{ParsesUnsigned, digits_value}
 use Rattle.zquery.specs.Numbers.{is_numeral}
 use Rattle.zquery.proofs.NumberLemmas.{no-number, some-number, large-number, parsed, not-parsed, utf8-numeral}
