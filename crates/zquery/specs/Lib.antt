@@ -3,6 +3,7 @@ pub mod Faults
 pub mod Fronts
 pub mod Grammar
 pub mod InForce
+pub mod Laws
 pub mod Lexing
 pub mod Numbers
 pub mod Reading

@@ -4,6 +4,7 @@
 mod attribute;
 mod cursor;
 mod error;
+pub mod laws;
 mod lexer;
 mod number;
 mod oid;
