@@ -2,12 +2,15 @@
 
 // Elements of BER.
 mod canonical;
+mod dotted;
 mod element;
 mod fault;
 mod framer;
 mod header;
 pub mod laws;
 mod node;
+mod oid;
+mod oid_octets;
 mod seq;
 mod tag;
 mod value;
@@ -15,6 +18,7 @@ mod value;
 pub use fault::{FaultKind, FrameError};
 pub use framer::Framer;
 pub use node::{Body, Node};
+pub use oid::{Oid, OidError};
 pub use seq::Seq;
 pub use tag::{Class, Tag};
 pub use value::ValueError;
