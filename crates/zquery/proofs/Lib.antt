@@ -7,8 +7,10 @@ pub mod OneAnswers
 pub mod OneLexing
 pub mod Opening
 pub mod PairLemmas
+pub mod PrintedNumbers
 pub mod PutLemmas
 pub mod Quoting
 pub mod Refusing
+pub mod SetLemmas
 pub mod TokenLists
 pub mod Unique

@@ -1,14 +1,15 @@
 -- A number that is printed is read again.
-use Rattle.std.proofs.Common.{◌≡◌, refl, sym, ◌∙◌, ap, subst, ℕ, zero, suc, ◌+◌, ◌-◌, ◌^◌, ◌<◌, ◌≤◌, ℤ, pos, negsuc, List, [], ◌∷◌, ◌++◌, length, take, drop, Bool, true, false, not, ◌==◌, cond, Option, Some, None, arith, rules, append_assoc, length-append}
+use Rattle.std.proofs.Common.{◌≡◌, refl, sym, ◌∙◌, ap, ℕ, suc, ◌+◌, ◌-◌, ◌^◌, ◌<◌, ◌≤◌, ℤ, pos, negsuc, List, [], ◌∷◌, ◌++◌, length, take, drop, Bool, true, false, not, ◌==◌, cond, Option, Some, arith, rules}
 use Rattle.std.specs.Char.{is_ascii_digit}
 use Rattle.std.specs.Fmt.{decimal, signed_decimal}
 use Rattle.std.specs.Int.RustNames.{FitsSigned}
 use Rattle.std.specs.Int.{w64}
-use Rattle.std.specs.List.{list_all, prefix_len, position_or_len, before_first, after_first}
+use Rattle.std.specs.List.{list_all, position_or_len, before_first, after_first}
 use Rattle.std.specs.Option.{option_map}
 use Rattle.std.specs.Str.Parse.{digits_value}
-use Rattle.std.proofs.lemmas.Bool.{and_parts, and_from, cond-true, cond-false, true≢false, ne_eqb}
+use Rattle.std.proofs.lemmas.Bool.{and_parts, and_from, cond-false, true≢false, ne_eqb}
 use Rattle.std.proofs.lemmas.Int.{ints}
+use Rattle.std.proofs.Math.Seq.{take-append_seam, drop-append-add}
 use Rattle.std.proofs.lemmas.Fmt.{decimal_is_IsNumeral}
 use Rattle.zquery.specs.Numbers.{is_numeral, number_of, integer_of, has_minus, positive, negative}
 use Rattle.zquery.specs.Values.{is_equals, most, pair_of, numbers_of}
@@ -49,8 +50,17 @@ digit-no-equals [] more h = refl
 digit-no-equals (d ∷ ds) more h =
     let parts = and_parts _ _ h in
     let plain : (d == 61) ≡ false = ne_eqb d 61 (λ e. let z : false ≡ true = sym (ap is_ascii_digit e) ∙ parts.0 in true≢false (sym z)) in
-    ?
+    let rest : position_or_len is_equals (ds ++ 61 ∷ more) ≡ length ds = digit-no-equals ds more parts.1 in
+    ap (λ (v : Bool). cond (not v) (1 + position_or_len is_equals (ds ++ 61 ∷ more)) 0) plain ∙ omega (arith, rest)
 
 pub numbers-decimal : (a b : ℕ) → a ≤ most → b ≤ most → numbers_of (decimal a ++ 61 ∷ decimal b) ≡ Some (a, b)
 unfolding numbers_of
-numbers-decimal a b h k = ?
+numbers-decimal a b h k =
+    let d = decimal-digits a (omega arith) in
+    let at : position_or_len is_equals (decimal a ++ 61 ∷ decimal b) ≡ length (decimal a) = digit-no-equals (decimal a) (decimal b) d.0 in
+    let front : before_first is_equals (decimal a ++ 61 ∷ decimal b) ≡ decimal a = ap (λ (n : ℕ). take n (decimal a ++ 61 ∷ decimal b)) at ∙ take-append_seam (decimal a) (61 ∷ decimal b) in
+    let back : after_first is_equals (decimal a ++ 61 ∷ decimal b) ≡ decimal b = ap (λ (n : ℕ). drop (n + 1) (decimal a ++ 61 ∷ decimal b)) at ∙ drop-append-add (decimal a) (61 ∷ decimal b) 1 in
+    ap (λ (xs : List ℕ). pair_of (number_of most xs) (number_of most (after_first is_equals (decimal a ++ 61 ∷ decimal b)))) front
+    ∙ ap (λ (xs : List ℕ). pair_of (number_of most (decimal a)) (number_of most xs)) back
+    ∙ ap (λ (o : Option ℕ). pair_of o (number_of most (decimal b))) (number-decimal most a (omega arith) h)
+    ∙ ap (λ (o : Option ℕ). pair_of (Some a) o) (number-decimal most b (omega arith) k)

@@ -7,7 +7,6 @@ mod error;
 pub mod laws;
 mod lexer;
 mod number;
-mod oid;
 mod parse;
 mod query;
 mod token;
@@ -16,7 +15,6 @@ mod word;
 
 pub use error::{PqfError, PqfErrorKind};
 pub use lexer::tokens;
-pub use oid::Oid;
 pub use parse::parse_pqf;
 pub use query::{Attr, AttrValue, Query, Rpn, TermValue};
 pub use token::Token;
