@@ -1,5 +1,6 @@
 pub mod Completing
 pub mod Filling
+pub mod InForceKept
 pub mod InForceLemmas
 pub mod Leading
 pub mod NumberLemmas
@@ -8,6 +9,10 @@ pub mod OneLexing
 pub mod Opening
 pub mod PairLemmas
 pub mod PrintedNumbers
+pub mod PrintedPhrases
+pub mod PrintedTexts
+pub mod PrintedTokens
+pub mod PrintedWords
 pub mod PutLemmas
 pub mod Quoting
 pub mod Refusing

@@ -1,5 +1,5 @@
 -- The laws of the notation.
-use Rattle.std.specs.Prelude.{◌≡◌, ◌≤◌, ℕ, List, Some, None}
+use Rattle.std.specs.Prelude.{◌≡◌, ◌≤◌, ℕ, true, List, Some, None}
 use Rattle.zquery.specs.declared.token.Token.{Token}
 use Rattle.zquery.specs.declared.error.PqfError.{PqfError}
 use Rattle.zquery.specs.Trees.{RpnQuery, height}
@@ -8,6 +8,8 @@ use Rattle.zquery.specs.Grammar.{IsQuery}
 use Rattle.zquery.specs.Table.{refusal}
 use Rattle.zquery.specs.Fronts.{IsFirstFault}
 use Rattle.zquery.specs.Texts.{IsText, IsFault}
+use Rattle.zquery.specs.Lawful.{IsLawful}
+use Rattle.zquery.specs.Printing.{printable, query_text}
 
 -- a text has one list of tokens, or one quote that stays open
 pub record OneLexing : Type 0 where
@@ -32,3 +34,7 @@ pub record OneAnswer : Type 0 where
   pub one_query : (text : List ℕ) (q r : RpnQuery) → IsText text q → IsText text r → q ≡ r
   pub one_fault : (text : List ℕ) (e f : PqfError) → IsFault text e → IsFault text f → e ≡ f
   pub either : (text : List ℕ) (q : RpnQuery) (e : PqfError) → IsText text q → height q.root ≤ 32 → IsFault text e → ⊥
+
+-- a printed text is that of its query
+abbrev pub PrintedReads : Type 0
+PrintedReads = (q : RpnQuery) → IsLawful q → printable q ≡ true → IsText (query_text q) q
