@@ -1,5 +1,6 @@
 pub mod Completing
 pub mod Filling
+pub mod Heights
 pub mod InForceKept
 pub mod InForceLemmas
 pub mod Leading

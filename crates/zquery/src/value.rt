@@ -14,7 +14,7 @@ use zber::{Oid, OidError};
 const MOST: u64 = 2_147_483_647;
 
 /// The arcs of the attribute set bib-1 (Z39.50-2003, ATR).
-const BIB_1: [u32; 6] = [1, 2, 840, 10003, 3, 1];
+pub(crate) const BIB_1: [u32; 6] = [1, 2, 840, 10003, 3, 1];
 
 /// Whether the text has an equals sign, as an attribute's type and value have and a set has not.
 #[tactic(auto, unfolding(crate::specs::Values::has_equals))]
