@@ -1,9 +1,9 @@
 -- The words of a printed text.
-use Rattle.std.proofs.Common.{◌≡◌, refl, ◌∙◌, ap, ℕ, ◌<◌, ◌≤◌, List, [], ◌∷◌, ◌++◌, length, Bool, true, false, ◌||◌, ◌⊎◌, inl, inr, Some, nat_lt, arith, length-append}
+use Rattle.std.proofs.Common.{◌≡◌, refl, sym, ◌∙◌, ap, if◌then◌else◌, ℕ, ◌<◌, ◌≤◌, List, [], ◌∷◌, ◌++◌, length, Bool, true, false, ◌||◌, ◌⊎◌, inl, inr, Some, nat_lt, arith, length-append}
 use Rattle.std.specs.Char.{is_ascii_digit, to_ascii_lowercase}
 use Rattle.std.specs.Fmt.{decimal}
 use Rattle.std.specs.List.{list_all, list_any, All}
-use Rattle.std.proofs.lemmas.Bool.{and_parts, and_left, or_from, leb-true, ltb-true, ne_eqb, cond-false}
+use Rattle.std.proofs.lemmas.Bool.{and_parts, and_left, or_from, leb-true, ltb-true, ne_eqb, cond-true, cond-false}
 use Rattle.std.proofs.lemmas.Bool.Decides.{nat_tests}
 use Rattle.std.proofs.lemmas.List.Elements.{All-head, All-tail}
 use Rattle.std.proofs.lemmas.List.Folds.{list_any-append}
@@ -12,10 +12,11 @@ use Rattle.zber.specs.Oids.{IsOid}
 use Rattle.zber.proofs.DottedReading.{dotted_plain, dotted_cons, others}
 use Rattle.zber.proofs.NumeralLemmas.{numeral_is}
 use Rattle.zquery.specs.Tokens.{is_white, AllAre, IsWord}
-use Rattle.zquery.specs.Sets.{is_bib1, set_of}
+use Rattle.zquery.specs.Sets.{bib1, is_bib1, oid_of, set_of}
 use Rattle.zquery.specs.Values.{is_equals, has_equals, most}
 use Rattle.zquery.proofs.PrintedNumbers.{decimal-digits}
-use Rattle.zquery.proofs.SetLemmas.{oid-found}
+use Rattle.zquery.proofs.SetLemmas.{oid-found, oid-named}
+use Rattle.zquery.specs.Laws.{SetNames}
 
 -- octets above 34 stand in words
 abbrev pub AllAbove : List ℕ → Type 0
@@ -112,3 +113,21 @@ not-bib1 (x ∷ xs) s h =
 pub dotted-set : (ns : List ℕ) → IsOid ns → set_of (dotted ns) ≡ Some ns
 unfolding set_of
 dotted-set ns h = cond-false _ _ _ (not-bib1 (dotted ns) (some-dotted ns h) (dotted_plain ns)) ∙ oid-found (dotted ns) ns refl h
+
+-- which set a text names
+some-is : (x y : List ℕ) → Some x ≡ Some y → x ≡ y
+some-is x y h = cc
+
+named-by : (text set : List ℕ) (b : Bool) → is_bib1 text ≡ b → (if b then Some bib1 else oid_of text) ≡ Some set → ((is_bib1 text ≡ true) × (set ≡ bib1)) ⊎ ((text ≡ dotted set) × IsOid set)
+named-by text set true e h = let same : bib1 ≡ set = some-is bib1 set h in inl (e, sym same)
+named-by text set false e h = inr (oid-named text set h)
+
+pub set-names : SetNames
+unfolding set_of
+set-names text set = (
+  (λ h. named-by text set (is_bib1 text) refl h),
+  (λ h. elim h [
+    | inl p ↦ cond-true _ _ _ p.0 ∙ ap (λ (s : List ℕ). Some s) (sym p.1)
+    | inr p ↦ ap set_of p.0 ∙ dotted-set set p.1
+  ]),
+)

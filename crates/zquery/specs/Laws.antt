@@ -1,7 +1,10 @@
 -- The laws of the notation.
-use Rattle.std.specs.Prelude.{◌≡◌, ◌≤◌, ℕ, true, List, Some, None}
+use Rattle.std.specs.Prelude.{◌≡◌, ◌≤◌, ◌↔◌, ◌⊎◌, ℕ, true, List, Some, None}
+use Rattle.zber.specs.Dotted.{dotted}
+use Rattle.zber.specs.Oids.{IsOid}
 use Rattle.zquery.specs.declared.token.Token.{Token}
 use Rattle.zquery.specs.declared.error.PqfError.{PqfError}
+use Rattle.zquery.specs.Sets.{bib1, is_bib1, set_of}
 use Rattle.zquery.specs.Trees.{RpnQuery, height}
 use Rattle.zquery.specs.Tokens.{AreTokens, IsOpenAt}
 use Rattle.zquery.specs.Grammar.{IsQuery}
@@ -16,6 +19,10 @@ pub record OneLexing : Type 0 where
   pub one_list : (text : List ℕ) (ts us : List Token) → AreTokens ts text → AreTokens us text → ts ≡ us
   pub one_open : (text : List ℕ) (p q : ℕ) → IsOpenAt p text → IsOpenAt q text → p ≡ q
   pub either : (text : List ℕ) (ts : List Token) (p : ℕ) → AreTokens ts text → IsOpenAt p text → ⊥
+
+-- a text names bib-1, in any case, or it is the arcs of an object identifier in decimal, with dots
+abbrev pub SetNames : Type 0
+SetNames = (text set : List ℕ) → (set_of text ≡ Some set) ↔ (((is_bib1 text ≡ true) × (set ≡ bib1)) ⊎ ((text ≡ dotted set) × IsOid set))
 
 -- tokens stand for one query at most
 abbrev pub OneQuery : Type 0

@@ -21,3 +21,6 @@ pub use parse::parse_pqf;
 pub use print::{PrintError, print_pqf};
 pub use query::{Attr, AttrValue, Query, Rpn, TermValue};
 pub use token::Token;
+
+#[cfg(test)]
+mod tests;
