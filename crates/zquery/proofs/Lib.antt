@@ -1,0 +1,14 @@
+pub mod Completing
+pub mod Filling
+pub mod InForceLemmas
+pub mod Leading
+pub mod NumberLemmas
+pub mod OneAnswers
+pub mod OneLexing
+pub mod Opening
+pub mod PairLemmas
+pub mod PutLemmas
+pub mod Quoting
+pub mod Refusing
+pub mod TokenLists
+pub mod Unique

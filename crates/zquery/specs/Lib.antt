@@ -1,0 +1,17 @@
+pub mod Coding
+pub mod Faults
+pub mod Fronts
+pub mod Grammar
+pub mod InForce
+pub mod Laws
+pub mod Lexing
+pub mod Numbers
+pub mod Reading
+pub mod Sets
+pub mod Table
+pub mod Texts
+pub mod Tokens
+pub mod Trees
+pub mod Values
+pub mod Viewed
+pub mod Words

@@ -1,0 +1,22 @@
+#![tactic(auto)]
+
+// Type-1 queries and the prefix notation for them.
+mod attribute;
+mod cursor;
+mod error;
+pub mod laws;
+mod lexer;
+mod number;
+mod oid;
+mod parse;
+mod query;
+mod token;
+mod value;
+mod word;
+
+pub use error::{PqfError, PqfErrorKind};
+pub use lexer::tokens;
+pub use oid::Oid;
+pub use parse::parse_pqf;
+pub use query::{Attr, AttrValue, Query, Rpn, TermValue};
+pub use token::Token;
