@@ -11,4 +11,6 @@ pub mod PutLemmas
 pub mod Quoting
 pub mod Refusing
 pub mod TokenLists
+pub mod Type1Finding
+pub mod Type1Making
 pub mod Unique

@@ -6,12 +6,16 @@ pub mod InForce
 pub mod Laws
 pub mod Lexing
 pub mod Numbers
+pub mod Operands
+pub mod Operators
 pub mod Reading
 pub mod Sets
 pub mod Table
 pub mod Texts
 pub mod Tokens
 pub mod Trees
+pub mod Type1
+pub mod Type1Reading
 pub mod Values
 pub mod Viewed
 pub mod Words

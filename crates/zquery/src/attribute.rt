@@ -5,9 +5,9 @@ ghost use Rattle.zquery.specs.InForce.{alike, same_set};
 ghost use Rattle.zquery.specs.Grammar.{kept_set};
 ghost use Rattle.zquery.specs.Reading.{put_in};
 
-use crate::oid::Oid;
 use crate::query::{Attr, AttrValue};
 use std::alloc::{AllocError, Global};
+use zber::Oid;
 
 /// The set that an attribute keeps: none where it names the query's own.
 pub(crate) fn kept(own: &Oid, set: Oid) -> Option<Oid>

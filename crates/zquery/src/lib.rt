@@ -16,7 +16,6 @@ mod word;
 
 pub use error::{PqfError, PqfErrorKind};
 pub use lexer::tokens;
-pub use oid::Oid;
 pub use parse::parse_pqf;
 pub use query::{Attr, AttrValue, Query, Rpn, TermValue};
 pub use token::Token;

@@ -18,14 +18,13 @@ use crate::attribute::{copies, kept, put};
 use crate::cursor::Cursor;
 use crate::error::{PqfError, PqfErrorKind};
 use crate::lexer::tokens;
-use crate::oid::Oid;
 use crate::query::{Attr, AttrValue, Query, Rpn};
 use crate::token::Token;
 use crate::value::{bib_1, has_equals, kind, numbers, set_named, value};
 use crate::word::{Operator, TermKind, Word, word_of};
 use bytes::Bytes;
 use std::alloc::{AllocError, Global};
-use zber::Seq;
+use zber::{Oid, Seq};
 
 /// The lowest level on which an operand or operator may stand.
 const DEEPEST: u32 = 32;

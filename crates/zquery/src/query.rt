@@ -1,8 +1,7 @@
 // Type-1 queries (Z39.50-2003, RPNQuery).
-use crate::oid::Oid;
 use bytes::Bytes;
 use std::marker::Model;
-use zber::{Node, Seq};
+use zber::{Node, Oid, Seq};
 
 /// The value of an attribute.
 #[derive(Drop)]

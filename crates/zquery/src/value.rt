@@ -4,11 +4,12 @@ ghost use Rattle.zquery.specs.Values.{is_equals, has_equals, most, numbers_of, k
 ghost use Rattle.zquery.specs.Sets.{bib1, set_of};
 
 use crate::number::{integer, number};
-use crate::oid::Oid;
+use crate::oid::{from_arcs, parse_dotted};
 use crate::query::TermValue;
 use crate::word::TermKind;
 use bytes::Bytes;
 use std::alloc::{AllocError, Global};
+use zber::Oid;
 
 /// The greatest type and the greatest value of an attribute.
 const MOST: u64 = 2_147_483_647;
@@ -47,7 +48,7 @@ pub(crate) fn numbers(text: &[u8]) -> Option<(u64, u64)>
 pub(crate) fn bib_1(alloc: Global) -> Result<Oid, AllocError>
     ensures { IfOk result (λ o. o ≡ bib1) }
 {
-    Oid::from_arcs(alloc, &BIB_1)
+    from_arcs(alloc, &BIB_1)
 }
 
 /// The attribute set that a text names: `bib-1`, or an object identifier.
@@ -58,7 +59,7 @@ pub(crate) fn set_named(alloc: Global, text: &[u8]) -> Result<Option<Oid>, Alloc
     if text.eq_ignore_ascii_case(b"bib-1") {
         return Ok(Some(bib_1(alloc)?));
     }
-    Oid::parse_dotted(alloc, text)
+    parse_dotted(alloc, text)
 }
 
 #[tactic(auto, unfolding(crate::specs::Values::kind_of))]
