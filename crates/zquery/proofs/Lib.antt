@@ -11,6 +11,7 @@ pub mod PutLemmas
 pub mod Quoting
 pub mod Refusing
 pub mod TokenLists
+pub mod Type1Answers
 pub mod Type1Finding
 pub mod Type1Making
 pub mod Unique

@@ -1,20 +1,21 @@
 -- An element that stands for a structure or a query is read as it, and no other is.
 use Rattle.std.proofs.Common.{◌≡◌, ℕ, List, [], ◌∷◌, map, Option, Some, None, Bool, true, false, cond, refl, sym, ap, subst, ◌∙◌}
 use Rattle.zber.specs.Names.{Name, context, universal}
-use Rattle.zber.specs.Elements.{Forest, end, leaf, branch, Element, Primitive, Constructed, forest, elements, tag_of}
+use Rattle.zber.specs.Elements.{Forest, end, leaf, branch, Element, Primitive, Constructed, elements, tag_of}
 use Rattle.zber.specs.Productions.Tags.{same_tag, among}
 use Rattle.zber.specs.Productions.Standing.{required, ended, sequence}
 use Rattle.zber.specs.Productions.Reading.{option_map}
 use Rattle.zber.specs.Productions.Place.{Place}
 use Rattle.zber.specs.Productions.Within.{whole_of}
-use Rattle.zber.proofs.Runs.{elements-forest}
-use Rattle.zber.proofs.Productions.Reads.{same_tag-true, same_tag-refl, or_left, one_tag}
+use Rattle.zber.proofs.Productions.Reads.{same_tag-true, or_left, one_tag}
 use Rattle.zasn.specs.Places.{oid}
 use Rattle.zquery.specs.Trees.{Tree, OfTerm, OfSet, OfSetAttrs, Of, Near, RpnQuery}
 use Rattle.zquery.specs.Operands.{Operand, AttrTerm, ResultSet, ResultAttr}
-use Rattle.zquery.specs.Operators.{Joint, Logical, Proximity, operator}
+use Rattle.zquery.specs.declared.operator.Joint.TheVariants.{Logical, Proximity}
+use Rattle.zquery.specs.declared.operator.Joint.{Joint}
+use Rattle.zquery.specs.Operators.{operator}
 use Rattle.zquery.specs.Type1.{first, op, WritesTree, WritesQuery}
-use Rattle.zquery.specs.Type1Reading.{of_operand, of_joint, joined, joined_of, tree_in, trees, tree_of, query_from, query_in, query_of}
+use Rattle.zquery.specs.Type1Reading.{of_operand, of_joint, joined, joined_of, tree_in, trees, tree_of, says, query_from, query_in, query_of}
 
 pub some_is : {A : Type 0} (x y : A) (o : Option A) → o ≡ Some x → o ≡ Some y → x ≡ y
 some_is x y o e f = let g : Some x ≡ Some y = sym e ∙ f in cc
@@ -36,9 +37,6 @@ whole_reads p x n e = by_test (among (tag_of n) p.tags) refl e
     by_test false is e = absurd cc
 
 -- ---- elements beside the structures that they say
-
-abbrev pub says : Element → Option Tree × Element
-says e = (tree_of e, e)
 
 pub trees-elements : (f : Forest) → trees f ≡ map says (elements f)
 trees-elements end = refl

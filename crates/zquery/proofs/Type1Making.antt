@@ -1,8 +1,8 @@
 -- What is spelled stands for the structure or the query, and where nothing is spelled nothing stands for it.
-use Rattle.std.proofs.Common.{◌≡◌, ℕ, List, [], ◌∷◌, Option, Some, None, Result, Ok, Err, refl, sym, subst}
+use Rattle.std.proofs.Common.{◌≡◌, List, [], ◌∷◌, Option, Some, None, Result, Ok, Err, refl, sym, subst}
 use Rattle.zber.specs.Names.{context, universal}
 use Rattle.zber.specs.Elements.{Element, Primitive, Constructed, forest, elements}
-use Rattle.zber.specs.Productions.Standing.{required, ended, sequence}
+use Rattle.zber.specs.Productions.Standing.{sequence}
 use Rattle.zber.specs.Productions.Within.{around}
 use Rattle.zber.specs.Productions.Laws.{IsPlace, IsSpelled}
 use Rattle.zber.proofs.Runs.{elements-forest}
@@ -12,8 +12,10 @@ use Rattle.zasn.specs.Answers.{Makes, IsWritten}
 use Rattle.zasn.specs.Places.{oid}
 use Rattle.zquery.specs.Trees.{Tree, OfTerm, OfSet, OfSetAttrs, Of, Near, RpnQuery}
 use Rattle.zquery.specs.Operands.{AttrTerm, ResultSet, ResultAttr}
-use Rattle.zquery.specs.Operators.{Joint, Logical, Proximity, operator}
-use Rattle.zquery.specs.Type1.{first, op, WritesTree, WritesQuery}
+use Rattle.zquery.specs.declared.operator.Joint.TheVariants.{Logical, Proximity}
+use Rattle.zquery.specs.declared.operator.Joint.{Joint}
+use Rattle.zquery.specs.Operators.{operator}
+use Rattle.zquery.specs.Type1.{op, WritesTree, WritesQuery}
 use Rattle.zquery.specs.Type1Reading.{of_operand, two, three, query_of, tree_spelt, query_spelt}
 use Rattle.zquery.proofs.Type1Finding.{some_is, Both, Parts, writes_operand, finds_query, reads_query, begins_query}
 

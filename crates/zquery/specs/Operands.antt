@@ -1,7 +1,7 @@
 -- The operands of a type-1 query as elements (Z39.50-2003, 4.1: AttributeElement, AttributeList, Term, Operand).
 use Rattle.std.specs.Prelude.{◌≡◌, ℕ, List, [], ◌∷◌, refl}
 use Rattle.std.proofs.Common.{inl, inr}
-use Rattle.zber.specs.Names.{context, universal}
+use Rattle.zber.specs.Names.{Name, context, universal}
 use Rattle.zber.specs.Productions.Place.{Place}
 use Rattle.zber.specs.Productions.Choice.{Choice, either, finally, Pick, picked}
 use Rattle.zber.specs.Productions.Table.{Table, required, optional, ended, ◌⨾◌, Elements}
@@ -51,8 +51,12 @@ attribute = within (universal 16) attribute_parts
 abbrev pub attributes : Place (List Attr)
 attributes = list (context 44) attribute
 
--- Term: general [45] IMPLICIT OCTET STRING, numeric [215] IMPLICIT INTEGER, characterString [216] IMPLICIT InternationalString;
--- oid [217], dateTime [218], external [219], integerAndUnit [220] and null [221], which are kept
+-- oid [217], dateTime [218], external [219], integerAndUnit [220] and null [221]
+abbrev pub kept_terms : List Name
+kept_terms = context 217 ∷ context 218 ∷ context 219 ∷ context 220 ∷ context 221 ∷ []
+
+-- Term: general [45] IMPLICIT OCTET STRING, numeric [215] IMPLICIT INTEGER, characterString [216] IMPLICIT InternationalString,
+-- and the others, which are kept
 abbrev pub terms : Choice TermValue
 terms =
     either (octets (context 45)) General
@@ -78,7 +82,7 @@ term-back (inr (inl n)) = refl
 term-back (inr (inr (inl xs))) = refl
 term-back (inr (inr (inr m))) = refl
 
-abbrev pub term : Place TermValue
+unfoldable pub term : Place TermValue
 term = of_choice terms term_pick term-same term-back refl
 
 -- AttributesPlusTerm: attributes, term
@@ -122,5 +126,5 @@ operand-back (inl p) = refl
 operand-back (inr (inl name)) = refl
 operand-back (inr (inr p)) = refl
 
-abbrev pub operand : Place Operand
+unfoldable pub operand : Place Operand
 operand = of_choice operands operand_pick operand-same operand-back refl

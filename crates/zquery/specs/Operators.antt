@@ -1,5 +1,5 @@
 -- The operators of a type-1 query as elements (Z39.50-2003, 4.1: Operator).
-use Rattle.std.specs.Prelude.{◌≡◌, ℕ, List, [], ◌∷◌, Option, Some, Result, refl}
+use Rattle.std.specs.Prelude.{◌≡◌, [], ◌∷◌, Option, Some, refl}
 use Rattle.std.proofs.Common.{inl, inr}
 use Rattle.zber.specs.Names.{Name, context}
 use Rattle.zber.specs.Elements.{Element, Primitive}
@@ -11,7 +11,8 @@ use Rattle.zber.specs.Productions.Choice.{Choice, either, finally, Pick, picked}
 use Rattle.zber.proofs.Productions.Reads.{tagged_place}
 use Rattle.zber.proofs.Productions.Builds.{contents_spelled}
 use Rattle.zasn.specs.Places.{lawful, of_choice, explicit, opaque}
-use Rattle.zquery.specs.declared.word.Operator.{Operator}
+use Rattle.zquery.specs.declared.operator.Joint.{Joint}
+use Rattle.zquery.specs.declared.operator.Joint.TheVariants.{Logical, Proximity}
 use Rattle.zquery.specs.declared.word.Operator.TheVariants.{And, Or, Not}
 
 -- NULL (X.690, 8.8)
@@ -20,11 +21,6 @@ null_of e = meant (as_null e)
 
 abbrev pub null : Name → Place (Unit {0})
 null tag = lawful {P = tagged tag null_of} {tags = tag ∷ []} {meaning = null_of} {spelt = λ x. Some (Primitive tag [])} (tagged_place tag null_of tt (Primitive tag []) refl refl) (contents_spelled tag null_of (λ x. []) (λ x. refl))
-
--- and, or and and-not, or proximity, kept as its element
-pub data Joint : Type 0 where
-  Logical : Operator → Joint
-  Proximity : Element → Joint
 
 -- Operator: and [0], or [1] and and-not [2], each IMPLICIT NULL, prox [3] IMPLICIT SEQUENCE, which is kept
 abbrev pub joints : Choice Joint
@@ -52,7 +48,7 @@ joint-back (inr (inl x)) = refl
 joint-back (inr (inr (inl x))) = refl
 joint-back (inr (inr (inr m))) = refl
 
-abbrev pub joint : Place Joint
+unfoldable pub joint : Place Joint
 joint = of_choice joints joint_pick joint-same joint-back refl
 
 -- the tag of an operator is explicit

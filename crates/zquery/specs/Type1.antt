@@ -7,7 +7,8 @@ use Rattle.zber.specs.Productions.Place.{Place}
 use Rattle.zasn.specs.Places.{oid, explicit}
 use Rattle.zquery.specs.Trees.{Tree, OfTerm, OfSet, OfSetAttrs, Of, Near, RpnQuery}
 use Rattle.zquery.specs.Operands.{Operand, AttrTerm, ResultSet, ResultAttr, operand}
-use Rattle.zquery.specs.Operators.{Logical, Proximity, operator}
+use Rattle.zquery.specs.declared.operator.Joint.TheVariants.{Logical, Proximity}
+use Rattle.zquery.specs.Operators.{operator}
 
 -- an element of which P holds, and then the rest
 abbrev pub first : (Element → Type 0) → (List Element → Type 0) → List Element → Type 0

@@ -1,7 +1,7 @@
 -- The type-1 query that an element stands for, and the element that stands for a query.
 use Rattle.std.specs.Prelude.{◌≡◌, ℕ, List, [], ◌∷◌, Option, Some, None, Result, Ok, Err, if◌then◌else◌}
 use Rattle.zber.specs.Names.{Name, context, universal}
-use Rattle.zber.specs.Elements.{Forest, end, leaf, branch, Element, Primitive, Constructed, forest, elements, tag_of}
+use Rattle.zber.specs.Elements.{Forest, end, leaf, branch, Element, Primitive, Constructed, elements}
 use Rattle.zber.specs.Productions.Tags.{same_tag}
 use Rattle.zber.specs.Productions.Reading.{option_map}
 use Rattle.zber.specs.Productions.Within.{around, whole_of}
@@ -12,7 +12,9 @@ use Rattle.zquery.specs.declared.query.Rpn.{Rpn}
 use Rattle.zquery.specs.Trees.{Tree, OfTerm, OfSet, OfSetAttrs, Of, Near, RpnQuery}
 use Rattle.zquery.specs.Viewed.{seen}
 use Rattle.zquery.specs.Operands.{Operand, AttrTerm, ResultSet, ResultAttr}
-use Rattle.zquery.specs.Operators.{Joint, Logical, Proximity, operator}
+use Rattle.zquery.specs.declared.operator.Joint.TheVariants.{Logical, Proximity}
+use Rattle.zquery.specs.declared.operator.Joint.{Joint}
+use Rattle.zquery.specs.Operators.{operator}
 use Rattle.zquery.specs.Type1.{op}
 
 abbrev pub of_operand : Operand → Tree
@@ -53,6 +55,10 @@ trees (branch t f rest) = (tree_in t f (trees f), Constructed t f) ∷ trees res
 abbrev pub tree_of : Element → Option Tree
 tree_of (Primitive t bs) = None
 tree_of (Constructed t f) = tree_in t f (trees f)
+
+-- an element beside the structure that it says
+abbrev pub says : Element → Option Tree × Element
+says e = (tree_of e, e)
 
 abbrev pub query_from : Option (List ℕ) → Option Tree → Option RpnQuery
 query_from (Some set) (Some root) = Some (record { attr_set = set; root = root })

@@ -3,19 +3,26 @@
 // Type-1 queries and the prefix notation for them.
 mod attribute;
 mod cursor;
+mod decode;
+mod encode;
 mod error;
 pub mod laws;
 mod lexer;
 mod number;
 mod oid;
+mod operand;
+mod operator;
 mod parse;
 mod query;
 mod token;
 mod value;
 mod word;
 
+pub use decode::from_node;
+pub use encode::to_node;
 pub use error::{PqfError, PqfErrorKind};
 pub use lexer::tokens;
 pub use parse::parse_pqf;
 pub use query::{Attr, AttrValue, Query, Rpn, TermValue};
 pub use token::Token;
+pub use zasn::BuildError;
