@@ -19,4 +19,7 @@ pub mod Quoting
 pub mod Refusing
 pub mod SetLemmas
 pub mod TokenLists
+pub mod Type1Answers
+pub mod Type1Finding
+pub mod Type1Making
 pub mod Unique

@@ -3,10 +3,12 @@ pub mod Faults
 pub mod Fronts
 pub mod Grammar
 pub mod InForce
-pub mod Laws
 pub mod Lawful
+pub mod Laws
 pub mod Lexing
 pub mod Numbers
+pub mod Operands
+pub mod Operators
 pub mod Printing
 pub mod Reading
 pub mod Sets
@@ -14,6 +16,8 @@ pub mod Table
 pub mod Texts
 pub mod Tokens
 pub mod Trees
+pub mod Type1
+pub mod Type1Reading
 pub mod Values
 pub mod Viewed
 pub mod Words
