@@ -7,9 +7,16 @@ use Rattle.zber.specs.declared.fault.FrameError.{FrameError}
 use Rattle.zber.specs.declared.fault.FrameError.TheVariants as frames
 use Rattle.zapdu.specs.declared.apdu.ApduError.{ApduError}
 use Rattle.zapdu.specs.declared.apdu.ApduError.TheVariants as apdus
+use Rattle.zasn.specs.declared.error.BuildError.{BuildError}
+use Rattle.zasn.specs.declared.error.BuildError.TheVariants as builds
+use Rattle.zquery.specs.declared.error.PqfError.{PqfError}
+use Rattle.zquery.specs.declared.error.PqfErrorKind.{PqfErrorKind}
+use Rattle.zquery.specs.declared.error.PqfErrorKind.TheVariants as queries
+use Rattle.zquery.specs.declared.print.PrintError.{PrintError}
+use Rattle.zquery.specs.declared.print.PrintError.TheVariants as prints
 use Rattle.zmeta.specs.Lines.{apdu_word}
 use Rattle.zmeta.specs.declared.fault.Fault.{Fault}
-use Rattle.zmeta.specs.declared.fault.Fault.TheVariants.{Read, Write, Hex, Frame, NotApdu, Malformed, Memory}
+use Rattle.zmeta.specs.declared.fault.Fault.TheVariants.{Read, Write, Hex, Frame, NotApdu, Malformed, Query, NotPrintable, Memory}
 use Rattle.zmeta.specs.declared.fault.Status.{Status}
 use Rattle.zmeta.specs.declared.fault.Status.TheVariants as statuses
 
@@ -32,6 +39,19 @@ fault_word kinds.TooLong = codes "TooLong"
 fault_word kinds.TooDeep = codes "TooDeep"
 fault_word kinds.Truncated = codes "Truncated"
 
+abbrev pub query_word : PqfErrorKind → List ℕ
+query_word queries.OpenQuote = codes "OpenQuote"
+query_word queries.Empty = codes "Empty"
+query_word queries.UnknownWord = codes "UnknownWord"
+query_word queries.MissingOperand = codes "MissingOperand"
+query_word queries.BadAttribute = codes "BadAttribute"
+query_word queries.UnknownSet = codes "UnknownSet"
+query_word queries.BadTermType = codes "BadTermType"
+query_word queries.BadNumber = codes "BadNumber"
+query_word queries.TooDeep = codes "TooDeep"
+query_word queries.Trailing = codes "Trailing"
+query_word queries.Memory = codes "Memory"
+
 -- what is told of a fault on standard error
 abbrev pub fault_text : Fault → List ℕ
 fault_text (Read path) = codes "cannot read " ++ path.now
@@ -40,6 +60,8 @@ fault_text Hex = codes "hex refused"
 fault_text (Frame kind at) = fault_word kind ++ codes " at " ++ decimal at
 fault_text NotApdu = codes "not an APDU"
 fault_text (Malformed kind at) = apdu_word kind ++ codes " malformed at " ++ decimal at
+fault_text (Query kind at) = query_word kind ++ codes " at " ++ decimal at
+fault_text NotPrintable = codes "not printable"
 fault_text Memory = codes "out of memory"
 
 abbrev pub of_frame : FrameError → Fault
@@ -50,6 +72,23 @@ abbrev pub of_apdu : ApduError → Fault
 of_apdu apdus.NotApdu = NotApdu
 of_apdu (apdus.Malformed kind at) = Malformed kind at
 of_apdu apdus.Memory = Memory
+
+-- a text that wants memory is no text at fault
+abbrev pub of_kind : PqfErrorKind → ℕ → Fault
+of_kind queries.Memory at = Memory
+of_kind kind at = Query kind at
+
+abbrev pub of_query : PqfError → Fault
+of_query e = of_kind e.kind e.at
+
+abbrev pub of_print : PrintError → Fault
+of_print prints.NotPrintable = NotPrintable
+of_print prints.Memory = Memory
+
+-- a query that was read has a spelling, so that this never tells of one
+abbrev pub of_build : BuildError → Fault
+of_build builds.NotSpellable = NotPrintable
+of_build builds.Memory = Memory
 
 -- the status of a command that a fault stopped
 abbrev pub status_of : Fault → Status

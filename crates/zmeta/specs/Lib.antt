@@ -3,3 +3,4 @@ pub mod Faults
 pub mod Lines
 pub mod Show
 pub mod Steps
+pub mod Pqf

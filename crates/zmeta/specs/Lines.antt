@@ -1,9 +1,9 @@
 -- The lines of an APDU, as `show` prints them.
-use Rattle.std.specs.Prelude.{ℕ, ℤ, List, [], ◌∷◌, ◌++◌, Option, Some, None, false, codes}
+use Rattle.std.specs.Prelude.{ℕ, ℤ, List, [], ◌∷◌, ◌++◌, Option, Some, None, Bool, false, if◌then◌else◌, map, codes}
 use Rattle.std.specs.List.{flat_map}
 use Rattle.std.specs.Fmt.{signed_decimal}
 use Rattle.hex.specs.Hex.{encode_lower}
-use Rattle.zapdu.specs.Text.{quoted, record_text, default_text, diag_text}
+use Rattle.zapdu.specs.Text.{quoted, quoted_or_dash, record_text, default_text, diag_text}
 use Rattle.zapdu.specs.declared.apdu.Apdu.{Apdu}
 use Rattle.zapdu.specs.declared.apdu.Apdu.TheVariants as apdus
 use Rattle.zapdu.specs.declared.apdu.Kind.{Kind}
@@ -11,12 +11,21 @@ use Rattle.zapdu.specs.declared.apdu.Kind.TheVariants as kinds
 use Rattle.zapdu.specs.declared.close.Close.{Close}
 use Rattle.zapdu.specs.declared.diagnostic.DefaultDiag.{DefaultDiag}
 use Rattle.zapdu.specs.declared.diagnostic.DiagRec.{DiagRec}
+use Rattle.zapdu.specs.declared.init_request.InitRequest.{InitRequest}
+use Rattle.zapdu.specs.declared.init_response.InitResponse.{InitResponse}
+use Rattle.zapdu.specs.declared.present_request.PresentRequest.{PresentRequest}
+use Rattle.zapdu.specs.declared.range.Range.{Range}
+use Rattle.zapdu.specs.declared.search_response.SearchResponse.{SearchResponse}
 use Rattle.zapdu.specs.declared.present_response.PresentResponse.{PresentResponse}
 use Rattle.zapdu.specs.declared.record.Record.{Record}
 use Rattle.zapdu.specs.declared.record.Records.{Records}
 use Rattle.zapdu.specs.declared.record.Records.TheVariants as records
 
 abbrev pub apdu_word : Kind → List ℕ
+apdu_word kinds.InitRequest = codes "initRequest"
+apdu_word kinds.InitResponse = codes "initResponse"
+apdu_word kinds.SearchResponse = codes "searchResponse"
+apdu_word kinds.PresentRequest = codes "presentRequest"
 apdu_word kinds.PresentResponse = codes "presentResponse"
 apdu_word kinds.Close = codes "close"
 
@@ -31,6 +40,22 @@ number_text n = codes " " ++ signed_decimal n
 
 abbrev pub numbers_text : List ℤ → List ℕ
 numbers_text ns = flat_map number_text ns
+
+-- truth values as digits, and one as a word
+abbrev pub bit_text : Bool → ℕ
+bit_text b = if b then 49 else 48
+
+abbrev pub bits_text : List Bool → List ℕ
+bits_text bits = codes " " ++ map bit_text bits
+
+abbrev pub truth_text : Bool → List ℕ
+truth_text b = if b then codes " true" else codes " false"
+
+abbrev pub name_text : Option (List ℕ) → List ℕ
+name_text name = codes " " ++ quoted_or_dash name
+
+unfoldable pub start_text : Kind → Option (List ℕ) → List ℕ
+start_text kind reference = apdu_word kind ++ codes " " ++ reference_text reference
 
 unfoldable pub head_line : Kind → Option (List ℕ) → List ℤ → List ℕ
 head_line kind reference ns = apdu_word kind ++ codes " " ++ reference_text reference ++ numbers_text ns ++ codes "\n"
@@ -68,6 +93,38 @@ response_text v =
     head_line kinds.PresentResponse v.reference_id (v.number_of_records_returned ∷ v.next_result_set_position ∷ v.present_status ∷ [])
     ++ optional_records v.records
 
+abbrev pub init_request_text : InitRequest → List ℕ
+init_request_text v =
+    start_text kinds.InitRequest v.reference_id ++ bits_text v.protocol_version ++ bits_text v.options
+    ++ numbers_text (v.preferred_message_size ∷ v.exceptional_record_size ∷ []) ++ name_text v.implementation_name ++ codes "\n"
+
+abbrev pub init_response_text : InitResponse → List ℕ
+init_response_text v =
+    start_text kinds.InitResponse v.reference_id ++ bits_text v.protocol_version ++ bits_text v.options
+    ++ numbers_text (v.preferred_message_size ∷ v.exceptional_record_size ∷ []) ++ truth_text v.result ++ name_text v.implementation_name ++ codes "\n"
+
+abbrev pub search_response_text : SearchResponse → List ℕ
+search_response_text v =
+    start_text kinds.SearchResponse v.reference_id
+    ++ numbers_text (v.result_count ∷ v.number_of_records_returned ∷ v.next_result_set_position ∷ []) ++ truth_text v.search_status ++ codes "\n"
+    ++ optional_records v.records
+
+abbrev pub range_line : Range → List ℕ
+range_line r = codes "  range" ++ numbers_text (r.starting_position ∷ r.number_of_records ∷ []) ++ codes "\n"
+
+abbrev pub range_lines : List Range → List ℕ
+range_lines rs = flat_map range_line rs
+
+abbrev pub optional_ranges : Option (List Range) → List ℕ
+optional_ranges None = []
+optional_ranges (Some rs) = range_lines rs
+
+abbrev pub present_request_text : PresentRequest → List ℕ
+present_request_text v =
+    start_text kinds.PresentRequest v.reference_id ++ name_text (Some v.result_set_id)
+    ++ numbers_text (v.result_set_start_point ∷ v.number_of_records_requested ∷ []) ++ codes "\n"
+    ++ optional_ranges v.additional_ranges
+
 abbrev pub info_text : List ℕ → List ℕ
 info_text octets = codes "  info " ++ quoted octets ++ codes "\n"
 
@@ -79,5 +136,9 @@ abbrev pub close_text : Close → List ℕ
 close_text v = head_line kinds.Close v.reference_id (v.close_reason ∷ []) ++ optional_info v.diagnostic_information
 
 abbrev pub apdu_text : Apdu → List ℕ
+apdu_text (apdus.InitRequest v) = init_request_text v
+apdu_text (apdus.InitResponse v) = init_response_text v
+apdu_text (apdus.SearchResponse v) = search_response_text v
+apdu_text (apdus.PresentRequest v) = present_request_text v
 apdu_text (apdus.PresentResponse v) = response_text v
 apdu_text (apdus.Close v) = close_text v

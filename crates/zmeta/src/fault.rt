@@ -1,6 +1,6 @@
 //! Why a command stopped, and the status that it ends with.
 ghost use Rattle.std.specs.Prelude.{◌≡◌, Some};
-ghost use Rattle.zmeta.specs.Faults.{code_of, status_of, fault_text, fault_word, of_frame, of_apdu};
+ghost use Rattle.zmeta.specs.Faults.{code_of, status_of, fault_text, fault_word, query_word, of_frame, of_apdu, of_query, of_print, of_build};
 ghost use Rattle.zmeta.specs.Lines.{apdu_word};
 ghost use Rattle.zmeta.specs.declared.fault.Fault.TheVariants.{Memory};
 
@@ -10,6 +10,7 @@ use std::fmt;
 use std::io::Write;
 use zapdu::{ApduError, Kind};
 use zber::{FaultKind, FrameError};
+use zquery::{BuildError, PqfError, PqfErrorKind, PrintError};
 
 /// How a command ends. Where several hold, `Memory` comes before `Refused`, and that before `Failed`.
 #[derive(Clone, Copy, Debug, PartialEq, Eq)]
@@ -56,8 +57,31 @@ pub enum Fault<'a> {
     NotApdu,
     /// The message has an APDU's tag, and is none from this element on.
     Malformed { kind: Kind, at: usize },
+    /// The text is no query; the place counts octets from its first.
+    Query { kind: PqfErrorKind, at: usize },
+    /// The query has no text in the prefix notation.
+    NotPrintable,
     /// No memory was found.
     Memory,
+}
+
+/// The word of a fault of the prefix notation.
+fn query_word(kind: PqfErrorKind) -> &'static str
+    ensures { result.now ≡ query_word kind }
+{
+    match kind {
+        PqfErrorKind::OpenQuote => "OpenQuote",
+        PqfErrorKind::Empty => "Empty",
+        PqfErrorKind::UnknownWord => "UnknownWord",
+        PqfErrorKind::MissingOperand => "MissingOperand",
+        PqfErrorKind::BadAttribute => "BadAttribute",
+        PqfErrorKind::UnknownSet => "UnknownSet",
+        PqfErrorKind::BadTermType => "BadTermType",
+        PqfErrorKind::BadNumber => "BadNumber",
+        PqfErrorKind::TooDeep => "TooDeep",
+        PqfErrorKind::Trailing => "Trailing",
+        PqfErrorKind::Memory => "Memory",
+    }
 }
 
 /// The word of a framing fault.
@@ -94,6 +118,11 @@ impl fmt::Display for Fault<'_> {
                 let word = apdu_word(*kind);
                 write!(f, "{word} malformed at {at}")
             }
+            Fault::Query { kind, at } => {
+                let word = query_word(*kind);
+                write!(f, "{word} at {at}")
+            }
+            Fault::NotPrintable => write!(f, "not printable"),
             Fault::Memory => write!(f, "out of memory"),
         }
     }
@@ -126,6 +155,39 @@ impl From<ApduError> for Fault<'_> {
             ApduError::NotApdu => Fault::NotApdu,
             ApduError::Malformed { kind, at } => Fault::Malformed { kind, at },
             ApduError::Memory => Fault::Memory,
+        }
+    }
+}
+
+impl From<PqfError> for Fault<'_> {
+    ghost from_gives = { λ e f. f ≡ of_query e };
+
+    fn from(error: PqfError) -> Self {
+        match error.kind {
+            PqfErrorKind::Memory => Fault::Memory,
+            kind => Fault::Query { kind, at: error.at },
+        }
+    }
+}
+
+impl From<PrintError> for Fault<'_> {
+    ghost from_gives = { λ e f. f ≡ of_print e };
+
+    fn from(error: PrintError) -> Self {
+        match error {
+            PrintError::NotPrintable => Fault::NotPrintable,
+            PrintError::Memory => Fault::Memory,
+        }
+    }
+}
+
+impl From<BuildError> for Fault<'_> {
+    ghost from_gives = { λ e f. f ≡ of_build e };
+
+    fn from(error: BuildError) -> Self {
+        match error {
+            BuildError::NotSpellable => Fault::NotPrintable,
+            BuildError::Memory => Fault::Memory,
         }
     }
 }

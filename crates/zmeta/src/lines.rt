@@ -1,12 +1,14 @@
 //! The lines of an APDU, as `show` prints them.
 ghost use Rattle.std.specs.Prelude.{◌≡◌, ◌++◌, OnOk, OnErr};
-ghost use Rattle.zmeta.specs.Lines.{apdu_word, apdu_text, response_text, close_text, head_line, reference_text, numbers_text, number_text, records_text, record_lines, record_line, nonsurrogate, default_line, diag_lines, diag_line, info_text};
+ghost use Rattle.zmeta.specs.Lines.{apdu_word, apdu_text, init_request_text, init_response_text, search_response_text, present_request_text, range_line, range_lines, response_text, close_text, head_line, records_text, record_lines, record_line, nonsurrogate, default_line, diag_lines, diag_line, info_text};
 
+use crate::fields::{put_bits, put_name, put_numbers, put_reference, put_start, put_truth};
 use bytes::Bytes;
 use std::alloc::{AllocError, Global};
 use zapdu::{
-    Apdu, Close, DefaultDiag, DiagRec, Kind, PresentResponse, Record, Records, print_default_diag,
-    print_diag, print_record, quote,
+    Apdu, Close, DefaultDiag, DiagRec, InitRequest, InitResponse, Kind, PresentRequest,
+    PresentResponse, Range, Record, Records, SearchResponse, print_default_diag, print_diag,
+    print_record, quote,
 };
 
 /// The word of a kind of APDU.
@@ -14,6 +16,10 @@ pub fn apdu_word(kind: Kind) -> &'static str
     ensures { result.now ≡ apdu_word kind }
 {
     match kind {
+        Kind::InitRequest => "initRequest",
+        Kind::InitResponse => "initResponse",
+        Kind::SearchResponse => "searchResponse",
+        Kind::PresentRequest => "presentRequest",
         Kind::PresentResponse => "presentResponse",
         Kind::Close => "close",
     }
@@ -27,10 +33,115 @@ pub fn print_apdu(alloc: Global, apdu: &Apdu, text: &mut Vec<u8>) -> Result<(), 
 {
     let mut lines = Vec::new(alloc);
     match apdu {
+        Apdu::InitRequest(request) => put_init_request(alloc, request, &mut lines)?,
+        Apdu::InitResponse(response) => put_init_response(alloc, response, &mut lines)?,
+        Apdu::SearchResponse(response) => put_search_response(alloc, response, &mut lines)?,
+        Apdu::PresentRequest(request) => put_present_request(alloc, request, &mut lines)?,
         Apdu::PresentResponse(response) => put_response(alloc, response, &mut lines)?,
         Apdu::Close(close) => put_close(alloc, close, &mut lines)?,
     }
     text.extend_from_slice(&lines)
+}
+
+fn put_init_request(
+    alloc: Global,
+    request: &InitRequest,
+    text: &mut Vec<u8>,
+) -> Result<(), AllocError>
+    ensures { OnOk result (text.new.items ≡ text.old.items ++ init_request_text request.now) }
+{
+    let sizes = [
+        request.preferred_message_size,
+        request.exceptional_record_size,
+    ];
+    put_start(alloc, Kind::InitRequest, &request.reference_id, text)?;
+    put_bits(&request.protocol_version, text)?;
+    put_bits(&request.options, text)?;
+    put_numbers(alloc, &sizes, text)?;
+    put_name(alloc, &request.implementation_name, text)?;
+    text.extend_from_slice(b"\n")
+}
+
+fn put_init_response(
+    alloc: Global,
+    response: &InitResponse,
+    text: &mut Vec<u8>,
+) -> Result<(), AllocError>
+    ensures { OnOk result (text.new.items ≡ text.old.items ++ init_response_text response.now) }
+{
+    let sizes = [
+        response.preferred_message_size,
+        response.exceptional_record_size,
+    ];
+    put_start(alloc, Kind::InitResponse, &response.reference_id, text)?;
+    put_bits(&response.protocol_version, text)?;
+    put_bits(&response.options, text)?;
+    put_numbers(alloc, &sizes, text)?;
+    put_truth(response.result, text)?;
+    put_name(alloc, &response.implementation_name, text)?;
+    text.extend_from_slice(b"\n")
+}
+
+fn put_search_response(
+    alloc: Global,
+    response: &SearchResponse,
+    text: &mut Vec<u8>,
+) -> Result<(), AllocError>
+    ensures { OnOk result (text.new.items ≡ text.old.items ++ search_response_text response.now) }
+{
+    let numbers = [
+        response.result_count,
+        response.number_of_records_returned,
+        response.next_result_set_position,
+    ];
+    put_start(alloc, Kind::SearchResponse, &response.reference_id, text)?;
+    put_numbers(alloc, &numbers, text)?;
+    put_truth(response.search_status, text)?;
+    text.extend_from_slice(b"\n")?;
+    match &response.records {
+        None => Ok(()),
+        Some(records) => put_records(alloc, records, text),
+    }
+}
+
+fn put_present_request(
+    alloc: Global,
+    request: &PresentRequest,
+    text: &mut Vec<u8>,
+) -> Result<(), AllocError>
+    ensures { OnOk result (text.new.items ≡ text.old.items ++ present_request_text request.now) }
+{
+    let numbers = [
+        request.result_set_start_point,
+        request.number_of_records_requested,
+    ];
+    put_start(alloc, Kind::PresentRequest, &request.reference_id, text)?;
+    text.extend_from_slice(b" ")?;
+    quote(alloc, request.result_set_id.as_slice(), text)?;
+    put_numbers(alloc, &numbers, text)?;
+    text.extend_from_slice(b"\n")?;
+    match &request.additional_ranges {
+        None => Ok(()),
+        Some(ranges) => put_ranges(alloc, ranges.as_slice(), text),
+    }
+}
+
+fn put_ranges(alloc: Global, ranges: &[Range], text: &mut Vec<u8>) -> Result<(), AllocError>
+    ensures { OnOk result (text.new.items ≡ text.old.items ++ range_lines ranges.now) }
+{
+    for range in ranges {
+        put_range(alloc, range, text)?;
+    }
+    Ok(())
+}
+
+fn put_range(alloc: Global, range: &Range, text: &mut Vec<u8>) -> Result<(), AllocError>
+    ensures { OnOk result (text.new.items ≡ text.old.items ++ range_line range.now) }
+{
+    let numbers = [range.starting_position, range.number_of_records];
+    text.extend_from_slice(b"  range")?;
+    put_numbers(alloc, &numbers, text)?;
+    text.extend_from_slice(b"\n")
 }
 
 fn put_response(
@@ -90,38 +201,6 @@ fn put_head(
     put_reference(alloc, reference, text)?;
     put_numbers(alloc, numbers, text)?;
     text.extend_from_slice(b"\n")
-}
-
-fn put_reference(
-    alloc: Global,
-    reference: &Option<Bytes>,
-    text: &mut Vec<u8>,
-) -> Result<(), AllocError>
-    ensures { OnOk result (text.new.items ≡ text.old.items ++ reference_text reference.now) }
-{
-    match reference {
-        None => text.extend_from_slice(b"-"),
-        Some(octets) => {
-            let digits = hex::encode(alloc, octets.as_slice())?;
-            text.extend_from_slice(digits.as_bytes())
-        }
-    }
-}
-
-fn put_numbers(alloc: Global, numbers: &[i64], text: &mut Vec<u8>) -> Result<(), AllocError>
-    ensures { OnOk result (text.new.items ≡ text.old.items ++ numbers_text numbers.now) }
-{
-    for number in numbers {
-        put_number(alloc, *number, text)?;
-    }
-    Ok(())
-}
-
-fn put_number(alloc: Global, number: i64, text: &mut Vec<u8>) -> Result<(), AllocError>
-    ensures { OnOk result (text.new.items ≡ text.old.items ++ number_text number) }
-{
-    let field = format!(in alloc; " {number}")?;
-    text.extend_from_slice(field.as_bytes())
 }
 
 fn put_information(alloc: Global, information: &Bytes, text: &mut Vec<u8>) -> Result<(), AllocError>

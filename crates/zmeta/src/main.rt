@@ -5,8 +5,10 @@
 mod devices;
 mod digits;
 mod fault;
+mod fields;
 mod input;
 mod lines;
+mod pqf;
 #[cfg(test)]
 mod rows;
 mod show;
@@ -49,11 +51,12 @@ fn refuse(rt: &HostRuntime, kind: ErrorKind) -> Status {
     }
 }
 
-fn call(rt: &HostRuntime, words: Words) -> Status {
+fn call(rt: &HostRuntime, words: Words<'_>) -> Status {
     let mut input = rt.stdin();
     let mut output = rt.stdout();
     let mut errors = rt.stderr();
     match words {
         Words::Show => show::show(rt.alloc(), &mut input, &mut output, &mut errors),
+        Words::Pqf { text } => pqf::pqf(rt.alloc(), text, &mut output, &mut errors),
     }
 }

@@ -12,9 +12,11 @@ use std::io::Write;
 
 /// What the words ask for.
 #[derive(Clone, Copy, Debug, PartialEq, Eq)]
-pub enum Words {
+pub enum Words<'a> {
     /// Show the messages whose hexadecimal digits standard input has.
     Show,
+    /// Print a query and its encoding.
+    Pqf { text: &'a str },
 }
 
 /// A command: its name, what it is for, an example for its help, the words that it wants, and its options.
@@ -42,7 +44,7 @@ const ABOUT: &str = "Asks library catalogues over Z39.50, and shows what they an
 const ADVICE: &str =
     "'zmeta help COMMAND' says what a command reads and prints, with an example, as\n  zmeta help show";
 
-const FORMS: [Form; 1] = [Form {
+const SHOW: Form = Form {
     name: "show",
     about: "Shows what recorded Z39.50 messages say",
     example: "Reads hexadecimal digits from standard input; spaces and line ends between them don't count.
@@ -55,7 +57,28 @@ prints
     wants: &[],
     has_hex: false,
     has_save: false,
-}];
+};
+
+const PQF: Form = Form {
+    name: "pqf",
+    about: "Shows how a query is understood, and how it goes out",
+    example: "TEXT is a query in prefix notation (PQF), as one word: quote it for the shell.
+Prints it with all its attributes in place, and below it its encoding in hexadecimal.
+
+Example, books with the title word dune that Herbert wrote:
+  zmeta pqf '@and @attr 1=4 dune @attr 1=1003 herbert'
+prints first
+  @and @attr 1=4 \"dune\" @attr 1=1003 \"herbert\"",
+    wants: &[Word {
+        id: "TEXT",
+        help: "The query in prefix notation",
+        is_number: false,
+    }],
+    has_hex: false,
+    has_save: false,
+};
+
+const FORMS: [Form; 2] = [SHOW, PQF];
 
 fn argument(alloc: Global, word: &Word) -> Arg<'static> {
     let arg = Arg::new(alloc, word.id)
@@ -113,11 +136,14 @@ fn command<'a>(alloc: Global, forms: &[Form]) -> Result<Command<'a>, AllocError>
 
 /// What the words ask for, the first being the program's name. Else the text for words that are wrong or that ask for
 /// help; its kind is `OutOfMemory` where memory ran out.
-pub fn parse<'a>(alloc: Global, words: &'a [String]) -> Result<Words, Error> {
+pub fn parse<'a>(alloc: Global, words: &'a [String]) -> Result<Words<'a>, Error> {
     let mut command = command(alloc, &FORMS)?;
     let matches = command.try_get_matches_from_mut(words)?;
-    match matches.subcommand_name() {
-        Some("show") => Ok(Words::Show),
+    match matches.subcommand() {
+        Some(("show", _)) => Ok(Words::Show),
+        Some(("pqf", found)) => Ok(Words::Pqf {
+            text: found.get_str("TEXT").unwrap_or(""),
+        }),
         _ => Err(command.error(ErrorKind::InvalidSubcommand, "no such command")?),
     }
 }
@@ -189,6 +215,9 @@ mod tests {
     fn shows(rt: HostRuntime) -> Result<(), Fail> {
         let words = words_of(rt.alloc(), "zmeta show")?;
         assert_eq!(rt; parse(rt.alloc(), words.as_slice())?, Words::Show);
+        let words = words_of(rt.alloc(), "zmeta pqf dune")?;
+        let due = Words::Pqf { text: "dune" };
+        assert_eq!(rt; parse(rt.alloc(), words.as_slice())?, due);
         Ok(())
     }
 
@@ -199,6 +228,8 @@ mod tests {
             ("zmeta shew", 2),
             ("zmeta show x", 2),
             ("zmeta show --hex", 2),
+            ("zmeta pqf", 2),
+            ("zmeta pqf a b", 2),
             ("zmeta --version", 2),
             ("zmeta --help", 0),
             ("zmeta help show", 0),
