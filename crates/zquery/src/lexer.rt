@@ -30,7 +30,8 @@ fn taken(octets: &[u8]) -> Option<(u8, &[u8])>
 
 /// The text behind an opening quote, and what is behind the closing one.
 fn quoted_text(alloc: Global, octets: &[u8]) -> Result<Option<(Vec<u8>, &[u8])>, AllocError>
-    ensures { IfOk result (λ found. MatchOption found (StaysOpen octets.now) (λ x. Closes octets.now x.0.items x.1.now)) }
+    ensures { IfOk result (λ found. MatchOption found (StaysOpen octets.now)
+        (λ x. Closes octets.now x.0.items x.1.now)) }
 {
     let mut text = Vec::new(alloc);
     let mut left = octets;
@@ -84,7 +85,8 @@ fn token(at: usize, quoted: bool, text: Vec<u8>) -> Result<Token, PqfError>
 /// Refusals: `OpenQuote` at a quote that no quote closes, and `Memory`.
 pub fn tokens(alloc: Global, text: &[u8]) -> Result<Vec<Token>, PqfError>
     ensures ok { IfOk result (λ v. AreTokens v.items text.now) }
-    ensures err { IfErr result (λ e. (e ≡ memory) ⊎ ((e.kind ≡ kind.OpenQuote) × IsOpenAt e.at text.now)) }
+    ensures err { IfErr result (λ e. (e ≡ memory)
+        ⊎ ((e.kind ≡ kind.OpenQuote) × IsOpenAt e.at text.now)) }
 {
     let mut out = Vec::new(alloc);
     let mut left = text;

@@ -47,7 +47,8 @@ fn negated(number: u64) -> i64
 
 /// What is behind a minus.
 fn after_minus(text: &[u8]) -> Option<&[u8]>
-    ensures some { IfSome result (λ digits. (has_minus text.now ≡ true) × (digits.now ≡ drop 1 text.now)) }
+    ensures some { IfSome result (λ digits. (has_minus text.now ≡ true)
+        × (digits.now ≡ drop 1 text.now)) }
     ensures none { IfNone result (has_minus text.now ≡ false) }
 {
     match text {

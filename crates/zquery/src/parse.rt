@@ -151,8 +151,10 @@ fn prefixes(
 }
 
 fn term_of(token: &Token, attrs: Vec<Attr>, kind: TermKind, level: u32) -> Result<Rpn, PqfError>
-    ensures ok { IfOk result (λ r. (level ≤ 32) × ((v : TermValue) × (value_of kind token.now.text ≡ Some v) × (seen r ≡ OfTerm attrs.items v))) }
-    ensures err { IfErr result (λ e. (e ≡ memory) ⊎ ((e ≡ error_at token.now e.kind) × (operand below_limit kind level token.now.text Plain ≡ Err e.kind))) }
+    ensures ok { IfOk result (λ r. (level ≤ 32)
+        × ((v : TermValue) × (value_of kind token.now.text ≡ Some v) × (seen r ≡ OfTerm attrs.items v))) }
+    ensures err { IfErr result (λ e. (e ≡ memory) ⊎ ((e ≡ error_at token.now e.kind)
+        × (operand below_limit kind level token.now.text Plain ≡ Err e.kind))) }
 {
     match value(kind, &token.text)? {
         None => Err(error_of(token, PqfErrorKind::BadNumber)),
@@ -210,7 +212,8 @@ fn query(
         → IsRead own.now xs kind level cursor.old cursor.new (seen r)) }
     ensures walks { OnOk result ((rest : List Place)
         → walk below_limit cursor.old (Operand kind level ∷ rest) ≡ walk below_limit cursor.new rest) }
-    ensures err { (rest : List Place) → Refuses (fault end (walk below_limit cursor.old (Operand kind level ∷ rest))) result }
+    ensures err { (rest : List Place)
+        → Refuses (fault end (walk below_limit cursor.old (Operand kind level ∷ rest))) result }
 {
     let mut attrs = copies(alloc, outer)?;
     let kind = prefixes(alloc, cursor, end, own, &mut attrs, kind)?;

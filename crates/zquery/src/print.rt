@@ -162,7 +162,8 @@ fn put_both(
     right: &Rpn,
 ) -> Result<(), AllocError>
     ensures { OnOk result (out.new.items ≡ out.old.items
-        ++ (operator_text operator ++ (tree_text (seen left.now) ++ (codes " " ++ tree_text (seen right.now))))) }
+        ++ (operator_text operator
+        ++ (tree_text (seen left.now) ++ (codes " " ++ tree_text (seen right.now))))) }
 {
     put_operator(out, operator)?;
     put_tree(alloc, out, left)?;

@@ -40,11 +40,11 @@ pub enum TermValue {
 /// An operand, or an operator with two of them (RPNStructure).
 #[derive(Drop)]
 pub enum Rpn {
-    /// A term with attributes, no two of which need differ.
+    /// The records that have a term, with attributes that say where and how (AttributesPlusTerm).
     Term { attrs: Seq<Attr>, term: TermValue },
-    /// The records of a result set.
+    /// The records of a result set (ResultSetId).
     ResultSet { name: Bytes },
-    /// The records of a result set that have attributes.
+    /// The records of a result set that have attributes (ResultSetPlusAttributes).
     SetAttrs { name: Bytes, attrs: Seq<Attr> },
     And(Box<Rpn>, Box<Rpn>),
     Or(Box<Rpn>, Box<Rpn>),
@@ -54,7 +54,7 @@ pub enum Rpn {
     Prox(Node, Box<Rpn>, Box<Rpn>),
 }
 
-/// A type-1 query: the default attribute set, and a tree.
+/// A type-1 query (Z39.50-2003, 3.7): the default attribute set, and a tree of any height.
 ///
 /// Contracts see it as plain data, an `RpnQuery`, which tells nothing of where its parts lie in
 /// memory; they see an `Rpn` within it by `seen`.

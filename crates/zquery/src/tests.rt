@@ -4,7 +4,6 @@ use crate::{
 };
 use bytes::Bytes;
 use std::alloc::Global;
-use std::process::Abort;
 use std::test::Fail;
 use zber::{Node, Oid, Seq, Tag};
 
