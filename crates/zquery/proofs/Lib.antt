@@ -1,5 +1,7 @@
 pub mod Completing
 pub mod Filling
+pub mod Heights
+pub mod InForceKept
 pub mod InForceLemmas
 pub mod Leading
 pub mod NumberLemmas
@@ -7,9 +9,15 @@ pub mod OneAnswers
 pub mod OneLexing
 pub mod Opening
 pub mod PairLemmas
+pub mod PrintedNumbers
+pub mod PrintedPhrases
+pub mod PrintedTexts
+pub mod PrintedTokens
+pub mod PrintedWords
 pub mod PutLemmas
 pub mod Quoting
 pub mod Refusing
+pub mod SetLemmas
 pub mod TokenLists
 pub mod Type1Answers
 pub mod Type1Finding

@@ -4,10 +4,12 @@ pub mod Fronts
 pub mod Grammar
 pub mod InForce
 pub mod Laws
+pub mod Lawful
 pub mod Lexing
 pub mod Numbers
 pub mod Operands
 pub mod Operators
+pub mod Printing
 pub mod Reading
 pub mod Sets
 pub mod Table

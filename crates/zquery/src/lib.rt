@@ -9,10 +9,11 @@ mod error;
 pub mod laws;
 mod lexer;
 mod number;
-mod oid;
 mod operand;
 mod operator;
 mod parse;
+mod print;
+mod printable;
 mod query;
 mod token;
 mod value;
@@ -23,6 +24,10 @@ pub use encode::to_node;
 pub use error::{PqfError, PqfErrorKind};
 pub use lexer::tokens;
 pub use parse::parse_pqf;
+pub use print::{PrintError, print_pqf};
 pub use query::{Attr, AttrValue, Query, Rpn, TermValue};
 pub use token::Token;
 pub use zasn::BuildError;
+
+#[cfg(test)]
+mod tests;

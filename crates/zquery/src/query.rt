@@ -1,5 +1,10 @@
 // Type-1 queries (Z39.50-2003, RPNQuery).
+ghost use Rattle.std.specs.Prelude.{◌≡◌, IfOk};
+ghost use Rattle.zquery.specs.Viewed.{seen};
+
+use crate::attribute::copies;
 use bytes::Bytes;
+use std::alloc::{AllocError, Global};
 use std::marker::Model;
 use zber::{Node, Oid, Seq};
 
@@ -70,4 +75,68 @@ impl Model for Query {
     ghost use Rattle.zquery.specs.Viewed.{query_of};
 
     ghost view = { query_of };
+}
+
+impl TermValue {
+    /// An equal term, or the refusal of the memory for it.
+    pub fn copy(&self, alloc: Global) -> Result<TermValue, AllocError>
+        ensures { IfOk result (λ t. t ≡ self.now) }
+    {
+        match self {
+            TermValue::General(text) => Ok(TermValue::General(text.clone()?)),
+            TermValue::Numeric(number) => Ok(TermValue::Numeric(*number)),
+            TermValue::Text(text) => Ok(TermValue::Text(text.clone()?)),
+            TermValue::Other(node) => Ok(TermValue::Other(node.copy(alloc)?)),
+        }
+    }
+}
+
+impl Rpn {
+    /// An equal tree, or the refusal of the memory for it.
+    pub fn copy(&self, alloc: Global) -> Result<Rpn, AllocError>
+        ensures { IfOk result (λ r. seen r ≡ seen self.now) }
+    {
+        match self {
+            Rpn::Term { attrs, term } => Ok(Rpn::Term {
+                attrs: Seq::from_vec(copies(alloc, attrs.as_slice())?),
+                term: term.copy(alloc)?,
+            }),
+            Rpn::ResultSet { name } => Ok(Rpn::ResultSet {
+                name: name.clone()?,
+            }),
+            Rpn::SetAttrs { name, attrs } => Ok(Rpn::SetAttrs {
+                name: name.clone()?,
+                attrs: Seq::from_vec(copies(alloc, attrs.as_slice())?),
+            }),
+            Rpn::And(left, right) => Ok(Rpn::And(
+                Box::new(alloc, left.copy(alloc)?)?,
+                Box::new(alloc, right.copy(alloc)?)?,
+            )),
+            Rpn::Or(left, right) => Ok(Rpn::Or(
+                Box::new(alloc, left.copy(alloc)?)?,
+                Box::new(alloc, right.copy(alloc)?)?,
+            )),
+            Rpn::Not(left, right) => Ok(Rpn::Not(
+                Box::new(alloc, left.copy(alloc)?)?,
+                Box::new(alloc, right.copy(alloc)?)?,
+            )),
+            Rpn::Prox(node, left, right) => Ok(Rpn::Prox(
+                node.copy(alloc)?,
+                Box::new(alloc, left.copy(alloc)?)?,
+                Box::new(alloc, right.copy(alloc)?)?,
+            )),
+        }
+    }
+}
+
+impl Query {
+    /// An equal query, or the refusal of the memory for it.
+    pub fn copy(&self, alloc: Global) -> Result<Query, AllocError>
+        ensures { IfOk result (λ q. q ≡ self.now) }
+    {
+        Ok(Query {
+            attr_set: self.attr_set.copy(alloc)?,
+            root: self.root.copy(alloc)?,
+        })
+    }
 }

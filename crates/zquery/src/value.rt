@@ -1,21 +1,20 @@
 // What the tokens within a query's parts mean.
 ghost use Rattle.std.specs.Prelude.{◌≡◌, ◌≤◌, IfOk, IfSome, position};
 ghost use Rattle.zquery.specs.Values.{is_equals, has_equals, most, numbers_of, kind_of, value_of};
-ghost use Rattle.zquery.specs.Sets.{bib1, set_of};
+ghost use Rattle.zquery.specs.Sets.{bib1, oid_of, set_of};
 
 use crate::number::{integer, number};
-use crate::oid::{from_arcs, parse_dotted};
 use crate::query::TermValue;
 use crate::word::TermKind;
 use bytes::Bytes;
 use std::alloc::{AllocError, Global};
-use zber::Oid;
+use zber::{Oid, OidError};
 
 /// The greatest type and the greatest value of an attribute.
 const MOST: u64 = 2_147_483_647;
 
 /// The arcs of the attribute set bib-1 (Z39.50-2003, ATR).
-const BIB_1: [u32; 6] = [1, 2, 840, 10003, 3, 1];
+pub(crate) const BIB_1: [u32; 6] = [1, 2, 840, 10003, 3, 1];
 
 /// Whether the text has an equals sign, as an attribute's type and value have and a set has not.
 #[tactic(auto, unfolding(crate::specs::Values::has_equals))]
@@ -45,10 +44,24 @@ pub(crate) fn numbers(text: &[u8]) -> Option<(u64, u64)>
     }
 }
 
+/// The attribute set bib-1.
 pub(crate) fn bib_1(alloc: Global) -> Result<Oid, AllocError>
     ensures { IfOk result (λ o. o ≡ bib1) }
 {
-    from_arcs(alloc, &BIB_1)
+    match Oid::from_arcs(alloc, &BIB_1) {
+        Ok(oid) => Ok(oid),
+        Err(_) => Err(AllocError),
+    }
+}
+
+fn oid_named(alloc: Global, text: &[u8]) -> Result<Option<Oid>, AllocError>
+    ensures { IfOk result (λ o. o ≡ oid_of text.now) }
+{
+    match Oid::parse_dotted(alloc, text) {
+        Ok(oid) => Ok(Some(oid)),
+        Err(e) if e == OidError::Memory => Err(AllocError),
+        Err(_) => Ok(None),
+    }
 }
 
 /// The attribute set that a text names: `bib-1`, or an object identifier.
@@ -59,7 +72,7 @@ pub(crate) fn set_named(alloc: Global, text: &[u8]) -> Result<Option<Oid>, Alloc
     if text.eq_ignore_ascii_case(b"bib-1") {
         return Ok(Some(bib_1(alloc)?));
     }
-    parse_dotted(alloc, text)
+    oid_named(alloc, text)
 }
 
 #[tactic(auto, unfolding(crate::specs::Values::kind_of))]
