@@ -1,10 +1,11 @@
+pub mod AnyQueries
 pub mod Coding
 pub mod Faults
 pub mod Fronts
 pub mod Grammar
 pub mod InForce
-pub mod Laws
 pub mod Lawful
+pub mod Laws
 pub mod Lexing
 pub mod Numbers
 pub mod Operands

@@ -1,7 +1,7 @@
 -- The type-1 query that an element stands for, and the element that stands for a query.
 use Rattle.std.specs.Prelude.{◌≡◌, ℕ, List, [], ◌∷◌, Option, Some, None, Result, Ok, Err, if◌then◌else◌}
 use Rattle.zber.specs.Names.{Name, context, universal}
-use Rattle.zber.specs.Elements.{Forest, end, leaf, branch, Element, Primitive, Constructed, elements}
+use Rattle.zber.specs.Elements.{Forest, end, leaf, branch, Element, Primitive, Constructed, elements, tag_of}
 use Rattle.zber.specs.Productions.Tags.{same_tag}
 use Rattle.zber.specs.Productions.Reading.{option_map}
 use Rattle.zber.specs.Productions.Within.{around, whole_of}
@@ -75,6 +75,10 @@ query_in (n ∷ m ∷ k ∷ ns) = None
 abbrev pub query_of : Element → Option RpnQuery
 query_of (Primitive t bs) = None
 query_of (Constructed t f) = query_in (elements f)
+
+-- what an element says
+abbrev pub query_at : Element → Option RpnQuery
+query_at n = if same_tag (tag_of n) (context 1) then query_of n else None
 
 -- ---- writing
 

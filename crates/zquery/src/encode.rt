@@ -100,7 +100,8 @@ fn built(alloc: Global, query: &Query) -> Result<Node, BuildError>
 /// complex value is constructed with the tag `[224]`, another term has one of the tags `[217]` to `[221]`, and a proximity
 /// operator is constructed with the tag `[3]`. Refused as `Memory` where none was found.
 pub fn to_node(alloc: Global, query: &Query) -> Result<Node, BuildError>
-    ensures { IsWritten (WritesQuery query.now) result }
+    ensures written { IsWritten (WritesQuery query.now) result }
+    ensures spelled { Makes (query_spelt query.now) result }
 {
     built(alloc, query)
 }

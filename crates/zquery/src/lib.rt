@@ -4,6 +4,7 @@
 mod attribute;
 mod cursor;
 mod decode;
+pub mod element_laws;
 mod encode;
 mod error;
 pub mod laws;
