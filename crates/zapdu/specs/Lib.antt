@@ -1,7 +1,16 @@
 pub mod Closes
+pub mod Deliveries
 pub mod Diagnostics
+pub mod ElementSets
 pub mod Externals
+pub mod Implementations
+pub mod InitRequests
+pub mod InitResponses
+pub mod PresentRequests
 pub mod PresentResponses
+pub mod Ranges
+pub mod RecordCompositions
 pub mod Records
+pub mod SearchResponses
 pub mod Text
 pub mod Writes

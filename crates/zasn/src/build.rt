@@ -4,8 +4,9 @@ ghost use Rattle.zber.specs.Elements.{cons};
 ghost use Rattle.zber.specs.Productions.Building.{optional_put, required_put};
 ghost use Rattle.zber.specs.Productions.Place.{Place};
 ghost use Rattle.zasn.specs.Answers.{Puts};
-ghost use Rattle.zasn.specs.Places.{explicit};
+ghost use Rattle.zasn.specs.Places.{any, explicit, kept};
 
+use crate::any::{write_any, write_kept};
 use crate::contents::{Contents, Tagged};
 use crate::error::BuildError;
 use crate::production::{write_alone, write_alone_tagged};
@@ -130,6 +131,42 @@ impl PartsBuf {
     {
         let node = write_alone_tagged(alloc, value, outer)?;
         self.push(node)
+    }
+
+    /// Adds the element with the tag around an element, where there is one.
+    pub fn optional_any(
+        &mut self,
+        alloc: Global,
+        tag: Tag,
+        value: &Option<Node>,
+    ) -> Result<(), BuildError>
+        ensures { Puts (optional_put (any tag).spelt value.now self.old) result self.new }
+    {
+        match value {
+            None => Ok(()),
+            Some(value) => {
+                let node = write_any(alloc, value, tag)?;
+                self.push(node)
+            }
+        }
+    }
+
+    /// Adds an element that has the tag, of either form, where there is one.
+    pub fn optional_kept(
+        &mut self,
+        alloc: Global,
+        tag: Tag,
+        value: &Option<Node>,
+    ) -> Result<(), BuildError>
+        ensures { Puts (optional_put (kept tag []).spelt value.now self.old) result self.new }
+    {
+        match value {
+            None => Ok(()),
+            Some(value) => {
+                let node = write_kept(alloc, value, tag)?;
+                self.push(node)
+            }
+        }
     }
 
     /// The constructed element with the tag around these.

@@ -1,6 +1,7 @@
 //! Productions of ASN.1 over elements: a SEQUENCE is read place by place from a cursor and built place by place.
 #![tactic(auto)]
 
+mod any;
 mod build;
 mod contents;
 mod error;
@@ -8,6 +9,7 @@ mod parts;
 mod production;
 mod sequence_of;
 
+pub use any::{read_any, write_any};
 pub use build::PartsBuf;
 pub use contents::{Contents, Tagged};
 pub use error::{BuildError, PartError};

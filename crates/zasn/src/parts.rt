@@ -2,9 +2,11 @@
 ghost use Rattle.std.specs.Prelude.{◌≡◌, [], ◌∷◌, length};
 ghost use Rattle.zber.specs.Productions.Reading.{optional_at, required_at, ended_at};
 ghost use Rattle.zber.specs.Productions.Place.{Place};
-ghost use Rattle.zber.specs.Productions.Within.{alone_at, sequence_of};
+ghost use Rattle.zber.specs.Productions.Within.{alone_at, any_at, sequence_of};
 ghost use Rattle.zasn.specs.Answers.{Takes, Finds};
+ghost use Rattle.zasn.specs.Places.{kept};
 
+use crate::any::read_any;
 use crate::contents::{Contents, Tagged};
 use crate::error::PartError;
 use crate::production::{read_alone, read_alone_tagged};
@@ -153,6 +155,40 @@ impl<'a> Parts<'a> {
                 let value = read_alone_tagged(alloc, first)?;
                 self.left = others;
                 Ok(value)
+            }
+        }
+    }
+
+    /// The one element within the next, whichever it is, where the next has the tag (explicit tagging of ANY).
+    pub fn optional_any(&mut self, alloc: Global, tag: Tag) -> Result<Option<Node>, PartError>
+        ensures { Takes (optional_at (tag ∷ []) (sequence_of any_at) self.old) result self.new }
+    {
+        match self.left {
+            [] => Ok(None),
+            [first, others @ ..] => {
+                if first.tag != tag {
+                    return Ok(None);
+                }
+                let value = read_any(alloc, first)?;
+                self.left = others;
+                Ok(Some(value))
+            }
+        }
+    }
+
+    /// The next element as it stands, of either form, where it has the tag.
+    pub fn optional_kept(&mut self, alloc: Global, tag: Tag) -> Result<Option<Node>, PartError>
+        ensures { Takes (optional_at (tag ∷ []) (kept tag []).meaning self.old) result self.new }
+    {
+        match self.left {
+            [] => Ok(None),
+            [first, others @ ..] => {
+                if first.tag != tag {
+                    return Ok(None);
+                }
+                let value = first.copy(alloc)?;
+                self.left = others;
+                Ok(Some(value))
             }
         }
     }

@@ -1,6 +1,6 @@
+//! Elements of BER (X.690): the tree, values in contents octets, the framer, and the canonical encoding.
 #![tactic(auto)]
 
-// Elements of BER.
 mod backward;
 mod bits;
 mod canonical;
@@ -30,6 +30,3 @@ pub use oid::{Oid, OidError};
 pub use seq::Seq;
 pub use tag::{Class, Tag};
 pub use value::ValueError;
-
-#[cfg(test)]
-mod tests;

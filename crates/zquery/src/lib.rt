@@ -1,6 +1,6 @@
+//! Type-1 queries: as elements, and in the prefix notation.
 #![tactic(auto)]
 
-// Type-1 queries and the prefix notation for them.
 mod attribute;
 mod cursor;
 mod decode;

@@ -1,6 +1,6 @@
 use Rattle.zber.proofs.Runs.{seen_cons}
-use Rattle.zapdu.proofs.Tagged.{not_one}
-use Rattle.zapdu.proofs.external.read_any.Goals as goal
+use Rattle.zasn.proofs.Withins.{not_one}
+use Rattle.zasn.proofs.any.read_any.Goals as goal
 
 pub returns-in-len2-up : goal.returns-in-len2-up
 returns-in-len2-up c =

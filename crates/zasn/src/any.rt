@@ -1,0 +1,45 @@
+//! Elements that a production keeps as they stand.
+ghost use Rattle.std.specs.Prelude.{[], ◌∷◌, Some};
+ghost use Rattle.zber.specs.Productions.Within.{any_at, around, sequence_of};
+ghost use Rattle.zber.specs.Productions.Place.{Place};
+ghost use Rattle.zasn.specs.Answers.{Means, Makes};
+ghost use Rattle.zasn.specs.Places.{kept};
+
+use crate::build::PartsBuf;
+use crate::error::{BuildError, PartError};
+use std::alloc::Global;
+use zber::{Body, Node, Tag};
+
+/// The one element within an element, whichever it is.
+pub fn read_any(alloc: Global, node: &Node) -> Result<Node, PartError>
+    ensures { Means (sequence_of any_at node.now) result }
+{
+    match &node.body {
+        Body::Prim(_) => Err(PartError::Misfit),
+        Body::Cons(nodes) => match nodes.as_slice() {
+            [] => Err(PartError::Misfit),
+            [only] => Ok(only.copy(alloc)?),
+            [_, _, ..] => Err(PartError::Misfit),
+        },
+    }
+}
+
+/// The element with the tag around an element.
+pub fn write_any(alloc: Global, node: &Node, tag: Tag) -> Result<Node, BuildError>
+    ensures { Makes (around tag (Some (node.now ∷ []))) result }
+{
+    let copy = node.copy(alloc)?;
+    let mut out = PartsBuf::new(alloc);
+    out.push(copy)?;
+    Ok(out.into_node(tag))
+}
+
+/// An element with the tag, of either form.
+pub fn write_kept(alloc: Global, node: &Node, tag: Tag) -> Result<Node, BuildError>
+    ensures { Makes ((kept tag []).spelt node.now) result }
+{
+    if node.tag != tag {
+        return Err(BuildError::NotSpellable);
+    }
+    Ok(node.copy(alloc)?)
+}

@@ -1,0 +1,125 @@
+//! What `show` prints of recorded messages.
+
+use crate::devices::{Full, run_of};
+use crate::fault::Status;
+use crate::show::show;
+use std::alloc::{AllocError, Global};
+use std::io::Cursor;
+use std::test::Fail;
+
+/// A Close with the reason "finished".
+const CLOSE: &[u8] = b"BF 30 05 9F 81 53 01 00";
+
+/// A Present response with one record, and the same in indefinite lengths.
+const RESPONSE: &[u8] =
+    b"B9 26 82 04 00 00 00 02 98 01 01 99 01 02 9B 01 00 BC 15 30 13 A1 11 A1 0F 28 0D 06 07 2A 86 48 CE 13 05 0A 81 02 68 69";
+
+const INDEFINITE: &[u8] =
+    b"B9 80 82 04 00 00 00 02 98 01 01 99 01 02 9B 01 00 BC 80 30 15 A1 13 A1 11 28 82 00 0D 06 07 2A 86 48 CE 13 05 0A 81 02 68 69 00 00 00 00";
+
+const RESPONSE_LINES: &[u8] =
+    b"presentResponse 00000002 1 2 0\n  rec 1.2.840.10003.5.10 - \"hi\"\n";
+
+#[test]
+fn prints_each_message(rt: HostRuntime) {
+    for (input, printed) in [
+        (CLOSE, b"close - 0\n".as_slice()),
+        (RESPONSE, RESPONSE_LINES),
+        (INDEFINITE, RESPONSE_LINES),
+        (
+            b"BF300A 9F81530109 8303 612262",
+            b"close - 9\n  info \"a\\\"b\"\n",
+        ),
+        (
+            b"B90C 820100 980100 990100 9B01FF",
+            b"presentResponse 00 0 0 -1\n",
+        ),
+    ] {
+        let run = run_of(rt.alloc(), input);
+        assert_eq!(rt; run.printed.as_slice(), printed, "{input:?}");
+    }
+}
+
+#[test]
+fn what_was_printed_stands(rt: HostRuntime) {
+    for (input, told) in [
+        (
+            b"BF30059F81530100 3000".as_slice(),
+            b"zmeta: not an APDU\n".as_slice(),
+        ),
+        (b"BF30059F81530100 BF3000", b"zmeta: close malformed at 0\n"),
+        (
+            b"BF30059F81530100 BF3008 9F81530100 820105",
+            b"zmeta: close malformed at 1\n",
+        ),
+        (
+            b"BF30059F81530100 B903 820100",
+            b"zmeta: presentResponse malformed at 1\n",
+        ),
+        (b"BF30059F81530100 BF30", b"zmeta: Truncated at 2\n"),
+        (
+            b"BF30059F81530100 0480",
+            b"zmeta: IndefinitePrimitive at 0\n",
+        ),
+    ] {
+        let run = run_of(rt.alloc(), input);
+        assert_eq!(rt;
+            run.printed.as_slice(),
+            b"close - 0\n".as_slice(),
+            "{input:?}"
+        );
+        assert_eq!(rt; run.told.as_slice(), told, "{input:?}");
+        assert_eq!(rt; run.status, Status::Refused, "{input:?}");
+    }
+}
+
+#[test]
+fn a_failed_write_is_told(rt: HostRuntime) {
+    for fails_at in 1..6 {
+        let mut input = CLOSE;
+        let mut output = Full { calls: 0, fails_at };
+        let mut told = [0u8; 64];
+        let mut errors = Cursor::new(told.as_mut_slice());
+        let status = show(rt.alloc(), &mut input, &mut output, &mut errors);
+        if fails_at > 4 {
+            assert_eq!(rt; status, Status::Done, "at {fails_at}");
+        } else {
+            assert_eq!(rt; status, Status::Refused, "at {fails_at}");
+            assert_eq!(rt; &told[..22], b"zmeta: cannot write -\n".as_slice());
+        }
+    }
+}
+
+/// A Present response with so many records of 3,000 octets from the database `d`, in hexadecimal. Each element that holds
+/// elements has an indefinite length, as many servers send them.
+fn large(alloc: Global, records: u8) -> Result<Vec<u8>, AllocError> {
+    let mut text = Vec::new(alloc);
+    text.extend_from_slice(b"B980 820400000002 9801")?;
+    text.extend_from_slice(hex::encode(alloc, &[records])?.as_bytes())?;
+    text.extend_from_slice(b"990100 9B0100 BC80")?;
+    for _ in 0..records {
+        text.extend_from_slice(b"3080 800164 A180 A180 2880 06072A8648CE13050A 81820BB8")?;
+        for _ in 0..3000 {
+            text.extend_from_slice(b"41")?;
+        }
+        text.extend_from_slice(b"0000 0000 0000 0000\n")?;
+    }
+    text.extend_from_slice(b"0000 0000")?;
+    Ok(text)
+}
+
+#[test]
+fn prints_records_of_some_kilobytes(rt: HostRuntime) -> Result<(), Fail> {
+    for records in [1u8, 7, 100] {
+        let run = run_of(rt.alloc(), large(rt.alloc(), records)?.as_slice());
+        assert_eq!(rt; run.status, Status::Done);
+        let mut lines = 0u32;
+        for line in run.printed.as_slice().split(|octet| *octet == b'\n') {
+            if line.len() == 3031 && line.starts_with(b"  rec 1.2.840.10003.5.10 \"d\" \"AAAA") {
+                lines = lines.saturating_add(1);
+            }
+        }
+        assert_eq!(rt; lines, u32::from(records));
+    }
+    Ok(())
+}

@@ -1,0 +1,14 @@
+//! Octets from outside, each with what it stands for: the tests that cross crates.
+#![tactic(auto)]
+
+#[cfg(test)]
+mod apdus;
+pub mod encodings;
+#[cfg(test)]
+mod framing;
+#[cfg(test)]
+mod identifiers;
+#[cfg(test)]
+mod kinds;
+#[cfg(test)]
+mod values;
