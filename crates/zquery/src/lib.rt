@@ -31,4 +31,6 @@ pub use token::Token;
 pub use zasn::BuildError;
 
 #[cfg(test)]
+mod element_tests;
+#[cfg(test)]
 mod tests;
