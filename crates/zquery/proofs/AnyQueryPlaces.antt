@@ -6,6 +6,7 @@ use Rattle.zber.specs.Elements.{Element, Constructed, end, tag_of}
 use Rattle.zber.specs.Productions.Tags.{same_tag, among}
 use Rattle.zber.specs.Productions.Standing.{required, ended}
 use Rattle.zber.specs.Productions.Reading.{option_map}
+use Rattle.zber.specs.Productions.Within.{found}
 use Rattle.zber.specs.Productions.Laws.{IsPlace, IsSpelled}
 use Rattle.zber.proofs.Productions.Reads.{either, or_left}
 use Rattle.zber.proofs.Productions.Withins.{nested_place, nested_spelled}
@@ -86,13 +87,21 @@ alone_makes v ns e = one_makes v ns (any_spelt v) refl e
 alone_none : (v : RpnQuery ⊎ Element) → made v ≡ None → (ns : List Element) → Alone v ns → ⊥
 alone_none v e ns h = one_none v (any_spelt v) refl e ns h
 
+-- one element alone says what it says
+found_one : (n : Element) (o : Option (RpnQuery ⊎ Element)) → found (the_one o n) ≡ o
+found_one n (Some v) = refl
+found_one n None = refl
+
+pub alone_says : (n : Element) → found (any_query_at (n ∷ [])) ≡ any_query n
+alone_says n = found_one n (any_query n)
+
 -- ---- the place
 
 abbrev other : Element
 other = Constructed (context 0) end
 
-pub within_place : (tag : Name) → IsPlace (WritesWithin tag) (tag ∷ []) query_within
-within_place tag = nested_place tag Alone any_query_at made alone_reads alone_finds alone_makes alone_none (inr other) (other ∷ []) ((refl, refl), tt)
+pub any_query_place : (tag : Name) → IsPlace (WritesWithin tag) (tag ∷ []) query_within
+any_query_place tag = nested_place tag Alone any_query_at made alone_reads alone_finds alone_makes alone_none (inr other) (other ∷ []) ((refl, refl), tt)
 
-pub within_spelled : (tag : Name) → IsSpelled (WritesWithin tag) (within_spelt tag)
-within_spelled tag = nested_spelled tag Alone any_query_at made alone_reads alone_finds alone_makes alone_none
+pub any_query_spelled : (tag : Name) → IsSpelled (WritesWithin tag) (within_spelt tag)
+any_query_spelled tag = nested_spelled tag Alone any_query_at made alone_reads alone_finds alone_makes alone_none

@@ -22,6 +22,7 @@ WritesWithin tag v n = sequence tag (required WritesAny v ended) n
 
 -- ---- reading
 
+-- what an element says
 abbrev pub any_query : Element → Option (RpnQuery ⊎ Element)
 any_query n = if same_tag (tag_of n) (context 1) then option_map inl (query_of n) else Some (inr n)
 
@@ -29,16 +30,19 @@ abbrev pub the_one : {A : Type 0} → Option A → Element → Result A (List El
 the_one (Some x) n = Ok x
 the_one None n = Err (n ∷ [])
 
+-- one element alone
 abbrev pub any_query_at : List Element → Result (RpnQuery ⊎ Element) (List Element)
 any_query_at [] = Err []
 any_query_at (n ∷ []) = the_one (any_query n) n
 any_query_at (n ∷ m ∷ ns) = Err (m ∷ ns)
 
+-- what the element around says
 abbrev pub query_within : Element → Option (RpnQuery ⊎ Element)
 query_within n = sequence_of any_query_at n
 
 -- ---- writing
 
+-- the element of a query, and that around it
 abbrev pub any_spelt : RpnQuery ⊎ Element → Option Element
 any_spelt (inl q) = query_spelt q
 any_spelt (inr m) = if same_tag (tag_of m) (context 1) then None else Some m

@@ -29,6 +29,7 @@ fn has_tag(node: &Node, number: u32) -> bool
     node.tag == Tag::context(number)
 }
 
+/// AttributesPlusTerm, in an element of any tag.
 #[tactic(auto, unfolding(crate::specs::Operands::attributes_term_parts))]
 fn attributes_term(alloc: Global, node: &Node) -> Result<(Seq<Attr>, TermValue), PartError>
     ensures { Means (sequence_of attributes_term_parts.at node.now) result }
@@ -45,6 +46,7 @@ fn attributes_term(alloc: Global, node: &Node) -> Result<(Seq<Attr>, TermValue),
     }
 }
 
+/// ResultSetPlusAttributes, in an element of any tag.
 #[tactic(auto, unfolding(crate::specs::Operands::set_attributes_parts))]
 fn set_attributes(alloc: Global, node: &Node) -> Result<(Bytes, Seq<Attr>), PartError>
     ensures { Means (sequence_of set_attributes_parts.at node.now) result }
@@ -61,6 +63,7 @@ fn set_attributes(alloc: Global, node: &Node) -> Result<(Bytes, Seq<Attr>), Part
     }
 }
 
+/// An operand (Operand).
 #[tactic(auto, unfolding(crate::specs::Operands::operand))]
 fn operand(alloc: Global, node: &Node) -> Result<Rpn, PartError>
     ensures { MeansTree (option_map of_operand (whole_of operand node.now)) result }
@@ -90,6 +93,7 @@ fn only_operand(alloc: Global, nodes: &[Node]) -> Result<Rpn, PartError>
     }
 }
 
+/// An operator (Operator).
 fn operator(alloc: Global, node: &Node) -> Result<Joint, PartError>
     ensures { Means (whole_of operator node.now) result }
 {
@@ -148,6 +152,7 @@ fn structure(alloc: Global, node: &Node) -> Result<Rpn, PartError>
     }
 }
 
+/// The default attribute set.
 fn set(alloc: Global, node: &Node) -> Result<Oid, PartError>
     ensures { Means (whole_of (oid (universal 6)) node.now) result }
 {
@@ -171,6 +176,7 @@ fn query_in(alloc: Global, nodes: &[Node]) -> Result<Query, PartError>
     }
 }
 
+/// A query, in an element of any tag.
 fn query(alloc: Global, node: &Node) -> Result<Query, PartError>
     ensures { Means (query_of node.now) result }
 {
@@ -180,6 +186,7 @@ fn query(alloc: Global, node: &Node) -> Result<Query, PartError>
     }
 }
 
+/// A query, or none.
 fn query_at(alloc: Global, node: &Node) -> Result<Option<Query>, AllocError>
     ensures { IfOk result (λ o. o ≡ query_at node.now) }
 {
