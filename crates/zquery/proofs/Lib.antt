@@ -1,3 +1,4 @@
+pub mod AnyQueryPlaces
 pub mod Completing
 pub mod Filling
 pub mod Heights

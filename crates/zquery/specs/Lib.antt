@@ -1,3 +1,4 @@
+pub mod AnyQueries
 pub mod Coding
 pub mod Faults
 pub mod Fronts

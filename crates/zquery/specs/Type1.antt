@@ -1,5 +1,5 @@
 -- Which element stands for a type-1 query (Z39.50-2003, 4.1: RPNQuery, RPNStructure).
-use Rattle.std.specs.Prelude.{List, [], ◌∷◌}
+use Rattle.std.specs.Prelude.{List, [], ◌∷◌, Option, Some, None}
 use Rattle.zber.specs.Names.{context, universal}
 use Rattle.zber.specs.Elements.{Element}
 use Rattle.zber.specs.Productions.Standing.{required, ended, sequence}
@@ -30,3 +30,8 @@ WritesTree (Near m a b) n = sequence (context 1) (first (WritesTree a) (first (W
 -- type-1 [1] IMPLICIT RPNQuery: attributeSet OBJECT IDENTIFIER, rpn RPNStructure
 abbrev pub WritesQuery : RpnQuery → Element → Type 0
 WritesQuery q n = sequence (context 1) (required (oid (universal 6)).stands q.attr_set (required WritesTree q.root ended)) n
+
+-- the type-1 query that the element stands for, or none where it stands for none
+abbrev pub IsQueryOf : Element → Option RpnQuery → Type 0
+IsQueryOf n (Some q) = WritesQuery q n
+IsQueryOf n None = (q : RpnQuery) → WritesQuery q n → ⊥

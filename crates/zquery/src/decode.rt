@@ -1,5 +1,5 @@
 //! Elements read as type-1 queries.
-ghost use Rattle.std.specs.Prelude.{◌≡◌, map, Some, IfOk, IfSome, IfNone};
+ghost use Rattle.std.specs.Prelude.{◌≡◌, map, Some, IfOk};
 ghost use Rattle.zber.specs.Elements.{tag_of};
 ghost use Rattle.zber.specs.Names.{context, universal};
 ghost use Rattle.zber.specs.Productions.Place.{Place};
@@ -11,9 +11,8 @@ ghost use Rattle.zasn.specs.Answers.{Means};
 ghost use Rattle.zasn.specs.Places.{alone, oid};
 ghost use Rattle.zquery.specs.Operands.{attributes_term_parts, operand, set_attributes_parts};
 ghost use Rattle.zquery.specs.Operators.{operator};
-ghost use Rattle.zquery.specs.Trees.{RpnQuery};
-ghost use Rattle.zquery.specs.Type1.{WritesQuery};
-ghost use Rattle.zquery.specs.Type1Reading.{MeansTree, joined_of, says, of_joint, of_operand, query_in, query_of, tree_of};
+ghost use Rattle.zquery.specs.Type1.{IsQueryOf};
+ghost use Rattle.zquery.specs.Type1Reading.{MeansTree, joined_of, says, of_joint, of_operand, query_at, query_in, query_of, tree_of};
 ghost use Rattle.zquery.specs.Viewed.{seen};
 
 use crate::operator::Joint;
@@ -30,6 +29,7 @@ fn has_tag(node: &Node, number: u32) -> bool
     node.tag == Tag::context(number)
 }
 
+/// AttributesPlusTerm, in an element of any tag.
 #[tactic(auto, unfolding(crate::specs::Operands::attributes_term_parts))]
 fn attributes_term(alloc: Global, node: &Node) -> Result<(Seq<Attr>, TermValue), PartError>
     ensures { Means (sequence_of attributes_term_parts.at node.now) result }
@@ -46,6 +46,7 @@ fn attributes_term(alloc: Global, node: &Node) -> Result<(Seq<Attr>, TermValue),
     }
 }
 
+/// ResultSetPlusAttributes, in an element of any tag.
 #[tactic(auto, unfolding(crate::specs::Operands::set_attributes_parts))]
 fn set_attributes(alloc: Global, node: &Node) -> Result<(Bytes, Seq<Attr>), PartError>
     ensures { Means (sequence_of set_attributes_parts.at node.now) result }
@@ -62,6 +63,7 @@ fn set_attributes(alloc: Global, node: &Node) -> Result<(Bytes, Seq<Attr>), Part
     }
 }
 
+/// An operand (Operand).
 #[tactic(auto, unfolding(crate::specs::Operands::operand))]
 fn operand(alloc: Global, node: &Node) -> Result<Rpn, PartError>
     ensures { MeansTree (option_map of_operand (whole_of operand node.now)) result }
@@ -91,6 +93,7 @@ fn only_operand(alloc: Global, nodes: &[Node]) -> Result<Rpn, PartError>
     }
 }
 
+/// An operator (Operator).
 fn operator(alloc: Global, node: &Node) -> Result<Joint, PartError>
     ensures { Means (whole_of operator node.now) result }
 {
@@ -149,6 +152,7 @@ fn structure(alloc: Global, node: &Node) -> Result<Rpn, PartError>
     }
 }
 
+/// The default attribute set.
 fn set(alloc: Global, node: &Node) -> Result<Oid, PartError>
     ensures { Means (whole_of (oid (universal 6)) node.now) result }
 {
@@ -172,6 +176,7 @@ fn query_in(alloc: Global, nodes: &[Node]) -> Result<Query, PartError>
     }
 }
 
+/// A query, in an element of any tag.
 fn query(alloc: Global, node: &Node) -> Result<Query, PartError>
     ensures { Means (query_of node.now) result }
 {
@@ -181,11 +186,9 @@ fn query(alloc: Global, node: &Node) -> Result<Query, PartError>
     }
 }
 
-/// The type-1 query that an element stands for (Z39.50-2003, 4.1: RPNQuery, under the tag `[1]` of Query), or `None` for
-/// another element.
-pub fn from_node(alloc: Global, node: &Node) -> Result<Option<Query>, AllocError>
-    ensures some { IfOk result (λ o. IfSome o (λ q. WritesQuery q node.now)) }
-    ensures none { IfOk result (λ o. IfNone o ((q : RpnQuery) → WritesQuery q node.now → ⊥)) }
+/// A query, or none.
+fn query_at(alloc: Global, node: &Node) -> Result<Option<Query>, AllocError>
+    ensures { IfOk result (λ o. o ≡ query_at node.now) }
 {
     if !has_tag(node, 1) {
         return Ok(None);
@@ -195,4 +198,13 @@ pub fn from_node(alloc: Global, node: &Node) -> Result<Option<Query>, AllocError
         Err(PartError::Misfit) => Ok(None),
         Err(PartError::Memory) => Err(AllocError),
     }
+}
+
+/// The type-1 query that an element stands for (Z39.50-2003, 4.1: RPNQuery, under the tag `[1]` of Query), or `None` for
+/// another element, or the refusal of the memory for it.
+pub fn from_node(alloc: Global, node: &Node) -> Result<Option<Query>, AllocError>
+    ensures read { IfOk result (IsQueryOf node.now) }
+    ensures meant { IfOk result (λ o. o ≡ query_at node.now) }
+{
+    query_at(alloc, node)
 }

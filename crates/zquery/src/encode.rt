@@ -28,6 +28,7 @@ fn alone(alloc: Global, tag: Tag, node: Node) -> Result<Node, BuildError>
     Ok(out.into_node(tag))
 }
 
+/// The operand of a term.
 #[tactic(auto, unfolding(crate::specs::Operands::operand, crate::specs::Operands::attributes_term_parts))]
 fn attr_term(alloc: Global, attrs: &Seq<Attr>, term: &TermValue) -> Result<Node, BuildError>
     ensures { Makes (op.spelt (AttrTerm (attrs.now, term.now))) result }
@@ -38,6 +39,7 @@ fn attr_term(alloc: Global, attrs: &Seq<Attr>, term: &TermValue) -> Result<Node,
     alone(alloc, Tag::context(0), out.into_node(Tag::context(102)))
 }
 
+/// The operand of a result set with attributes.
 #[tactic(auto, unfolding(crate::specs::Operands::operand, crate::specs::Operands::set_attributes_parts))]
 fn result_attr(alloc: Global, name: &Bytes, attrs: &Seq<Attr>) -> Result<Node, BuildError>
     ensures { Makes (op.spelt (ResultAttr (name.now, attrs.now))) result }
@@ -48,13 +50,14 @@ fn result_attr(alloc: Global, name: &Bytes, attrs: &Seq<Attr>) -> Result<Node, B
     alone(alloc, Tag::context(0), out.into_node(Tag::context(214)))
 }
 
+/// The operator and, or or and-not.
 fn logical(alloc: Global, kind: Operator) -> Result<Node, BuildError>
     ensures { Makes (operator.spelt (Logical kind)) result }
 {
     write_alone_tagged(alloc, &Joint::Logical(kind), Tag::context(46))
 }
 
-/// Two structures and an operator.
+/// Two structures and an operator's element.
 #[cycle(structure)]
 fn joined(alloc: Global, left: &Rpn, right: &Rpn, operator: Node) -> Result<Node, BuildError>
     ensures { Makes (around (context 1) (three (tree_spelt (seen left.now)) (tree_spelt (seen right.now)) (Some operator))) result }
@@ -66,6 +69,7 @@ fn joined(alloc: Global, left: &Rpn, right: &Rpn, operator: Node) -> Result<Node
     Ok(out.into_node(Tag::context(1)))
 }
 
+/// The element of an operand, or of an operator with two structures (RPNStructure).
 #[cycle(structure)]
 #[tactic(auto, unfolding(crate::specs::Operands::operand, crate::specs::Operators::joint))]
 fn structure(alloc: Global, rpn: &Rpn) -> Result<Node, BuildError>
@@ -100,7 +104,8 @@ fn built(alloc: Global, query: &Query) -> Result<Node, BuildError>
 /// complex value is constructed with the tag `[224]`, another term has one of the tags `[217]` to `[221]`, and a proximity
 /// operator is constructed with the tag `[3]`. Refused as `Memory` where none was found.
 pub fn to_node(alloc: Global, query: &Query) -> Result<Node, BuildError>
-    ensures { IsWritten (WritesQuery query.now) result }
+    ensures written { IsWritten (WritesQuery query.now) result }
+    ensures spelled { Makes (query_spelt query.now) result }
 {
     built(alloc, query)
 }

@@ -4,6 +4,7 @@
 mod attribute;
 mod cursor;
 mod decode;
+pub mod element_laws;
 mod encode;
 mod error;
 pub mod laws;
@@ -29,5 +30,7 @@ pub use query::{Attr, AttrValue, Query, Rpn, TermValue};
 pub use token::Token;
 pub use zasn::BuildError;
 
+#[cfg(test)]
+mod element_tests;
 #[cfg(test)]
 mod tests;
