@@ -1,6 +1,7 @@
 //! Readers and writers for tests: each fails at one call, the first being call 1, and moves at most three octets in each other.
 
 use crate::fault::Status;
+use crate::pqf::pqf;
 use crate::show::show;
 use std::alloc::Global;
 use std::io;
@@ -49,7 +50,7 @@ impl Write for Full {
     }
 }
 
-/// What `show` answered, printed and told.
+/// What a command answered, printed and told.
 #[derive(Drop)]
 pub struct Run {
     pub status: Status,
@@ -63,6 +64,18 @@ pub fn run_of(alloc: Global, input: &[u8]) -> Run {
     let mut printed = Vec::new(alloc);
     let mut told = Vec::new(alloc);
     let status = show(alloc, &mut reader, &mut printed, &mut told);
+    Run {
+        status,
+        printed,
+        told,
+    }
+}
+
+/// `pqf` on a text.
+pub fn query_run_of(alloc: Global, text: &str) -> Run {
+    let mut printed = Vec::new(alloc);
+    let mut told = Vec::new(alloc);
+    let status = pqf(alloc, text, &mut printed, &mut told);
     Run {
         status,
         printed,

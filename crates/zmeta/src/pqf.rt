@@ -61,3 +61,48 @@ fn put_element(alloc: Global, node: Node, lines: &mut Vec<u8>) -> Result<(), All
     let digits = hex::encode(alloc, octets.as_slice())?;
     lines.extend_from_slice(digits.as_bytes())
 }
+
+#[cfg(test)]
+mod tests {
+    use crate::devices::query_run_of;
+    use crate::fault::Status;
+
+    #[test]
+    fn prints_the_query_and_its_element(rt: HostRuntime) {
+        for (text, printed) in [
+            (
+                "@attr 1=4 dune",
+                b"@attr 1=4 \"dune\"\nb524a12206072a8648ce130301a017bf6614bf2c0a30089f7801019f7901049f2d0464756e65\n".as_slice(),
+            ),
+            (
+                "@set \t\"x\"",
+                b"@set \"x\"\nb511a10f06072a8648ce130301a0049f1f0178\n",
+            ),
+        ] {
+            let run = query_run_of(rt.alloc(), text);
+            assert_eq!(rt; run.printed.as_slice(), printed, "{text}");
+            assert_eq!(rt; run.told.len(), 0, "{text}");
+            assert_eq!(rt; run.status, Status::Done, "{text}");
+        }
+    }
+
+    #[test]
+    fn tells_why_a_text_is_no_query(rt: HostRuntime) {
+        for (text, told) in [
+            ("", b"zmeta: Empty at 0\n".as_slice()),
+            ("@and dune", b"zmeta: MissingOperand at 9\n"),
+            ("@foo x", b"zmeta: UnknownWord at 0\n"),
+            ("\"a", b"zmeta: OpenQuote at 0\n"),
+            ("a b", b"zmeta: Trailing at 2\n"),
+            ("@attr 1=x a", b"zmeta: BadAttribute at 6\n"),
+            ("@attr foo 1=4 a", b"zmeta: UnknownSet at 6\n"),
+            ("@term date a", b"zmeta: BadTermType at 6\n"),
+            ("@term numeric 1x", b"zmeta: BadNumber at 14\n"),
+        ] {
+            let run = query_run_of(rt.alloc(), text);
+            assert_eq!(rt; run.told.as_slice(), told, "{text}");
+            assert_eq!(rt; run.printed.len(), 0, "{text}");
+            assert_eq!(rt; run.status, Status::Refused, "{text}");
+        }
+    }
+}

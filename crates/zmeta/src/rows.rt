@@ -34,6 +34,30 @@ fn prints_each_message(rt: HostRuntime) {
             b"B90C 820100 980100 990100 9B01FF",
             b"presentResponse 00 0 0 -1\n",
         ),
+        (
+            b"B421 820400000000 830205E0 840301C006 8503100000 8603100000 9F6F057A6D657461",
+            b"initRequest 00000000 111 110000000000011 1048576 1048576 \"zmeta\"\n",
+        ),
+        (
+            b"B51C 820400000000 830205E0 840301C006 8503100000 8603100000 8C01FF",
+            b"initResponse 00000000 111 110000000000011 1048576 1048576 true -\n",
+        ),
+        (
+            b"B712 820400000001 970101 980100 990101 9601FF",
+            b"searchResponse 00000001 1 0 1 true\n",
+        ),
+        (
+            b"B810 820400000002 9F1F0131 9E0101 9D0101",
+            b"presentRequest 00000002 \"1\" 1 1\n",
+        ),
+        (
+            b"B81C 820400000002 9F1F0131 9E0101 9D0101 BF815408 3006810102820103",
+            b"presentRequest 00000002 \"1\" 1 1\n  range 2 3\n",
+        ),
+        (
+            b"B921 820400000002 980100 990100 9B0105 BF81020E 06072A8648CE130401 02010D 1A00",
+            b"presentResponse 00000002 0 0 5\n  nonsurrogate 1.2.840.10003.4.1 13 \"\"\n",
+        ),
     ] {
         let run = run_of(rt.alloc(), input);
         assert_eq!(rt; run.printed.as_slice(), printed, "{input:?}");
@@ -55,6 +79,10 @@ fn what_was_printed_stands(rt: HostRuntime) {
         (
             b"BF30059F81530100 B903 820100",
             b"zmeta: presentResponse malformed at 1\n",
+        ),
+        (
+            b"BF30059F81530100 B807 9F1F0131 9E0101",
+            b"zmeta: presentRequest malformed at 2\n",
         ),
         (b"BF30059F81530100 BF30", b"zmeta: Truncated at 2\n"),
         (
