@@ -19,7 +19,8 @@ mod present_response;
 mod range;
 mod record;
 mod record_composition;
-mod search_response;mod text;
+mod search_response;
+mod text;
 
 pub use apdu::{Apdu, ApduError, Kind};
 pub use close::Close;

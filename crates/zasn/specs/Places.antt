@@ -85,6 +85,10 @@ any tag = lawful {P = λ m. sequence tag (one itself m no_more)} {tags = tag ∷
 abbrev pub kept : Name → List Name → Place Element
 kept tag tags = lawful {P = is_kept (tag ∷ tags)} {tags = tag ∷ tags} {meaning = λ n. Some n} {spelt = λ m. if among (tag_of m) (tag ∷ tags) then Some m else None} (kept_place tag tags) (kept_spelled (tag ∷ tags))
 
+-- what an element says, if it has the tag
+abbrev pub under : {A : Type 0} → Name → (Element → Option A) → Element → Option A
+under tag meaning n = if among (tag_of n) (tag ∷ []) then meaning n else None
+
 -- SEQUENCE OF: values in order, within an element with the tag
 abbrev pub list : {A : Type 0} → Name → Place A → Place (List A)
 list tag p = lawful {P = λ xs. sequence tag (each p.stands xs)} {tags = tag ∷ []} {meaning = list_of (whole_of p)} {spelt = λ xs. around tag (all_spelt p.spelt xs)} (list_place p tag) (list_spelled p tag)

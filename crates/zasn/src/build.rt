@@ -4,15 +4,16 @@ ghost use Rattle.zber.specs.Elements.{cons};
 ghost use Rattle.zber.specs.Productions.Building.{optional_put, required_put};
 ghost use Rattle.zber.specs.Productions.Place.{Place};
 ghost use Rattle.zasn.specs.Answers.{Puts};
-ghost use Rattle.zasn.specs.Places.{any, explicit, kept};
+ghost use Rattle.zasn.specs.Places.{any, explicit, kept, list};
 
 use crate::any::{write_any, write_kept};
 use crate::contents::{Contents, Tagged};
 use crate::error::BuildError;
+use crate::list_under::write_list;
 use crate::production::{write_alone, write_alone_tagged};
 use std::alloc::Global;
 use std::marker::Model;
-use zber::{Node, Tag};
+use zber::{Node, Seq, Tag};
 
 /// The elements of a production that are built so far.
 #[derive(Drop)]
@@ -130,6 +131,35 @@ impl PartsBuf {
         ensures { Puts (required_put (explicit outer T.place).spelt value.now self.old) result self.new }
     {
         let node = write_alone_tagged(alloc, value, outer)?;
+        self.push(node)
+    }
+
+    /// Adds the element with the outer tag around that of a value with a tag of its own, where there is one.
+    pub fn optional_explicit_tagged<T: Tagged>(
+        &mut self,
+        alloc: Global,
+        outer: Tag,
+        value: &Option<T>,
+    ) -> Result<(), BuildError>
+        ensures { Puts (optional_put (explicit outer T.place).spelt value.now self.old) result self.new }
+    {
+        match value {
+            None => Ok(()),
+            Some(value) => self.required_explicit_tagged(alloc, outer, value),
+        }
+    }
+
+    /// Adds the element with the outer tag around those of values, each under the inner tag.
+    pub fn required_list<T: Contents>(
+        &mut self,
+        alloc: Global,
+        outer: Tag,
+        inner: Tag,
+        values: &Seq<T>,
+    ) -> Result<(), BuildError>
+        ensures { Puts (required_put (list outer (T.place inner)).spelt values.now self.old) result self.new }
+    {
+        let node = write_list(alloc, values, outer, inner)?;
         self.push(node)
     }
 

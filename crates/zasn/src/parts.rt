@@ -2,17 +2,18 @@
 ghost use Rattle.std.specs.Prelude.{◌≡◌, [], ◌∷◌, length};
 ghost use Rattle.zber.specs.Productions.Reading.{optional_at, required_at, ended_at};
 ghost use Rattle.zber.specs.Productions.Place.{Place};
-ghost use Rattle.zber.specs.Productions.Within.{alone_at, any_at, sequence_of};
+ghost use Rattle.zber.specs.Productions.Within.{alone_at, any_at, list_of, sequence_of};
 ghost use Rattle.zasn.specs.Answers.{Takes, Finds};
-ghost use Rattle.zasn.specs.Places.{kept};
+ghost use Rattle.zasn.specs.Places.{kept, under};
 
 use crate::any::read_any;
 use crate::contents::{Contents, Tagged};
 use crate::error::PartError;
+use crate::list_under::read_list;
 use crate::production::{read_alone, read_alone_tagged};
 use std::alloc::Global;
 use std::marker::Model;
-use zber::{Node, Tag};
+use zber::{Node, Seq, Tag};
 
 /// The elements of a production that are not yet read. Where reading one fails, they stand at the element that failed.
 #[derive(Drop)]
@@ -155,6 +156,49 @@ impl<'a> Parts<'a> {
                 let value = read_alone_tagged(alloc, first)?;
                 self.left = others;
                 Ok(value)
+            }
+        }
+    }
+
+    /// The value of the one element within the next, where that has the outer tag; that element has a tag of its own.
+    pub fn optional_explicit_tagged<T: Tagged>(
+        &mut self,
+        alloc: Global,
+        outer: Tag,
+    ) -> Result<Option<T>, PartError>
+        ensures { Takes (optional_at (outer ∷ []) (sequence_of (alone_at T.place.tags T.place.meaning)) self.old) result self.new }
+    {
+        match self.left {
+            [] => Ok(None),
+            [first, others @ ..] => {
+                if first.tag != outer {
+                    return Ok(None);
+                }
+                let value = read_alone_tagged(alloc, first)?;
+                self.left = others;
+                Ok(Some(value))
+            }
+        }
+    }
+
+    /// The values of the elements within the next, which has the outer tag; each of them has the inner one.
+    pub fn required_list<T: Contents>(
+        &mut self,
+        alloc: Global,
+        outer: Tag,
+        inner: Tag,
+    ) -> Result<Seq<T>, PartError>
+        ensures { Takes (required_at (outer ∷ []) (list_of (under inner (T.place inner).meaning)) self.old) result self.new }
+    {
+        match self.left {
+            [] => Err(PartError::Misfit),
+            [first, others @ ..] => {
+                if first.tag != outer {
+                    return Err(PartError::Misfit);
+                }
+                let values = read_list(alloc, first, inner)?;
+                self.left = others;
+                Ok(values)
             }
         }
     }
