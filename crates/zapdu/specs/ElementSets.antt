@@ -41,5 +41,5 @@ pub element_set_names-back : (x : Pick kinds_of_element_set_names) → element_s
 element_set_names-back (inl xs) = refl
 element_set_names-back (inr vs) = refl
 
-abbrev pub element_set_names : Place ElementSetNames
+unfoldable pub element_set_names : Place ElementSetNames
 element_set_names = of_choice kinds_of_element_set_names element_set_names_pick element_set_names-same element_set_names-back refl

@@ -11,6 +11,9 @@ pub mod PresentResponses
 pub mod Ranges
 pub mod RecordCompositions
 pub mod Records
+pub mod SearchDetails
+pub mod SearchQueries
+pub mod SearchRequests
 pub mod SearchResponses
 pub mod Text
 pub mod Writes

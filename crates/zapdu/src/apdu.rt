@@ -5,6 +5,7 @@ use crate::init_request::InitRequest;
 use crate::init_response::InitResponse;
 use crate::present_request::PresentRequest;
 use crate::present_response::PresentResponse;
+use crate::search_request::SearchRequest;
 use crate::search_response::SearchResponse;
 use thiserror::Error;
 
@@ -15,6 +16,8 @@ pub enum Apdu {
     InitRequest(InitRequest),
     /// initResponse `[21]`.
     InitResponse(InitResponse),
+    /// searchRequest `[22]`.
+    SearchRequest(SearchRequest),
     /// searchResponse `[23]`.
     SearchResponse(SearchResponse),
     /// presentRequest `[24]`.
@@ -32,6 +35,8 @@ pub enum Kind {
     InitRequest,
     /// initResponse `[21]`.
     InitResponse,
+    /// searchRequest `[22]`.
+    SearchRequest,
     /// searchResponse `[23]`.
     SearchResponse,
     /// presentRequest `[24]`.

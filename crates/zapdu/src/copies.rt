@@ -13,6 +13,8 @@ use crate::present_response::PresentResponse;
 use crate::range::Range;
 use crate::record::{Record, RecordBody, Records};
 use crate::record_composition::RecordComposition;
+use crate::search_query::SearchQuery;
+use crate::search_request::SearchRequest;
 use crate::search_response::SearchResponse;
 use std::alloc::{AllocError, Global};
 use zber::Duplicate;
@@ -133,6 +135,35 @@ impl Duplicate for InitResponse {
     }
 }
 
+impl Duplicate for SearchQuery {
+    fn duplicate(&self, alloc: Global) -> Result<Self, AllocError> {
+        match self {
+            SearchQuery::Rpn(query) => Ok(SearchQuery::Rpn(query.copy(alloc)?)),
+            SearchQuery::Other(node) => Ok(SearchQuery::Other(node.duplicate(alloc)?)),
+        }
+    }
+}
+
+impl Duplicate for SearchRequest {
+    fn duplicate(&self, alloc: Global) -> Result<Self, AllocError> {
+        Ok(SearchRequest {
+            reference_id: self.reference_id.duplicate(alloc)?,
+            small_set_upper_bound: self.small_set_upper_bound,
+            large_set_lower_bound: self.large_set_lower_bound,
+            medium_set_present_number: self.medium_set_present_number,
+            replace_indicator: self.replace_indicator,
+            result_set_name: self.result_set_name.duplicate(alloc)?,
+            database_names: self.database_names.duplicate(alloc)?,
+            small_set_element_set_names: self.small_set_element_set_names.duplicate(alloc)?,
+            medium_set_element_set_names: self.medium_set_element_set_names.duplicate(alloc)?,
+            preferred_record_syntax: self.preferred_record_syntax.duplicate(alloc)?,
+            query: self.query.duplicate(alloc)?,
+            additional_search_info: self.additional_search_info.duplicate(alloc)?,
+            other_info: self.other_info.duplicate(alloc)?,
+        })
+    }
+}
+
 impl Duplicate for SearchResponse {
     fn duplicate(&self, alloc: Global) -> Result<Self, AllocError> {
         Ok(SearchResponse {
@@ -241,6 +272,7 @@ impl Duplicate for Apdu {
         match self {
             Apdu::InitRequest(apdu) => Ok(Apdu::InitRequest(apdu.duplicate(alloc)?)),
             Apdu::InitResponse(apdu) => Ok(Apdu::InitResponse(apdu.duplicate(alloc)?)),
+            Apdu::SearchRequest(apdu) => Ok(Apdu::SearchRequest(apdu.duplicate(alloc)?)),
             Apdu::SearchResponse(apdu) => Ok(Apdu::SearchResponse(apdu.duplicate(alloc)?)),
             Apdu::PresentRequest(apdu) => Ok(Apdu::PresentRequest(apdu.duplicate(alloc)?)),
             Apdu::PresentResponse(apdu) => Ok(Apdu::PresentResponse(apdu.duplicate(alloc)?)),

@@ -15,6 +15,7 @@ use crate::init_response::InitResponse;
 use crate::present_request::PresentRequest;
 use crate::present_response::PresentResponse;
 use crate::record::Record;
+use crate::search_request::SearchRequest;
 use crate::search_response::SearchResponse;
 use std::alloc::{AllocError, Global};
 use zasn::{PartError, Parts, Production, Tagged};
@@ -27,6 +28,8 @@ fn kind_of_tag(tag: Tag) -> Option<Kind>
         Some(Kind::InitRequest)
     } else if tag == Tag::context(21) {
         Some(Kind::InitResponse)
+    } else if tag == Tag::context(22) {
+        Some(Kind::SearchRequest)
     } else if tag == Tag::context(23) {
         Some(Kind::SearchResponse)
     } else if tag == Tag::context(24) {
@@ -52,6 +55,10 @@ fn apdu_of(alloc: Global, kind: Kind, parts: &mut Parts<'_>) -> Result<Apdu, Par
         Kind::InitResponse => {
             let apdu = InitResponse::read(alloc, parts)?;
             Ok(Apdu::InitResponse(apdu))
+        }
+        Kind::SearchRequest => {
+            let apdu = SearchRequest::read(alloc, parts)?;
+            Ok(Apdu::SearchRequest(apdu))
         }
         Kind::SearchResponse => {
             let apdu = SearchResponse::read(alloc, parts)?;

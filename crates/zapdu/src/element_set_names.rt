@@ -18,12 +18,20 @@ pub struct DatabaseElementSet {
 }
 
 /// Which element set is asked for (Z39.50-2003, 4.1: ElementSetNames).
-#[derive(Drop)]
 pub enum ElementSetNames {
     /// genericElementSetName: one for all databases.
     Generic(Bytes),
     /// databaseSpecific: one for each of some databases.
     DatabaseSpecific(Seq<DatabaseElementSet>),
+}
+
+impl Drop for ElementSetNames {
+    fn drop(self) {
+        match self {
+            ElementSetNames::Generic(_) => {}
+            ElementSetNames::DatabaseSpecific(_) => {}
+        }
+    }
 }
 
 #[tactic(auto, unfolding(crate::specs::ElementSets::database_element_set_parts))]
@@ -62,6 +70,7 @@ impl Tagged for DatabaseElementSet {
     }
 }
 
+#[tactic(auto, unfolding(crate::specs::ElementSets::element_set_names))]
 impl Tagged for ElementSetNames {
     ghost place = { element_set_names };
 

@@ -17,6 +17,7 @@ fn built(alloc: Global, apdu: &Apdu) -> Result<Node, BuildError>
     match apdu {
         Apdu::InitRequest(value) => write_within(alloc, value, Tag::context(20)),
         Apdu::InitResponse(value) => write_within(alloc, value, Tag::context(21)),
+        Apdu::SearchRequest(value) => write_within(alloc, value, Tag::context(22)),
         Apdu::SearchResponse(value) => write_within(alloc, value, Tag::context(23)),
         Apdu::PresentRequest(value) => write_within(alloc, value, Tag::context(24)),
         Apdu::PresentResponse(value) => write_within(alloc, value, Tag::context(25)),

@@ -19,6 +19,9 @@ mod present_response;
 mod range;
 mod record;
 mod record_composition;
+mod search_details;
+mod search_query;
+mod search_request;
 mod search_response;
 mod text;
 
@@ -36,6 +39,8 @@ pub use present_response::PresentResponse;
 pub use range::Range;
 pub use record::{Record, RecordBody, Records};
 pub use record_composition::RecordComposition;
+pub use search_query::SearchQuery;
+pub use search_request::SearchRequest;
 pub use search_response::SearchResponse;
 pub use text::{print_default_diag, print_diag, print_record, quote};
 pub use zasn::BuildError;

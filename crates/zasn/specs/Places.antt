@@ -85,13 +85,16 @@ any tag = lawful {P = λ m. sequence tag (one itself m no_more)} {tags = tag ∷
 abbrev pub kept : Name → List Name → Place Element
 kept tag tags = lawful {P = is_kept (tag ∷ tags)} {tags = tag ∷ tags} {meaning = λ n. Some n} {spelt = λ m. if among (tag_of m) (tag ∷ tags) then Some m else None} (kept_place tag tags) (kept_spelled (tag ∷ tags))
 
--- what an element says, if it has the tag
-abbrev pub under : {A : Type 0} → Name → (Element → Option A) → Element → Option A
-under tag meaning n = if among (tag_of n) (tag ∷ []) then meaning n else None
-
 -- SEQUENCE OF: values in order, within an element with the tag
 abbrev pub list : {A : Type 0} → Name → Place A → Place (List A)
 list tag p = lawful {P = λ xs. sequence tag (each p.stands xs)} {tags = tag ∷ []} {meaning = list_of (whole_of p)} {spelt = λ xs. around tag (all_spelt p.spelt xs)} (list_place p tag) (list_spelled p tag)
+
+-- the same of strings that all have the inner tag
+abbrev pub text_under : Name → Element → Option (List ℕ)
+text_under tag n = if among (tag_of n) (tag ∷ []) then octets_of n else None
+
+abbrev pub strings : Name → Name → Place (List (List ℕ))
+strings tag inner = lawful {P = λ xs. sequence tag (each (tagged inner octets_of) xs)} {tags = tag ∷ []} {meaning = list_of (text_under inner)} {spelt = λ xs. around tag (all_spelt (octets_spelt inner) xs)} (list_place (octets inner) tag) (list_spelled (octets inner) tag)
 
 -- CHOICE: a value of several kinds, each with its own place
 abbrev pub of_choice : {C : Type 0} (c : Choice C) (pick : C → Pick c) → ((d : C) → picked c (pick d) ≡ d) → ((x : Pick c) → pick (picked c x) ≡ x) → distinct c ≡ true → Place C

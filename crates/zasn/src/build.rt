@@ -4,13 +4,14 @@ ghost use Rattle.zber.specs.Elements.{cons};
 ghost use Rattle.zber.specs.Productions.Building.{optional_put, required_put};
 ghost use Rattle.zber.specs.Productions.Place.{Place};
 ghost use Rattle.zasn.specs.Answers.{Puts};
-ghost use Rattle.zasn.specs.Places.{any, explicit, kept, list};
+ghost use Rattle.zasn.specs.Places.{any, explicit, kept, strings};
 
 use crate::any::{write_any, write_kept};
 use crate::contents::{Contents, Tagged};
 use crate::error::BuildError;
-use crate::list_under::write_list;
 use crate::production::{write_alone, write_alone_tagged};
+use crate::texts::write_texts;
+use bytes::Bytes;
 use std::alloc::Global;
 use std::marker::Model;
 use zber::{Node, Seq, Tag};
@@ -149,17 +150,17 @@ impl PartsBuf {
         }
     }
 
-    /// Adds the element with the outer tag around those of values, each under the inner tag.
-    pub fn required_list<T: Contents>(
+    /// Adds the element with the outer tag around those of texts, each under the inner tag.
+    pub fn required_texts(
         &mut self,
         alloc: Global,
         outer: Tag,
         inner: Tag,
-        values: &Seq<T>,
+        texts: &Seq<Bytes>,
     ) -> Result<(), BuildError>
-        ensures { Puts (required_put (list outer (T.place inner)).spelt values.now self.old) result self.new }
+        ensures { Puts (required_put (strings outer inner).spelt texts.now self.old) result self.new }
     {
-        let node = write_list(alloc, values, outer, inner)?;
+        let node = write_texts(alloc, texts, outer, inner)?;
         self.push(node)
     }
 

@@ -5,16 +5,15 @@ mod any;
 mod build;
 mod contents;
 mod error;
-mod list_under;
 mod parts;
 mod production;
 mod sequence_of;
+mod texts;
 
 pub use any::{read_any, sole, write_any, write_around};
 pub use build::PartsBuf;
 pub use contents::{Contents, Tagged};
 pub use error::{BuildError, PartError};
-pub use list_under::{read_list, write_list};
 pub use parts::Parts;
 pub use production::{
     Production, read_alone, read_alone_tagged, read_within, write_alone, write_alone_tagged,

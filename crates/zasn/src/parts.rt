@@ -2,15 +2,17 @@
 ghost use Rattle.std.specs.Prelude.{◌≡◌, [], ◌∷◌, length};
 ghost use Rattle.zber.specs.Productions.Reading.{optional_at, required_at, ended_at};
 ghost use Rattle.zber.specs.Productions.Place.{Place};
+ghost use Rattle.zber.specs.Productions.Table.{Elements};
 ghost use Rattle.zber.specs.Productions.Within.{alone_at, any_at, list_of, sequence_of};
 ghost use Rattle.zasn.specs.Answers.{Takes, Finds};
-ghost use Rattle.zasn.specs.Places.{kept, under};
+ghost use Rattle.zasn.specs.Places.{alone, kept, text_under};
 
 use crate::any::read_any;
 use crate::contents::{Contents, Tagged};
 use crate::error::PartError;
-use crate::list_under::read_list;
 use crate::production::{read_alone, read_alone_tagged};
+use crate::texts::read_texts;
+use bytes::Bytes;
 use std::alloc::Global;
 use std::marker::Model;
 use zber::{Node, Seq, Tag};
@@ -166,7 +168,7 @@ impl<'a> Parts<'a> {
         alloc: Global,
         outer: Tag,
     ) -> Result<Option<T>, PartError>
-        ensures { Takes (optional_at (outer ∷ []) (sequence_of (alone_at T.place.tags T.place.meaning)) self.old) result self.new }
+        ensures { Takes (optional_at (outer ∷ []) (sequence_of (alone T.place).at) self.old) result self.new }
     {
         match self.left {
             [] => Ok(None),
@@ -181,14 +183,14 @@ impl<'a> Parts<'a> {
         }
     }
 
-    /// The values of the elements within the next, which has the outer tag; each of them has the inner one.
-    pub fn required_list<T: Contents>(
+    /// The texts of the elements within the next, which has the outer tag; each of them has the inner one.
+    pub fn required_texts(
         &mut self,
         alloc: Global,
         outer: Tag,
         inner: Tag,
-    ) -> Result<Seq<T>, PartError>
-        ensures { Takes (required_at (outer ∷ []) (list_of (under inner (T.place inner).meaning)) self.old) result self.new }
+    ) -> Result<Seq<Bytes>, PartError>
+        ensures { Takes (required_at (outer ∷ []) (list_of (text_under inner)) self.old) result self.new }
     {
         match self.left {
             [] => Err(PartError::Misfit),
@@ -196,9 +198,9 @@ impl<'a> Parts<'a> {
                 if first.tag != outer {
                     return Err(PartError::Misfit);
                 }
-                let values = read_list(alloc, first, inner)?;
+                let texts = read_texts(alloc, first, inner)?;
                 self.left = others;
-                Ok(values)
+                Ok(texts)
             }
         }
     }

@@ -1,9 +1,0 @@
-use Rattle.zber.proofs.Runs.{seen_cons}
-use Rattle.zasn.specs.Places.{under}
-use Rattle.zasn.proofs.Withins.{list_means}
-use Rattle.zasn.proofs.list_under.read_list.Goals as goal
-
-pub returns-in-Cons : goal.returns-in-Cons
-returns-in-Cons g c =
-    list_means (under c.args.tag (g.T.Contents.place c.args.tag).meaning) c.args.node.now c.node.inside.tag c.in-Cons.nodes.items c.as_slice.result.now _
-    (seen_cons c.node.inside c.args.node.now c.in-Cons.nodes c.node.view_is c.in-Cons.is) c.as_slice.ensures.value c.all_in.ensures
