@@ -1,23 +1,18 @@
 -- The query within an element that holds one element.
-use Rattle.std.proofs.Common.{◌≡◌, List, [], ◌∷◌, Option, Some, None, Result, refl}
-use Rattle.std.specs.Prelude.{◌⊎◌}
+use Rattle.std.proofs.Common.{◌≡◌, List, [], ◌∷◌, Some, Result}
 use Rattle.zber.specs.Elements.{Element, Primitive, Constructed, elements}
 use Rattle.zber.specs.Productions.Within.{found, sequence_of, any_at}
 use Rattle.zber.specs.Productions.Reading.{option_map}
 use Rattle.zasn.specs.declared.error.PartError.{PartError}
 use Rattle.zasn.specs.Answers.{Means}
-use Rattle.zquery.specs.Trees.{RpnQuery}
-use Rattle.zquery.specs.AnyQueries.{any_query, the_one, any_query_at, query_within}
+use Rattle.zquery.specs.AnyQueries.{any_query, any_query_at, query_within}
+use Rattle.zquery.proofs.AnyQueryPlaces.{alone_says}
 use Rattle.zapdu.specs.declared.search_query.SearchQuery.{SearchQuery}
 use Rattle.zapdu.specs.SearchQueries.{of_sum}
 
-found_one : (o : Option (RpnQuery ⊎ Element)) (n : Element) → found (the_one o n) ≡ o
-found_one (Some x) n = refl
-found_one None n = refl
-
 one_of : (ns : List Element) (m : Element) → found (any_at ns) ≡ Some m → found (any_query_at ns) ≡ any_query m
 one_of [] m e = absurd cc
-one_of (n ∷ []) m e = let is : n ≡ m = cc in rw is (found_one (any_query m) m)
+one_of (n ∷ []) m e = let is : n ≡ m = cc in rw is (alone_says m)
 one_of (n ∷ k ∷ ns) m e = absurd cc
 
 one_query : (e m : Element) → sequence_of any_at e ≡ Some m → query_within e ≡ any_query m

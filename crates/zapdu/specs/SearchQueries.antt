@@ -8,13 +8,13 @@ use Rattle.zber.specs.Productions.Choice.{Choice, finally, Pick, picked}
 use Rattle.zasn.specs.Places.{lawful, of_choice}
 use Rattle.zquery.specs.Trees.{RpnQuery}
 use Rattle.zquery.specs.AnyQueries.{WritesWithin, query_within, within_spelt}
-use Rattle.zquery.proofs.AnyQueryPlaces.{within_place, within_spelled}
+use Rattle.zquery.proofs.AnyQueryPlaces.{any_query_place, any_query_spelled}
 use Rattle.zapdu.specs.declared.search_query.SearchQuery.{SearchQuery}
 use Rattle.zapdu.specs.declared.search_query.SearchQuery.TheVariants.{Rpn, Other}
 
 -- query [21] Query, whose tag is explicit
 abbrev pub either_query : Place (RpnQuery ⊎ Element)
-either_query = lawful {P = WritesWithin (context 21)} {tags = context 21 ∷ []} {meaning = query_within} {spelt = within_spelt (context 21)} (within_place (context 21)) (within_spelled (context 21))
+either_query = lawful {P = WritesWithin (context 21)} {tags = context 21 ∷ []} {meaning = query_within} {spelt = within_spelt (context 21)} (any_query_place (context 21)) (any_query_spelled (context 21))
 
 abbrev pub of_sum : RpnQuery ⊎ Element → SearchQuery
 of_sum (inl q) = Rpn q
