@@ -4,9 +4,10 @@ use std::process::Abort;
 use std::test::Fail;
 use zapdu::{
     Apdu, ApduError, Content, ElementSetNames, External, Kind, RecordComposition, Records,
-    from_node, to_node,
+    SearchQuery, from_node, to_node,
 };
 use zber::{Framer, Node};
+use zquery::print_pqf;
 
 /// What an origin named zmeta proposes, and what a target answers.
 const PROPOSED: [u8; 35] = [
@@ -18,6 +19,15 @@ const PROPOSED: [u8; 35] = [
 const AGREED: [u8; 30] = [
     0xb5, 0x1c, 0x82, 0x04, 0x00, 0x00, 0x00, 0x00, 0x83, 0x02, 0x05, 0xe0, 0x84, 0x03, 0x01, 0xc0,
     0x06, 0x85, 0x03, 0x10, 0x00, 0x00, 0x86, 0x03, 0x10, 0x00, 0x00, 0x8c, 0x01, 0xff,
+];
+
+/// The title dune in the database d, for the set 1; the first match alone is due at once.
+const SOUGHT: [u8; 67] = [
+    0xb6, 0x41, 0x82, 0x04, 0x00, 0x00, 0x00, 0x01, 0x8d, 0x01, 0x00, 0x8e, 0x01, 0x01, 0x8f, 0x01,
+    0x00, 0x90, 0x01, 0xff, 0x91, 0x01, 0x31, 0xb2, 0x04, 0x9f, 0x69, 0x01, 0x64, 0xb5, 0x24, 0xa1,
+    0x22, 0x06, 0x07, 0x2a, 0x86, 0x48, 0xce, 0x13, 0x03, 0x01, 0xa0, 0x17, 0xbf, 0x66, 0x14, 0xbf,
+    0x2c, 0x0a, 0x30, 0x08, 0x9f, 0x78, 0x01, 0x01, 0x9f, 0x79, 0x01, 0x04, 0x9f, 0x2d, 0x04, 0x64,
+    0x75, 0x6e, 0x65,
 ];
 
 /// One match, and no record with it.
@@ -44,6 +54,14 @@ const INIT_RESPONSE: [u8; 47] = [
     0xb5, 0x2d, 0x82, 0x01, 0x07, 0x83, 0x02, 0x05, 0xe0, 0x84, 0x03, 0x01, 0xc0, 0x06, 0x85, 0x01,
     0x0a, 0x86, 0x01, 0x14, 0x8c, 0x01, 0xff, 0x9f, 0x6e, 0x01, 0x69, 0x9f, 0x6f, 0x01, 0x6e, 0x9f,
     0x70, 0x01, 0x76, 0xab, 0x06, 0x28, 0x04, 0x81, 0x02, 0x68, 0x69, 0xbf, 0x81, 0x49, 0x00,
+];
+
+const SEARCH_REQUEST: [u8; 67] = [
+    0xb6, 0x41, 0x82, 0x01, 0x07, 0x8d, 0x01, 0x01, 0x8e, 0x01, 0x02, 0x8f, 0x01, 0x03, 0x90, 0x01,
+    0x00, 0x91, 0x01, 0x73, 0xb2, 0x08, 0x9f, 0x69, 0x01, 0x64, 0x9f, 0x69, 0x01, 0x65, 0xbf, 0x64,
+    0x03, 0x80, 0x01, 0x42, 0xbf, 0x65, 0x03, 0x80, 0x01, 0x46, 0x9f, 0x68, 0x07, 0x2a, 0x86, 0x48,
+    0xce, 0x13, 0x05, 0x0a, 0xb5, 0x05, 0xa0, 0x03, 0x04, 0x01, 0x71, 0xbf, 0x81, 0x4b, 0x00, 0xbf,
+    0x81, 0x49, 0x00,
 ];
 
 const SEARCH_RESPONSE: [u8; 49] = [
@@ -94,6 +112,7 @@ fn kind(apdu: &Apdu) -> Kind {
     match apdu {
         Apdu::InitRequest(_) => Kind::InitRequest,
         Apdu::InitResponse(_) => Kind::InitResponse,
+        Apdu::SearchRequest(_) => Kind::SearchRequest,
         Apdu::SearchResponse(_) => Kind::SearchResponse,
         Apdu::PresentRequest(_) => Kind::PresentRequest,
         Apdu::PresentResponse(_) => Kind::PresentResponse,
@@ -122,13 +141,15 @@ fn is_hi(value: &Option<External>) -> bool {
 
 #[test]
 fn each_kind_is_read_and_written(rt: HostRuntime) -> Result<(), Fail> {
-    let rows: [(&[u8], Kind); 12] = [
+    let rows: [(&[u8], Kind); 14] = [
         (&PROPOSED, Kind::InitRequest),
         (&AGREED, Kind::InitResponse),
+        (&SOUGHT, Kind::SearchRequest),
         (&FOUND, Kind::SearchResponse),
         (&ASKED, Kind::PresentRequest),
         (&INIT_REQUEST, Kind::InitRequest),
         (&INIT_RESPONSE, Kind::InitResponse),
+        (&SEARCH_REQUEST, Kind::SearchRequest),
         (&SEARCH_RESPONSE, Kind::SearchResponse),
         (&PRESENT_REQUEST, Kind::PresentRequest),
         (&SPECIFIC, Kind::PresentRequest),
@@ -179,6 +200,53 @@ fn inits_hold_their_values(rt: HostRuntime) -> Result<(), Fail> {
     assert!(rt; is_text(&response.implementation_version, b"v"));
     assert!(rt; is_hi(&response.user_information_field));
     assert!(rt; response.other_info.is_some());
+    Ok(())
+}
+
+fn is_generic(value: &Option<ElementSetNames>, due: &[u8]) -> bool {
+    match value {
+        Some(ElementSetNames::Generic(name)) => name.as_slice() == due,
+        _ => false,
+    }
+}
+
+#[test]
+fn a_search_request_holds_its_values(rt: HostRuntime) -> Result<(), Fail> {
+    let Apdu::SearchRequest(request) = from_node(rt.alloc(), &first(&rt, &SEARCH_REQUEST)?)? else {
+        return Err(Fail::from("another kind"));
+    };
+    assert!(rt; is_text(&request.reference_id, &[7]));
+    assert_eq!(rt; request.small_set_upper_bound, 1);
+    assert_eq!(rt; request.large_set_lower_bound, 2);
+    assert_eq!(rt; request.medium_set_present_number, 3);
+    assert!(rt; !request.replace_indicator);
+    assert_eq!(rt; request.result_set_name.as_slice(), b"s".as_slice());
+    let [first_name, second_name] = request.database_names.as_slice() else {
+        return Err(Fail::from("not two databases"));
+    };
+    assert_eq!(rt; first_name.as_slice(), b"d".as_slice());
+    assert_eq!(rt; second_name.as_slice(), b"e".as_slice());
+    assert!(rt; is_generic(&request.small_set_element_set_names, b"B"));
+    assert!(rt; is_generic(&request.medium_set_element_set_names, b"F"));
+    let syntax = request.preferred_record_syntax.as_ref().ok_or("no syntax")?;
+    assert_eq!(rt; syntax.arcs(), [1, 2, 840, 10003, 5, 10].as_slice());
+    assert!(rt; matches!(&request.query, SearchQuery::Other(_)));
+    assert!(rt; request.additional_search_info.is_some());
+    assert!(rt; request.other_info.is_some());
+    Ok(())
+}
+
+#[test]
+fn a_type_1_query_is_read(rt: HostRuntime) -> Result<(), Fail> {
+    let Apdu::SearchRequest(request) = from_node(rt.alloc(), &first(&rt, &SOUGHT)?)? else {
+        return Err(Fail::from("another kind"));
+    };
+    let SearchQuery::Rpn(query) = &request.query else {
+        return Err(Fail::from("another query"));
+    };
+    let mut text = Vec::new(rt.alloc());
+    print_pqf(rt.alloc(), query, &mut text)?;
+    assert_eq!(rt; text.as_slice(), b"@attr 1=4 \"dune\"".as_slice());
     Ok(())
 }
 
@@ -267,7 +335,7 @@ fn a_composition_is_of_three_kinds(rt: HostRuntime) -> Result<(), Fail> {
 
 #[test]
 fn what_misfits_is_refused_at_its_place(rt: HostRuntime) -> Result<(), Fail> {
-    let rows: [(&[u8], Kind, usize); 13] = [
+    let rows: [(&[u8], Kind, usize); 18] = [
         // Nothing; options before the version; no result; a result of two octets.
         (&[0xb4, 0x00], Kind::InitRequest, 0),
         (
@@ -334,6 +402,49 @@ fn what_misfits_is_refused_at_its_place(rt: HostRuntime) -> Result<(), Fail> {
             ],
             Kind::InitResponse,
             6,
+        ),
+        // A type-1 query of nothing; two queries; none; a database's name with another tag; an element set after the query.
+        (
+            &[
+                0xb6, 0x19, 0x8d, 0x01, 0x01, 0x8e, 0x01, 0x02, 0x8f, 0x01, 0x03, 0x90, 0x01, 0x00,
+                0x91, 0x01, 0x73, 0xb2, 0x04, 0x9f, 0x69, 0x01, 0x64, 0xb5, 0x02, 0xa1, 0x00,
+            ],
+            Kind::SearchRequest,
+            6,
+        ),
+        (
+            &[
+                0xb6, 0x1b, 0x8d, 0x01, 0x01, 0x8e, 0x01, 0x02, 0x8f, 0x01, 0x03, 0x90, 0x01, 0x00,
+                0x91, 0x01, 0x73, 0xb2, 0x04, 0x9f, 0x69, 0x01, 0x64, 0xb5, 0x04, 0x04, 0x00, 0x04,
+                0x00,
+            ],
+            Kind::SearchRequest,
+            6,
+        ),
+        (
+            &[
+                0xb6, 0x15, 0x8d, 0x01, 0x01, 0x8e, 0x01, 0x02, 0x8f, 0x01, 0x03, 0x90, 0x01, 0x00,
+                0x91, 0x01, 0x73, 0xb2, 0x04, 0x9f, 0x69, 0x01, 0x64,
+            ],
+            Kind::SearchRequest,
+            6,
+        ),
+        (
+            &[
+                0xb6, 0x19, 0x8d, 0x01, 0x01, 0x8e, 0x01, 0x02, 0x8f, 0x01, 0x03, 0x90, 0x01, 0x00,
+                0x91, 0x01, 0x73, 0xb2, 0x04, 0x9f, 0x67, 0x01, 0x64, 0xb5, 0x02, 0x04, 0x00,
+            ],
+            Kind::SearchRequest,
+            5,
+        ),
+        (
+            &[
+                0xb6, 0x1f, 0x8d, 0x01, 0x01, 0x8e, 0x01, 0x02, 0x8f, 0x01, 0x03, 0x90, 0x01, 0x00,
+                0x91, 0x01, 0x73, 0xb2, 0x04, 0x9f, 0x69, 0x01, 0x64, 0xb5, 0x02, 0x04, 0x00, 0xbf,
+                0x64, 0x03, 0x80, 0x01, 0x42,
+            ],
+            Kind::SearchRequest,
+            7,
         ),
         // No status of the search.
         (
