@@ -11,4 +11,8 @@ mod identifiers;
 #[cfg(test)]
 mod kinds;
 #[cfg(test)]
+mod queries;
+#[cfg(test)]
+mod structures;
+#[cfg(test)]
 mod values;
