@@ -14,7 +14,7 @@ use Rattle.zquery.specs.declared.error.PqfErrorKind.{PqfErrorKind}
 use Rattle.zquery.specs.declared.error.PqfErrorKind.TheVariants as queries
 use Rattle.zquery.specs.declared.print.PrintError.{PrintError}
 use Rattle.zquery.specs.declared.print.PrintError.TheVariants as prints
-use Rattle.zmeta.specs.Lines.{apdu_word}
+use Rattle.zmeta.specs.Fields.{apdu_word}
 use Rattle.zmeta.specs.declared.fault.Fault.{Fault}
 use Rattle.zmeta.specs.declared.fault.Fault.TheVariants.{Read, Write, Hex, Frame, NotApdu, Malformed, Query, NotPrintable, Memory}
 use Rattle.zmeta.specs.declared.fault.Status.{Status}

@@ -1,12 +1,9 @@
 -- The lines of an APDU, as `show` prints them.
-use Rattle.std.specs.Prelude.{ℕ, ℤ, List, [], ◌∷◌, ◌++◌, Option, Some, None, Bool, false, if◌then◌else◌, map, codes}
+use Rattle.std.specs.Prelude.{ℕ, List, [], ◌∷◌, ◌++◌, Option, Some, None, false, codes}
 use Rattle.std.specs.List.{flat_map}
-use Rattle.std.specs.Fmt.{signed_decimal}
-use Rattle.hex.specs.Hex.{encode_lower}
-use Rattle.zapdu.specs.Text.{quoted, quoted_or_dash, record_text, default_text, diag_text}
+use Rattle.zapdu.specs.Text.{quoted, record_text, default_text, diag_text}
 use Rattle.zapdu.specs.declared.apdu.Apdu.{Apdu}
 use Rattle.zapdu.specs.declared.apdu.Apdu.TheVariants as apdus
-use Rattle.zapdu.specs.declared.apdu.Kind.{Kind}
 use Rattle.zapdu.specs.declared.apdu.Kind.TheVariants as kinds
 use Rattle.zapdu.specs.declared.close.Close.{Close}
 use Rattle.zapdu.specs.declared.diagnostic.DefaultDiag.{DefaultDiag}
@@ -20,45 +17,8 @@ use Rattle.zapdu.specs.declared.present_response.PresentResponse.{PresentRespons
 use Rattle.zapdu.specs.declared.record.Record.{Record}
 use Rattle.zapdu.specs.declared.record.Records.{Records}
 use Rattle.zapdu.specs.declared.record.Records.TheVariants as records
-
-abbrev pub apdu_word : Kind → List ℕ
-apdu_word kinds.InitRequest = codes "initRequest"
-apdu_word kinds.InitResponse = codes "initResponse"
-apdu_word kinds.SearchResponse = codes "searchResponse"
-apdu_word kinds.PresentRequest = codes "presentRequest"
-apdu_word kinds.PresentResponse = codes "presentResponse"
-apdu_word kinds.Close = codes "close"
-
--- a reference id in hexadecimal, or a dash
-abbrev pub reference_text : Option (List ℕ) → List ℕ
-reference_text None = codes "-"
-reference_text (Some octets) = encode_lower octets
-
--- a number behind a space
-abbrev pub number_text : ℤ → List ℕ
-number_text n = codes " " ++ signed_decimal n
-
-abbrev pub numbers_text : List ℤ → List ℕ
-numbers_text ns = flat_map number_text ns
-
--- truth values as digits, and one as a word
-abbrev pub bit_text : Bool → ℕ
-bit_text b = if b then 49 else 48
-
-abbrev pub bits_text : List Bool → List ℕ
-bits_text bits = codes " " ++ map bit_text bits
-
-abbrev pub truth_text : Bool → List ℕ
-truth_text b = if b then codes " true" else codes " false"
-
-abbrev pub name_text : Option (List ℕ) → List ℕ
-name_text name = codes " " ++ quoted_or_dash name
-
-unfoldable pub start_text : Kind → Option (List ℕ) → List ℕ
-start_text kind reference = apdu_word kind ++ codes " " ++ reference_text reference
-
-unfoldable pub head_line : Kind → Option (List ℕ) → List ℤ → List ℕ
-head_line kind reference ns = apdu_word kind ++ codes " " ++ reference_text reference ++ numbers_text ns ++ codes "\n"
+use Rattle.zmeta.specs.Fields.{numbers_text, bits_text, truth_text, name_text, start_text, head_line}
+use Rattle.zmeta.specs.Searches.{search_request_text}
 
 abbrev pub record_line : Record → List ℕ
 record_line r = codes "  " ++ record_text false r ++ codes "\n"
@@ -138,6 +98,7 @@ close_text v = head_line kinds.Close v.reference_id (v.close_reason ∷ []) ++ o
 abbrev pub apdu_text : Apdu → List ℕ
 apdu_text (apdus.InitRequest v) = init_request_text v
 apdu_text (apdus.InitResponse v) = init_response_text v
+apdu_text (apdus.SearchRequest v) = search_request_text v
 apdu_text (apdus.SearchResponse v) = search_response_text v
 apdu_text (apdus.PresentRequest v) = present_request_text v
 apdu_text (apdus.PresentResponse v) = response_text v

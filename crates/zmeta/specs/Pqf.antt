@@ -10,7 +10,7 @@ use Rattle.zquery.specs.Texts.{IsText, IsFault}
 use Rattle.zquery.specs.Printing.{printable, query_text}
 use Rattle.zquery.specs.Type1.{WritesQuery}
 use Rattle.zmeta.specs.declared.fault.Fault.{Fault}
-use Rattle.zmeta.specs.declared.fault.Fault.TheVariants.{Read, Write, Hex, Frame, NotApdu, Malformed, Query, NotPrintable, Memory}
+use Rattle.zmeta.specs.declared.fault.Fault.TheVariants.{Write, Query, NotPrintable, Memory}
 
 -- the element [21] of a SearchRequest around the query's, in hexadecimal
 abbrev pub element_text : Element → List ℕ

@@ -1,7 +1,7 @@
 //! Why a command stopped, and the status that it ends with.
 ghost use Rattle.std.specs.Prelude.{◌≡◌, Some};
 ghost use Rattle.zmeta.specs.Faults.{code_of, status_of, fault_text, fault_word, query_word, of_frame, of_apdu, of_query, of_print, of_build};
-ghost use Rattle.zmeta.specs.Lines.{apdu_word};
+ghost use Rattle.zmeta.specs.Fields.{apdu_word};
 ghost use Rattle.zmeta.specs.declared.fault.Fault.TheVariants.{Memory};
 
 use crate::lines::apdu_word;

@@ -1,6 +1,6 @@
 //! The fields of an APDU's line.
 ghost use Rattle.std.specs.Prelude.{◌≡◌, ◌++◌, OnOk};
-ghost use Rattle.zmeta.specs.Lines.{reference_text, numbers_text, number_text, bits_text, truth_text, name_text, start_text};
+ghost use Rattle.zmeta.specs.Fields.{reference_text, numbers_text, number_text, bits_text, truth_text, name_text, start_text};
 
 use crate::lines::apdu_word;
 use bytes::Bytes;
@@ -9,7 +9,7 @@ use zapdu::{Kind, quote};
 use zber::Bits;
 
 /// The word of the kind, and the reference id.
-#[tactic(auto, unfolding(crate::specs::Lines::start_text))]
+#[tactic(auto, unfolding(crate::specs::Fields::start_text))]
 pub fn put_start(
     alloc: Global,
     kind: Kind,

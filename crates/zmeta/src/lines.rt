@@ -1,8 +1,10 @@
 //! The lines of an APDU, as `show` prints them.
 ghost use Rattle.std.specs.Prelude.{◌≡◌, ◌++◌, OnOk, OnErr};
-ghost use Rattle.zmeta.specs.Lines.{apdu_word, apdu_text, init_request_text, init_response_text, search_response_text, present_request_text, range_line, range_lines, response_text, close_text, head_line, records_text, record_lines, record_line, nonsurrogate, default_line, diag_lines, diag_line, info_text};
+ghost use Rattle.zmeta.specs.Fields.{apdu_word, head_line};
+ghost use Rattle.zmeta.specs.Lines.{apdu_text, init_request_text, init_response_text, search_response_text, present_request_text, range_line, range_lines, response_text, close_text, records_text, record_lines, record_line, nonsurrogate, default_line, diag_lines, diag_line, info_text};
 
 use crate::fields::{put_bits, put_name, put_numbers, put_reference, put_start, put_truth};
+use crate::search::put_search_request;
 use bytes::Bytes;
 use std::alloc::{AllocError, Global};
 use zapdu::{
@@ -18,6 +20,7 @@ pub fn apdu_word(kind: Kind) -> &'static str
     match kind {
         Kind::InitRequest => "initRequest",
         Kind::InitResponse => "initResponse",
+        Kind::SearchRequest => "searchRequest",
         Kind::SearchResponse => "searchResponse",
         Kind::PresentRequest => "presentRequest",
         Kind::PresentResponse => "presentResponse",
@@ -35,6 +38,7 @@ pub fn print_apdu(alloc: Global, apdu: &Apdu, text: &mut Vec<u8>) -> Result<(), 
     match apdu {
         Apdu::InitRequest(request) => put_init_request(alloc, request, &mut lines)?,
         Apdu::InitResponse(response) => put_init_response(alloc, response, &mut lines)?,
+        Apdu::SearchRequest(request) => put_search_request(alloc, request, &mut lines)?,
         Apdu::SearchResponse(response) => put_search_response(alloc, response, &mut lines)?,
         Apdu::PresentRequest(request) => put_present_request(alloc, request, &mut lines)?,
         Apdu::PresentResponse(response) => put_response(alloc, response, &mut lines)?,
@@ -186,7 +190,7 @@ fn put_close(alloc: Global, close: &Close, text: &mut Vec<u8>) -> Result<(), All
 }
 
 /// The line of an APDU's word, its reference id and its numbers.
-#[tactic(auto, unfolding(crate::specs::Lines::head_line))]
+#[tactic(auto, unfolding(crate::specs::Fields::head_line))]
 fn put_head(
     alloc: Global,
     kind: Kind,

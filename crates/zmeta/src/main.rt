@@ -11,6 +11,7 @@ mod lines;
 mod pqf;
 #[cfg(test)]
 mod rows;
+mod search;
 mod show;
 mod words;
 

@@ -43,6 +43,15 @@ fn prints_each_message(rt: HostRuntime) {
             b"initResponse 00000000 111 110000000000011 1048576 1048576 true -\n",
         ),
         (
+            b"B641 820400000001 8D0100 8E0101 8F0100 9001FF 910131 B204 9F690164
+              B524A12206072A8648CE130301A017BF6614BF2C0A30089F7801019F7901049F2D0464756E65",
+            b"searchRequest 00000001 0 1 0 true \"1\"\n  db \"d\"\n  query @attr 1=4 \"dune\"\n",
+        ),
+        (
+            b"B62A 8D0100 8E0101 8F0100 900100 910131 B208 9F690164 9F690165 9F68032A0304 B5098007 31323334353637",
+            b"searchRequest - 0 1 0 false \"1\"\n  db \"d\"\n  db \"e\"\n  syntax 1.2.3.4\n  query ber 800731323334353637\n",
+        ),
+        (
             b"B712 820400000001 970101 980100 990101 9601FF",
             b"searchResponse 00000001 1 0 1 true\n",
         ),

@@ -1,6 +1,6 @@
 -- the digits of the bits so far
 use Rattle.std.proofs.Common.{◌≡◌, ◌++◌, ◌∷◌, [], take, map}
-use Rattle.zmeta.specs.Lines.{bit_text}
+use Rattle.zmeta.specs.Fields.{bit_text}
 use Rattle.zmeta.proofs.fields.put_bits.Given as goal
 
 abbrev pub invariant-loop-bit : goal.invariant-loop-bit

@@ -1,6 +1,6 @@
 -- the numbers so far
 use Rattle.std.proofs.Common.{◌≡◌, ◌++◌, take}
-use Rattle.zmeta.specs.Lines.{numbers_text}
+use Rattle.zmeta.specs.Fields.{numbers_text}
 use Rattle.zmeta.proofs.fields.put_numbers.Given as goal
 
 abbrev pub invariant-loop-number : goal.invariant-loop-number
