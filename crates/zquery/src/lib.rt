@@ -29,8 +29,3 @@ pub use print::{PrintError, print_pqf};
 pub use query::{Attr, AttrValue, Query, Rpn, TermValue};
 pub use token::Token;
 pub use zasn::BuildError;
-
-#[cfg(test)]
-mod element_tests;
-#[cfg(test)]
-mod tests;

@@ -1,11 +1,13 @@
-use crate::{
-    Attr, AttrValue, PqfError, PqfErrorKind, PrintError, Query, Rpn, TermValue, parse_pqf,
-    print_pqf, tokens,
-};
+//! Texts of the prefix notation, their tokens, and queries that no text stands for.
+
 use bytes::Bytes;
 use std::alloc::Global;
 use std::test::Fail;
 use zber::{Node, Oid, Seq, Tag};
+use zquery::{
+    Attr, AttrValue, PqfError, PqfErrorKind, PrintError, Query, Rpn, TermValue, parse_pqf,
+    print_pqf, tokens,
+};
 
 // Texts, and what their queries are printed as.
 const PRINTED: [(&[u8], &[u8]); 29] = [
@@ -139,7 +141,7 @@ fn fault(alloc: Global, text: &[u8]) -> Option<PqfError> {
 }
 
 #[test]
-fn texts(rt: HostRuntime) -> Result<(), Fail> {
+fn texts_are_printed_or_refused(rt: HostRuntime) -> Result<(), Fail> {
     let alloc = rt.alloc();
     for (i, (text, printed)) in PRINTED.iter().enumerate() {
         let query = parse_pqf(alloc, text)?.copy(alloc)?;
@@ -154,45 +156,8 @@ fn texts(rt: HostRuntime) -> Result<(), Fail> {
     Ok(())
 }
 
-// So many operators, and then a text.
-fn below(
-    alloc: Global,
-    operators: usize,
-    text: &[u8],
-    times: usize,
-) -> Result<Vec<u8>, std::alloc::AllocError> {
-    let mut out = Vec::new(alloc);
-    for _ in 0..operators {
-        out.extend_from_slice(b"@and ")?;
-    }
-    for _ in 0..times {
-        out.extend_from_slice(text)?;
-    }
-    Ok(out)
-}
-
 #[test]
-fn levels(rt: HostRuntime) -> Result<(), Fail> {
-    let alloc = rt.alloc();
-    assert!(rt; fault(alloc, &below(alloc, 31, b"x ", 32)?).is_none());
-    let cases: [(&[u8], usize, usize, PqfErrorKind); 5] = [
-        (b"x ", 33, 160, PqfErrorKind::TooDeep),
-        (b"@set x", 1, 160, PqfErrorKind::TooDeep),
-        (b"@attr 1=4 @or", 1, 170, PqfErrorKind::TooDeep),
-        (b"@attr 1=x", 1, 166, PqfErrorKind::BadAttribute),
-        (b"@term numeric x", 1, 174, PqfErrorKind::BadNumber),
-    ];
-    for (text, times, at, kind) in cases {
-        let e = fault(alloc, &below(alloc, 32, text, times)?).ok_or("taken")?;
-        assert_eq!(rt; (e.at, e.kind), (at, kind));
-    }
-    let e = fault(alloc, b"@and dune").ok_or("taken")?;
-    assert_eq!(rt; format!(in alloc; "{e}")?.as_str(), "MissingOperand at 9");
-    Ok(())
-}
-
-#[test]
-fn places(rt: HostRuntime) -> Result<(), Fail> {
+fn tokens_have_their_places(rt: HostRuntime) -> Result<(), Fail> {
     let found = tokens(rt.alloc(), b"a \"b c\"")?;
     assert_eq!(rt; found.len(), 2);
     assert_eq!(rt; (found[0].at, found[0].quoted), (0, false));
@@ -275,7 +240,7 @@ fn is_refused(alloc: Global, root: Rpn) -> Result<bool, Fail> {
 }
 
 #[test]
-fn unprintable(rt: HostRuntime) -> Result<(), Fail> {
+fn some_queries_have_no_text(rt: HostRuntime) -> Result<(), Fail> {
     let alloc = rt.alloc();
     assert!(rt; is_refused(alloc, no_attributes(alloc)?)?);
     assert!(rt; is_refused(alloc, near(alloc)?)?);
