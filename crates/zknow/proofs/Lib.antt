@@ -3,5 +3,7 @@ pub mod Searches
 pub mod Unions
 pub mod Distincts
 pub mod Entries
-pub mod Tables
+pub mod Changes
 pub mod TableMerges
+pub mod Spelled
+pub mod ByTable

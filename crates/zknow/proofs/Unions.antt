@@ -63,3 +63,6 @@ union_from_part old more new part all x = (part.within x, ⊎_elim (part.keeps x
 pub OnOk_map : {T E : Type 0} (r : Result T E) (P Q : Type 0) → (P → Q) → OnOk r P → OnOk r Q
 OnOk_map (Ok x) P Q f h = f h
 OnOk_map (Err e) P Q f h = h
+
+pub part_weaker : {I : Type 0} (old more wider new : I → Type 0) → ((x : I) → more x → wider x) → IsPartOfUnion old more new → IsPartOfUnion old wider new
+part_weaker old more wider new widen part = record { keeps = part.keeps; within = λ x h. ⊎_elim inl (λ m. inr (widen x m)) (part.within x h) }

@@ -6,3 +6,6 @@ pub mod Distinct
 pub mod DistinctLaws
 pub mod Table
 pub mod TableLaws
+pub mod Keys
+pub mod Facts
+pub mod Tables

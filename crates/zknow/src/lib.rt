@@ -3,12 +3,17 @@
 
 mod distinct;
 mod encoding;
+mod fact;
 mod join;
+mod keys;
 mod merge;
 mod ranked;
 mod table;
+mod tables;
 
 pub use distinct::Distinct;
+pub use fact::{Fact, Known, Mode};
 pub use join::{Join, Key};
+pub use keys::{Mark, SetKey};
 pub use ranked::Ranked;
 pub use table::Table;

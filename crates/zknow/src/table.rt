@@ -123,21 +123,21 @@ impl<K: Key, J: Join> Table<K, J> {
 
 impl<K: Key, L: Key, J: Join> Table<K, Table<L, J>> {
     /// Adds an item at a key of the table at a key, as `add` does.
-    pub fn add_within(&mut self, outer: K, inner: L, item: &J::Item) -> Result<(), AllocError>
+    pub fn add_within(&mut self, outer: K, inner: &L, item: &J::Item) -> Result<(), AllocError>
         requires { J.can_add item.now }
-        ensures ok { OnOk result (IsUnion (HasItem K.cmp (HasItem L.cmp J.holds) self.old) (AtKey outer (AtKey inner (λ x. x ≡ item.now))) (HasItem K.cmp (HasItem L.cmp J.holds) self.new)) }
-        ensures part { IsPartOfUnion (HasItem K.cmp (HasItem L.cmp J.holds) self.old) (AtKey outer (AtKey inner (λ x. x ≡ item.now))) (HasItem K.cmp (HasItem L.cmp J.holds) self.new) }
+        ensures ok { OnOk result (IsUnion (HasItem K.cmp (HasItem L.cmp J.holds) self.old) (AtKey outer (AtKey inner.now (λ x. x ≡ item.now))) (HasItem K.cmp (HasItem L.cmp J.holds) self.new)) }
+        ensures part { IsPartOfUnion (HasItem K.cmp (HasItem L.cmp J.holds) self.old) (AtKey outer (AtKey inner.now (λ x. x ≡ item.now))) (HasItem K.cmp (HasItem L.cmp J.holds) self.new) }
     {
         match place_of(&self.entries, &outer) {
             Ok(at) => {
                 let entry = &mut self.entries[at];
-                let added = entry.1.add_at(inner, item);
+                let added = entry.1.add_at(*inner, item);
                 entry.1.lawful();
                 added
             }
             Err(at) => {
                 let mut fresh = Table::new(self.alloc);
-                fresh.add_at(inner, item)?;
+                fresh.add_at(*inner, item)?;
                 fresh.lawful();
                 self.entries.insert(at, (outer, fresh))?;
                 Ok(())

@@ -1,6 +1,6 @@
 use Rattle.std.proofs.Common.{◌≡◌, refl, sym, ◌∙◌, inr}
 use Rattle.zknow.proofs.Unions.{OnOk_map}
-use Rattle.zknow.proofs.Tables.{found_change, fresh_change, kept_item, part_at, union_at, lawful_at}
+use Rattle.zknow.proofs.Changes.{found_change, fresh_change, kept_item, part_at, union_at, lawful_at}
 use Rattle.zknow.proofs.table.Table.absorb_at.Goals as goal
 
 pub invariant_of-self : goal.invariant_of-self
