@@ -7,3 +7,6 @@ pub mod Changes
 pub mod TableMerges
 pub mod Spelled
 pub mod ByTable
+pub mod InSections
+pub mod FactsInOrder
+pub mod KnownFacts

@@ -66,3 +66,19 @@ OnOk_map (Err e) P Q f h = h
 
 pub part_weaker : {I : Type 0} (old more wider new : I → Type 0) → ((x : I) → more x → wider x) → IsPartOfUnion old more new → IsPartOfUnion old wider new
 part_weaker old more wider new widen part = record { keeps = part.keeps; within = λ x h. ⊎_elim inl (λ m. inr (widen x m)) (part.within x h) }
+
+-- the same of other words for the same items
+pub union_as : {I : Type 0} (old more new old' more' new' : I → Type 0) → ((x : I) → old' x ↔ old x) → ((x : I) → more' x ↔ more x) → ((x : I) → new' x ↔ new x) → IsUnion old more new → IsUnion old' more' new'
+union_as old more new old' more' new' o m n union x = (
+  λ h. ⊎_elim (λ a. inl ((o x).1 a)) (λ b. inr ((m x).1 b)) ((union x).0 ((n x).0 h)),
+  ⊎_elim (λ a. (n x).1 ((union x).1 (inl ((o x).0 a)))) (λ b. (n x).1 ((union x).1 (inr ((m x).0 b)))),
+)
+
+pub part_as : {I : Type 0} (old more new old' more' new' : I → Type 0) → ((x : I) → old' x ↔ old x) → ((x : I) → more' x ↔ more x) → ((x : I) → new' x ↔ new x) → IsPartOfUnion old more new → IsPartOfUnion old' more' new'
+part_as old more new old' more' new' o m n part = record {
+  keeps = λ x h. (n x).1 (part.keeps x ((o x).0 h));
+  within = λ x h. ⊎_elim (λ a. inl ((o x).1 a)) (λ b. inr ((m x).1 b)) (part.within x ((n x).0 h));
+}
+
+pub itself : {I : Type 0} (P : I → Type 0) (x : I) → P x ↔ P x
+itself P x = (λ h. h, λ h. h)

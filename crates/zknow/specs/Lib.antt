@@ -9,3 +9,4 @@ pub mod TableLaws
 pub mod Keys
 pub mod Facts
 pub mod Tables
+pub mod Sections
