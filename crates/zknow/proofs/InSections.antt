@@ -1,5 +1,5 @@
 -- The items of a table's section: which they are, and that they are in order.
-use Rattle.std.proofs.Common.{◌≡◌, ℤ, List, [], ◌∷◌, ◌++◌, map, Bool, true, false, cond, Option, Some, None, IsSomeAnd, ◌⊎◌, ◌↔◌, refl, sym, ap, subst, ◌∙◌, inl, inr, ⊎_elim}
+use Rattle.std.proofs.Common.{◌≡◌, ℕ, ℤ, ◌+◌, ◌<◌, ◌≤◌, length, take, get_or, append_assoc, List, [], ◌∷◌, ◌++◌, map, Bool, true, false, cond, Option, Some, None, IsSomeAnd, ◌⊎◌, ◌↔◌, refl, sym, ap, subst, ◌∙◌, inl, inr, ⊎_elim}
 use Rattle.std.specs.Prelude.{Contains, ⊤}
 use Rattle.std.specs.declared.cmp.Ordering.{Ordering}
 use Rattle.std.specs.declared.cmp.Ordering.TheVariants.{Less, Equal}
@@ -10,6 +10,8 @@ use Rattle.std.specs.List.Sorted.{IsStrictlySortedBy}
 use Rattle.std.specs.Map.{keys_of}
 use Rattle.std.specs.BTreeMap.{is_at}
 use Rattle.std.proofs.lemmas.Cmp.{int_cmp_total}
+use Rattle.std.proofs.lemmas.Grind.{flat_map-append}
+use Rattle.std.proofs.lemmas.List.{append-nil, take_more, take_all}
 use Rattle.std.proofs.lemmas.List.Elements.{Contains-append_cases, Contains-append_left, Contains-append_right}
 use Rattle.std.proofs.lemmas.Map.Keys.{sorted_head}
 use Rattle.std.proofs.lemmas.Map.Lookups.{exact_signed}
@@ -134,3 +136,18 @@ module _ {T : Type 0} (order : T → T → Ordering) (valid : T → Type 0) wher
   numbered_sorted c make by_number by_value t good = subst (IsStrictlySortedBy c) (sym (map_section (λ xs. xs) (λ p y. (p, y)) make t))
       (section_sorted int_cmp int_cmp_total exact_signed Contains (AreDistinct order valid) (λ xs. xs) (λ p y. make (p, y)) (self_members order valid) c by_number
       (λ p xs d. map_sorted order c (λ y. make (p, y)) (by_value p) xs d.ordered) t good)
+
+-- a loop over a table: what is written of one more entry
+module _ {K J I F : Type 0} (items : J → List I) (make : K → I → F) where
+  pub section_more : (t : List (K × J)) (i : ℕ) (e : K × J) → i < length t → e ≡ get_or t i e → section items make (take (i + 1) t) ≡ section items make (take i t) ++ map (make e.0) (items e.1)
+  section_more t i e lt is =
+      let longer : take (i + 1) t ≡ take i t ++ (e ∷ []) = take_more t i e lt ∙ ap (λ z. take i t ++ (z ∷ [])) (sym is) in
+      ap (section items make) longer ∙ flat_map-append (λ (x : K × J). map (make x.0) (items x.1)) (take i t) (e ∷ []) ∙ ap (λ l. section items make (take i t) ++ l) (append-nil (map (make e.0) (items e.1)))
+
+  pub entry_written : (t : List (K × J)) (i : ℕ) (e : K × J) (start so_far next : List F) → i < length t → e ≡ get_or t i e → so_far ≡ start ++ section items make (take i t) → next ≡ so_far ++ map (make e.0) (items e.1)
+      → next ≡ start ++ section items make (take (i + 1) t)
+  entry_written t i e start so_far next lt is before now =
+      now ∙ ap (λ l. l ++ map (make e.0) (items e.1)) before ∙ append_assoc start (section items make (take i t)) (map (make e.0) (items e.1)) ∙ ap (λ l. start ++ l) (sym (section_more t i e lt is))
+
+  pub all_written : (t : List (K × J)) (i : ℕ) (start written : List F) → length t ≤ i → written ≡ start ++ section items make (take i t) → written ≡ start ++ section items make t
+  all_written t i start written le is = is ∙ ap (λ l. start ++ section items make l) (take_all i t le)

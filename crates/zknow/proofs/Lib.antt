@@ -10,3 +10,6 @@ pub mod ByTable
 pub mod InSections
 pub mod FactsInOrder
 pub mod KnownFacts
+pub mod AtKeys
+pub mod KnownAt
+pub mod FactOrder

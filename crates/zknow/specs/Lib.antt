@@ -10,3 +10,4 @@ pub mod Keys
 pub mod Facts
 pub mod Tables
 pub mod Sections
+pub mod Known

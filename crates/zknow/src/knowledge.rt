@@ -2,12 +2,15 @@
 ghost use Rattle.std.specs.Prelude.{◌≡◌, ◌↔◌, [], IfOk, OnOk, Contains};
 ghost use Rattle.zknow.specs.Join.{IsUnion, IsPartOfUnion};
 ghost use Rattle.zknow.specs.Facts.{AreFacts, IsFact};
+ghost use Rattle.zknow.specs.Known.{Shows, counts_at, records_at};
 
-use crate::fact::Fact;
+use crate::fact::{Fact, Known};
+use crate::facts::facts_in;
 use crate::join::Join;
-use crate::tables::Tables;
+use crate::tables::{Tables, key_of};
 use std::alloc::{AllocError, Global};
 use std::marker::Model;
+use zapdu::Record;
 
 /// All that is known: a set of facts. Contracts see the list of the facts, in fact order: counts, failures, records,
 /// diagnostics; of one kind by target and set, then by count, position or place, then by the canonical encoding.
@@ -75,5 +78,58 @@ impl Knowledge {
         ensures { AreFacts self.now }
     {
         let _ = &self.alloc;
+    }
+
+    /// An equal knowledge.
+    pub fn copy(&self) -> Result<Knowledge, AllocError>
+        ensures { IfOk result (λ copy. copy ≡ self.now) }
+    {
+        let mut copy = Knowledge::new(self.alloc);
+        copy.absorb(self)?;
+        copy.lawful();
+        self.lawful();
+        Ok(copy)
+    }
+
+    /// All facts, in fact order.
+    pub fn facts(&self) -> Result<Vec<Fact>, AllocError>
+        ensures { IfOk result (λ facts. facts.items ≡ self.now) }
+    {
+        facts_in(self.alloc, &self.tables)
+    }
+
+    /// What is known of the number of records in a target's set. It takes no memory.
+    pub fn count(&self, target: u32, set: u32) -> Known<'_, i64>
+        ensures { Shows result (counts_at target set self.now) }
+    {
+        match self.tables.counts.get(&key_of(target, set)) {
+            None => Known::Nothing,
+            Some(counts) => shown(counts.values()),
+        }
+    }
+
+    /// What is known of the record at a position of a target's set; several records are in order of their canonical
+    /// encodings. It takes no memory.
+    pub fn at(&self, target: u32, set: u32, position: i64) -> Known<'_, Record>
+        ensures { Shows result (records_at target set position self.now) }
+    {
+        let Some(rows) = self.tables.seen.get(&key_of(target, set)) else {
+            return Known::Nothing;
+        };
+        match rows.get(&position) {
+            None => Known::Nothing,
+            Some(records) => shown(records.values()),
+        }
+    }
+}
+
+/// The answer with these values.
+fn shown<T>(values: &[T]) -> Known<'_, T>
+    ensures { Shows result values.now }
+{
+    match values {
+        [] => Known::Nothing,
+        [one] => Known::One(one),
+        _ => Known::Conflict(values),
     }
 }

@@ -4,6 +4,7 @@
 mod distinct;
 mod encoding;
 mod fact;
+mod facts;
 mod join;
 mod keys;
 mod knowledge;
