@@ -1,5 +1,5 @@
 -- What a change at one key does to a table.
-use Rattle.std.proofs.Common.{◌≡◌, ℕ, get_or, set, List, [], ◌∷◌, Bool, true, false, cond, Option, Some, None, IsSomeAnd, ◌⊎◌, ◌↔◌, refl, sym, ap, subst, ◌∙◌, inl, inr, ⊎_elim}
+use Rattle.std.proofs.Common.{◌≡◌, ℕ, get_or, set, List, Bool, true, false, cond, Some, None, IsSomeAnd, ◌⊎◌, refl, sym, ap, subst, ◌∙◌, inl, inr, ⊎_elim}
 use Rattle.std.specs.declared.cmp.Ordering.{Ordering}
 use Rattle.std.specs.declared.cmp.Ordering.TheVariants.{Equal}
 use Rattle.std.specs.Cmp.{IsTotalOrder, Equal-is}

@@ -1,8 +1,8 @@
 -- Values in order: one more in its gap, and two lists of them joined.
-use Rattle.std.proofs.Common.{◌≡◌, ℕ, zero, suc, ◌+◌, ◌<◌, ◌≤◌, List, [], ◌∷◌, ◌++◌, length, take, drop, get_or, ◌⊎◌, ◌↔◌, refl, sym, ap, subst, ◌∙◌, inl, inr, ⊎_elim, arith, take-append-drop, Option, Some, None}
+use Rattle.std.proofs.Common.{◌≡◌, ℕ, zero, suc, ◌≤◌, List, [], ◌∷◌, ◌++◌, length, take, drop, ◌⊎◌, ◌↔◌, sym, ap, subst, ◌∙◌, inl, inr, ⊎_elim, arith, take-append-drop, Some}
 use Rattle.std.specs.Prelude.{Contains}
 use Rattle.std.specs.declared.cmp.Ordering.{Ordering}
-use Rattle.std.specs.declared.cmp.Ordering.TheVariants.{Less, Equal, Greater}
+use Rattle.std.specs.declared.cmp.Ordering.TheVariants.{Less}
 use Rattle.std.specs.Cmp.{IsTotalOrder}
 use Rattle.std.specs.Ordering.{ordering_reverse}
 use Rattle.std.specs.List.{AllByRecursion, insert}
@@ -11,7 +11,7 @@ use Rattle.std.proofs.lemmas.List.Elements.{Contains-append_cases, Contains-appe
 use Rattle.zknow.specs.Join.{IsUnion}
 use Rattle.zknow.specs.Search.{IsGap}
 use Rattle.zknow.specs.Distinct.{AreDistinct}
-use Rattle.zknow.specs.DistinctLaws.{in_cons, in_head, in_tail, each_in, none_in_nil}
+use Rattle.zknow.specs.DistinctLaws.{in_cons, in_head, in_tail, none_in_nil}
 use Rattle.zknow.specs.Merge.{Takes}
 use Rattle.zknow.proofs.Unions.{IsMerging, merging_none, merging_old, merging_other, merging_all}
 use denote.Ref.{Bor}

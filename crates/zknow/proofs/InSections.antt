@@ -1,5 +1,5 @@
 -- The items of a table's section: which they are, and that they are in order.
-use Rattle.std.proofs.Common.{◌≡◌, ℕ, ℤ, ◌+◌, ◌<◌, ◌≤◌, length, take, get_or, append_assoc, List, [], ◌∷◌, ◌++◌, map, Bool, true, false, cond, Option, Some, None, IsSomeAnd, ◌⊎◌, ◌↔◌, refl, sym, ap, subst, ◌∙◌, inl, inr, ⊎_elim}
+use Rattle.std.proofs.Common.{◌≡◌, ℕ, ℤ, ◌+◌, ◌<◌, ◌≤◌, length, take, get_or, append_assoc, List, [], ◌∷◌, ◌++◌, map, Bool, true, false, cond, Option, Some, None, IsSomeAnd, ◌↔◌, refl, sym, ap, subst, ◌∙◌, ⊎_elim}
 use Rattle.std.specs.Prelude.{Contains, ⊤}
 use Rattle.std.specs.declared.cmp.Ordering.{Ordering}
 use Rattle.std.specs.declared.cmp.Ordering.TheVariants.{Less, Equal}
@@ -17,7 +17,7 @@ use Rattle.std.proofs.lemmas.Map.Keys.{sorted_head}
 use Rattle.std.proofs.lemmas.Map.Lookups.{exact_signed}
 use Rattle.zknow.specs.Table.{value_at, HasItem, IsLawfulTable}
 use Rattle.zknow.specs.Distinct.{AreDistinct}
-use Rattle.zknow.specs.DistinctLaws.{in_cons, in_head, in_tail, each_in, none_in_nil}
+use Rattle.zknow.specs.DistinctLaws.{in_cons, in_head, in_tail, none_in_nil}
 use Rattle.zknow.specs.Sections.{section, numbered}
 use Rattle.zknow.proofs.TableMerges.{split_by, at_head, item_in_tail, tail_lawful, head_found}
 

@@ -13,3 +13,8 @@ pub mod KnownFacts
 pub mod AtKeys
 pub mod KnownAt
 pub mod FactOrder
+pub mod Ascending
+pub mod BlockLines
+pub mod ListKeys
+pub mod SortedKeys
+pub mod TableKeys

@@ -1,12 +1,11 @@
 -- An element stands for each diagnostic.
-use Rattle.std.proofs.Common.{◌≡◌, ℕ, ℤ, cond, List, [], ◌∷◌, ◌++◌, Bool, true, Option, Some, None, refl, sym, ap, subst, ◌∙◌}
+use Rattle.std.proofs.Common.{◌≡◌, ℕ, ℤ, cond, List, [], ◌∷◌, ◌++◌, true, Option, Some, None, refl, ap, ◌∙◌}
 use Rattle.std.specs.Prelude.{IfSome}
 use Rattle.zber.specs.Names.{Name, universal}
 use Rattle.zber.specs.Elements.{Element, Primitive, cons}
 use Rattle.zber.specs.Oids.{is_oid, oid_octets}
 use Rattle.zber.specs.Integers.{integer_octets}
 use Rattle.zber.specs.Productions.Within.{around}
-use Rattle.zber.specs.Productions.Place.{Place}
 use Rattle.zber.specs.Productions.Building.{◌>>=◌, required_put, optional_put}
 use Rattle.zber.specs.Productions.Meanings.{is_i64, oid_spelt, int_spelt, octets_spelt}
 use Rattle.zber.specs.Productions.Reading.{option_map}

@@ -1,5 +1,5 @@
 -- Unions, and what two lists have that are gone through together.
-use Rattle.std.proofs.Common.{◌≡◌, ◌⊎◌, ◌↔◌, refl, sym, subst, inl, inr, ⊎_elim}
+use Rattle.std.proofs.Common.{◌⊎◌, ◌↔◌, inl, inr, ⊎_elim}
 use Rattle.std.specs.Prelude.{Result, Ok, Err, OnOk}
 use Rattle.zknow.specs.Join.{IsUnion, IsPartOfUnion}
 

@@ -11,3 +11,4 @@ pub mod Facts
 pub mod Tables
 pub mod Sections
 pub mod Known
+pub mod Listing

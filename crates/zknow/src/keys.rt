@@ -1,6 +1,6 @@
 //! The keys of the tables, and the mark of a set that failed.
 ghost use Rattle.std.specs.Prelude.{◌≡◌};
-ghost use Rattle.zknow.specs.Keys.{set_exact};
+ghost use Rattle.zknow.specs.Keys.{set_exact, row_exact};
 
 use crate::join::{Join, Key};
 use std::alloc::{AllocError, Global};
@@ -16,6 +16,18 @@ pub struct SetKey {
 
 impl Key for SetKey {
     ghost exact = { set_exact };
+}
+
+/// A row of the list: a position in a target's set.
+#[derive(Clone, Copy, Debug, PartialEq, Eq, PartialOrd, Ord)]
+pub(crate) struct RowKey {
+    pub(crate) position: i64,
+    pub(crate) target: u32,
+    pub(crate) set: u32,
+}
+
+impl Key for RowKey {
+    ghost exact = { row_exact };
 }
 
 impl Key for i64 {

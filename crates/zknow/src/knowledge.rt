@@ -3,6 +3,8 @@ ghost use Rattle.std.specs.Prelude.{◌≡◌, ◌↔◌, [], IfOk, OnOk, Contai
 ghost use Rattle.zknow.specs.Join.{IsUnion, IsPartOfUnion};
 ghost use Rattle.zknow.specs.Facts.{AreFacts, IsFact};
 ghost use Rattle.zknow.specs.Known.{Shows, counts_at, records_at};
+ghost use Rattle.zknow.specs.Sections.{facts_of};
+ghost use Rattle.zknow.specs.Tables.{KnowsLawfully};
 
 use crate::fact::{Fact, Known};
 use crate::facts::facts_in;
@@ -96,6 +98,14 @@ impl Knowledge {
         ensures { IfOk result (λ facts. facts.items ≡ self.now) }
     {
         facts_in(self.alloc, &self.tables)
+    }
+
+    /// The tables of the facts.
+    pub(crate) fn tables(&self) -> &Tables
+        ensures facts { self.now ≡ facts_of result.now }
+        ensures lawful { KnowsLawfully result.now }
+    {
+        &self.tables
     }
 
     /// What is known of the number of records in a target's set. It takes no memory.

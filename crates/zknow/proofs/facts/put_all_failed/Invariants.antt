@@ -1,4 +1,4 @@
-use Rattle.std.proofs.Common.{◌≡◌, ◌++◌, map, take}
+use Rattle.std.proofs.Common.{◌≡◌, ◌++◌, take}
 use Rattle.zknow.specs.declared.fact.Fact.TheVariants.{Failed}
 use Rattle.zknow.specs.Sections.{section, marked}
 use Rattle.zknow.proofs.facts.put_all_failed.Given as goal

@@ -1,4 +1,4 @@
-use Rattle.std.proofs.Common.{◌≡◌, ◌++◌, map, take}
+use Rattle.std.proofs.Common.{◌≡◌, ◌++◌, take}
 use Rattle.zknow.specs.Sections.{section, numbered}
 use Rattle.zknow.proofs.facts.put_all_numbered.Given as goal
 

@@ -1,4 +1,4 @@
-use Rattle.std.proofs.Common.{◌≡◌, ap, ◌∙◌}
+use Rattle.std.proofs.Common.{ap, ◌∙◌}
 use Rattle.std.specs.List.{insert}
 use Rattle.zknow.proofs.Distincts.{distinct_insert, insert_union}
 use Rattle.zknow.proofs.Unions.{part_from_union}

@@ -1,4 +1,4 @@
-use Rattle.std.proofs.Common.{◌≡◌, refl, sym, ◌∙◌, inr}
+use Rattle.std.proofs.Common.{◌≡◌, refl, inr}
 use Rattle.zknow.proofs.Unions.{OnOk_map}
 use Rattle.zknow.proofs.Changes.{found_change, fresh_change, kept_item, part_at, union_at, lawful_at}
 use Rattle.zknow.proofs.table.Table.add_at.Goals as goal

@@ -1,4 +1,4 @@
-use Rattle.std.proofs.Common.{◌≡◌, Some, sym, ap, ◌∙◌}
+use Rattle.std.proofs.Common.{Some, sym, ap, ◌∙◌}
 use Rattle.zknow.proofs.Entries.{found, missing}
 use Rattle.zknow.proofs.table.Table.get.Goals as goal
 

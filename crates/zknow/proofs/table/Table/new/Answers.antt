@@ -1,6 +1,4 @@
 use Rattle.std.specs.List.Sorted.{IsStrictlySortedBy}
-use Rattle.std.proofs.Common.{Some, None}
-use Rattle.zknow.specs.Table.{IsLawfulTable}
 use Rattle.zknow.proofs.table.Table.new.Goals as goal
 
 pub invariant_of-result : goal.invariant_of-result
