@@ -9,4 +9,6 @@ mod framing;
 #[cfg(test)]
 mod identifiers;
 #[cfg(test)]
+mod knowledge;
+#[cfg(test)]
 mod values;

@@ -2,7 +2,9 @@
 use bytes::Bytes;
 use std::process::Abort;
 use std::test::Fail;
-use zber::{Bits, Body, EncodeError, Node, Tag, ValueError};
+use zber::{Bits, Body, EncodeError, Framer, Node, Tag, ValueError};
+
+const LIMIT: u32 = 2_097_152;
 
 // A primitive element of context tag 1 with these contents.
 fn held(rt: &impl AllocGlobal, octets: &[u8]) -> Result<Node, Fail> {
