@@ -1,5 +1,5 @@
 -- The kinds of APDUs, each with its table.
-use Rattle.std.proofs.Common.{◌≡◌, List, [], ◌∷◌, ◌++◌, Option, Some, None, Result, Ok, Err, Bool, true, false, cond, refl, sym, ap, subst, ◌∙◌}
+use Rattle.std.proofs.Common.{◌≡◌, List, [], ◌∷◌, ◌++◌, Some, Result, Ok, Err, Bool, true, false, cond, refl, sym, ap, subst, ◌∙◌}
 use Rattle.zber.specs.Names.{Name}
 use Rattle.zber.specs.Elements.{Element}
 use Rattle.zber.specs.Productions.Tags.{same_tag}
@@ -12,6 +12,11 @@ use Rattle.zapdu.specs.declared.apdu.Apdu.TheVariants as apdus
 use Rattle.zapdu.specs.declared.apdu.Kind.{Kind}
 use Rattle.zapdu.specs.declared.apdu.Kind.TheVariants as kinds
 use Rattle.zapdu.specs.Writes.{kind_of, tag_of_kind, parts_of, kind_at, kind_among, kinds_in_order, apdu_at}
+use Rattle.zapdu.specs.InitRequests.{init_request_parts}
+use Rattle.zapdu.specs.InitResponses.{init_response_parts}
+use Rattle.zapdu.specs.SearchRequests.{search_request_parts}
+use Rattle.zapdu.specs.SearchResponses.{search_response_parts}
+use Rattle.zapdu.specs.PresentRequests.{present_request_parts}
 use Rattle.zapdu.specs.PresentResponses.{present_response_parts}
 use Rattle.zapdu.specs.Closes.{close_parts}
 
@@ -61,20 +66,40 @@ module _ {V : Type 0} (kind : Kind) (wrap : V → Apdu) (is_kind : (v : V) → k
   }
 
 abbrev kind_cases : Kind → Apdu → Type 0
+kind_cases kinds.InitRequest a = (v : _) × (apdus.InitRequest v ≡ a)
+kind_cases kinds.InitResponse a = (v : _) × (apdus.InitResponse v ≡ a)
+kind_cases kinds.SearchRequest a = (v : _) × (apdus.SearchRequest v ≡ a)
+kind_cases kinds.SearchResponse a = (v : _) × (apdus.SearchResponse v ≡ a)
+kind_cases kinds.PresentRequest a = (v : _) × (apdus.PresentRequest v ≡ a)
 kind_cases kinds.PresentResponse a = (v : _) × (apdus.PresentResponse v ≡ a)
 kind_cases kinds.Close a = (v : _) × (apdus.Close v ≡ a)
 
 back : (kind : Kind) (a : Apdu) → kind_of a ≡ kind → kind_cases kind a
+back kinds.InitRequest (apdus.InitRequest v) e = (v, refl)
+back kinds.InitResponse (apdus.InitResponse v) e = (v, refl)
+back kinds.SearchRequest (apdus.SearchRequest v) e = (v, refl)
+back kinds.SearchResponse (apdus.SearchResponse v) e = (v, refl)
+back kinds.PresentRequest (apdus.PresentRequest v) e = (v, refl)
 back kinds.PresentResponse (apdus.PresentResponse v) e = (v, refl)
 back kinds.Close (apdus.Close v) e = (v, refl)
 back kind a e = absurd cc
 
 -- reading the elements of a kind is exact, with the misfit
 pub apdu_exact : (kind : Kind) → IsExact (Of kind) (apdu_at kind)
+apdu_exact kinds.InitRequest = wrapped_exact kinds.InitRequest apdus.InitRequest (λ v. refl) (back kinds.InitRequest) _ (elements_exact init_request_parts)
+apdu_exact kinds.InitResponse = wrapped_exact kinds.InitResponse apdus.InitResponse (λ v. refl) (back kinds.InitResponse) _ (elements_exact init_response_parts)
+apdu_exact kinds.SearchRequest = wrapped_exact kinds.SearchRequest apdus.SearchRequest (λ v. refl) (back kinds.SearchRequest) _ (elements_exact search_request_parts)
+apdu_exact kinds.SearchResponse = wrapped_exact kinds.SearchResponse apdus.SearchResponse (λ v. refl) (back kinds.SearchResponse) _ (elements_exact search_response_parts)
+apdu_exact kinds.PresentRequest = wrapped_exact kinds.PresentRequest apdus.PresentRequest (λ v. refl) (back kinds.PresentRequest) _ (elements_exact present_request_parts)
 apdu_exact kinds.PresentResponse = wrapped_exact kinds.PresentResponse apdus.PresentResponse (λ v. refl) (back kinds.PresentResponse) _ (elements_exact present_response_parts)
 apdu_exact kinds.Close = wrapped_exact kinds.Close apdus.Close (λ v. refl) (back kinds.Close) _ (elements_exact close_parts)
 
 pub kind_at-tag_of_kind : (kind : Kind) → kind_at (tag_of_kind kind) ≡ Some kind
+kind_at-tag_of_kind kinds.InitRequest = refl
+kind_at-tag_of_kind kinds.InitResponse = refl
+kind_at-tag_of_kind kinds.SearchRequest = refl
+kind_at-tag_of_kind kinds.SearchResponse = refl
+kind_at-tag_of_kind kinds.PresentRequest = refl
 kind_at-tag_of_kind kinds.PresentResponse = refl
 kind_at-tag_of_kind kinds.Close = refl
 

@@ -1,10 +1,9 @@
 -- What decoding answers.
-use Rattle.std.proofs.Common.{◌≡◌, ℕ, zero, suc, ◌-◌, ◌<◌, ◌≤◌, List, [], ◌∷◌, ◌++◌, length, take, Option, Some, None, Result, Ok, Err, Bool, true, false, cond, refl, sym, ap, subst, ◌∙◌, append_assoc, length-append, arith}
+use Rattle.std.proofs.Common.{◌≡◌, ℕ, zero, suc, ◌-◌, ◌<◌, ◌≤◌, List, [], ◌∷◌, ◌++◌, length, take, Some, None, Result, Ok, Err, refl, sym, ap, subst, ◌∙◌, append_assoc, length-append, arith}
 use Rattle.std.proofs.lemmas.List.{take_at}
 use Rattle.zber.specs.Names.{Name}
 use Rattle.zber.specs.Elements.{Element, Primitive, Constructed, elements, cons, tag_of}
-use Rattle.zber.specs.Productions.Reading.{◌>>=◌}
-use Rattle.zber.specs.Productions.Laws.{IsMisfit, IsExact}
+use Rattle.zber.specs.Productions.Laws.{IsMisfit}
 use Rattle.zber.proofs.Runs.{elements-forest}
 use Rattle.zapdu.specs.declared.apdu.Apdu.{Apdu}
 use Rattle.zapdu.specs.declared.apdu.Kind.{Kind}

@@ -1,5 +1,5 @@
 -- An element is refused in one way.
-use Rattle.std.proofs.Common.{◌≡◌, ℕ, ◌<◌, ◌≤◌, ◌⊎◌, inl, inr, List, Some, refl, sym, ap, subst, ◌∙◌, arith}
+use Rattle.std.proofs.Common.{◌≡◌, ℕ, inl, inr, List, Some, subst}
 use Rattle.std.proofs.lemmas.Bool.{cases_order}
 use Rattle.zber.specs.Names.{Name}
 use Rattle.zber.specs.Elements.{Element, Primitive, Constructed, elements}

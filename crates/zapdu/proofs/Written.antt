@@ -9,6 +9,11 @@ use Rattle.zasn.specs.Answers.{IsWritten, Makes}
 use Rattle.zasn.specs.Places.{within}
 use Rattle.zapdu.specs.declared.apdu.Apdu.{Apdu}
 use Rattle.zapdu.specs.declared.apdu.Apdu.TheVariants as apdus
+use Rattle.zapdu.specs.InitRequests.{init_request_parts}
+use Rattle.zapdu.specs.InitResponses.{init_response_parts}
+use Rattle.zapdu.specs.SearchRequests.{search_request_parts}
+use Rattle.zapdu.specs.SearchResponses.{search_response_parts}
+use Rattle.zapdu.specs.PresentRequests.{present_request_parts}
 use Rattle.zapdu.specs.PresentResponses.{present_response_parts}
 use Rattle.zapdu.specs.Closes.{close_parts}
 use Rattle.zapdu.specs.Writes.{Writes, apdu_spelt}
@@ -19,5 +24,10 @@ place_written p v (Err NotSpellable) h = p.none v h
 place_written p v (Err Memory) h = tt
 
 pub apdu_written : (v : Apdu) (r : Result Element BuildError) → Makes (apdu_spelt v) r → IsWritten (Writes v) r
+apdu_written (apdus.InitRequest v) r h = place_written (within (context 20) init_request_parts) v r h
+apdu_written (apdus.InitResponse v) r h = place_written (within (context 21) init_response_parts) v r h
+apdu_written (apdus.SearchRequest v) r h = place_written (within (context 22) search_request_parts) v r h
+apdu_written (apdus.SearchResponse v) r h = place_written (within (context 23) search_response_parts) v r h
+apdu_written (apdus.PresentRequest v) r h = place_written (within (context 24) present_request_parts) v r h
 apdu_written (apdus.PresentResponse v) r h = place_written (within (context 25) present_response_parts) v r h
 apdu_written (apdus.Close v) r h = place_written (within (context 48) close_parts) v r h

@@ -1,7 +1,7 @@
 -- Diagnostics (Z39.50-2003, 4.1: DiagRec, DefaultDiagFormat).
 use Rattle.std.specs.Prelude.{◌≡◌, refl}
 use Rattle.std.proofs.Common.{inl, inr}
-use Rattle.zber.specs.Names.{context, universal}
+use Rattle.zber.specs.Names.{universal}
 use Rattle.zber.specs.Elements.{Element}
 use Rattle.zber.specs.Productions.Place.{Place}
 use Rattle.zber.specs.Productions.Choice.{Choice, either, finally, Pick, picked}

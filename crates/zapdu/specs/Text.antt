@@ -1,5 +1,5 @@
 -- The printed texts of octets, diagnostics and records.
-use Rattle.std.specs.Prelude.{◌≡◌, ℕ, ℤ, ◌==◌, ◌||◌, ◌&&◌, nat_le, if◌then◌else◌, Bool, Option, Some, None, List, [], ◌∷◌, ◌++◌, codes}
+use Rattle.std.specs.Prelude.{ℕ, ℤ, ◌==◌, ◌||◌, ◌&&◌, nat_le, if◌then◌else◌, Bool, Option, Some, None, List, [], ◌∷◌, ◌++◌, codes}
 use Rattle.std.specs.List.{flat_map}
 use Rattle.std.specs.Fmt.{signed_decimal}
 use Rattle.hex.specs.Hex.{encode_lower}
@@ -44,10 +44,10 @@ info_octets (V2 xs) = xs
 info_octets (V3 xs) = xs
 
 -- OID CONDITION "INFO"
-abbrev pub default_text : DefaultDiag → List ℕ
+unfoldable pub default_text : DefaultDiag → List ℕ
 default_text d = dotted d.diag_set ++ codes " " ++ signed_decimal d.condition ++ codes " " ++ quoted (info_octets d.info)
 
-abbrev pub diag_text : DiagRec → List ℕ
+unfoldable pub diag_text : DiagRec → List ℕ
 diag_text (Default d) = default_text d
 diag_text (Ext v) = ber_text (diag_rec.spelt (Ext v))
 

@@ -12,19 +12,39 @@ use Rattle.zapdu.specs.declared.apdu.Kind.{Kind}
 use Rattle.zapdu.specs.declared.apdu.Kind.TheVariants as kinds
 use Rattle.zapdu.specs.declared.apdu.ApduError.{ApduError}
 use Rattle.zapdu.specs.declared.apdu.ApduError.TheVariants as errors
+use Rattle.zapdu.specs.InitRequests.{init_request_parts}
+use Rattle.zapdu.specs.InitResponses.{init_response_parts}
+use Rattle.zapdu.specs.SearchRequests.{search_request_parts}
+use Rattle.zapdu.specs.SearchResponses.{search_response_parts}
+use Rattle.zapdu.specs.PresentRequests.{present_request_parts}
 use Rattle.zapdu.specs.PresentResponses.{present_response_parts}
 use Rattle.zapdu.specs.Closes.{close_parts}
 
 abbrev pub kind_of : Apdu → Kind
+kind_of (apdus.InitRequest v) = kinds.InitRequest
+kind_of (apdus.InitResponse v) = kinds.InitResponse
+kind_of (apdus.SearchRequest v) = kinds.SearchRequest
+kind_of (apdus.SearchResponse v) = kinds.SearchResponse
+kind_of (apdus.PresentRequest v) = kinds.PresentRequest
 kind_of (apdus.PresentResponse v) = kinds.PresentResponse
 kind_of (apdus.Close v) = kinds.Close
 
 abbrev pub tag_of_kind : Kind → Name
+tag_of_kind kinds.InitRequest = context 20
+tag_of_kind kinds.InitResponse = context 21
+tag_of_kind kinds.SearchRequest = context 22
+tag_of_kind kinds.SearchResponse = context 23
+tag_of_kind kinds.PresentRequest = context 24
 tag_of_kind kinds.PresentResponse = context 25
 tag_of_kind kinds.Close = context 48
 
 -- these are the elements of the APDU
 abbrev pub parts_of : Apdu → List Element → Type 0
+parts_of (apdus.InitRequest v) = init_request_parts.stand v
+parts_of (apdus.InitResponse v) = init_response_parts.stand v
+parts_of (apdus.SearchRequest v) = search_request_parts.stand v
+parts_of (apdus.SearchResponse v) = search_response_parts.stand v
+parts_of (apdus.PresentRequest v) = present_request_parts.stand v
 parts_of (apdus.PresentResponse v) = present_response_parts.stand v
 parts_of (apdus.Close v) = close_parts.stand v
 
@@ -34,7 +54,7 @@ Writes v n = sequence (tag_of_kind (kind_of v)) (parts_of v) n
 
 -- the kind that a tag names
 abbrev pub kinds_in_order : List Kind
-kinds_in_order = kinds.PresentResponse ∷ kinds.Close ∷ []
+kinds_in_order = kinds.InitRequest ∷ kinds.InitResponse ∷ kinds.SearchRequest ∷ kinds.SearchResponse ∷ kinds.PresentRequest ∷ kinds.PresentResponse ∷ kinds.Close ∷ []
 
 abbrev pub kind_among : Name → List Kind → Option Kind
 kind_among t [] = None
@@ -71,10 +91,20 @@ Decodes n (Err errors.Memory) = Unit {0}
 
 -- reading the elements of an APDU of the kind, and building those of an APDU
 abbrev pub apdu_at : Kind → List Element → Result Apdu (List Element)
+apdu_at kinds.InitRequest ns = init_request_parts.at ns >>= λ v. Ok (apdus.InitRequest v)
+apdu_at kinds.InitResponse ns = init_response_parts.at ns >>= λ v. Ok (apdus.InitResponse v)
+apdu_at kinds.SearchRequest ns = search_request_parts.at ns >>= λ v. Ok (apdus.SearchRequest v)
+apdu_at kinds.SearchResponse ns = search_response_parts.at ns >>= λ v. Ok (apdus.SearchResponse v)
+apdu_at kinds.PresentRequest ns = present_request_parts.at ns >>= λ v. Ok (apdus.PresentRequest v)
 apdu_at kinds.PresentResponse ns = present_response_parts.at ns >>= λ v. Ok (apdus.PresentResponse v)
 apdu_at kinds.Close ns = close_parts.at ns >>= λ v. Ok (apdus.Close v)
 
 abbrev pub apdu_made : Apdu → Option (List Element)
+apdu_made (apdus.InitRequest v) = init_request_parts.made v []
+apdu_made (apdus.InitResponse v) = init_response_parts.made v []
+apdu_made (apdus.SearchRequest v) = search_request_parts.made v []
+apdu_made (apdus.SearchResponse v) = search_response_parts.made v []
+apdu_made (apdus.PresentRequest v) = present_request_parts.made v []
 apdu_made (apdus.PresentResponse v) = present_response_parts.made v []
 apdu_made (apdus.Close v) = close_parts.made v []
 

@@ -1,12 +1,27 @@
 //! An APDU of any kind.
 
 use crate::close::Close;
+use crate::init_request::InitRequest;
+use crate::init_response::InitResponse;
+use crate::present_request::PresentRequest;
 use crate::present_response::PresentResponse;
+use crate::search_request::SearchRequest;
+use crate::search_response::SearchResponse;
 use thiserror::Error;
 
 /// An APDU (Z39.50-2003, 4.1).
 #[derive(Drop)]
 pub enum Apdu {
+    /// initRequest `[20]`.
+    InitRequest(InitRequest),
+    /// initResponse `[21]`.
+    InitResponse(InitResponse),
+    /// searchRequest `[22]`.
+    SearchRequest(SearchRequest),
+    /// searchResponse `[23]`.
+    SearchResponse(SearchResponse),
+    /// presentRequest `[24]`.
+    PresentRequest(PresentRequest),
     /// presentResponse `[25]`.
     PresentResponse(PresentResponse),
     /// close `[48]`.
@@ -16,6 +31,16 @@ pub enum Apdu {
 /// The kind of an APDU.
 #[derive(Clone, Copy, Debug, PartialEq, Eq)]
 pub enum Kind {
+    /// initRequest `[20]`.
+    InitRequest,
+    /// initResponse `[21]`.
+    InitResponse,
+    /// searchRequest `[22]`.
+    SearchRequest,
+    /// searchResponse `[23]`.
+    SearchResponse,
+    /// presentRequest `[24]`.
+    PresentRequest,
     /// presentResponse `[25]`.
     PresentResponse,
     /// close `[48]`.

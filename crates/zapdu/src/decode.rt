@@ -10,8 +10,13 @@ ghost use Rattle.zapdu.specs.Writes.{kind_at, Decodes, apdu_at};
 use crate::apdu::{Apdu, ApduError, Kind};
 use crate::close::Close;
 use crate::diagnostic::DiagRec;
+use crate::init_request::InitRequest;
+use crate::init_response::InitResponse;
+use crate::present_request::PresentRequest;
 use crate::present_response::PresentResponse;
 use crate::record::Record;
+use crate::search_request::SearchRequest;
+use crate::search_response::SearchResponse;
 use std::alloc::{AllocError, Global};
 use zasn::{PartError, Parts, Production, Tagged};
 use zber::{Body, Node, Tag};
@@ -19,7 +24,17 @@ use zber::{Body, Node, Tag};
 fn kind_of_tag(tag: Tag) -> Option<Kind>
     ensures { result ≡ kind_at tag }
 {
-    if tag == Tag::context(25) {
+    if tag == Tag::context(20) {
+        Some(Kind::InitRequest)
+    } else if tag == Tag::context(21) {
+        Some(Kind::InitResponse)
+    } else if tag == Tag::context(22) {
+        Some(Kind::SearchRequest)
+    } else if tag == Tag::context(23) {
+        Some(Kind::SearchResponse)
+    } else if tag == Tag::context(24) {
+        Some(Kind::PresentRequest)
+    } else if tag == Tag::context(25) {
         Some(Kind::PresentResponse)
     } else if tag == Tag::context(48) {
         Some(Kind::Close)
@@ -33,6 +48,26 @@ fn apdu_of(alloc: Global, kind: Kind, parts: &mut Parts<'_>) -> Result<Apdu, Par
     ensures { Finds (apdu_at kind parts.old) result parts.new }
 {
     match kind {
+        Kind::InitRequest => {
+            let apdu = InitRequest::read(alloc, parts)?;
+            Ok(Apdu::InitRequest(apdu))
+        }
+        Kind::InitResponse => {
+            let apdu = InitResponse::read(alloc, parts)?;
+            Ok(Apdu::InitResponse(apdu))
+        }
+        Kind::SearchRequest => {
+            let apdu = SearchRequest::read(alloc, parts)?;
+            Ok(Apdu::SearchRequest(apdu))
+        }
+        Kind::SearchResponse => {
+            let apdu = SearchResponse::read(alloc, parts)?;
+            Ok(Apdu::SearchResponse(apdu))
+        }
+        Kind::PresentRequest => {
+            let apdu = PresentRequest::read(alloc, parts)?;
+            Ok(Apdu::PresentRequest(apdu))
+        }
         Kind::PresentResponse => {
             let apdu = PresentResponse::read(alloc, parts)?;
             Ok(Apdu::PresentResponse(apdu))

@@ -15,6 +15,11 @@ fn built(alloc: Global, apdu: &Apdu) -> Result<Node, BuildError>
     ensures { Makes (apdu_spelt apdu.now) result }
 {
     match apdu {
+        Apdu::InitRequest(value) => write_within(alloc, value, Tag::context(20)),
+        Apdu::InitResponse(value) => write_within(alloc, value, Tag::context(21)),
+        Apdu::SearchRequest(value) => write_within(alloc, value, Tag::context(22)),
+        Apdu::SearchResponse(value) => write_within(alloc, value, Tag::context(23)),
+        Apdu::PresentRequest(value) => write_within(alloc, value, Tag::context(24)),
         Apdu::PresentResponse(value) => write_within(alloc, value, Tag::context(25)),
         Apdu::Close(value) => write_within(alloc, value, Tag::context(48)),
     }
@@ -37,10 +42,10 @@ fn element_of<T: Tagged>(alloc: Global, value: &T) -> Result<Node, BuildError>
 }
 
 /// The element that stands for a record (NamePlusRecord). Refused as `to_node` is.
-pub fn record_node(alloc: Global, record: &Record) -> Result<Node, BuildError>
-    ensures { IsWritten (WritesRecord record.now) result }
+pub fn record_node(alloc: Global, value: &Record) -> Result<Node, BuildError>
+    ensures { IsWritten (WritesRecord value.now) result }
 {
-    element_of(alloc, record)
+    element_of(alloc, value)
 }
 
 /// The element that stands for a diagnostic (DiagRec). Refused as `to_node` is.

@@ -1,16 +1,14 @@
 //! EXTERNAL: a record, a diagnostic or a report in a syntax of its own.
-ghost use Rattle.std.specs.Prelude.{◌≡◌};
-ghost use Rattle.zber.specs.Names.{context};
-ghost use Rattle.zasn.specs.Answers.{Means, Makes};
-ghost use Rattle.zasn.specs.Places.{any, within};
+ghost use Rattle.zasn.specs.Places.{within};
 ghost use Rattle.zapdu.specs.Externals.{content, external_parts};
 
 use bytes::Bytes;
 use std::alloc::Global;
 use zasn::{
-    BuildError, Contents, PartError, Parts, PartsBuf, Production, Tagged, read_within, write_within,
+    BuildError, Contents, PartError, Parts, PartsBuf, Production, Tagged, read_any, read_within,
+    write_any, write_within,
 };
-use zber::{Bits, Body, Node, Oid, Tag};
+use zber::{Bits, Node, Oid, Tag};
 
 /// What an EXTERNAL holds (X.690, 8.18).
 #[derive(Drop)]
@@ -46,30 +44,6 @@ impl Drop for External {
     }
 }
 
-/// The one element within an element.
-fn read_any(alloc: Global, node: &Node) -> Result<Node, PartError>
-    ensures { Means ((any (context 0)).meaning node.now) result }
-{
-    match &node.body {
-        Body::Prim(_) => Err(PartError::Misfit),
-        Body::Cons(nodes) => match nodes.as_slice() {
-            [] => Err(PartError::Misfit),
-            [only] => Ok(only.copy(alloc)?),
-            [_, _, ..] => Err(PartError::Misfit),
-        },
-    }
-}
-
-/// The element `[0]` around an element.
-fn write_any(alloc: Global, node: &Node) -> Result<Node, BuildError>
-    ensures { Makes ((any (context 0)).spelt node.now) result }
-{
-    let copy = node.copy(alloc)?;
-    let mut out = PartsBuf::new(alloc);
-    out.push(copy)?;
-    Ok(out.into_node(Tag::context(0)))
-}
-
 impl Tagged for Content {
     ghost place = { content };
 
@@ -95,7 +69,7 @@ impl Tagged for Content {
 
     fn to_element(&self, alloc: Global) -> Result<Node, BuildError> {
         match self {
-            Content::Single(node) => write_any(alloc, node),
+            Content::Single(node) => write_any(alloc, node, Tag::context(0)),
             Content::Aligned(octets) => octets.to_node(alloc, Tag::context(1)),
             Content::Arbitrary(bits) => bits.to_node(alloc, Tag::context(2)),
         }

@@ -92,6 +92,7 @@ fn put_ber<T: Tagged>(alloc: Global, value: &T, out: &mut Vec<u8>) -> Result<(),
     }
 }
 
+#[tactic(auto, unfolding(crate::specs::Text::default_text))]
 fn put_default(alloc: Global, diag: &DefaultDiag, out: &mut Vec<u8>) -> Result<(), AllocError>
     ensures { OnOk result (out.new.items ≡ out.old.items ++ default_text diag.now) }
 {
@@ -105,6 +106,7 @@ fn put_default(alloc: Global, diag: &DefaultDiag, out: &mut Vec<u8>) -> Result<(
     }
 }
 
+#[tactic(auto, unfolding(crate::specs::Text::diag_text))]
 fn put_diag(alloc: Global, diag: &DiagRec, out: &mut Vec<u8>) -> Result<(), AllocError>
     ensures { OnOk result (out.new.items ≡ out.old.items ++ diag_text diag.now) }
 {
@@ -142,44 +144,39 @@ fn put_octets(alloc: Global, hex: bool, octets: &[u8], out: &mut Vec<u8>) -> Res
 
 fn put_retrieval(
     alloc: Global,
-    record: &Record,
+    value: &Record,
     external: &External,
     hex: bool,
     out: &mut Vec<u8>,
 ) -> Result<(), AllocError>
     ensures { let v = external.now in
-        OnOk result (out.new.items ≡ out.old.items ++ retrieval_text hex record.now (octets_alone v.direct v.indirect v.descriptor v.content)) }
+        OnOk result (out.new.items ≡ out.old.items ++ retrieval_text hex value.now (octets_alone v.direct v.indirect v.descriptor v.content)) }
 {
     match octets_of(external) {
         Some((oid, octets)) => {
             out.extend_from_slice(b"rec ")?;
             put_oid(alloc, oid, out)?;
             out.extend_from_slice(b" ")?;
-            put_quoted_or_dash(alloc, &record.name, out)?;
+            put_quoted_or_dash(alloc, &value.name, out)?;
             out.extend_from_slice(b" ")?;
             put_octets(alloc, hex, octets.as_slice(), out)
         }
-        None => put_ber(alloc, record, out),
+        None => put_ber(alloc, value, out),
     }
 }
 
-fn put_record(
-    alloc: Global,
-    record: &Record,
-    hex: bool,
-    out: &mut Vec<u8>,
-) -> Result<(), AllocError>
-    ensures { OnOk result (out.new.items ≡ out.old.items ++ record_text hex record.now) }
+fn put_record(alloc: Global, value: &Record, hex: bool, out: &mut Vec<u8>) -> Result<(), AllocError>
+    ensures { OnOk result (out.new.items ≡ out.old.items ++ record_text hex value.now) }
 {
-    match &record.body {
-        RecordBody::Retrieval(external) => put_retrieval(alloc, record, external, hex, out),
+    match &value.body {
+        RecordBody::Retrieval(external) => put_retrieval(alloc, value, external, hex, out),
         RecordBody::Surrogate(diag) => {
             out.extend_from_slice(b"diag ")?;
-            put_quoted_or_dash(alloc, &record.name, out)?;
+            put_quoted_or_dash(alloc, &value.name, out)?;
             out.extend_from_slice(b" ")?;
             put_diag(alloc, diag, out)
         }
-        RecordBody::Fragment(_) => put_ber(alloc, record, out),
+        RecordBody::Fragment(_) => put_ber(alloc, value, out),
     }
 }
 
@@ -205,19 +202,33 @@ pub fn print_diag(alloc: Global, diag: &DiagRec, out: &mut Vec<u8>) -> Result<()
     out.extend_from_slice(&text)
 }
 
+/// Appends a diagnostic in the default format: `OID CONDITION "INFO"`. Where no memory is found, nothing is appended.
+pub fn print_default_diag(
+    alloc: Global,
+    diag: &DefaultDiag,
+    out: &mut Vec<u8>,
+) -> Result<(), AllocError>
+    ensures ok { OnOk result (out.new.items ≡ out.old.items ++ default_text diag.now) }
+    ensures err { OnErr result (out.new.items ≡ out.old.items) }
+{
+    let mut text = Vec::new(alloc);
+    put_default(alloc, diag, &mut text)?;
+    out.extend_from_slice(&text)
+}
+
 /// Appends a record: `rec OID DB TEXT` where it is octets in a named syntax, `diag DB DIAG` where it is a surrogate, else
 /// `ber` and its canonical encoding in hexadecimal. DB is quoted, or `-`; TEXT is quoted, or hexadecimal where `hex` is
 /// set. Where no memory is found, nothing is appended.
 pub fn print_record(
     alloc: Global,
-    record: &Record,
+    value: &Record,
     hex: bool,
     out: &mut Vec<u8>,
 ) -> Result<(), AllocError>
-    ensures ok { OnOk result (out.new.items ≡ out.old.items ++ record_text hex record.now) }
+    ensures ok { OnOk result (out.new.items ≡ out.old.items ++ record_text hex value.now) }
     ensures err { OnErr result (out.new.items ≡ out.old.items) }
 {
     let mut text = Vec::new(alloc);
-    put_record(alloc, record, hex, &mut text)?;
+    put_record(alloc, value, hex, &mut text)?;
     out.extend_from_slice(&text)
 }

@@ -27,3 +27,7 @@ pub optional_fails : {A B : Type 0} (t u : Name) (meaning : Element → Option A
     → Takes (optional_at (t ∷ []) meaning ns) (Err e) left → Finds (optional_at (u ∷ []) meaning ns >>= f) (Err e) left
 optional_fails t u meaning ns f e left is h =
     takes_fails (optional_at (u ∷ []) meaning ns) f e left (subst (λ (v : Name). Takes (optional_at (v ∷ []) meaning ns) (Err e) left) is h)
+
+-- a step that went well, before whatever comes
+pub then_goes : {A B : Type 0} (r : Result A (List Element)) (x : A) (f : A → Result B (List Element)) (answer : Result B (List Element)) → r ≡ Ok x → f x ≡ answer → (r >>= f) ≡ answer
+then_goes r x f answer is h = rw is h

@@ -1,8 +1,8 @@
 -- The elements within one, read as a production.
-use Rattle.std.proofs.Common.{◌≡◌, List, Option, Some, None, Result, Ok, Err, refl, sym, ap, subst, ◌∙◌}
+use Rattle.std.proofs.Common.{◌≡◌, ◌≤◌, List, [], ◌∷◌, length, Option, None, Result, Ok, Err, refl, subst, arith}
 use Rattle.zber.specs.Names.{Name}
 use Rattle.zber.specs.Elements.{Element, cons}
-use Rattle.zber.specs.Productions.Within.{found, sequence_of, all_of, list_of}
+use Rattle.zber.specs.Productions.Within.{found, sequence_of, any_at, all_of, list_of}
 use Rattle.zber.proofs.Runs.{elements-forest}
 use Rattle.zasn.specs.declared.error.PartError.{PartError}
 use Rattle.zasn.specs.declared.error.PartError.TheVariants.{Misfit, Memory}
@@ -23,3 +23,14 @@ pub list_means : {A : Type 0} (meaning : Element → Option A) (e : Element) (t 
 list_means meaning e t es xs a is same h =
     let inside : Means (all_of meaning es) a = subst (λ (ys : List Element). Means (all_of meaning ys) a) same h in
     rw (is, elements-forest es) inside
+
+-- more than one element is not one alone
+many : (es : List Element) → 2 ≤ length es → (n : Element) × (m : Element) × (more : List Element) × (es ≡ n ∷ m ∷ more)
+many [] h = absurd (omega arith)
+many (n ∷ []) h = absurd (omega arith)
+many (n ∷ m ∷ more) h = (n, m, more, refl)
+
+pub not_one : (e : Element) (t : Name) (es xs : List Element) → e ≡ cons t es → xs ≡ es → 2 ≤ length xs → sequence_of any_at e ≡ None
+not_one e t es xs is same h =
+    let more = many es (subst (λ (ys : List Element). 2 ≤ length ys) same h) in
+    rw (is, elements-forest es, more.3) refl

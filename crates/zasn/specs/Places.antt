@@ -89,6 +89,13 @@ kept tag tags = lawful {P = is_kept (tag ∷ tags)} {tags = tag ∷ tags} {meani
 abbrev pub list : {A : Type 0} → Name → Place A → Place (List A)
 list tag p = lawful {P = λ xs. sequence tag (each p.stands xs)} {tags = tag ∷ []} {meaning = list_of (whole_of p)} {spelt = λ xs. around tag (all_spelt p.spelt xs)} (list_place p tag) (list_spelled p tag)
 
+-- the same of strings that all have the inner tag
+abbrev pub text_under : Name → Element → Option (List ℕ)
+text_under tag n = if among (tag_of n) (tag ∷ []) then octets_of n else None
+
+abbrev pub strings : Name → Name → Place (List (List ℕ))
+strings tag inner = lawful {P = λ xs. sequence tag (each (tagged inner octets_of) xs)} {tags = tag ∷ []} {meaning = list_of (text_under inner)} {spelt = λ xs. around tag (all_spelt (octets_spelt inner) xs)} (list_place (octets inner) tag) (list_spelled (octets inner) tag)
+
 -- CHOICE: a value of several kinds, each with its own place
 abbrev pub of_choice : {C : Type 0} (c : Choice C) (pick : C → Pick c) → ((d : C) → picked c (pick d) ≡ d) → ((x : Pick c) → pick (picked c x) ≡ x) → distinct c ≡ true → Place C
 of_choice c pick same back k = record {

@@ -4,14 +4,17 @@ ghost use Rattle.zber.specs.Elements.{cons};
 ghost use Rattle.zber.specs.Productions.Building.{optional_put, required_put};
 ghost use Rattle.zber.specs.Productions.Place.{Place};
 ghost use Rattle.zasn.specs.Answers.{Puts};
-ghost use Rattle.zasn.specs.Places.{explicit};
+ghost use Rattle.zasn.specs.Places.{any, explicit, kept, strings};
 
+use crate::any::{write_any, write_kept};
 use crate::contents::{Contents, Tagged};
 use crate::error::BuildError;
 use crate::production::{write_alone, write_alone_tagged};
+use crate::texts::write_texts;
+use bytes::Bytes;
 use std::alloc::Global;
 use std::marker::Model;
-use zber::{Node, Tag};
+use zber::{Node, Seq, Tag};
 
 /// The elements of a production that are built so far.
 #[derive(Drop)]
@@ -130,6 +133,71 @@ impl PartsBuf {
     {
         let node = write_alone_tagged(alloc, value, outer)?;
         self.push(node)
+    }
+
+    /// Adds the element with the outer tag around that of a value with a tag of its own, where there is one.
+    pub fn optional_explicit_tagged<T: Tagged>(
+        &mut self,
+        alloc: Global,
+        outer: Tag,
+        value: &Option<T>,
+    ) -> Result<(), BuildError>
+        ensures { Puts (optional_put (explicit outer T.place).spelt value.now self.old) result self.new }
+    {
+        match value {
+            None => Ok(()),
+            Some(value) => self.required_explicit_tagged(alloc, outer, value),
+        }
+    }
+
+    /// Adds the element with the outer tag around those of texts, each under the inner tag.
+    pub fn required_texts(
+        &mut self,
+        alloc: Global,
+        outer: Tag,
+        inner: Tag,
+        texts: &Seq<Bytes>,
+    ) -> Result<(), BuildError>
+        ensures { Puts (required_put (strings outer inner).spelt texts.now self.old) result self.new }
+    {
+        let node = write_texts(alloc, texts, outer, inner)?;
+        self.push(node)
+    }
+
+    /// Adds the element with the tag around an element, where there is one.
+    pub fn optional_any(
+        &mut self,
+        alloc: Global,
+        tag: Tag,
+        value: &Option<Node>,
+    ) -> Result<(), BuildError>
+        ensures { Puts (optional_put (any tag).spelt value.now self.old) result self.new }
+    {
+        match value {
+            None => Ok(()),
+            Some(value) => {
+                let node = write_any(alloc, value, tag)?;
+                self.push(node)
+            }
+        }
+    }
+
+    /// Adds an element that has the tag, of either form, where there is one.
+    pub fn optional_kept(
+        &mut self,
+        alloc: Global,
+        tag: Tag,
+        value: &Option<Node>,
+    ) -> Result<(), BuildError>
+        ensures { Puts (optional_put (kept tag []).spelt value.now self.old) result self.new }
+    {
+        match value {
+            None => Ok(()),
+            Some(value) => {
+                let node = write_kept(alloc, value, tag)?;
+                self.push(node)
+            }
+        }
     }
 
     /// The constructed element with the tag around these.

@@ -1,13 +1,16 @@
 //! Productions of ASN.1 over elements: a SEQUENCE is read place by place from a cursor and built place by place.
 #![tactic(auto)]
 
+mod any;
 mod build;
 mod contents;
 mod error;
 mod parts;
 mod production;
 mod sequence_of;
+mod texts;
 
+pub use any::{read_any, sole, write_any, write_around};
 pub use build::PartsBuf;
 pub use contents::{Contents, Tagged};
 pub use error::{BuildError, PartError};

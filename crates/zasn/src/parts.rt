@@ -2,15 +2,20 @@
 ghost use Rattle.std.specs.Prelude.{◌≡◌, [], ◌∷◌, length};
 ghost use Rattle.zber.specs.Productions.Reading.{optional_at, required_at, ended_at};
 ghost use Rattle.zber.specs.Productions.Place.{Place};
-ghost use Rattle.zber.specs.Productions.Within.{alone_at, sequence_of};
+ghost use Rattle.zber.specs.Productions.Table.{Elements};
+ghost use Rattle.zber.specs.Productions.Within.{alone_at, any_at, list_of, sequence_of};
 ghost use Rattle.zasn.specs.Answers.{Takes, Finds};
+ghost use Rattle.zasn.specs.Places.{alone, kept, text_under};
 
+use crate::any::read_any;
 use crate::contents::{Contents, Tagged};
 use crate::error::PartError;
 use crate::production::{read_alone, read_alone_tagged};
+use crate::texts::read_texts;
+use bytes::Bytes;
 use std::alloc::Global;
 use std::marker::Model;
-use zber::{Node, Tag};
+use zber::{Node, Seq, Tag};
 
 /// The elements of a production that are not yet read. Where reading one fails, they stand at the element that failed.
 #[derive(Drop)]
@@ -153,6 +158,83 @@ impl<'a> Parts<'a> {
                 let value = read_alone_tagged(alloc, first)?;
                 self.left = others;
                 Ok(value)
+            }
+        }
+    }
+
+    /// The value of the one element within the next, where that has the outer tag; that element has a tag of its own.
+    pub fn optional_explicit_tagged<T: Tagged>(
+        &mut self,
+        alloc: Global,
+        outer: Tag,
+    ) -> Result<Option<T>, PartError>
+        ensures { Takes (optional_at (outer ∷ []) (sequence_of (alone T.place).at) self.old) result self.new }
+    {
+        match self.left {
+            [] => Ok(None),
+            [first, others @ ..] => {
+                if first.tag != outer {
+                    return Ok(None);
+                }
+                let value = read_alone_tagged(alloc, first)?;
+                self.left = others;
+                Ok(Some(value))
+            }
+        }
+    }
+
+    /// The texts of the elements within the next, which has the outer tag; each of them has the inner one.
+    pub fn required_texts(
+        &mut self,
+        alloc: Global,
+        outer: Tag,
+        inner: Tag,
+    ) -> Result<Seq<Bytes>, PartError>
+        ensures { Takes (required_at (outer ∷ []) (list_of (text_under inner)) self.old) result self.new }
+    {
+        match self.left {
+            [] => Err(PartError::Misfit),
+            [first, others @ ..] => {
+                if first.tag != outer {
+                    return Err(PartError::Misfit);
+                }
+                let texts = read_texts(alloc, first, inner)?;
+                self.left = others;
+                Ok(texts)
+            }
+        }
+    }
+
+    /// The one element within the next, whichever it is, where the next has the tag (explicit tagging of ANY).
+    pub fn optional_any(&mut self, alloc: Global, tag: Tag) -> Result<Option<Node>, PartError>
+        ensures { Takes (optional_at (tag ∷ []) (sequence_of any_at) self.old) result self.new }
+    {
+        match self.left {
+            [] => Ok(None),
+            [first, others @ ..] => {
+                if first.tag != tag {
+                    return Ok(None);
+                }
+                let value = read_any(alloc, first)?;
+                self.left = others;
+                Ok(Some(value))
+            }
+        }
+    }
+
+    /// The next element as it stands, of either form, where it has the tag.
+    pub fn optional_kept(&mut self, alloc: Global, tag: Tag) -> Result<Option<Node>, PartError>
+        ensures { Takes (optional_at (tag ∷ []) (kept tag []).meaning self.old) result self.new }
+    {
+        match self.left {
+            [] => Ok(None),
+            [first, others @ ..] => {
+                if first.tag != tag {
+                    return Ok(None);
+                }
+                let value = first.copy(alloc)?;
+                self.left = others;
+                Ok(Some(value))
             }
         }
     }

@@ -9,6 +9,12 @@ mod framing;
 #[cfg(test)]
 mod identifiers;
 #[cfg(test)]
+mod kinds;
+#[cfg(test)]
 mod knowledge;
+#[cfg(test)]
+mod queries;
+#[cfg(test)]
+mod structures;
 #[cfg(test)]
 mod values;

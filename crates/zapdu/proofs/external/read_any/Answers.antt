@@ -1,8 +1,0 @@
-use Rattle.zber.proofs.Runs.{seen_cons}
-use Rattle.zapdu.proofs.Tagged.{not_one}
-use Rattle.zapdu.proofs.external.read_any.Goals as goal
-
-pub returns-in-len2-up : goal.returns-in-len2-up
-returns-in-len2-up c =
-    not_one c.args.node.now c.node.inside.tag c.in-Cons.nodes.items c.as_slice.result.now
-    (seen_cons c.node.inside c.args.node.now c.in-Cons.nodes c.node.view_is c.in-Cons.is) c.as_slice.ensures.value c.in-len2-up.len_at_least

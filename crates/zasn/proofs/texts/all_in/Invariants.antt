@@ -1,0 +1,8 @@
+use Rattle.std.proofs.Common.{◌≡◌, drop}
+use Rattle.zber.specs.Productions.Within.{all_of}
+use Rattle.zasn.specs.Places.{text_under}
+use Rattle.zasn.proofs.Lists.{behind}
+use Rattle.zasn.proofs.texts.all_in.Given as goal
+
+abbrev pub invariant-loop-node : goal.invariant-loop-node
+invariant-loop-node l = behind l.texts.items (all_of (text_under l.tag) (drop l.node-index l.nodes)) ≡ all_of (text_under l.tag) l.nodes

@@ -1,0 +1,66 @@
+//! SEQUENCE OF strings: texts in order, each in an element with the same tag.
+ghost use Rattle.zber.specs.Productions.Within.{all_of, all_spelt, list_of};
+ghost use Rattle.zber.specs.Productions.Meanings.{octets_spelt};
+ghost use Rattle.zasn.specs.Answers.{Means, Makes};
+ghost use Rattle.zasn.specs.Places.{strings, text_under};
+
+use crate::build::PartsBuf;
+use crate::contents::Contents;
+use crate::error::{BuildError, PartError};
+use bytes::Bytes;
+use std::alloc::Global;
+use zber::{Body, Node, Seq, Tag};
+
+fn text_in(alloc: Global, node: &Node, tag: Tag) -> Result<Bytes, PartError>
+    ensures { Means (text_under tag node.now) result }
+{
+    if node.tag != tag {
+        return Err(PartError::Misfit);
+    }
+    Bytes::of_node(alloc, node)
+}
+
+fn all_in(alloc: Global, nodes: &[Node], tag: Tag) -> Result<Seq<Bytes>, PartError>
+    ensures { Means (all_of (text_under tag) nodes.now) result }
+{
+    let mut texts = Vec::new(alloc);
+    for node in nodes {
+        let text = text_in(alloc, node, tag)?;
+        texts.push(text)?;
+    }
+    Ok(Seq::from_vec(texts))
+}
+
+fn all_of_them(alloc: Global, texts: &[Bytes], tag: Tag) -> Result<PartsBuf, BuildError>
+    ensures { Makes (all_spelt (octets_spelt tag) texts.now) result }
+{
+    let mut out = PartsBuf::new(alloc);
+    for text in texts {
+        let node = text.to_node(alloc, tag)?;
+        out.push(node)?;
+    }
+    Ok(out)
+}
+
+/// The texts of the elements within one, each of which has the tag.
+pub(crate) fn read_texts(alloc: Global, node: &Node, tag: Tag) -> Result<Seq<Bytes>, PartError>
+    ensures { Means (list_of (text_under tag) node.now) result }
+{
+    match &node.body {
+        Body::Prim(_) => Err(PartError::Misfit),
+        Body::Cons(nodes) => all_in(alloc, nodes.as_slice(), tag),
+    }
+}
+
+/// The element with the outer tag around those of texts, each under the inner tag.
+pub(crate) fn write_texts(
+    alloc: Global,
+    texts: &Seq<Bytes>,
+    outer: Tag,
+    inner: Tag,
+) -> Result<Node, BuildError>
+    ensures { Makes ((strings outer inner).spelt texts.now) result }
+{
+    let out = all_of_them(alloc, texts.as_slice(), inner)?;
+    Ok(out.into_node(outer))
+}

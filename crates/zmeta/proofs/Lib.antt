@@ -1,0 +1,2 @@
+pub mod OneShowing
+pub mod Showing

@@ -1,0 +1,48 @@
+-- The fields of an APDU's line.
+use Rattle.std.specs.Prelude.{ℕ, ℤ, List, ◌++◌, Option, Some, None, Bool, if◌then◌else◌, map, codes}
+use Rattle.std.specs.List.{flat_map}
+use Rattle.std.specs.Fmt.{signed_decimal}
+use Rattle.hex.specs.Hex.{encode_lower}
+use Rattle.zapdu.specs.Text.{quoted_or_dash}
+use Rattle.zapdu.specs.declared.apdu.Kind.{Kind}
+use Rattle.zapdu.specs.declared.apdu.Kind.TheVariants as kinds
+
+abbrev pub apdu_word : Kind → List ℕ
+apdu_word kinds.InitRequest = codes "initRequest"
+apdu_word kinds.InitResponse = codes "initResponse"
+apdu_word kinds.SearchRequest = codes "searchRequest"
+apdu_word kinds.SearchResponse = codes "searchResponse"
+apdu_word kinds.PresentRequest = codes "presentRequest"
+apdu_word kinds.PresentResponse = codes "presentResponse"
+apdu_word kinds.Close = codes "close"
+
+-- a reference id in hexadecimal, or a dash
+abbrev pub reference_text : Option (List ℕ) → List ℕ
+reference_text None = codes "-"
+reference_text (Some octets) = encode_lower octets
+
+-- a number behind a space
+abbrev pub number_text : ℤ → List ℕ
+number_text n = codes " " ++ signed_decimal n
+
+abbrev pub numbers_text : List ℤ → List ℕ
+numbers_text ns = flat_map number_text ns
+
+-- truth values as digits, and one as a word
+abbrev pub bit_text : Bool → ℕ
+bit_text b = if b then 49 else 48
+
+abbrev pub bits_text : List Bool → List ℕ
+bits_text bits = codes " " ++ map bit_text bits
+
+abbrev pub truth_text : Bool → List ℕ
+truth_text b = if b then codes " true" else codes " false"
+
+abbrev pub name_text : Option (List ℕ) → List ℕ
+name_text name = codes " " ++ quoted_or_dash name
+
+unfoldable pub start_text : Kind → Option (List ℕ) → List ℕ
+start_text kind reference = apdu_word kind ++ codes " " ++ reference_text reference
+
+unfoldable pub head_line : Kind → Option (List ℕ) → List ℤ → List ℕ
+head_line kind reference ns = apdu_word kind ++ codes " " ++ reference_text reference ++ numbers_text ns ++ codes "\n"

@@ -1,0 +1,45 @@
+-- What `show` prints of octets, and how it ends.
+use Rattle.std.specs.Prelude.{◌≡◌, ℕ, ◌<◌, List, [], ◌++◌, length, Option, Result, Ok, Err}
+use Rattle.std.specs.Io.KnownBytes.{Keeps, Appends}
+use Rattle.zber.specs.declared.fault.FaultKind.{FaultKind}
+use Rattle.zber.specs.declared.fault.FaultKind.TheVariants as kinds
+use Rattle.zber.specs.Elements.{Element}
+use Rattle.zber.specs.Spelling.{Begins}
+use Rattle.zber.specs.Stopping.{Shows}
+use Rattle.zber.specs.Unfinished.{IsUnfinished}
+use Rattle.zapdu.specs.declared.apdu.Apdu.{Apdu}
+use Rattle.zapdu.specs.declared.apdu.Kind.{Kind}
+use Rattle.zapdu.specs.Writes.{Writes, IsNoApdu, IsMalformed}
+use Rattle.zmeta.specs.Digits.{octets_of}
+use Rattle.zmeta.specs.Lines.{apdu_text}
+use Rattle.zmeta.specs.declared.fault.Fault.{Fault}
+use Rattle.zmeta.specs.declared.fault.Fault.TheVariants.{Read, Write, Hex, Frame, NotApdu, Malformed, Memory}
+
+-- the most octets of one message
+abbrev pub limit : ℕ
+limit = 2097152
+
+-- The octets, the text of the APDUs that they begin with, and how they end: with nothing left, or at a fault.
+pub data Shown : List ℕ → List ℕ → Result (Unit {0}) Fault → Type 0 where
+  nothing_left : Shown [] [] (Ok tt)
+  apdu : {xs rest text : List ℕ} {e : Element} {end : Result (Unit {0}) Fault} (v : Apdu) → Begins limit xs e rest → Writes v e → Shown rest text end → Shown xs (apdu_text v ++ text) end
+  fault : {xs : List ℕ} {kind : FaultKind} {at : ℕ} → Shows limit xs kind at → Shown xs [] (Err (Frame kind at))
+  unfinished : {xs : List ℕ} → 0 < length xs → IsUnfinished limit xs → Shown xs [] (Err (Frame kinds.Truncated (length xs)))
+  no_apdu : {xs rest : List ℕ} {e : Element} → Begins limit xs e rest → IsNoApdu e → Shown xs [] (Err NotApdu)
+  malformed : {xs rest : List ℕ} {e : Element} {kind : Kind} {at : ℕ} → Begins limit xs e rest → ((v : Apdu) → Writes v e → ⊥) → IsMalformed kind at e → Shown xs [] (Err (Malformed kind at))
+
+-- octets have one text and one end
+abbrev pub OneShowing : Type 0
+OneShowing = (xs s t : List ℕ) (f g : Result (Unit {0}) Fault) → Shown xs s f → Shown xs t g → (s ≡ t) × (f ≡ g)
+
+-- the digits' octets are shown
+abbrev pub ShowsDigits : List ℕ → Option (List ℕ) → Option (List ℕ) → Result (Unit {0}) Fault → Type 0
+ShowsDigits digits old new answer = (xs text : List ℕ) × (octets_of digits ≡ Ok xs) × Shown xs text answer × Appends old new text
+
+-- what an answer of `show` says of its input, and of what was written
+abbrev pub ShowsText : List ℕ → Option (List ℕ) → Option (List ℕ) → Result (Unit {0}) Fault → Type 0
+ShowsText digits old new (Err Hex) = ((xs : List ℕ) → octets_of digits ≡ Ok xs → ⊥) × Keeps old new
+ShowsText digits old new (Err (Read path)) = Keeps old new
+ShowsText digits old new (Err (Write path)) = Unit {0}
+ShowsText digits old new (Err Memory) = Keeps old new
+ShowsText digits old new answer = ShowsDigits digits old new answer

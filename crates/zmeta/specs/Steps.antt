@@ -1,0 +1,31 @@
+-- What the steps of `show` do.
+use Rattle.std.specs.Prelude.{◌≡◌, ℕ, List, [], ◌++◌, Bool, true, false, Option, Result, Ok, Err}
+use Rattle.std.specs.Io.KnownBytes.{Keeps, Appends}
+use Rattle.zber.specs.Elements.{Element}
+use Rattle.zber.specs.Spelling.{Begins}
+use Rattle.zber.specs.Stream.{Stream}
+use Rattle.zber.specs.Unfinished.{IsUnfinished}
+use Rattle.zapdu.specs.declared.apdu.Apdu.{Apdu}
+use Rattle.zapdu.specs.Writes.{Writes}
+use Rattle.zmeta.specs.Lines.{apdu_text}
+use Rattle.zmeta.specs.Show.{limit, Shown}
+use Rattle.zmeta.specs.declared.fault.Fault.{Fault}
+use Rattle.zmeta.specs.declared.fault.Fault.TheVariants.{Write, Memory}
+
+-- the next message is shown, or there is none yet, or a fault ends the octets; nothing is said where memory ran out
+abbrev pub ShowsNext : Stream → Stream → List ℕ → List ℕ → Result Bool Fault → Type 0
+ShowsNext s t old new (Ok true) = (e : Element) × (v : Apdu) × Begins limit s.octets e t.octets × Writes v e × (new ≡ old ++ apdu_text v) × (t ≡ record s { octets = t.octets })
+ShowsNext s t old new (Ok false) = IsUnfinished limit s.octets × (new ≡ old) × (t ≡ record s { asked = true })
+ShowsNext s t old new (Err Memory) = Unit {0}
+ShowsNext s t old new (Err f) = Shown s.octets [] (Err f) × (new ≡ old)
+
+-- the octets are shown, and nothing is said where memory ran out
+abbrev pub ShowsOctets : List ℕ → List ℕ → List ℕ → Result (Unit {0}) Fault → Type 0
+ShowsOctets xs old new (Err Memory) = Unit {0}
+ShowsOctets xs old new answer = (text : List ℕ) × Shown xs text answer × (new ≡ old ++ text)
+
+-- the lines are written and the answer stands; no line is written where memory ran out
+abbrev pub PrintsLines : List ℕ → Result (Unit {0}) Fault → Option (List ℕ) → Option (List ℕ) → Result (Unit {0}) Fault → Type 0
+PrintsLines lines answer old new (Err (Write path)) = Unit {0}
+PrintsLines lines answer old new (Err Memory) = (answer ≡ Err Memory) × Keeps old new
+PrintsLines lines answer old new result = (result ≡ answer) × Appends old new lines

@@ -1,0 +1,108 @@
+//! The command `pqf`: a query in the prefix notation, as it is understood and as it goes out.
+ghost use Rattle.std.specs.Prelude.{◌≡◌, [], ◌∷◌, ◌++◌, OnOk, Result};
+ghost use Rattle.zber.specs.Elements.{Element};
+ghost use Rattle.zmeta.specs.Faults.{answer_status};
+ghost use Rattle.zmeta.specs.Pqf.{element_text, query_lines, TellsQuery, PrintsQuery};
+ghost use Rattle.zmeta.specs.declared.fault.Fault.{Fault};
+
+use crate::fault::{Fault, Status};
+use std::alloc::{AllocError, Global};
+use std::io::Write;
+use zber::{Node, Tag};
+use zquery::{parse_pqf, print_pqf, to_node};
+
+/// Prints the query of a text in the prefix notation, and in hexadecimal the element `[21]` that a SearchRequest holds it
+/// in; or tells on standard error why the text is no query. Nothing is printed then.
+pub fn pqf<W: Write, E: Write>(alloc: Global, text: &str, output: &mut W, errors: &mut E) -> Status
+    ensures { (answer : Result (Unit {0}) Fault)
+        × PrintsQuery text.now (W.contents output.old) (W.contents output.new) answer
+        × (result ≡ answer_status answer) }
+{
+    match pqf_text(alloc, text.as_bytes(), output) {
+        Ok(()) => Status::Done,
+        Err(fault) => fault.report(errors),
+    }
+}
+
+fn pqf_text<W: Write>(alloc: Global, text: &[u8], output: &mut W) -> Result<(), Fault<'static>>
+    ensures { PrintsQuery text.now (W.contents output.old) (W.contents output.new) result }
+{
+    let mut lines = Vec::new(alloc);
+    put_query(alloc, text, &mut lines)?;
+    match output.write_all(lines.as_slice()) {
+        Ok(()) => Ok(()),
+        Err(_) => Err(Fault::Write("-")),
+    }
+}
+
+/// Appends both lines of a text.
+#[tactic(auto, unfolding(crate::specs::Pqf::query_lines))]
+fn put_query(alloc: Global, text: &[u8], lines: &mut Vec<u8>) -> Result<(), Fault<'static>>
+    ensures { TellsQuery text.now lines.old.items lines.new.items result }
+{
+    let query = parse_pqf(alloc, text)?;
+    print_pqf(alloc, &query, lines)?;
+    lines.extend_from_slice(b"\n")?;
+    let node = to_node(alloc, &query)?;
+    put_element(alloc, node, lines)?;
+    lines.extend_from_slice(b"\n")?;
+    Ok(())
+}
+
+/// Appends the element `[21]` around an element.
+fn put_element(alloc: Global, node: Node, lines: &mut Vec<u8>) -> Result<(), AllocError>
+    ensures { OnOk result (lines.new.items ≡ lines.old.items ++ element_text node) }
+{
+    let mut nodes = Vec::new(alloc);
+    nodes.push(node)?;
+    let outer = Node::cons(Tag::context(21), nodes);
+    let mut octets = Vec::new(alloc);
+    outer.canonical(alloc, &mut octets)?;
+    let digits = hex::encode(alloc, octets.as_slice())?;
+    lines.extend_from_slice(digits.as_bytes())
+}
+
+#[cfg(test)]
+mod tests {
+    use crate::devices::query_run_of;
+    use crate::fault::Status;
+
+    #[test]
+    fn prints_the_query_and_its_element(rt: HostRuntime) {
+        for (text, printed) in [
+            (
+                "@attr 1=4 dune",
+                b"@attr 1=4 \"dune\"\nb524a12206072a8648ce130301a017bf6614bf2c0a30089f7801019f7901049f2d0464756e65\n".as_slice(),
+            ),
+            (
+                "@set \t\"x\"",
+                b"@set \"x\"\nb511a10f06072a8648ce130301a0049f1f0178\n",
+            ),
+        ] {
+            let run = query_run_of(rt.alloc(), text);
+            assert_eq!(rt; run.printed.as_slice(), printed, "{text}");
+            assert_eq!(rt; run.told.len(), 0, "{text}");
+            assert_eq!(rt; run.status, Status::Done, "{text}");
+        }
+    }
+
+    #[test]
+    fn tells_why_a_text_is_no_query(rt: HostRuntime) {
+        for (text, told) in [
+            ("", b"zmeta: Empty at 0\n".as_slice()),
+            ("@and dune", b"zmeta: MissingOperand at 9\n"),
+            ("@foo x", b"zmeta: UnknownWord at 0\n"),
+            ("\"a", b"zmeta: OpenQuote at 0\n"),
+            ("a b", b"zmeta: Trailing at 2\n"),
+            ("@attr 1=x a", b"zmeta: BadAttribute at 6\n"),
+            ("@attr foo 1=4 a", b"zmeta: UnknownSet at 6\n"),
+            ("@term date a", b"zmeta: BadTermType at 6\n"),
+            ("@term numeric 1x", b"zmeta: BadNumber at 14\n"),
+        ] {
+            let run = query_run_of(rt.alloc(), text);
+            assert_eq!(rt; run.told.as_slice(), told, "{text}");
+            assert_eq!(rt; run.printed.len(), 0, "{text}");
+            assert_eq!(rt; run.status, Status::Refused, "{text}");
+        }
+    }
+}

@@ -1,0 +1,190 @@
+//! The command `show`: what the messages say that octets begin with.
+ghost use Rattle.std.specs.Prelude.{◌≡◌, None, IfSome, Result};
+ghost use Rattle.zmeta.specs.Show.{limit, ShowsText, OneShowing};
+ghost use Rattle.zmeta.specs.Steps.{PrintsLines, ShowsOctets, ShowsNext};
+ghost use Rattle.zmeta.specs.Faults.{answer_status};
+ghost use Rattle.zmeta.specs.declared.fault.Fault.{Fault};
+
+use crate::digits::decode;
+use crate::fault::{Fault, Status};
+use crate::input::read_all;
+use crate::lines::print_apdu;
+use std::alloc::Global;
+use std::io::{Read, Write};
+use zapdu::from_node;
+use zapdu::laws::{one_refusal, one_value};
+use zber::Framer;
+use zber::laws::one_answer;
+
+/// The most octets of one message.
+const MESSAGE_LIMIT: u32 = 2_097_152;
+
+/// Prints each APDU of the octets whose hexadecimal digits the input has, and tells on standard error why it stopped
+/// before their end. What was printed before a fault stands; where memory runs out, nothing is printed.
+pub fn show<R: Read, W: Write, E: Write>(
+    alloc: Global,
+    input: &mut R,
+    output: &mut W,
+    errors: &mut E,
+) -> Status
+    ensures { IfSome (R.remaining input.old) (λ text. (answer : Result (Unit {0}) Fault)
+        × ShowsText text (W.contents output.old) (W.contents output.new) answer
+        × (result ≡ answer_status answer)) }
+{
+    match show_text(alloc, input, output) {
+        Ok(()) => Status::Done,
+        Err(fault) => fault.report(errors),
+    }
+}
+
+/// Octets have one text and one end.
+pub fn one_showing()
+    ensures { OneShowing }
+{
+    one_answer();
+    one_value();
+    one_refusal();
+}
+
+fn show_text<R: Read, W: Write>(
+    alloc: Global,
+    input: &mut R,
+    output: &mut W,
+) -> Result<(), Fault<'static>>
+    ensures { IfSome (R.remaining input.old)
+        (λ text. ShowsText text (W.contents output.old) (W.contents output.new) result) }
+{
+    let text = read_all(alloc, input, "-")?;
+    let octets = decode(alloc, text.as_slice())?;
+    let mut lines = Vec::new(alloc);
+    let answer = show_octets(alloc, octets.as_slice(), &mut lines);
+    print_lines(output, lines.as_slice(), answer)
+}
+
+/// Writes the lines that come before an answer, but none where memory ran out.
+fn print_lines<W: Write>(
+    output: &mut W,
+    lines: &[u8],
+    answer: Result<(), Fault<'static>>,
+) -> Result<(), Fault<'static>>
+    ensures { PrintsLines lines.now answer.entry (W.contents output.old) (W.contents output.new) result }
+{
+    if matches!(answer, Err(Fault::Memory)) {
+        return answer;
+    }
+    match output.write_all(lines) {
+        Ok(()) => answer,
+        Err(_) => Err(Fault::Write("-")),
+    }
+}
+
+/// Appends the lines of each message in turn, up to the fault that ends them.
+fn show_octets(alloc: Global, octets: &[u8], text: &mut Vec<u8>) -> Result<(), Fault<'static>>
+    ensures { ShowsOctets octets.now text.old.items text.new.items result }
+{
+    let mut framer = Framer::new(alloc, MESSAGE_LIMIT);
+    framer.feed(octets)?;
+    while show_next(alloc, &mut framer, text)? {}
+    framer.finish()?;
+    Ok(())
+}
+
+/// Appends the lines of the next message. `false` where no message is whole and no fault is shown.
+fn show_next(alloc: Global, framer: &mut Framer, text: &mut Vec<u8>) -> Result<bool, Fault<'static>>
+    requires limited { framer.old.limit ≡ limit }
+    requires sound { framer.old.fault ≡ None }
+    ensures { ShowsNext framer.old framer.new text.old.items text.new.items result }
+{
+    let Some(message) = framer.next()? else {
+        return Ok(false);
+    };
+    let apdu = from_node(alloc, &message)?;
+    print_apdu(alloc, &apdu, text)?;
+    Ok(true)
+}
+
+#[cfg(test)]
+mod tests {
+    use super::*;
+    use crate::devices::{Broken, Full, run_of};
+    use std::io::Cursor;
+
+    #[test]
+    fn tells_why_it_stopped(rt: HostRuntime) {
+        for (input, line, status) in [
+            (b"".as_slice(), b"".as_slice(), Status::Done),
+            (b" \t\n\x0c\r", b"", Status::Done),
+            (b"B9 0", b"zmeta: hex refused\n", Status::Refused),
+            (b"0g", b"zmeta: hex refused\n", Status::Refused),
+            (b"00\x0b00", b"zmeta: hex refused\n", Status::Refused),
+            (b"30", b"zmeta: Truncated at 1\n", Status::Refused),
+            (
+                b"3\n0\t0\r3\x0c04",
+                b"zmeta: Truncated at 3\n",
+                Status::Refused,
+            ),
+            (b"00 00", b"zmeta: StrayEnd at 0\n", Status::Refused),
+            (b"3002 0401", b"zmeta: Overrun at 2\n", Status::Refused),
+            (b"1F80", b"zmeta: TagForm at 0\n", Status::Refused),
+            (
+                b"1F9080808000",
+                b"zmeta: TagTooLarge at 0\n",
+                Status::Refused,
+            ),
+            (b"04ff", b"zmeta: LengthForm at 0\n", Status::Refused),
+            (
+                b"04 80",
+                b"zmeta: IndefinitePrimitive at 0\n",
+                Status::Refused,
+            ),
+            (b"04 83 1F FF FC", b"zmeta: TooLong at 0\n", Status::Refused),
+        ] {
+            let run = run_of(rt.alloc(), input);
+            assert_eq!(rt; run.told.as_slice(), line, "{input:?}");
+            assert_eq!(rt; run.printed.len(), 0, "{input:?}");
+            assert_eq!(rt; run.status, status, "{input:?}");
+        }
+    }
+
+    #[test]
+    fn a_failed_read_is_told(rt: HostRuntime) {
+        for fails_at in 1..5 {
+            let mut input = Broken {
+                octets: b"30 03",
+                calls: 0,
+                fails_at,
+            };
+            let mut output = Full {
+                calls: 0,
+                fails_at: 0,
+            };
+            let mut told = [0u8; 64];
+            let mut errors = Cursor::new(told.as_mut_slice());
+            let status = show(rt.alloc(), &mut input, &mut output, &mut errors);
+            assert_eq!(rt; status, Status::Refused, "at {fails_at}");
+            assert_eq!(rt; output.calls, 0, "at {fails_at}");
+            let line = if fails_at < 4 {
+                b"zmeta: cannot read -\n".as_slice()
+            } else {
+                b"zmeta: Truncated at 2\n"
+            };
+            assert_eq!(rt; &told[..line.len().min(64)], line, "at {fails_at}");
+        }
+    }
+
+    #[test]
+    fn a_failed_tale_keeps_the_status(rt: HostRuntime) {
+        let mut input = b"0".as_slice();
+        let mut output = Full {
+            calls: 0,
+            fails_at: 0,
+        };
+        let mut errors = Full {
+            calls: 0,
+            fails_at: 1,
+        };
+        let status = show(rt.alloc(), &mut input, &mut output, &mut errors);
+        assert_eq!(rt; status, Status::Refused);
+        assert_eq!(rt; errors.calls, 1);
+    }
+}

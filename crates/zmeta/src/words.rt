@@ -1,0 +1,263 @@
+//! The words of the command line, read with `clap`.
+
+ghost use Rattle.std.specs.Prelude.{◌≡◌, ◌≢◌, ◌⊎◌, IfOk};
+ghost use Rattle.clap.specs.Words.{kind_of};
+ghost use Rattle.clap.specs.declared.error.kind.ErrorKind.TheVariants.{OutOfMemory, InvalidValue, DisplayHelp, DisplayVersion};
+
+use crate::fault::{Fault, Status};
+use clap::error::ErrorKind;
+use clap::{Arg, ArgAction, Command, Error, value_parser};
+use std::alloc::{AllocError, Global};
+use std::io::Write;
+
+/// What the words ask for.
+#[derive(Clone, Copy, Debug, PartialEq, Eq)]
+pub enum Words<'a> {
+    /// Show the messages whose hexadecimal digits standard input has.
+    Show,
+    /// Print a query and its encoding.
+    Pqf { text: &'a str },
+}
+
+/// A command: its name, what it is for, an example for its help, the words that it wants, and its options.
+#[derive(Clone, Copy)]
+struct Form {
+    name: &'static str,
+    about: &'static str,
+    example: &'static str,
+    wants: &'static [Word],
+    has_hex: bool,
+    has_save: bool,
+}
+
+/// A word that a command wants, under the name that help gives it.
+#[derive(Clone, Copy)]
+struct Word {
+    id: &'static str,
+    help: &'static str,
+    /// Whether it is a number, 0 to 1,000,000.
+    is_number: bool,
+}
+
+const ABOUT: &str = "Asks library catalogues over Z39.50, and shows what they answer";
+
+const ADVICE: &str =
+    "'zmeta help COMMAND' says what a command reads and prints, with an example, as\n  zmeta help show";
+
+const SHOW: Form = Form {
+    name: "show",
+    about: "Shows what recorded Z39.50 messages say",
+    example: "Reads hexadecimal digits from standard input; spaces and line ends between them don't count.
+Prints a line for each message, and below it a line for each record that it brings.
+
+Example, the message with which a catalogue ends a session:
+  echo 'BF 30 05 9F 81 53 01 00' | zmeta show
+prints
+  close - 0",
+    wants: &[],
+    has_hex: false,
+    has_save: false,
+};
+
+const PQF: Form = Form {
+    name: "pqf",
+    about: "Shows how a query is understood, and how it goes out",
+    example: "TEXT is a query in prefix notation (PQF), as one word: quote it for the shell.
+Prints it with all its attributes in place, and below it its encoding in hexadecimal.
+
+Example, books with the title word dune that Herbert wrote:
+  zmeta pqf '@and @attr 1=4 dune @attr 1=1003 herbert'
+prints first
+  @and @attr 1=4 \"dune\" @attr 1=1003 \"herbert\"",
+    wants: &[Word {
+        id: "TEXT",
+        help: "The query in prefix notation",
+        is_number: false,
+    }],
+    has_hex: false,
+    has_save: false,
+};
+
+const FORMS: [Form; 2] = [SHOW, PQF];
+
+fn argument(alloc: Global, word: &Word) -> Arg<'static> {
+    let arg = Arg::new(alloc, word.id)
+        .help(word.help)
+        .required(true)
+        .action(ArgAction::Set);
+    if word.is_number {
+        arg.value_parser(value_parser!(u32).range(0..=1_000_000))
+    } else {
+        arg
+    }
+}
+
+fn hex_option(alloc: Global) -> Arg<'static> {
+    Arg::new(alloc, "hex")
+        .long("hex")
+        .help("Prints the octets of records in hexadecimal")
+        .action(ArgAction::SetTrue)
+}
+
+fn save_option(alloc: Global) -> Arg<'static> {
+    Arg::new(alloc, "save")
+        .long("save")
+        .value_name("OUT")
+        .help("Also keeps what was learned in the file OUT")
+        .action(ArgAction::Set)
+}
+
+fn subcommand<'a>(alloc: Global, form: &Form) -> Result<Command<'a>, AllocError> {
+    let mut command = Command::new(alloc, form.name)
+        .about(form.about)
+        .after_help(form.example);
+    for word in form.wants {
+        command = command.arg(argument(alloc, word))?;
+    }
+    if form.has_hex {
+        command = command.arg(hex_option(alloc))?;
+    }
+    if form.has_save {
+        command = command.arg(save_option(alloc))?;
+    }
+    Ok(command)
+}
+
+fn command<'a>(alloc: Global, forms: &[Form]) -> Result<Command<'a>, AllocError> {
+    let mut command = Command::new(alloc, "zmeta")
+        .about(ABOUT)
+        .after_help(ADVICE)
+        .subcommand_required(true);
+    for form in forms {
+        command = command.subcommand(subcommand(alloc, form)?)?;
+    }
+    Ok(command)
+}
+
+/// What the words ask for, the first being the program's name. Else the text for words that are wrong or that ask for
+/// help; its kind is `OutOfMemory` where memory ran out.
+pub fn parse<'a>(alloc: Global, words: &'a [String]) -> Result<Words<'a>, Error> {
+    let mut command = command(alloc, &FORMS)?;
+    let matches = command.try_get_matches_from_mut(words)?;
+    match matches.subcommand() {
+        Some(("show", _)) => Ok(Words::Show),
+        Some(("pqf", found)) => Ok(Words::Pqf {
+            text: found.get_str("TEXT").unwrap_or(""),
+        }),
+        _ => Err(command.error(ErrorKind::InvalidSubcommand, "no such command")?),
+    }
+}
+
+/// The text for words that are not UTF-8.
+pub fn odd_words(alloc: Global) -> Result<Error, AllocError>
+    ensures { IfOk result (λ e. kind_of e ≡ InvalidValue) }
+{
+    let message = "invalid UTF-8 was detected in one or more arguments";
+    command(alloc, &FORMS)?.error(ErrorKind::InvalidValue, message)
+}
+
+/// Prints the text of `parse` and answers the status: of wrong words on standard error, of help on standard output.
+pub fn tell<R: Print + Eprint, E: Write>(rt: &R, error: &Error, errors: &mut E) -> Status
+    ensures memory { kind_of error.now ≡ OutOfMemory → result ≡ Status.Memory }
+    ensures help { (kind_of error.now ≡ DisplayHelp) ⊎ (kind_of error.now ≡ DisplayVersion)
+        → (result ≡ Status.Done) ⊎ (result ≡ Status.Refused) }
+    ensures wrong { kind_of error.now ≢ OutOfMemory → kind_of error.now ≢ DisplayHelp
+        → kind_of error.now ≢ DisplayVersion → result ≡ Status.Words }
+{
+    if error.kind() == ErrorKind::OutOfMemory {
+        return Fault::Memory.report(errors);
+    }
+    let printed = error.print(rt);
+    if error.use_stderr() {
+        // Words that cannot be told to be wrong are wrong all the same.
+        return Status::Words;
+    }
+    match printed {
+        Ok(()) => Status::Done,
+        Err(_) => Fault::Write("-").report(errors),
+    }
+}
+
+#[cfg(test)]
+mod tests {
+    use super::*;
+    use std::test::Fail;
+
+    const RUN: Form = Form {
+        name: "run",
+        about: "Runs",
+        example: "Example",
+        wants: &[
+            Word {
+                id: "FILE",
+                help: "A file",
+                is_number: false,
+            },
+            Word {
+                id: "N",
+                help: "A number",
+                is_number: true,
+            },
+        ],
+        has_hex: true,
+        has_save: true,
+    };
+
+    fn words_of(alloc: Global, line: &str) -> Result<Vec<String>, AllocError> {
+        let mut words = Vec::new(alloc);
+        for word in line.split(' ') {
+            words.push(String::from_str(alloc, word)?)?;
+        }
+        Ok(words)
+    }
+
+    #[test]
+    fn shows(rt: HostRuntime) -> Result<(), Fail> {
+        let words = words_of(rt.alloc(), "zmeta show")?;
+        assert_eq!(rt; parse(rt.alloc(), words.as_slice())?, Words::Show);
+        let words = words_of(rt.alloc(), "zmeta pqf dune")?;
+        let due = Words::Pqf { text: "dune" };
+        assert_eq!(rt; parse(rt.alloc(), words.as_slice())?, due);
+        Ok(())
+    }
+
+    #[test]
+    fn refuses_other_words(rt: HostRuntime) -> Result<(), Fail> {
+        for (line, status) in [
+            ("zmeta", 2),
+            ("zmeta shew", 2),
+            ("zmeta show x", 2),
+            ("zmeta show --hex", 2),
+            ("zmeta pqf", 2),
+            ("zmeta pqf a b", 2),
+            ("zmeta --version", 2),
+            ("zmeta --help", 0),
+            ("zmeta help show", 0),
+            ("zmeta show -h", 0),
+        ] {
+            let words = words_of(rt.alloc(), line)?;
+            match parse(rt.alloc(), words.as_slice()) {
+                Ok(_) => assert!(rt; false, "{line}"),
+                Err(error) => assert_eq!(rt; error.exit_code(), status, "{line}"),
+            }
+        }
+        Ok(())
+    }
+
+    #[test]
+    fn a_command_is_one_entry(rt: HostRuntime) -> Result<(), Fail> {
+        let words = words_of(rt.alloc(), "zmeta run w 7 --save s --hex")?;
+        let command = command(rt.alloc(), &[RUN])?;
+        let matches = command.try_get_matches_from(words.as_slice())?;
+        let Some((name, found)) = matches.subcommand() else {
+            assert!(rt; false, "no command");
+            return Ok(());
+        };
+        assert_eq!(rt; name, "run");
+        assert_eq!(rt; found.get_str("FILE"), Some("w"));
+        assert_eq!(rt; found.get_one::<u32>("N"), Some(7));
+        assert_eq!(rt; found.get_str("save"), Some("s"));
+        assert!(rt; found.get_flag("hex"));
+        Ok(())
+    }
+}

@@ -1,0 +1,5 @@
+use Rattle.zquery.proofs.Type1Making.{one_query}
+use Rattle.zquery.proofs.element_laws.one_query.Goals as goal
+
+pub returns : goal.returns
+returns c = one_query

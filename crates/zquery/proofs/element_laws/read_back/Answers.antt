@@ -1,0 +1,5 @@
+use Rattle.zquery.proofs.Type1Answers.{read_back}
+use Rattle.zquery.proofs.element_laws.read_back.Goals as goal
+
+pub returns : goal.returns
+returns c = read_back

@@ -1,0 +1,5 @@
+use Rattle.zquery.proofs.Refusing.{first-fault-of}
+use Rattle.zquery.proofs.laws.first_fault.Goals as goal
+
+pub returns : goal.returns
+returns c = first-fault-of

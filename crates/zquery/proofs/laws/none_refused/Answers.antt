@@ -1,0 +1,5 @@
+use Rattle.zquery.proofs.Filling.{accepted}
+use Rattle.zquery.proofs.laws.none_refused.Goals as goal
+
+pub returns : goal.returns
+returns c = accepted

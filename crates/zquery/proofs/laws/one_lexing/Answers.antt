@@ -1,0 +1,5 @@
+use Rattle.zquery.proofs.OneAnswers.{one-lexing}
+use Rattle.zquery.proofs.laws.one_lexing.Goals as goal
+
+pub returns : goal.returns
+returns c = one-lexing

@@ -1,0 +1,5 @@
+use Rattle.zquery.proofs.PrintedTexts.{printed-reads}
+use Rattle.zquery.proofs.laws.printed_reads.Goals as goal
+
+pub returns : goal.returns
+returns c = printed-reads

@@ -1,0 +1,5 @@
+use Rattle.zquery.proofs.PrintedWords.{set-names}
+use Rattle.zquery.proofs.laws.set_names.Goals as goal
+
+pub returns : goal.returns
+returns c = set-names

@@ -1,0 +1,37 @@
+// Laws of the definitions, each the contract of a function that does nothing.
+ghost use Rattle.zquery.specs.Laws.{OneLexing, SetNames, OneQuery, NoneRefused, FirstFault, OneAnswer, PrintedReads};
+
+/// A text has one list of tokens, or one quote that stays open.
+pub fn one_lexing()
+    ensures { OneLexing }
+{}
+
+/// A text names bib-1, or an object identifier.
+pub fn set_names()
+    ensures { SetNames }
+{}
+
+/// Tokens stand for one query at most.
+pub fn one_query()
+    ensures { OneQuery }
+{}
+
+/// No query of height 32 at most is refused.
+pub fn none_refused()
+    ensures { NoneRefused }
+{}
+
+/// A refusal is where the tokens stop being the front of a query.
+pub fn first_fault()
+    ensures { FirstFault }
+{}
+
+/// A text is that of one query, or has one fault.
+pub fn one_answer()
+    ensures { OneAnswer }
+{}
+
+/// The text that is printed for a query is that of the query.
+pub fn printed_reads()
+    ensures { PrintedReads }
+{}

@@ -1,0 +1,13 @@
+// Tokens.
+use bytes::Bytes;
+
+/// A token of a text.
+#[derive(Drop)]
+pub struct Token {
+    /// How many octets of the text stand before it.
+    pub at: usize,
+    /// Whether it was written in quotes.
+    pub quoted: bool,
+    /// Its octets, without quotes and without the backslashes that escape.
+    pub text: Bytes,
+}
