@@ -11,6 +11,8 @@ mod identifiers;
 #[cfg(test)]
 mod kinds;
 #[cfg(test)]
+mod knowledge;
+#[cfg(test)]
 mod notation;
 #[cfg(test)]
 mod queries;

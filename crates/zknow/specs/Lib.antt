@@ -1,0 +1,14 @@
+pub mod Join
+pub mod Merge
+pub mod Encodings
+pub mod Search
+pub mod Distinct
+pub mod DistinctLaws
+pub mod Table
+pub mod TableLaws
+pub mod Keys
+pub mod Facts
+pub mod Tables
+pub mod Sections
+pub mod Known
+pub mod Listing

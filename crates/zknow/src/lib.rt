@@ -1,0 +1,25 @@
+//! What is known of the targets' result sets: facts, joins, the printed list and the saved file.
+#![tactic(auto)]
+
+mod distinct;
+mod encoding;
+mod fact;
+mod facts;
+mod join;
+mod keys;
+mod knowledge;
+mod list;
+mod list_keys;
+mod merge;
+mod ranked;
+mod table;
+mod tables;
+
+pub use distinct::Distinct;
+pub use fact::{Fact, Known, Mode, Names};
+pub use join::{Join, Key};
+pub use keys::{Mark, SetKey};
+pub use knowledge::Knowledge;
+pub use list::print_list;
+pub use ranked::Ranked;
+pub use table::Table;
