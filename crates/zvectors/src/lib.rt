@@ -11,7 +11,11 @@ mod identifiers;
 #[cfg(test)]
 mod kinds;
 #[cfg(test)]
+mod perturbed;
+#[cfg(test)]
 mod queries;
+#[cfg(test)]
+mod servers;
 #[cfg(test)]
 mod structures;
 #[cfg(test)]
