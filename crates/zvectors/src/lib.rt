@@ -15,7 +15,11 @@ mod knowledge;
 #[cfg(test)]
 mod notation;
 #[cfg(test)]
+mod perturbed;
+#[cfg(test)]
 mod queries;
+#[cfg(test)]
+mod servers;
 #[cfg(test)]
 mod structures;
 #[cfg(test)]
