@@ -11,8 +11,6 @@ mod identifiers;
 #[cfg(test)]
 mod kinds;
 #[cfg(test)]
-mod knowledge;
-#[cfg(test)]
 mod notation;
 #[cfg(test)]
 mod perturbed;
