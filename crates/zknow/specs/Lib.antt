@@ -8,6 +8,9 @@ pub mod Table
 pub mod TableLaws
 pub mod Keys
 pub mod Facts
+pub mod Naturals
+pub mod Limited
+pub mod SavedFacts
 pub mod Tables
 pub mod Sections
 pub mod Known

@@ -11,7 +11,9 @@ mod knowledge;
 mod list;
 mod list_keys;
 mod merge;
+mod natural;
 mod ranked;
+mod saved_fact;
 mod table;
 mod tables;
 
