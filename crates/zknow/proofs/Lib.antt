@@ -18,3 +18,5 @@ pub mod BlockLines
 pub mod ListKeys
 pub mod SortedKeys
 pub mod TableKeys
+pub mod FactSpelled
+pub mod SavedParts

@@ -11,6 +11,8 @@ pub mod Facts
 pub mod Naturals
 pub mod Limited
 pub mod SavedFacts
+pub mod Saved
+pub mod Saving
 pub mod Tables
 pub mod Sections
 pub mod Known
