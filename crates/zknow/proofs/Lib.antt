@@ -20,3 +20,7 @@ pub mod SortedKeys
 pub mod TableKeys
 pub mod FactSpelled
 pub mod SavedParts
+pub mod OneElement
+pub mod LoadExact
+pub mod LoadSteps
+pub mod FrontElements

@@ -1,5 +1,5 @@
 -- A saved file that is written element by element.
-use Rattle.std.proofs.Common.{◌≡◌, ◌<◌, ◌≤◌, ℕ, List, [], ◌∷◌, ◌++◌, ◌⊎◌, Option, Some, None, IsSomeAnd, Contains, length, true, false, refl, sym, ap, subst, ◌∙◌, inl, inr, ⊎_elim, arith, append_assoc}
+use Rattle.std.proofs.Common.{◌≡◌, ◌<◌, ℕ, List, [], ◌∷◌, ◌++◌, ◌⊎◌, Option, Some, IsSomeAnd, Contains, true, false, sym, ap, subst, ◌∙◌, inl, inr, ⊎_elim, append_assoc}
 use Rattle.std.specs.List.{flat_map, AllByRecursion}
 use Rattle.std.proofs.lemmas.List.{append-nil}
 use Rattle.std.proofs.lemmas.Grind.{flat_map-append}
@@ -12,7 +12,7 @@ use Rattle.zknow.specs.declared.saving.Saving.{Saving}
 use Rattle.zknow.specs.Encodings.{encoding, octets_of}
 use Rattle.zknow.specs.DistinctLaws.{none_in_nil, in_cons, in_head, in_tail}
 use Rattle.zknow.specs.SavedFacts.{saved_names, saved_fact}
-use Rattle.zknow.specs.Saved.{saved, longest, Fits, IsElement, IsTooDeep, IsTooLong, HasDeep, HasLong}
+use Rattle.zknow.specs.Saved.{saved, longest, Fits, IsTooDeep, HasDeep, HasLong}
 use Rattle.zknow.specs.Saving.{Adds, IsAdded, IsLeftOut, IsSavedUpTo}
 use Rattle.zknow.specs.declared.saving.SaveError.{SaveError}
 use Rattle.std.specs.Prelude.{Result, Ok, Err, OnOk}

@@ -13,6 +13,9 @@ pub mod Limited
 pub mod SavedFacts
 pub mod Saved
 pub mod Saving
+pub mod Loaded
+pub mod Fronts
+pub mod Loading
 pub mod Tables
 pub mod Sections
 pub mod Known

@@ -7,9 +7,7 @@ use crate::fact::Fact;
 use crate::natural::Natural;
 use std::alloc::Global;
 use zapdu::{DiagRec, Record};
-use zasn::{
-    BuildError, PartError, Parts, PartsBuf, Production, Tagged, read_within, write_within,
-};
+use zasn::{BuildError, PartError, Parts, PartsBuf, Production, Tagged, read_within, write_within};
 use zber::{Node, Tag};
 
 /// What the element `[0]` of a count holds.

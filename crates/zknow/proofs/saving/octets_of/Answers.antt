@@ -1,6 +1,5 @@
-use Rattle.std.proofs.Common.{◌≡◌, sym, subst, ◌∙◌}
+use Rattle.std.proofs.Common.{subst, ◌∙◌}
 use Rattle.std.proofs.lemmas.Result.{err_from_is_err_and}
-use Rattle.zknow.specs.declared.fact.Fact.{Fact}
 use Rattle.zknow.specs.Saved.{IsRefused}
 use Rattle.zknow.specs.Saving.{IsSavedUpTo}
 use Rattle.zknow.proofs.saving.octets_of.Goals as goal

@@ -4,8 +4,7 @@ use Rattle.zknow.proofs.saving.Saving.put.Goals as goal
 
 pub returns-in-Ok : goal.returns-in-Ok
 returns-in-Ok g c =
-    let is = c.in_ok-node.ensures in
-    (
+    let is = c.in_ok-node.ensures in (
       λ deep. let other = c.in-Ok.ensures.too_deep.1 (deep_is g.T.Tagged.place c.args.value.now c.in_ok-node.node is deep) in cc,
       inl (record {
         long = refl;
