@@ -19,3 +19,4 @@ pub use production::{
     Production, read_alone, read_alone_tagged, read_within, write_alone, write_alone_tagged,
     write_within,
 };
+pub use texts::{read_texts, write_texts};

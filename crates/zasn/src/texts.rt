@@ -42,8 +42,10 @@ fn all_of_them(alloc: Global, texts: &[Bytes], tag: Tag) -> Result<PartsBuf, Bui
     Ok(out)
 }
 
-/// The texts of the elements within one, each of which has the tag.
-pub(crate) fn read_texts(alloc: Global, node: &Node, tag: Tag) -> Result<Seq<Bytes>, PartError>
+/// The texts of the elements within one, each of which has the tag: SEQUENCE OF one kind of string (X.690, 8.10).
+///
+/// `Misfit` where it is primitive, or an element within has another tag or is constructed.
+pub fn read_texts(alloc: Global, node: &Node, tag: Tag) -> Result<Seq<Bytes>, PartError>
     ensures { Means (list_of (text_under tag) node.now) result }
 {
     match &node.body {
@@ -52,8 +54,8 @@ pub(crate) fn read_texts(alloc: Global, node: &Node, tag: Tag) -> Result<Seq<Byt
     }
 }
 
-/// The element with the outer tag around those of texts, each under the inner tag.
-pub(crate) fn write_texts(
+/// The element with the outer tag around those of texts, each under the inner tag. It is never `NotSpellable`.
+pub fn write_texts(
     alloc: Global,
     texts: &Seq<Bytes>,
     outer: Tag,
