@@ -1,2 +1,3 @@
 pub mod OneShowing
 pub mod Showing
+pub mod Joining

@@ -14,9 +14,11 @@ use Rattle.zquery.specs.declared.error.PqfErrorKind.{PqfErrorKind}
 use Rattle.zquery.specs.declared.error.PqfErrorKind.TheVariants as queries
 use Rattle.zquery.specs.declared.print.PrintError.{PrintError}
 use Rattle.zquery.specs.declared.print.PrintError.TheVariants as prints
+use Rattle.zknow.specs.declared.loading.LoadError.{LoadError}
+use Rattle.zknow.specs.declared.loading.LoadError.TheVariants as loads
 use Rattle.zmeta.specs.Fields.{apdu_word}
 use Rattle.zmeta.specs.declared.fault.Fault.{Fault}
-use Rattle.zmeta.specs.declared.fault.Fault.TheVariants.{Read, Write, Hex, Frame, NotApdu, Malformed, Query, NotPrintable, Memory}
+use Rattle.zmeta.specs.declared.fault.Fault.TheVariants.{Read, Write, Hex, Frame, NotApdu, Malformed, Query, NotPrintable, NotKnowledge, NotCanonical, NamesDiffer, Memory}
 use Rattle.zmeta.specs.declared.fault.Status.{Status}
 use Rattle.zmeta.specs.declared.fault.Status.TheVariants as statuses
 
@@ -62,6 +64,9 @@ fault_text NotApdu = codes "not an APDU"
 fault_text (Malformed kind at) = apdu_word kind ++ codes " malformed at " ++ decimal at
 fault_text (Query kind at) = query_word kind ++ codes " at " ++ decimal at
 fault_text NotPrintable = codes "not printable"
+fault_text (NotKnowledge at) = codes "knowledge refused: NotKnowledge at " ++ decimal at
+fault_text (NotCanonical at) = codes "knowledge refused: NotCanonical at " ++ decimal at
+fault_text NamesDiffer = codes "names differ"
 fault_text Memory = codes "out of memory"
 
 abbrev pub of_frame : FrameError → Fault
@@ -89,6 +94,11 @@ of_print prints.Memory = Memory
 abbrev pub of_build : BuildError → Fault
 of_build builds.NotSpellable = NotPrintable
 of_build builds.Memory = Memory
+
+abbrev pub of_load : LoadError → Fault
+of_load (loads.NotKnowledge at) = NotKnowledge at
+of_load (loads.NotCanonical at) = NotCanonical at
+of_load loads.Memory = Memory
 
 -- the status of a command that a fault stopped
 abbrev pub status_of : Fault → Status

@@ -1,6 +1,7 @@
 pub mod Digits
 pub mod Faults
 pub mod Fields
+pub mod Join
 pub mod Lines
 pub mod Pqf
 pub mod Searches

@@ -1,6 +1,6 @@
 //! Why a command stopped, and the status that it ends with.
 ghost use Rattle.std.specs.Prelude.{◌≡◌, Some};
-ghost use Rattle.zmeta.specs.Faults.{code_of, status_of, fault_text, fault_word, query_word, of_frame, of_apdu, of_query, of_print, of_build};
+ghost use Rattle.zmeta.specs.Faults.{code_of, status_of, fault_text, fault_word, query_word, of_frame, of_apdu, of_query, of_print, of_build, of_load};
 ghost use Rattle.zmeta.specs.Fields.{apdu_word};
 ghost use Rattle.zmeta.specs.declared.fault.Fault.TheVariants.{Memory};
 
@@ -10,6 +10,7 @@ use std::fmt;
 use std::io::Write;
 use zapdu::{ApduError, Kind};
 use zber::{FaultKind, FrameError};
+use zknow::LoadError;
 use zquery::{BuildError, PqfError, PqfErrorKind, PrintError};
 
 /// How a command ends. Where several hold, `Memory` comes before `Refused`, and that before `Failed`.
@@ -61,6 +62,12 @@ pub enum Fault<'a> {
     Query { kind: PqfErrorKind, at: usize },
     /// The query has no text in the prefix notation.
     NotPrintable,
+    /// The element of a saved file with this index is no element, or not one of its place.
+    NotKnowledge { at: usize },
+    /// The element of a saved file with this index is not spelled canonically, or out of order.
+    NotCanonical { at: usize },
+    /// Two saved files name their targets differently.
+    NamesDiffer,
     /// No memory was found.
     Memory,
 }
@@ -123,6 +130,9 @@ impl fmt::Display for Fault<'_> {
                 write!(f, "{word} at {at}")
             }
             Fault::NotPrintable => write!(f, "not printable"),
+            Fault::NotKnowledge { at } => write!(f, "knowledge refused: NotKnowledge at {at}"),
+            Fault::NotCanonical { at } => write!(f, "knowledge refused: NotCanonical at {at}"),
+            Fault::NamesDiffer => write!(f, "names differ"),
             Fault::Memory => write!(f, "out of memory"),
         }
     }
@@ -188,6 +198,18 @@ impl From<BuildError> for Fault<'_> {
         match error {
             BuildError::NotSpellable => Fault::NotPrintable,
             BuildError::Memory => Fault::Memory,
+        }
+    }
+}
+
+impl From<LoadError> for Fault<'_> {
+    ghost from_gives = { λ e f. f ≡ of_load e };
+
+    fn from(error: LoadError) -> Self {
+        match error {
+            LoadError::NotKnowledge { at } => Fault::NotKnowledge { at },
+            LoadError::NotCanonical { at } => Fault::NotCanonical { at },
+            LoadError::Memory => Fault::Memory,
         }
     }
 }

@@ -6,7 +6,9 @@ mod devices;
 mod digits;
 mod fault;
 mod fields;
+mod files;
 mod input;
+mod join;
 mod lines;
 mod pqf;
 #[cfg(test)]
@@ -16,10 +18,12 @@ mod show;
 mod words;
 
 use crate::fault::{Fault, Status};
+use crate::files::NamedFile;
 use crate::words::Words;
 use std::env;
 use std::io::ErrorKind;
 use std::process::ExitCode;
+use zknow::Mode;
 
 fn main(rt: HostRuntime) -> ExitCode {
     ExitCode::from(run(&rt).code())
@@ -59,5 +63,14 @@ fn call(rt: &HostRuntime, words: Words<'_>) -> Status {
     match words {
         Words::Show => show::show(rt.alloc(), &mut input, &mut output, &mut errors),
         Words::Pqf { text } => pqf::pqf(rt.alloc(), text, &mut output, &mut errors),
+        Words::Join { first, second, hex } => join::join(
+            rt.alloc(),
+            (first, second),
+            &mut NamedFile::new(rt, first),
+            &mut NamedFile::new(rt, second),
+            if hex { Mode::Hex } else { Mode::Text },
+            &mut output,
+            &mut errors,
+        ),
     }
 }

@@ -16,7 +16,15 @@ pub enum Words<'a> {
     /// Show the messages whose hexadecimal digits standard input has.
     Show,
     /// Print a query and its encoding.
-    Pqf { text: &'a str },
+    Pqf {
+        text: &'a str,
+    },
+    /// Print the list of what two saved files know together.
+    Join {
+        first: &'a str,
+        second: &'a str,
+        hex: bool,
+    },
 }
 
 /// A command: its name, what it is for, an example for its help, the words that it wants, and its options.
@@ -78,7 +86,35 @@ prints first
     has_save: false,
 };
 
-const FORMS: [Form; 2] = [SHOW, PQF];
+const JOIN: Form = Form {
+    name: "join",
+    about: "Puts together what two searches of the same catalogues brought",
+    example: "A and B are files that zmeta wrote with --save, of the same catalogues in the same order.
+Prints one list of all that either search brought. Where they brought different records for one
+place of a result set, both are shown there as a conflict.
+
+Example, the searches of two days:
+  zmeta join monday.saved tuesday.saved
+prints lines as
+  target \"city library\" set 1 count 2
+  1 \"city library\" 1 rec 1.2.840.10003.5.10 - \"first record\"",
+    wants: &[
+        Word {
+            id: "A",
+            help: "A file of what one search brought",
+            is_number: false,
+        },
+        Word {
+            id: "B",
+            help: "A file of what the other search brought",
+            is_number: false,
+        },
+    ],
+    has_hex: true,
+    has_save: false,
+};
+
+const FORMS: [Form; 3] = [SHOW, PQF, JOIN];
 
 fn argument(alloc: Global, word: &Word) -> Arg<'static> {
     let arg = Arg::new(alloc, word.id)
@@ -143,6 +179,11 @@ pub fn parse<'a>(alloc: Global, words: &'a [String]) -> Result<Words<'a>, Error>
         Some(("show", _)) => Ok(Words::Show),
         Some(("pqf", found)) => Ok(Words::Pqf {
             text: found.get_str("TEXT").unwrap_or(""),
+        }),
+        Some(("join", found)) => Ok(Words::Join {
+            first: found.get_str("A").unwrap_or(""),
+            second: found.get_str("B").unwrap_or(""),
+            hex: found.get_flag("hex"),
         }),
         _ => Err(command.error(ErrorKind::InvalidSubcommand, "no such command")?),
     }
