@@ -1,5 +1,5 @@
 //! Values in order, each once.
-ghost use Rattle.std.specs.Prelude.{◌≡◌, List, IfOk, MatchOption, Contains};
+ghost use Rattle.std.specs.Prelude.{◌≡◌, ◌<◌, ◌≤◌, List, IfOk, MatchOption, Contains};
 ghost use Rattle.std.specs.List.{AllByRecursion};
 ghost use Rattle.zknow.specs.Distinct.{AreDistinct};
 ghost use Rattle.zknow.specs.Search.{IsGap};
@@ -26,6 +26,19 @@ impl<T: Ranked> Model for Distinct<T> {
     ghost invariant = { λ d. AreDistinct T.order T.is_valid d.items.items };
 }
 
+/// The place that is looked at next: the last one at first, since values mostly come in order, then the one in the middle.
+fn next_place(low: usize, high: usize, is_first: bool) -> usize
+    requires { low < high }
+    ensures from { low ≤ result }
+    ensures to { result < high }
+{
+    if is_first {
+        high - 1
+    } else {
+        low + (high - low) / 2
+    }
+}
+
 /// Where the item would go, or `None` where it is.
 fn gap_for<T: Ranked>(alloc: Global, items: &[T], item: &T) -> Result<Option<usize>, AllocError>
     requires distinct { AreDistinct T.order T.is_valid items.now }
@@ -34,8 +47,10 @@ fn gap_for<T: Ranked>(alloc: Global, items: &[T], item: &T) -> Result<Option<usi
 {
     let mut low = 0;
     let mut high = items.len();
+    let mut is_first = true;
     while low < high {
-        let middle = low + (high - low) / 2;
+        let middle = next_place(low, high, is_first);
+        is_first = false;
         match items[middle].compare(alloc, item)? {
             Ordering::Less => low = middle + 1,
             Ordering::Equal => return Ok(None),
