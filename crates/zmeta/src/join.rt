@@ -92,3 +92,140 @@ fn are_same(names: &Names, others: &Names) -> bool
 {
     names.as_slice() == others.as_slice()
 }
+
+#[cfg(test)]
+mod tests {
+    use super::*;
+    use crate::devices::{Broken, Full, Run};
+    use zknow::save;
+
+    /// Names `a`, and set 1 of target 0 with 4 records.
+    const COUNT: &[u8] = b"\xa4\x03\x80\x01a\xa0\x09\x80\x01\x00\x81\x01\x01\x82\x01\x04";
+    /// The same set with 5 records, and set 2, which failed.
+    const OTHERS: &[u8] =
+        b"\xa4\x03\x80\x01a\xa0\x09\x80\x01\x00\x81\x01\x01\x82\x01\x05\xa1\x06\x80\x01\x00\x81\x01\x02";
+    /// No names, and nothing known.
+    const NOTHING: &[u8] = b"\xa4\x00";
+
+    fn join_of<'a>(alloc: Global, mut first: &'a [u8], mut second: &'a [u8]) -> Run {
+        let mut printed = Vec::new(alloc);
+        let mut told = Vec::new(alloc);
+        let status = join(
+            alloc,
+            ("one", "two"),
+            &mut first,
+            &mut second,
+            Mode::Text,
+            &mut printed,
+            &mut told,
+        );
+        Run {
+            status,
+            printed,
+            told,
+        }
+    }
+
+    #[test]
+    fn what_is_saved_is_loaded(rt: HostRuntime) {
+        for file in [COUNT, OTHERS, NOTHING] {
+            let mut saved = Vec::new(rt.alloc());
+            let Ok((knowledge, names)) = load(rt.alloc(), file) else {
+                assert!(rt; false, "{file:?}");
+                return;
+            };
+            let answer = save(rt.alloc(), &knowledge, &names, &mut saved);
+            assert_eq!(rt; answer, Ok(()), "{file:?}");
+            assert_eq!(rt; saved.as_slice(), file);
+        }
+    }
+
+    #[test]
+    fn prints_what_either_knows(rt: HostRuntime) {
+        let both =
+            b"target \"a\" set 1 count 4\ntarget \"a\" set 1 count 5\ntarget \"a\" set 2 failed\n".as_slice();
+        for (first, second, printed) in [
+            (COUNT, COUNT, b"target \"a\" set 1 count 4\n".as_slice()),
+            (COUNT, OTHERS, both),
+            (OTHERS, COUNT, both),
+            (NOTHING, NOTHING, b""),
+        ] {
+            let run = join_of(rt.alloc(), first, second);
+            assert_eq!(rt; run.printed.as_slice(), printed, "{first:?} {second:?}");
+            assert_eq!(rt; run.told.len(), 0, "{first:?} {second:?}");
+            assert_eq!(rt; run.status, Status::Done, "{first:?} {second:?}");
+        }
+    }
+
+    #[test]
+    fn tells_why_there_is_no_list(rt: HostRuntime) {
+        for (first, second, told) in [
+            (
+                b"".as_slice(),
+                COUNT,
+                b"zmeta: knowledge refused: NotKnowledge at 0\n".as_slice(),
+            ),
+            (
+                COUNT,
+                b"\xa4\x00\xa1\x06\x80\x01\x00\x81\x01",
+                b"zmeta: knowledge refused: NotKnowledge at 1\n",
+            ),
+            (
+                b"\xa4\x00\xa0\x09\x80\x01\x01\x81\x01\x01\x82\x01\x00\xa0\x09\x80\x01\x00\x81\x01\x01\x82\x01\x04",
+                b"",
+                b"zmeta: knowledge refused: NotCanonical at 2\n",
+            ),
+            (
+                b"\xa4\x81\x00",
+                b"",
+                b"zmeta: knowledge refused: NotCanonical at 0\n",
+            ),
+            (COUNT, NOTHING, b"zmeta: names differ\n"),
+        ] {
+            let run = join_of(rt.alloc(), first, second);
+            assert_eq!(rt; run.told.as_slice(), told, "{first:?} {second:?}");
+            assert_eq!(rt; run.printed.len(), 0, "{first:?} {second:?}");
+            assert_eq!(rt; run.status, Status::Refused, "{first:?} {second:?}");
+        }
+    }
+
+    #[test]
+    fn refuses_the_first_file_before_it_reads_the_second(rt: HostRuntime) {
+        for (octets, fails_at, reads) in [
+            (b"\xa4".as_slice(), 0, 0),
+            (COUNT, 1, 0),
+            (COUNT, 0, 1),
+        ] {
+            let mut first = Broken {
+                octets,
+                calls: 0,
+                fails_at,
+            };
+            let mut second = Broken {
+                octets: COUNT,
+                calls: 0,
+                fails_at: 1,
+            };
+            let mut output = Full {
+                calls: 0,
+                fails_at: 0,
+            };
+            let mut errors = Full {
+                calls: 0,
+                fails_at: 0,
+            };
+            let status = join(
+                rt.alloc(),
+                ("one", "two"),
+                &mut first,
+                &mut second,
+                Mode::Hex,
+                &mut output,
+                &mut errors,
+            );
+            assert_eq!(rt; status, Status::Refused, "{octets:?}");
+            assert_eq!(rt; second.calls, reads, "{octets:?}");
+            assert_eq!(rt; output.calls, 0, "{octets:?}");
+        }
+    }
+}

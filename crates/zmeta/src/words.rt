@@ -259,6 +259,13 @@ mod tests {
         let words = words_of(rt.alloc(), "zmeta pqf dune")?;
         let due = Words::Pqf { text: "dune" };
         assert_eq!(rt; parse(rt.alloc(), words.as_slice())?, due);
+        let words = words_of(rt.alloc(), "zmeta join a b --hex")?;
+        let due = Words::Join {
+            first: "a",
+            second: "b",
+            hex: true,
+        };
+        assert_eq!(rt; parse(rt.alloc(), words.as_slice())?, due);
         Ok(())
     }
 
@@ -271,6 +278,8 @@ mod tests {
             ("zmeta show --hex", 2),
             ("zmeta pqf", 2),
             ("zmeta pqf a b", 2),
+            ("zmeta join a", 2),
+            ("zmeta join a b --save c", 2),
             ("zmeta --version", 2),
             ("zmeta --help", 0),
             ("zmeta help show", 0),
