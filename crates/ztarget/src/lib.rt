@@ -1,0 +1,14 @@
+//! The other end of Z39.50, exact and in memory: databases, and a target that owes each request one stated reply.
+#![tactic(auto)]
+
+mod database;
+mod decimal;
+mod error;
+mod fault;
+mod matching;
+mod settings;
+mod words;
+
+pub use database::{Database, Entry, Field};
+pub use error::{MatchError, TargetError};
+pub use settings::TargetSettings;
