@@ -14,14 +14,17 @@ use Rattle.zquery.specs.declared.query.TermValue.TheVariants.{General, Numeric, 
 use Rattle.zquery.specs.Sets.{bib1}
 use Rattle.zquery.specs.Trees.{Tree, OfTerm, OfSet, OfSetAttrs, Of, Near, RpnQuery}
 use Rattle.ztarget.specs.declared.database.Database.{Database}
-use Rattle.ztarget.specs.declared.fault.Fault.{Fault}
 
--- a condition of the diagnostics of bib-1, and what it names
-abbrev pub fault : ℕ → List ℕ → Fault
+-- why a request is not done: a condition of the diagnostics of bib-1 (Z39.50-2003, ERR), and what it names
+pub record Reason : Type 0 where
+  pub condition : ℤ
+  pub info : List ℕ
+
+abbrev pub fault : ℕ → List ℕ → Reason
 fault condition info = record { condition = pos condition; info = info }
 
 -- the first, or else the second
-abbrev pub first_of : Option Fault → Option Fault → Option Fault
+abbrev pub first_of : Option Reason → Option Reason → Option Reason
 first_of (Some f) other = Some f
 first_of None other = other
 
@@ -45,33 +48,33 @@ rows =
 abbrev pub is_among : List ℕ → ℤ → Bool
 is_among ns z = list_any (λ n. int_eq z (pos n)) ns
 
-abbrev pub number_fault : ℤ → ℤ → Option Row → Option Fault
+abbrev pub number_fault : ℤ → ℤ → Option Row → Option Reason
 number_fault kind value None = Some (fault 113 (signed_decimal kind))
 number_fault kind value (Some row) = if is_among row.values value then None else Some (fault row.condition (signed_decimal value))
 
 abbrev pub row_of : ℤ → Option Row
 row_of kind = find (λ row. int_eq kind (pos row.kind)) rows
 
-abbrev pub value_fault : ℤ → AttrValue → Option Fault
+abbrev pub value_fault : ℤ → AttrValue → Option Reason
 value_fault kind (Complex e) = Some (fault 113 (signed_decimal kind))
 value_fault kind (Number value) = number_fault kind value (row_of kind)
 
-abbrev pub set_fault : Option (List ℕ) → Option Fault
+abbrev pub set_fault : Option (List ℕ) → Option Reason
 set_fault None = None
 set_fault (Some set) = if bytes_eq set bib1 then None else Some (fault 121 (dotted set))
 
-abbrev pub attr_fault : Attr → Option Fault
+abbrev pub attr_fault : Attr → Option Reason
 attr_fault a = first_of (set_fault a.attr_set) (value_fault a.kind a.value)
 
-abbrev pub attrs_fault : List Attr → Option Fault
+abbrev pub attrs_fault : List Attr → Option Reason
 attrs_fault [] = None
 attrs_fault (a ∷ attrs) = first_of (attr_fault a) (attrs_fault attrs)
 
-abbrev pub term_fault : TermValue → Option Fault
+abbrev pub term_fault : TermValue → Option Reason
 term_fault (Other e) = Some (fault 100 (codes "term"))
 term_fault _ = None
 
-abbrev pub tree_fault : Tree → Option Fault
+abbrev pub tree_fault : Tree → Option Reason
 tree_fault (OfTerm attrs term) = first_of (attrs_fault attrs) (term_fault term)
 tree_fault (OfSet name) = Some (fault 18 name)
 tree_fault (OfSetAttrs name attrs) = Some (fault 18 name)
@@ -79,7 +82,7 @@ tree_fault (Of operator a b) = first_of (tree_fault a) (tree_fault b)
 tree_fault (Near operator a b) = Some (fault 110 [])
 
 -- of a type-1 query: its set, then its tree
-abbrev pub query_fault : RpnQuery → Option Fault
+abbrev pub query_fault : RpnQuery → Option Reason
 query_fault q = first_of (set_fault (Some q.attr_set)) (tree_fault q.root)
 
 abbrev pub is_called : List ℕ → Database → Bool
@@ -92,10 +95,10 @@ abbrev pub is_unknown : List Database → List ℕ → Bool
 is_unknown databases name = not (is_known databases name)
 
 -- no database is named, or one that is not known
-abbrev pub names_fault : List Database → List (List ℕ) → Option Fault
+abbrev pub names_fault : List Database → List (List ℕ) → Option Reason
 names_fault databases [] = Some (fault 235 [])
 names_fault databases (n ∷ names) = option_map (fault 235) (find (is_unknown databases) (n ∷ names))
 
 -- of a query for databases
-abbrev pub match_fault : List Database → List (List ℕ) → RpnQuery → Option Fault
+abbrev pub match_fault : List Database → List (List ℕ) → RpnQuery → Option Reason
 match_fault databases names q = first_of (names_fault databases names) (query_fault q)

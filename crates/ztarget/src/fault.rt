@@ -11,6 +11,7 @@ use crate::database::Database;
 use crate::decimal::{decimal, dotted};
 use bytes::Bytes;
 use std::alloc::{AllocError, Global};
+use std::marker::Model;
 use zber::Oid;
 use zquery::{Attr, AttrValue, Query, Rpn, TermValue};
 
@@ -19,6 +20,14 @@ use zquery::{Attr, AttrValue, Query, Rpn, TermValue};
 pub(crate) struct Fault {
     pub condition: i64,
     pub info: Bytes,
+}
+
+impl Model for Fault {
+    ghost use Rattle.ztarget.specs.Faults.{Reason};
+
+    ghost Value = { Reason };
+
+    ghost view = { λ f. record { condition = f.condition; info = f.info } };
 }
 
 /// The arcs of the attribute set bib-1 (Z39.50-2003, ATR).

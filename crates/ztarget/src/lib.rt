@@ -5,7 +5,9 @@ mod database;
 mod decimal;
 mod error;
 mod fault;
+mod found;
 mod matching;
+mod searched;
 mod settings;
 mod words;
 
