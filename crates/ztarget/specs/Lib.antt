@@ -3,3 +3,8 @@ pub mod Matching
 pub mod Faults
 pub mod Searching
 pub mod Counting
+pub mod Showing
+pub mod Standing
+pub mod Initialising
+pub mod Responding
+pub mod Replies

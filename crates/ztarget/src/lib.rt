@@ -7,7 +7,9 @@ mod error;
 mod fault;
 mod found;
 mod matching;
+mod result_set;
 mod searched;
+mod sets;
 mod settings;
 mod words;
 
