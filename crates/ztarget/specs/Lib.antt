@@ -8,3 +8,4 @@ pub mod Standing
 pub mod Initialising
 pub mod Responding
 pub mod Replies
+pub mod Viewed

@@ -3,11 +3,16 @@
 
 mod database;
 mod decimal;
+mod diagnostic;
 mod error;
 mod fault;
 mod found;
+mod init;
 mod matching;
+mod phase;
+mod record;
 mod result_set;
+mod search;
 mod searched;
 mod sets;
 mod settings;
