@@ -9,3 +9,4 @@ pub mod Initialising
 pub mod Responding
 pub mod Replies
 pub mod Viewed
+pub mod Receiving

@@ -18,8 +18,10 @@ mod search_fault;
 mod searched;
 mod sets;
 mod settings;
+mod target;
 mod words;
 
 pub use database::{Database, Entry, Field};
 pub use error::{MatchError, TargetError};
 pub use settings::TargetSettings;
+pub use target::Target;

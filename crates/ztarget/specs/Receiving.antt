@@ -1,0 +1,79 @@
+-- What a target is, for every contract, and what its calls do with it.
+use Rattle.std.specs.Prelude.{◌≡◌, ℕ, ◌==◌, List, [], ◌∷◌, ◌++◌, length, remove, Bool, true, false, not, ◌||◌, Option, Some, None, Result, Ok, Err, ⊤, slice_get}
+use Rattle.zquery.specs.Trees.{RpnQuery}
+use Rattle.zapdu.specs.declared.apdu.Apdu.{Apdu}
+use Rattle.zapdu.specs.declared.apdu.Apdu.TheVariants as apdus
+use Rattle.ztarget.specs.declared.database.Database.{Database}
+use Rattle.ztarget.specs.declared.settings.TargetSettings.{TargetSettings}
+use Rattle.ztarget.specs.declared.error.TargetError.{TargetError}
+use Rattle.ztarget.specs.declared.error.TargetError.TheVariants as refusals
+use Rattle.ztarget.specs.declared.error.MatchError.{MatchError}
+use Rattle.ztarget.specs.declared.error.MatchError.TheVariants as matching
+use Rattle.ztarget.specs.Faults.{Reason}
+use Rattle.ztarget.specs.Standing.{Standing, fresh}
+use Rattle.ztarget.specs.Replies.{Answer, answer_at, standing_after, owed}
+
+-- its databases and settings, what the requests received leave, and the replies not yet handed out, in the order of their requests
+pub record TargetState : Type 0 where
+  pub databases : List Database
+  pub settings : TargetSettings
+  pub standing : Standing
+  pub pending : List Apdu
+
+abbrev pub new_target : List Database → TargetSettings → TargetState
+new_target databases settings = record { databases = databases; settings = settings; standing = fresh; pending = [] }
+
+-- the reply is put last
+abbrev pub answered : TargetState → Answer → TargetState
+answered t a = record { databases = t.databases; settings = t.settings; standing = a.standing; pending = t.pending ++ a.reply ∷ [] }
+
+abbrev pub taken : TargetState → Result Answer TargetError → Result TargetState TargetError
+taken t (Ok a) = Ok (answered t a)
+taken t (Err e) = Err e
+
+-- what an APDU leaves, or why it is not taken
+abbrev pub outcome : TargetState → Apdu → Result TargetState TargetError
+outcome t apdu = taken t (answer_at t.databases t.settings t.standing apdu)
+
+-- what receiving an APDU did: a refusal leaves all as it was, and another than for memory is the one that stands
+abbrev pub Receives : TargetState → Apdu → Result (Unit {0}) TargetError → TargetState → Type 0
+Receives old apdu (Ok u) new = outcome old apdu ≡ Ok new
+Receives old apdu (Err refusals.Memory) new = new ≡ old
+Receives old apdu (Err e) new = (outcome old apdu ≡ Err e) × (new ≡ old)
+
+-- a target that received these APDUs, newest first
+pub record After (databases : List Database) (settings : TargetSettings) (received : List Apdu) (t : TargetState) : Type 0 where
+  pub databases_are : t.databases ≡ databases
+  pub settings_are : t.settings ≡ settings
+  pub standing_is : t.standing ≡ standing_after databases settings received
+
+-- the last of the pending replies is the one owed to the APDU, given those received before it
+pub record IsAnswered (databases : List Database) (settings : TargetSettings) (received : List Apdu) (apdu : Apdu) (old new : List Apdu) : Type 0 where
+  pub by : Answer
+  pub owes : owed databases settings received apdu ≡ Ok by
+  pub last : new ≡ old ++ by.reply ∷ []
+
+abbrev pub is_close : Apdu → Bool
+is_close (apdus.Close c) = true
+is_close _ = false
+
+abbrev pub may_go : Option Apdu → ℕ → Bool
+may_go None count = false
+may_go (Some apdu) count = not (is_close apdu) || (count == 1)
+
+-- pending reply k is there, and is no Close that others wait beside
+abbrev pub may_release : List Apdu → ℕ → Bool
+may_release pending k = may_go (slice_get pending k) (length pending)
+
+abbrev pub without : TargetState → ℕ → TargetState
+without t k = record { databases = t.databases; settings = t.settings; standing = t.standing; pending = remove t.pending k }
+
+-- pending reply k was handed out, and the others stay in order; or it may not be, and all is as it was
+abbrev pub Releases : TargetState → ℕ → Option Apdu → TargetState → Type 0
+Releases old k (Some apdu) new = (may_release old.pending k ≡ true) × (slice_get old.pending k ≡ Some apdu) × (new ≡ without old k)
+Releases old k None new = (may_release old.pending k ≡ false) × (new ≡ old)
+
+-- a refusal of a query names its first fault, or is for memory
+abbrev pub IsRefusal : Option Reason → MatchError → Type 0
+IsRefusal reason (matching.Code code info) = reason ≡ Some (record { condition = code; info = info })
+IsRefusal reason matching.Memory = ⊤
