@@ -10,7 +10,7 @@ use Rattle.zquery.specs.declared.query.Attr.{Attr}
 use Rattle.zquery.specs.declared.query.AttrValue.{AttrValue}
 use Rattle.zquery.specs.declared.query.AttrValue.TheVariants.{Number, Complex}
 use Rattle.zquery.specs.declared.query.TermValue.{TermValue}
-use Rattle.zquery.specs.declared.query.TermValue.TheVariants.{General, Numeric, Text, Other}
+use Rattle.zquery.specs.declared.query.TermValue.TheVariants.{Other}
 use Rattle.zquery.specs.Sets.{bib1}
 use Rattle.zquery.specs.Trees.{Tree, OfTerm, OfSet, OfSetAttrs, Of, Near, RpnQuery}
 use Rattle.ztarget.specs.declared.database.Database.{Database}

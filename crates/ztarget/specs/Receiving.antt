@@ -1,6 +1,5 @@
 -- What a target is, for every contract, and what its calls do with it.
 use Rattle.std.specs.Prelude.{◌≡◌, ℕ, ◌==◌, List, [], ◌∷◌, ◌++◌, length, remove, Bool, true, false, not, ◌||◌, Option, Some, None, Result, Ok, Err, ⊤, slice_get}
-use Rattle.zquery.specs.Trees.{RpnQuery}
 use Rattle.zapdu.specs.declared.apdu.Apdu.{Apdu}
 use Rattle.zapdu.specs.declared.apdu.Apdu.TheVariants as apdus
 use Rattle.ztarget.specs.declared.database.Database.{Database}
@@ -52,6 +51,12 @@ pub record IsAnswered (databases : List Database) (settings : TargetSettings) (r
   pub by : Answer
   pub owes : owed databases settings received apdu ≡ Ok by
   pub last : new ≡ old ++ by.reply ∷ []
+
+-- what receiving an APDU did, told by those received before it: its reply was put last, or it was refused as it is owed; want of memory left all as it was
+abbrev pub Answers : List Database → TargetSettings → List Apdu → Apdu → Result (Unit {0}) TargetError → TargetState → TargetState → Type 0
+Answers databases settings received apdu (Ok u) old new = After databases settings (apdu ∷ received) new × IsAnswered databases settings received apdu old.pending new.pending
+Answers databases settings received apdu (Err refusals.Memory) old new = new ≡ old
+Answers databases settings received apdu (Err e) old new = After databases settings (apdu ∷ received) new × (owed databases settings received apdu ≡ Err e) × (new ≡ old)
 
 abbrev pub is_close : Apdu → Bool
 is_close (apdus.Close c) = true

@@ -1,6 +1,5 @@
 -- The reply that a target owes to each request: a function of the requests received up to its own (Z39.50-2003, 3.2).
-use Rattle.std.specs.Prelude.{◌≡◌, ℕ, pos, List, [], ◌∷◌, ◌++◌, Bool, Option, Some, None, Result, Ok, Err, if◌then◌else◌}
-use Rattle.zquery.specs.Trees.{RpnQuery}
+use Rattle.std.specs.Prelude.{pos, List, [], ◌∷◌, Option, Some, None, Result, Ok, Err, if◌then◌else◌}
 use Rattle.zapdu.specs.declared.apdu.Apdu.{Apdu}
 use Rattle.zapdu.specs.declared.apdu.Apdu.TheVariants as apdus
 use Rattle.zapdu.specs.declared.close.Close.{Close}
@@ -33,13 +32,13 @@ to_init settings sets r = record { standing = record { state = after_init settin
 -- the same reference id, reason 0 (finished)
 abbrev pub close_reply : Close → Close
 close_reply c = record {
-    reference_id = c.reference_id;
-    close_reason = pos 0;
-    diagnostic_information = None;
-    resource_report_format = None;
-    resource_report = None;
-    other_info = None
-  }
+  reference_id = c.reference_id;
+  close_reason = pos 0;
+  diagnostic_information = None;
+  resource_report_format = None;
+  resource_report = None;
+  other_info = None;
+}
 
 abbrev pub to_close : List NamedSet → Close → Answer
 to_close sets c = record { standing = record { state = Ended; sets = sets }; reply = apdus.Close (close_reply c) }

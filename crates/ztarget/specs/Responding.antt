@@ -52,17 +52,17 @@ search_records size r found = held size (map (shown size r.preferred_record_synt
 
 abbrev pub search_response : SearchRequest → ℕ → ℕ → List Record → SearchResponse
 search_response r count due held = record {
-    reference_id = r.reference_id;
-    result_count = pos count;
-    number_of_records_returned = pos (length held);
-    next_result_set_position = next_position (length held) count;
-    search_status = true;
-    result_set_status = None;
-    present_status = status_of (length held) due;
-    records = records_of held;
-    additional_search_info = None;
-    other_info = None
-  }
+  reference_id = r.reference_id;
+  result_count = pos count;
+  number_of_records_returned = pos (length held);
+  next_result_set_position = next_position (length held) count;
+  search_status = true;
+  result_set_status = None;
+  present_status = status_of (length held) due;
+  records = records_of held;
+  additional_search_info = None;
+  other_info = None;
+}
 
 -- of a search that found these
 abbrev pub search_found : ℕ → SearchRequest → List Found → SearchResponse
@@ -71,17 +71,17 @@ search_found size r found = search_response r (length found) (due_count r (lengt
 -- of a search that failed: there is no result set
 abbrev pub search_failed : SearchRequest → Reason → SearchResponse
 search_failed r reason = record {
-    reference_id = r.reference_id;
-    result_count = pos 0;
-    number_of_records_returned = pos 0;
-    next_result_set_position = pos 0;
-    search_status = false;
-    result_set_status = Some (pos 3);
-    present_status = None;
-    records = diagnosed reason;
-    additional_search_info = None;
-    other_info = None
-  }
+  reference_id = r.reference_id;
+  result_count = pos 0;
+  number_of_records_returned = pos 0;
+  next_result_set_position = pos 0;
+  search_status = false;
+  result_set_status = Some (pos 3);
+  present_status = None;
+  records = diagnosed reason;
+  additional_search_info = None;
+  other_info = None;
+}
 
 -- a result set has a name other than default, and names are not in force
 abbrev pub name_fault : Bool → List ℕ → Option Reason
@@ -132,23 +132,23 @@ present_records size r found = held size (map (shown size r.preferred_record_syn
 
 abbrev pub present_response : PresentRequest → ℕ → List Record → PresentResponse
 present_response r count held = record {
-    reference_id = r.reference_id;
-    number_of_records_returned = pos (length held);
-    next_result_set_position = next_position (before_start r + length held) count;
-    present_status = status (length held) (natural r.number_of_records_requested);
-    records = records_of held;
-    other_info = None
-  }
+  reference_id = r.reference_id;
+  number_of_records_returned = pos (length held);
+  next_result_set_position = next_position (before_start r + length held) count;
+  present_status = status (length held) (natural r.number_of_records_requested);
+  records = records_of held;
+  other_info = None;
+}
 
 abbrev pub present_failed : PresentRequest → Reason → PresentResponse
 present_failed r reason = record {
-    reference_id = r.reference_id;
-    number_of_records_returned = pos 0;
-    next_result_set_position = pos 0;
-    present_status = pos 5;
-    records = diagnosed reason;
-    other_info = None
-  }
+  reference_id = r.reference_id;
+  number_of_records_returned = pos 0;
+  next_result_set_position = pos 0;
+  present_status = pos 5;
+  records = diagnosed reason;
+  other_info = None;
+}
 
 abbrev pub present_unless : ℕ → PresentRequest → List Found → Option Reason → PresentResponse
 present_unless size r found None = present_response r (length found) (present_records size r found)

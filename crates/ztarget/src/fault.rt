@@ -37,7 +37,9 @@ const BIB_1: [u32; 6] = [1, 2, 840, 10003, 3, 1];
 fn is_among(values: &[u16], value: i64) -> bool
     ensures { result ≡ is_among values.now value }
 {
-    values.iter().any(|supported| value == i64::from(*supported))
+    values
+        .iter()
+        .any(|supported| value == i64::from(*supported))
 }
 
 /// The fault of a value that is not among those that are supported.

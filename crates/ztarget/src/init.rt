@@ -11,8 +11,11 @@ use zber::{Bits, Duplicate};
 
 /// The option bits (Z39.50-2003, 3.2.1.1.6).
 const SEARCH: usize = 0;
+
 const PRESENT: usize = 1;
+
 const CONCURRENT_OPERATIONS: usize = 13;
+
 const NAMED_RESULT_SETS: usize = 14;
 
 /// Versions 1, 2 and 3, as far as they are asked for.

@@ -11,6 +11,7 @@ mod init;
 mod matching;
 mod phase;
 mod present;
+mod query;
 mod record;
 mod result_set;
 mod search;

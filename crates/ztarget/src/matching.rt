@@ -14,11 +14,14 @@ use zquery::{Attr, AttrValue, Rpn, TermValue};
 
 /// The attribute type Use, and its value for any field (Z39.50-2003, ATR).
 const USE: i64 = 1;
+
 const ANY: i64 = 1016;
 
 /// The attribute type Truncation, and its values for right truncation and for none (Z39.50-2003, ATR).
 const TRUNCATION: i64 = 5;
+
 const RIGHT: i64 = 1;
+
 const DO_NOT_TRUNCATE: i64 = 100;
 
 /// Whether a word found is the one asked for, or begins with it where that is truncated.

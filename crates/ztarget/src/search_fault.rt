@@ -29,11 +29,7 @@ fn name_fault(named: bool, name: &Bytes) -> Result<Option<Fault>, AllocError>
 }
 
 /// The fault of a search that must not replace a result set that is there.
-fn kept_fault(
-    sets: &[ResultSet],
-    replaces: bool,
-    name: &Bytes,
-) -> Result<Option<Fault>, AllocError>
+fn kept_fault(sets: &[ResultSet], replaces: bool, name: &Bytes) -> Result<Option<Fault>, AllocError>
     ensures { IfOk result (λ f. f ≡ kept_fault replaces name.now (set_named sets.now name.now)) }
 {
     match set_named(sets, name) {
