@@ -1,3 +1,6 @@
 pub mod Places
 pub mod FewEntries
 pub mod Histories
+pub mod LongestRuns
+pub mod Phrases
+pub mod WhatFits

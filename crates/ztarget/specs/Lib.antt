@@ -10,3 +10,4 @@ pub mod Responding
 pub mod Replies
 pub mod Viewed
 pub mod Receiving
+pub mod Laws

@@ -1,5 +1,5 @@
 -- What a target is, for every contract, and what its calls do with it.
-use Rattle.std.specs.Prelude.{◌≡◌, ℕ, ◌==◌, List, [], ◌∷◌, ◌++◌, length, remove, Bool, true, false, not, ◌||◌, Option, Some, None, Result, Ok, Err, ⊤, slice_get}
+use Rattle.std.specs.Prelude.{IsPermutation, ◌≡◌, ℕ, ◌==◌, List, [], ◌∷◌, ◌++◌, length, remove, Bool, true, false, not, ◌||◌, Option, Some, None, Result, Ok, Err, ⊤, slice_get}
 use Rattle.zapdu.specs.declared.apdu.Apdu.{Apdu}
 use Rattle.zapdu.specs.declared.apdu.Apdu.TheVariants as apdus
 use Rattle.ztarget.specs.declared.database.Database.{Database}
@@ -10,7 +10,7 @@ use Rattle.ztarget.specs.declared.error.MatchError.{MatchError}
 use Rattle.ztarget.specs.declared.error.MatchError.TheVariants as matching
 use Rattle.ztarget.specs.Faults.{Reason}
 use Rattle.ztarget.specs.Standing.{Standing, fresh}
-use Rattle.ztarget.specs.Replies.{Answer, answer_at, standing_after, owed}
+use Rattle.ztarget.specs.Replies.{Answer, answer_at, standing_after, owed, replies}
 
 -- its databases and settings, what the requests received leave, and the replies not yet handed out, in the order of their requests
 pub record TargetState : Type 0 where
@@ -40,11 +40,12 @@ Receives old apdu (Ok u) new = outcome old apdu ≡ Ok new
 Receives old apdu (Err refusals.Memory) new = new ≡ old
 Receives old apdu (Err e) new = (outcome old apdu ≡ Err e) × (new ≡ old)
 
--- a target that received these APDUs, newest first
-pub record After (databases : List Database) (settings : TargetSettings) (received : List Apdu) (t : TargetState) : Type 0 where
+-- a target that received these APDUs, newest first, and handed out these replies: what it handed out and what is pending are the replies owed, each once
+pub record After (databases : List Database) (settings : TargetSettings) (received released : List Apdu) (t : TargetState) : Type 0 where
   pub databases_are : t.databases ≡ databases
   pub settings_are : t.settings ≡ settings
   pub standing_is : t.standing ≡ standing_after databases settings received
+  pub replies_are : IsPermutation (replies databases settings received) (released ++ t.pending)
 
 -- the last of the pending replies is the one owed to the APDU, given those received before it
 pub record IsAnswered (databases : List Database) (settings : TargetSettings) (received : List Apdu) (apdu : Apdu) (old new : List Apdu) : Type 0 where
@@ -53,10 +54,10 @@ pub record IsAnswered (databases : List Database) (settings : TargetSettings) (r
   pub last : new ≡ old ++ by.reply ∷ []
 
 -- what receiving an APDU did, told by those received before it: its reply was put last, or it was refused as it is owed; want of memory left all as it was
-abbrev pub Answers : List Database → TargetSettings → List Apdu → Apdu → Result (Unit {0}) TargetError → TargetState → TargetState → Type 0
-Answers databases settings received apdu (Ok u) old new = After databases settings (apdu ∷ received) new × IsAnswered databases settings received apdu old.pending new.pending
-Answers databases settings received apdu (Err refusals.Memory) old new = new ≡ old
-Answers databases settings received apdu (Err e) old new = After databases settings (apdu ∷ received) new × (owed databases settings received apdu ≡ Err e) × (new ≡ old)
+abbrev pub Answers : List Database → TargetSettings → List Apdu → List Apdu → Apdu → Result (Unit {0}) TargetError → TargetState → TargetState → Type 0
+Answers databases settings received released apdu (Ok u) old new = After databases settings (apdu ∷ received) released new × IsAnswered databases settings received apdu old.pending new.pending
+Answers databases settings received released apdu (Err refusals.Memory) old new = new ≡ old
+Answers databases settings received released apdu (Err e) old new = After databases settings (apdu ∷ received) released new × (owed databases settings received apdu ≡ Err e) × (new ≡ old)
 
 abbrev pub is_close : Apdu → Bool
 is_close (apdus.Close c) = true
@@ -77,6 +78,11 @@ without t k = record { databases = t.databases; settings = t.settings; standing 
 abbrev pub Releases : TargetState → ℕ → Option Apdu → TargetState → Type 0
 Releases old k (Some apdu) new = (may_release old.pending k ≡ true) × (slice_get old.pending k ≡ Some apdu) × (new ≡ without old k)
 Releases old k None new = (may_release old.pending k ≡ false) × (new ≡ old)
+
+-- with the reply that was handed out
+abbrev pub with_released : List Apdu → Option Apdu → List Apdu
+with_released released None = released
+with_released released (Some apdu) = released ++ apdu ∷ []
 
 -- a refusal of a query names its first fault, or is for memory
 abbrev pub IsRefusal : Option Reason → MatchError → Type 0

@@ -1,5 +1,5 @@
 -- The reply that a target owes to each request: a function of the requests received up to its own (Z39.50-2003, 3.2).
-use Rattle.std.specs.Prelude.{pos, List, [], ◌∷◌, Option, Some, None, Result, Ok, Err, if◌then◌else◌}
+use Rattle.std.specs.Prelude.{◌++◌, pos, List, [], ◌∷◌, Option, Some, None, Result, Ok, Err, if◌then◌else◌}
 use Rattle.zapdu.specs.declared.apdu.Apdu.{Apdu}
 use Rattle.zapdu.specs.declared.apdu.Apdu.TheVariants as apdus
 use Rattle.zapdu.specs.declared.close.Close.{Close}
@@ -94,3 +94,12 @@ standing_after databases settings (apdu ∷ received) = left_by (standing_after 
 -- the reply that is owed to an APDU, or why it is not taken, by those received before it
 abbrev pub owed : List Database → TargetSettings → List Apdu → Apdu → Result Answer TargetError
 owed databases settings received apdu = answer_at databases settings (standing_after databases settings received) apdu
+
+abbrev pub reply_of : Result Answer TargetError → List Apdu
+reply_of (Ok a) = a.reply ∷ []
+reply_of (Err e) = []
+
+-- the replies owed to the APDUs received, in their order
+abbrev pub replies : List Database → TargetSettings → List Apdu → List Apdu
+replies databases settings [] = []
+replies databases settings (apdu ∷ received) = replies databases settings received ++ reply_of (owed databases settings received apdu)

@@ -8,6 +8,7 @@ mod error;
 mod fault;
 mod found;
 mod init;
+pub mod laws;
 mod matching;
 mod phase;
 mod present;

@@ -9,7 +9,7 @@ ghost use Rattle.ztarget.specs.Responding.{search_failed};
 ghost use Rattle.ztarget.specs.Standing.{Open, put_set};
 ghost use Rattle.ztarget.specs.declared.database.Database.{Database};
 ghost use Rattle.ztarget.specs.declared.settings.TargetSettings.{TargetSettings};
-ghost use Rattle.ztarget.specs.Receiving.{new_target, answered, Receives, After, Answers, is_close, Releases, IsRefusal};
+ghost use Rattle.ztarget.specs.Receiving.{new_target, answered, Receives, After, Answers, is_close, with_released, Releases, IsRefusal};
 ghost use Rattle.ztarget.specs.Viewed.{terms_of};
 
 use crate::database::Database;
@@ -91,6 +91,7 @@ impl Target {
     /// databases are distinct, and the size is at least 1.
     ///
     /// An error only where no memory was found.
+    #[tactic(auto, using(crate::proofs::Histories::at_first))]
     pub fn new(
         alloc: Global,
         databases: Vec<Database>,
@@ -98,7 +99,7 @@ impl Target {
     ) -> Result<Target, AllocError>
         requires { length (entries_in databases.items) < 2 ^ 32 }
         ensures value { IfOk result (λ target. target ≡ new_target databases.items settings) }
-        ensures after { IfOk result (λ target. After databases.items settings [] target) }
+        ensures after { IfOk result (λ target. After databases.items settings [] [] target) }
     {
         Ok(Target {
             alloc,
@@ -245,7 +246,7 @@ impl Target {
     #[tactic(auto, using(crate::proofs::Histories::answers_of))]
     pub fn receive(&mut self, apdu: &Apdu) -> Result<(), TargetError>
         ensures receives { Receives self.old apdu.now result self.new }
-        ensures answers { (databases : List Database) (settings : TargetSettings) (received : List Apdu) → After databases settings received self.old → Answers databases settings received apdu.now result self.old self.new }
+        ensures answers { (databases : List Database) (settings : TargetSettings) (received released : List Apdu) → After databases settings received released self.old → Answers databases settings received released apdu.now result self.old self.new }
     {
         match apdu {
             Apdu::InitRequest(request) => self.receive_init(request),
@@ -281,16 +282,24 @@ impl Target {
         self.pending.len()
     }
 
-    /// Hands out pending reply `k`; the others stay in order. `None` where there is none, or where it is a Close and
-    /// others are pending. It takes no memory.
-    pub fn release(&mut self, k: usize) -> Option<Apdu>
-        ensures releases { Releases self.old k result self.new }
-        ensures after { (databases : List Database) (settings : TargetSettings) (received : List Apdu) → After databases settings received self.old → After databases settings received self.new }
+    /// Takes pending reply `k` out, where it may go.
+    fn take_out(&mut self, k: usize) -> Option<Apdu>
+        ensures { Releases self.old k result self.new }
     {
         let count = self.pending.len();
         if k >= count || (is_close(&self.pending[k]) && count > 1) {
             return None;
         }
         Some(self.pending.remove(k))
+    }
+
+    /// Hands out pending reply `k`, the first being 0; the others stay in order. `None` where there is none, or where it is
+    /// a Close and others are pending. It takes no memory.
+    #[tactic(auto, using(crate::proofs::Histories::release_of))]
+    pub fn release(&mut self, k: usize) -> Option<Apdu>
+        ensures releases { Releases self.old k result self.new }
+        ensures after { (databases : List Database) (settings : TargetSettings) (received released : List Apdu) → After databases settings received released self.old → After databases settings received (with_released released result) self.new }
+    {
+        self.take_out(k)
     }
 }
