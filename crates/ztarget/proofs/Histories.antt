@@ -88,5 +88,5 @@ release_of databases settings received released old new k (Some apdu) h a =
       databases_are = a.databases_are;
       settings_are = a.settings_are;
       standing_is = a.standing_is;
-      replies_are = IsPermutation-more (replies databases settings received) released old.pending k apdu is.0 is.1 a.replies_are
+      replies_are = IsPermutation-more (replies databases settings received) released old.pending k apdu is.0 is.1 a.replies_are;
     })

@@ -10,15 +10,20 @@ use Rattle.ztarget.specs.Laws.{InWord, Between, Breaks, IsNext, AreRuns, Longest
 more-gap : (b : ℕ) (text : List ℕ) (rs : List (List ℕ)) → Between b → AreRuns rs text → AreRuns rs (b ∷ text)
 more-gap b text [] h k = (h, k)
 more-gap b text (run ∷ rest) h k =
-    let n = k.1.0 in
-    (k.0, (record {
-      gap = b ∷ n.gap;
-      whole = ap (λ (bs : List ℕ). b ∷ bs) n.whole;
-      apart = (h, n.apart);
-      some = n.some;
-      inside = n.inside;
-      longest = n.longest
-    }, k.1.1))
+    let n = k.1.0 in (
+      k.0,
+      (
+        record {
+          gap = b ∷ n.gap;
+          whole = ap (λ (bs : List ℕ). b ∷ bs) n.whole;
+          apart = (h, n.apart);
+          some = n.some;
+          inside = n.inside;
+          longest = n.longest;
+        },
+        k.1.1,
+      ),
+    )
 
 -- how a text is cut: the run that it begins with, perhaps empty, and the others
 record Cut (text : List ℕ) : Type 0 where
@@ -50,25 +55,25 @@ cut (b ∷ text) =
     let either : (v : Bool) → is_between b ≡ v → Cut (b ∷ text) =
     λ v. elim v as (λ v. is_between b ≡ v → Cut (b ∷ text)) [
       | true ↦ (λ e. record {
-          first = [];
-          others = c.first ∷ c.others;
-          behind = b ∷ text;
-          cut = cond-true _ _ _ e ∙ ap (λ (ps : List (List ℕ)). [] ∷ ps) c.cut;
-          whole = refl;
-          inside = tt;
-          longest = is-out b e;
-          rest = more-gap b text (filter has_octets (c.first ∷ c.others)) (is-out b e) (all-runs text c.first c.behind c.others c.whole c.inside c.longest c.rest)
-        })
+        first = [];
+        others = c.first ∷ c.others;
+        behind = b ∷ text;
+        cut = cond-true _ _ _ e ∙ ap (λ (ps : List (List ℕ)). [] ∷ ps) c.cut;
+        whole = refl;
+        inside = tt;
+        longest = is-out b e;
+        rest = more-gap b text (filter has_octets (c.first ∷ c.others)) (is-out b e) (all-runs text c.first c.behind c.others c.whole c.inside c.longest c.rest);
+      })
       | false ↦ (λ e. record {
-          first = b ∷ c.first;
-          others = c.others;
-          behind = c.behind;
-          cut = cond-false _ _ _ e ∙ ap (λ (ps : List (List ℕ)). onto_first b ps) c.cut;
-          whole = ap (λ (bs : List ℕ). b ∷ bs) c.whole;
-          inside = (is-in b e, c.inside);
-          longest = c.longest;
-          rest = c.rest
-        })
+        first = b ∷ c.first;
+        others = c.others;
+        behind = c.behind;
+        cut = cond-false _ _ _ e ∙ ap (λ (ps : List (List ℕ)). onto_first b ps) c.cut;
+        whole = ap (λ (bs : List ℕ). b ∷ bs) c.whole;
+        inside = (is-in b e, c.inside);
+        longest = c.longest;
+        rest = c.rest;
+      })
     ] in
     either (is_between b) refl
 

@@ -68,9 +68,10 @@ of-both : (a b : Bool) → a ≡ false → b ≡ true → (not a && b) ≡ true
 of-both a b h k = ap (λ (v : Bool). not v && b) h ∙ k
 
 pub phrases : Phrases
-phrases t asked found =
-    ( (λ h. let parts = nothing-or (is_nothing asked) (stands t asked found) h in (parts.0, part-of t asked found parts.1)),
-      (λ h.
-        let p = h.1 in
-        let P : List (List ℕ) → Type 0 = λ vs. stands t asked vs ≡ true in
-        of-both (is_nothing asked) (stands t asked found) h.0 (subst P (sym p.whole) (of-part t asked p.before p.part p.behind h.0 p.answers))) )
+phrases t asked found = (
+  (λ h. let parts = nothing-or (is_nothing asked) (stands t asked found) h in (parts.0, part-of t asked found parts.1)),
+  (λ h.
+      let p = h.1 in
+      let P : List (List ℕ) → Type 0 = λ vs. stands t asked vs ≡ true in
+      of-both (is_nothing asked) (stands t asked found) h.0 (subst P (sym p.whole) (of-part t asked p.before p.part p.behind h.0 p.answers))),
+)

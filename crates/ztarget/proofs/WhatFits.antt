@@ -34,17 +34,17 @@ fits size used (r ∷ due) =
     let either : (v : Bool) → nat_le (used + size_of r) size ≡ v → Fits size used (r ∷ due) (if v then r ∷ fitting size (used + size_of r) due else []) =
     λ v. elim v as (λ v. nat_le (used + size_of r) size ≡ v → Fits size used (r ∷ due) (if v then r ∷ fitting size (used + size_of r) due else [])) [
       | true ↦ (λ e. record {
-          left = rest.left;
-          whole = ap (λ (rs : List Record). r ∷ rs) rest.whole;
-          within = inr (within-more size used (size_of r) (fitting size (used + size_of r) due) (leb-true (used + size_of r) size e) rest.within);
-          most = full-more size used (size_of r) (fitting size (used + size_of r) due) rest.left rest.most r refl
-        })
+        left = rest.left;
+        whole = ap (λ (rs : List Record). r ∷ rs) rest.whole;
+        within = inr (within-more size used (size_of r) (fitting size (used + size_of r) due) (leb-true (used + size_of r) size e) rest.within);
+        most = full-more size used (size_of r) (fitting size (used + size_of r) due) rest.left rest.most r refl;
+      })
       | false ↦ (λ e. record {
-          left = r ∷ due;
-          whole = refl;
-          within = inl (omega arith);
-          most = (let past : size < used + size_of r = leb-false (used + size_of r) size e in omega arith)
-        })
+        left = r ∷ due;
+        whole = refl;
+        within = inl (omega arith);
+        most = (let past : size < used + size_of r = leb-false (used + size_of r) size e in omega arith);
+      })
     ] in
     either (nat_le (used + size_of r) size) refl
 
@@ -66,5 +66,5 @@ what_fits size (r ∷ due) =
       whole = ap (λ (rs : List Record). r ∷ rs) rest.whole;
       first = (λ h. omega arith);
       within = within-one size (size_of r) (fitting size (size_of r) due) r refl rest.within;
-      most = one-more size (size_of r) (fitting size (size_of r) due) rest.left rest.most r refl
+      most = one-more size (size_of r) (fitting size (size_of r) due) rest.left rest.most r refl;
     }

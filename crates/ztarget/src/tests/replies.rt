@@ -4,8 +4,8 @@ use crate::{Target, TargetError, TargetSettings};
 use std::alloc::Global;
 use std::process::Abort;
 use std::test::Fail;
-use zapdu::{Apdu, from_node, to_node};
-use zber::Framer;
+use zapdu::{Apdu, InitRequest, from_node, to_node};
+use zber::{Bits, Framer};
 
 const INIT: [u8; 35] = [
     0xb4, 0x21, 0x82, 0x04, 0, 0, 0, 0, 0x83, 0x02, 0x05, 0xe0, 0x84, 0x03, 0x01, 0xc0, 0x06, 0x85,
@@ -169,5 +169,36 @@ fn a_close_goes_last(rt: HostRuntime) -> Result<(), Fail> {
     };
     assert_eq!(&rt; reply.close_reason, 0);
     assert_eq!(&rt; target.pending(), 0);
+    Ok(())
+}
+
+#[test]
+fn an_association_needs_a_version(rt: HostRuntime) -> Result<(), Fail> {
+    let alloc = rt.alloc();
+    let rows: [(&[bool], bool, [bool; 3]); 4] = [
+        (&[], false, [false, false, false]),
+        (&[false, false, false, true], false, [false, false, false]),
+        (&[false, true], true, [false, true, false]),
+        (&[true, false, true, true], true, [true, false, true]),
+    ];
+    for (asked, due, answered) in rows {
+        let mut target = one(&rt, sized(4096))?;
+        let Apdu::InitRequest(request) = init(alloc, 4096, 4096)? else {
+            return Err(Fail::from("another kind"));
+        };
+        let request = InitRequest {
+            protocol_version: Bits::from_slice(alloc, asked)?,
+            ..request
+        };
+        let Apdu::InitResponse(response) = reply(&mut target, &Apdu::InitRequest(request))? else {
+            return Err(Fail::from("another kind"));
+        };
+        assert_eq!(&rt; response.result, due);
+        assert_eq!(&rt; response.protocol_version.as_slice(), answered.as_slice());
+        assert_eq!(&rt;
+            is_refused(&mut target, &close(0), TargetError::WrongState),
+            !due
+        );
+    }
     Ok(())
 }
