@@ -4,3 +4,4 @@ pub mod Histories
 pub mod LongestRuns
 pub mod Phrases
 pub mod WhatFits
+pub mod ExactPlaces

@@ -1,11 +1,9 @@
 -- Words asked for stand among those found where they are a contiguous part of them.
-use Rattle.std.proofs.Common.{◌≡◌, refl, sym, ◌∙◌, ap, subst, ◌⊎◌, inl, inr, ℕ, List, [], ◌∷◌, ◌++◌, length, take, drop, Bool, true, false, not, ◌&&◌, ◌||◌}
-use Rattle.std.specs.List.{starts_with}
-use Rattle.std.specs.Str.{bytes_eq}
+use Rattle.std.proofs.Common.{◌≡◌, refl, sym, ◌∙◌, ap, subst, inl, inr, ℕ, List, [], ◌∷◌, ◌++◌, length, drop, Bool, true, false, not, ◌&&◌, ◌||◌}
 use Rattle.std.proofs.lemmas.Slice.Eq.{bytes_eq-Decides, starts_is}
 use Rattle.std.proofs.lemmas.Bool.Decides.{Decides-eqb}
 use Rattle.std.proofs.lemmas.Bool.{and_parts, and_from, or_cases, true≢false}
-use Rattle.ztarget.specs.Matching.{is_nothing, is_word, stands_first, stands, has_phrase}
+use Rattle.ztarget.specs.Matching.{is_nothing, is_word, stands_first, stands}
 use Rattle.ztarget.specs.Laws.{Answers, AreAnswers, IsPart, Phrases}
 
 answer-of : (t : Bool) (w v : List ℕ) → is_word t w v ≡ true → Answers t w v

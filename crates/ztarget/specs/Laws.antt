@@ -1,9 +1,12 @@
 -- What the definitions come to, in the words of the rules.
-use Rattle.std.specs.Prelude.{◌≡◌, ◌↔◌, ◌⊎◌, ℕ, ◌+◌, ◌<◌, ◌≤◌, List, [], ◌∷◌, ◌++◌, length, Bool, true, false, ◌&&◌}
+use Rattle.std.specs.Prelude.{◌≡◌, ◌↔◌, ◌⊎◌, ℕ, ◌+◌, ◌<◌, ◌≤◌, List, [], ◌∷◌, ◌++◌, length, Bool, true, false, ◌&&◌, Some, slice_get}
 use Rattle.std.specs.List.{AllByRecursion}
 use Rattle.zapdu.specs.declared.record.Record.{Record}
+use Rattle.zquery.specs.Trees.{Tree}
+use Rattle.ztarget.specs.declared.database.Database.{Database}
+use Rattle.ztarget.specs.Searching.{entries_in, searched, found_places}
 use Rattle.ztarget.specs.Words.{is_in_words, has_octets, runs}
-use Rattle.ztarget.specs.Matching.{is_nothing, has_phrase}
+use Rattle.ztarget.specs.Matching.{is_nothing, has_phrase, matches}
 use Rattle.ztarget.specs.Showing.{size_of, held}
 
 abbrev pub InWord : ℕ → Type 0
@@ -76,3 +79,24 @@ pub record IsHeld (size : ℕ) (due kept : List Record) : Type 0 where
 
 abbrev pub WhatFits : Type 0
 WhatFits = (size : ℕ) (due : List Record) → IsHeld size due (held size due)
+
+abbrev pub IsIn : ℕ → List ℕ → Type 0
+IsIn k [] = ⊥
+IsIn k (n ∷ ns) = (k ≡ n) ⊎ IsIn k ns
+
+-- each number is below those behind it
+abbrev pub Rises : List ℕ → Type 0
+Rises [] = Unit {0}
+Rises (n ∷ ns) = AllByRecursion (λ m. n < m) ns × Rises ns
+
+-- there is an item at the place, and it passes
+abbrev pub PassesAt : {X : Type 0} → (X → Bool) → List X → ℕ → Type 0
+PassesAt {X} p xs k = (x : X) × ((slice_get xs k ≡ Some x) × (p x ≡ true))
+
+-- exactly the places of the items that pass, in order
+pub record ArePlaces {X : Type 0} (p : X → Bool) (xs : List X) (places : List ℕ) : Type 0 where
+  pub rising : Rises places
+  pub exact : (k : ℕ) → IsIn k places ↔ PassesAt p xs k
+
+abbrev pub ExactPlaces : Type 0
+ExactPlaces = (databases : List Database) (names : List (List ℕ)) (tree : Tree) → ArePlaces (matches tree) (entries_in (searched databases names)) (found_places databases names tree)

@@ -87,8 +87,10 @@ fn is_close(apdu: &Apdu) -> bool
 }
 
 impl Target {
-    /// A target that has received nothing yet. There are fewer than 4,294,967,296 entries in all; the names of the
-    /// databases are distinct, and the size is at least 1.
+    /// A target that has received nothing yet, with fewer than 4,294,967,296 entries in all.
+    ///
+    /// The names of the databases are meant to be distinct, and the size to be at least 1. Of databases with the same name
+    /// all entries are searched; with a size below 1 each record is too large.
     ///
     /// An error only where no memory was found.
     #[tactic(auto, using(crate::proofs::Histories::at_first))]

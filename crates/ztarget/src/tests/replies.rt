@@ -4,7 +4,7 @@ use crate::{Target, TargetError, TargetSettings};
 use std::alloc::Global;
 use std::process::Abort;
 use std::test::Fail;
-use zapdu::{Apdu, InitRequest, from_node, to_node};
+use zapdu::{Apdu, from_node, to_node};
 use zber::{Bits, Framer};
 
 const INIT: [u8; 35] = [
@@ -104,45 +104,77 @@ fn replies_have_their_octets(rt: HostRuntime) -> Result<(), Fail> {
     Ok(())
 }
 
-fn is_refused(target: &mut Target, request: &Apdu, due: TargetError) -> bool {
-    let before = target.pending();
-    match target.receive(request) {
-        Ok(()) => false,
-        Err(error) => error == due && target.pending() == before,
+/// Init, a search, a request for records, a Close, and the answer to an Init.
+fn request(alloc: Global, which: u8) -> Result<Apdu, Fail> {
+    match which {
+        0 => init(alloc, 4096, 4096),
+        1 => Ok(Apdu::SearchRequest(search(alloc, b"1", b"@attr 1=4 dune")?)),
+        2 => Ok(Apdu::PresentRequest(present(alloc, b"1", 1, 1)?)),
+        3 => Ok(close(1)),
+        _ => apdu(alloc, &ACCEPTED),
     }
+}
+
+/// Whether each of these is refused so, and nothing is put among the pending replies.
+fn refuses(
+    alloc: Global,
+    target: &mut Target,
+    which: &[u8],
+    due: TargetError,
+) -> Result<bool, Fail> {
+    let before = target.pending();
+    for which in which {
+        let request = request(alloc, *which)?;
+        if target.receive(&request) != Err(due) || target.pending() != before {
+            return Ok(false);
+        }
+    }
+    Ok(true)
 }
 
 #[test]
 fn requests_come_in_their_order(rt: HostRuntime) -> Result<(), Fail> {
     let alloc = rt.alloc();
-    let init = init(alloc, 4096, 4096)?;
-    let search = Apdu::SearchRequest(search(alloc, b"1", b"@attr 1=4 dune")?);
-    let present = Apdu::PresentRequest(present(alloc, b"1", 1, 1)?);
     let mut target = one(&rt, sized(4096))?;
-    let accepted = apdu(alloc, &ACCEPTED)?;
-    assert!(&rt; is_refused(&mut target, &accepted, TargetError::NotRequest));
-    for request in [&search, &present] {
-        assert!(&rt; is_refused(&mut target, request, TargetError::WrongState));
-    }
-    target.receive(&init)?;
-    assert!(&rt; is_refused(&mut target, &init, TargetError::WrongState));
-    target.receive(&close(1))?;
-    for request in [&init, &search, &present, &close(0)] {
-        assert!(&rt; is_refused(&mut target, request, TargetError::WrongState));
-    }
+    assert!(&rt; refuses(alloc, &mut target, &[4], TargetError::NotRequest)?);
+    assert!(&rt; refuses(alloc, &mut target, &[1, 2], TargetError::WrongState)?);
+    target.receive(&request(alloc, 0)?)?;
+    assert!(&rt; refuses(alloc, &mut target, &[0], TargetError::WrongState)?);
+    assert!(&rt; refuses(alloc, &mut target, &[4], TargetError::NotRequest)?);
+    target.receive(&request(alloc, 3)?)?;
+    assert!(&rt; refuses(alloc, &mut target, &[0, 1, 2, 3], TargetError::WrongState)?);
     assert_eq!(&rt; target.pending(), 2);
+    Ok(())
+}
+
+#[test]
+fn a_refused_association_is_over(rt: HostRuntime) -> Result<(), Fail> {
+    let alloc = rt.alloc();
     let refusing = TargetSettings {
         refuse: true,
         ..sized(4096)
     };
     let mut target = one(&rt, refusing)?;
-    let Apdu::InitResponse(response) = reply(&mut target, &init)? else {
+    let Apdu::InitResponse(response) = reply(&mut target, &request(alloc, 0)?)? else {
         return Err(Fail::from("another kind"));
     };
     assert!(&rt; !response.result);
-    for request in [&init, &search, &close(0)] {
-        assert!(&rt; is_refused(&mut target, request, TargetError::WrongState));
-    }
+    assert!(&rt; refuses(alloc, &mut target, &[0, 1, 2, 3], TargetError::WrongState)?);
+    Ok(())
+}
+
+#[test]
+fn replies_go_in_any_order(rt: HostRuntime) -> Result<(), Fail> {
+    let alloc = rt.alloc();
+    let mut target = three(&rt, sized(4096))?;
+    target.receive(&request(alloc, 0)?)?;
+    target.receive(&request(alloc, 1)?)?;
+    let Some(Apdu::SearchResponse(response)) = target.release(1) else {
+        return Err(Fail::from("not the second"));
+    };
+    assert_eq!(&rt; response.result_count, 3);
+    assert!(&rt; target.release(1).is_none());
+    assert_eq!(&rt; target.pending(), 1);
     Ok(())
 }
 
@@ -150,16 +182,9 @@ fn requests_come_in_their_order(rt: HostRuntime) -> Result<(), Fail> {
 fn a_close_goes_last(rt: HostRuntime) -> Result<(), Fail> {
     let alloc = rt.alloc();
     let mut target = three(&rt, sized(4096))?;
-    target.receive(&init(alloc, 4096, 4096)?)?;
-    target.receive(&Apdu::SearchRequest(search(alloc, b"1", b"@attr 1=4 dune")?))?;
-    let Some(Apdu::SearchResponse(response)) = target.release(1) else {
-        return Err(Fail::from("not the second"));
-    };
-    assert_eq!(&rt; response.result_count, 3);
-    assert!(&rt; target.release(1).is_none());
-    let _ = target.release(0);
-    target.receive(&Apdu::PresentRequest(present(alloc, b"1", 1, 1)?))?;
-    target.receive(&close(1))?;
+    let _ = reply(&mut target, &request(alloc, 0)?)?;
+    target.receive(&request(alloc, 2)?)?;
+    target.receive(&request(alloc, 3)?)?;
     assert!(&rt; target.release(1).is_none());
     let Some(Apdu::PresentResponse(_)) = target.release(0) else {
         return Err(Fail::from("not the records"));
@@ -183,13 +208,10 @@ fn an_association_needs_a_version(rt: HostRuntime) -> Result<(), Fail> {
     ];
     for (asked, due, answered) in rows {
         let mut target = one(&rt, sized(4096))?;
-        let Apdu::InitRequest(request) = init(alloc, 4096, 4096)? else {
+        let Apdu::InitRequest(mut request) = init(alloc, 4096, 4096)? else {
             return Err(Fail::from("another kind"));
         };
-        let request = InitRequest {
-            protocol_version: Bits::from_slice(alloc, asked)?,
-            ..request
-        };
+        request.protocol_version = Bits::from_slice(alloc, asked)?;
         let Apdu::InitResponse(response) = reply(&mut target, &Apdu::InitRequest(request))? else {
             return Err(Fail::from("another kind"));
         };

@@ -4,12 +4,14 @@ use crate::tests::fixture::{
 };
 use crate::{MatchError, Target, TargetSettings};
 use std::alloc::Global;
+use std::process::Abort;
 use std::test::Fail;
 use zapdu::{
-    Apdu, PresentRequest, PresentResponse, Records, SearchQuery, SearchRequest, SearchResponse,
+    Apdu, PresentRequest, PresentResponse, RecordComposition, Records, SearchQuery, SearchRequest,
+    SearchResponse,
 };
-use zber::{Node, Oid, Tag};
-use zquery::{AttrValue, Query, Rpn, TermValue, parse_pqf};
+use zber::{Node, Oid, Seq, Tag};
+use zquery::{Attr, AttrValue, Query, Rpn, TermValue, parse_pqf};
 
 fn searched(target: &mut Target, request: SearchRequest) -> Result<SearchResponse, Fail> {
     match reply(target, &Apdu::SearchRequest(request))? {
@@ -79,12 +81,10 @@ fn records_come_with_small_and_medium_sets(rt: HostRuntime) -> Result<(), Fail> 
     for (i, (small, large, medium, count, next, status)) in rows.into_iter().enumerate() {
         let mut target = three(&rt, sized(4096))?;
         let _ = reply(&mut target, &init(alloc, 4096, 4096)?)?;
-        let request = SearchRequest {
-            small_set_upper_bound: small,
-            large_set_lower_bound: large,
-            medium_set_present_number: medium,
-            ..search(alloc, b"1", b"@attr 1=4 dune")?
-        };
+        let mut request = search(alloc, b"1", b"@attr 1=4 dune")?;
+        request.small_set_upper_bound = small;
+        request.large_set_lower_bound = large;
+        request.medium_set_present_number = medium;
         let response = searched(&mut target, request)?;
         assert_eq!(&rt; response.result_count, 3, "row {i}");
         assert_eq!(&rt; response.number_of_records_returned, count, "row {i}");
@@ -131,41 +131,38 @@ fn each_fault_of_a_query_has_its_diagnostic(rt: HostRuntime) -> Result<(), Fail>
     Ok(())
 }
 
+/// Proximity of two operands.
+fn near(alloc: Global) -> Result<Rpn, Fail> {
+    let left = Box::new(alloc, parse_pqf(alloc, b"@set 1")?.root)?;
+    let right = Box::new(alloc, parse_pqf(alloc, b"dune")?.root)?;
+    Ok(Rpn::Prox(Node::cons(Tag::context(3), Vec::new(alloc)), left, right))
+}
+
+/// A term of another type, or one with a complex value.
+fn odd(alloc: Global, is_complex: bool) -> Result<Rpn, Fail> {
+    let mut attrs = Vec::new(alloc);
+    if is_complex {
+        attrs.push(Attr {
+            attr_set: None,
+            kind: 1,
+            value: AttrValue::Complex(Node::cons(Tag::context(224), Vec::new(alloc))),
+        })?;
+    }
+    Ok(Rpn::Term {
+        attrs: Seq::from_vec(attrs),
+        term: TermValue::Other(Node::cons(Tag::context(217), Vec::new(alloc))),
+    })
+}
+
 /// Queries that the notation has not: proximity, a complex value, a term of another type.
 fn unwritten(alloc: Global, which: u8) -> Result<Query, Fail> {
-    let mut query = parse_pqf(alloc, b"@attr 1=4 dune")?;
-    let node = Node::cons(Tag::context(3), Vec::new(alloc));
-    if which == 0 {
-        let left = parse_pqf(alloc, b"@set 1")?.root;
-        let right = parse_pqf(alloc, b"dune")?.root;
-        query.root = Rpn::Prox(node, Box::new(alloc, left)?, Box::new(alloc, right)?);
-        return Ok(query);
-    }
-    if which == 1 {
-        let Rpn::Term { attrs, term } = query.root else {
-            return Err(Fail::from("no term"));
-        };
-        let mut attrs = attrs.into_vec();
-        for attr in attrs.iter_mut() {
-            attr.value = AttrValue::Complex(node.copy(alloc)?);
-        }
-        let root = Rpn::Term {
-            attrs: zber::Seq::from_vec(attrs),
-            term,
-        };
-        return Ok(Query {
-            attr_set: query.attr_set,
-            root,
-        });
-    }
-    let root = Rpn::Term {
-        attrs: zber::Seq::from_vec(Vec::new(alloc)),
-        term: TermValue::Other(node),
+    let mut query = parse_pqf(alloc, b"dune")?;
+    query.root = match which {
+        0 => near(alloc)?,
+        1 => odd(alloc, true)?,
+        _ => odd(alloc, false)?,
     };
-    Ok(Query {
-        attr_set: query.attr_set,
-        root,
-    })
+    Ok(query)
 }
 
 #[test]
@@ -200,50 +197,61 @@ fn failed(response: &SearchResponse) -> Option<(i64, &[u8])> {
     }
 }
 
-fn named(alloc: Global, database: &[u8]) -> Result<SearchRequest, Fail> {
-    let mut names = Vec::new(alloc);
-    names.push(text(alloc, b"d")?)?;
-    names.push(text(alloc, database)?)?;
-    Ok(SearchRequest {
-        database_names: zber::Seq::from_vec(names),
-        ..search(alloc, b"2", b"@attr 1=5 dune")?
-    })
+/// Searches that fail: another type of query, a set that is kept, no database, an unknown one, an unsupported value.
+fn faulty(alloc: Global, which: u8) -> Result<SearchRequest, Fail> {
+    let mut request = search(alloc, b"1", b"@attr 1=5 dune")?;
+    match which {
+        0 => {
+            let element = Node::cons(Tag::context(2), Vec::new(alloc));
+            request.query = SearchQuery::Other(element);
+        }
+        1 => request.replace_indicator = false,
+        2 => request.database_names = Seq::from_vec(Vec::new(alloc)),
+        3 => {
+            let mut names = Vec::new(alloc);
+            for name in [b"d", b"e"] {
+                names.push(text(alloc, name)?)?;
+            }
+            request.database_names = Seq::from_vec(names);
+        }
+        _ => {}
+    }
+    Ok(request)
+}
+
+/// A target of three records, whose result set 1 has them all.
+fn ready(rt: &(impl Abort + AllocGlobal)) -> Result<Target, Fail> {
+    let alloc = rt.alloc();
+    let mut target = three(rt, sized(4096))?;
+    let _ = reply(&mut target, &init(alloc, 4096, 4096)?)?;
+    let _ = searched(&mut target, search(alloc, b"1", b"@attr 1=4 dune")?)?;
+    Ok(target)
 }
 
 #[test]
 fn a_search_that_fails_leaves_the_sets(rt: HostRuntime) -> Result<(), Fail> {
     let alloc = rt.alloc();
-    let mut target = three(&rt, sized(4096))?;
-    let _ = reply(&mut target, &init(alloc, 4096, 4096)?)?;
-    let _ = searched(&mut target, search(alloc, b"1", b"@attr 1=4 dune")?)?;
-    let other = SearchRequest {
-        query: SearchQuery::Other(Node::cons(Tag::context(2), Vec::new(alloc))),
-        ..search(alloc, b"1", b"dune")?
-    };
-    let kept = SearchRequest {
-        replace_indicator: false,
-        ..search(alloc, b"1", b"@attr 1=5 dune")?
-    };
-    let nameless = SearchRequest {
-        database_names: zber::Seq::from_vec(Vec::new(alloc)),
-        ..search(alloc, b"1", b"@attr 1=5 dune")?
-    };
-    let unknown = named(alloc, b"e")?;
-    let unsupported = search(alloc, b"1", b"@attr 1=5 dune")?;
-    let rows: [(SearchRequest, i64, &[u8]); 5] = [
-        (other, 107, b""),
-        (kept, 21, b"1"),
-        (nameless, 235, b""),
-        (unknown, 235, b"e"),
-        (unsupported, 114, b"5"),
+    let mut target = ready(&rt)?;
+    let rows: [(u8, i64, &[u8]); 5] = [
+        (0, 107, b""),
+        (1, 21, b"1"),
+        (2, 235, b""),
+        (3, 235, b"e"),
+        (4, 114, b"5"),
     ];
-    for (request, code, info) in rows {
-        let response = searched(&mut target, request)?;
+    for (which, code, info) in rows {
+        let response = searched(&mut target, faulty(alloc, which)?)?;
         assert_eq!(&rt; failed(&response), Some((code, info)));
     }
     let response = presented(&mut target, present(alloc, b"1", 3, 1)?)?;
     assert_eq!(&rt; response.number_of_records_returned, 1);
-    // A set of the same name is replaced.
+    Ok(())
+}
+
+#[test]
+fn a_set_of_the_same_name_is_replaced(rt: HostRuntime) -> Result<(), Fail> {
+    let alloc = rt.alloc();
+    let mut target = ready(&rt)?;
     let _ = searched(&mut target, search(alloc, b"1", b"zebra")?)?;
     let response = presented(&mut target, present(alloc, b"1", 1, 1)?)?;
     assert_eq!(&rt; diagnosis(&response.records), Some((13, b"".as_slice())));
@@ -266,60 +274,59 @@ fn only_default_is_a_name_where_none_are_in_force(rt: HostRuntime) -> Result<(),
     Ok(())
 }
 
+/// A request for records of a set, with additional ranges or a complex composition.
+fn asked(
+    alloc: Global,
+    set: &[u8],
+    start: i64,
+    number: i64,
+    which: u8,
+) -> Result<PresentRequest, Fail> {
+    let mut request = present(alloc, set, start, number)?;
+    match which {
+        1 => request.additional_ranges = Some(Seq::from_vec(Vec::new(alloc))),
+        2 => {
+            let element = Node::cons(Tag::context(209), Vec::new(alloc));
+            request.record_composition = Some(RecordComposition::Complex(element));
+        }
+        _ => {}
+    }
+    Ok(request)
+}
+
 #[test]
 fn requests_for_records_fail(rt: HostRuntime) -> Result<(), Fail> {
     let alloc = rt.alloc();
-    let mut target = three(&rt, sized(4096))?;
-    let _ = reply(&mut target, &init(alloc, 4096, 4096)?)?;
-    let _ = searched(&mut target, search(alloc, b"1", b"@attr 1=4 dune")?)?;
-    let ranges = PresentRequest {
-        additional_ranges: Some(zber::Seq::from_vec(Vec::new(alloc))),
-        ..present(alloc, b"1", 9, 1)?
-    };
-    let composed = PresentRequest {
-        record_composition: Some(zapdu::RecordComposition::Complex(Node::cons(
-            Tag::context(209),
-            Vec::new(alloc),
-        ))),
-        ..present(alloc, b"1", 9, 1)?
-    };
-    let rows: [(PresentRequest, i64, &[u8]); 8] = [
-        (present(alloc, b"2", 1, 1)?, 30, b"2"),
-        (ranges, 100, b"ranges"),
-        (composed, 100, b"composition"),
-        (present(alloc, b"1", 0, 1)?, 13, b""),
-        (present(alloc, b"1", 1, 0)?, 13, b""),
-        (present(alloc, b"1", -1, 3)?, 13, b""),
-        (present(alloc, b"1", 2, 3)?, 13, b""),
-        (
-            present(
-                alloc,
-                b"1",
-                9_223_372_036_854_775_807,
-                9_223_372_036_854_775_807,
-            )?,
-            13,
-            b"",
-        ),
+    let mut target = ready(&rt)?;
+    let rows: [(&[u8], i64, i64, u8, i64, &[u8]); 9] = [
+        (b"2", 1, 1, 1, 30, b"2"),
+        (b"1", 9, 1, 1, 100, b"ranges"),
+        (b"1", 9, 1, 2, 100, b"composition"),
+        (b"1", 0, 1, 0, 13, b""),
+        (b"1", 1, 0, 0, 13, b""),
+        (b"1", -1, 3, 0, 13, b""),
+        (b"1", 2, 3, 0, 13, b""),
+        (b"1", 4, 1, 0, 13, b""),
+        (b"1", i64::MAX, i64::MAX, 0, 13, b""),
     ];
-    for (request, code, info) in rows {
-        let response = presented(&mut target, request)?;
+    for (set, start, number, which, code, info) in rows {
+        let response = presented(&mut target, asked(alloc, set, start, number, which)?)?;
         assert_eq!(&rt; response.present_status, 5);
         assert_eq!(&rt; response.number_of_records_returned, 0);
         assert_eq!(&rt; response.next_result_set_position, 0);
         assert_eq!(&rt; diagnosis(&response.records), Some((code, info)));
     }
-    // Another syntax than that of the records.
-    let other = PresentRequest {
-        preferred_record_syntax: Some(Oid::from_arcs(alloc, &[1, 2, 3])?),
-        ..present(alloc, b"1", 2, 2)?
-    };
-    let same = PresentRequest {
-        preferred_record_syntax: Some(Oid::from_arcs(alloc, &SYNTAX)?),
-        ..present(alloc, b"1", 2, 1)?
-    };
-    let rows: [(PresentRequest, i64, &[u8]); 2] = [(other, 238, b"1.2.3"), (same, 0, b"c2")];
-    for (request, code, info) in rows {
+    Ok(())
+}
+
+#[test]
+fn a_record_is_in_the_syntax_asked_for(rt: HostRuntime) -> Result<(), Fail> {
+    let alloc = rt.alloc();
+    let mut target = ready(&rt)?;
+    let rows: [(&[u32], i64, &[u8]); 2] = [(&[1, 2, 3], 238, b"1.2.3"), (&SYNTAX, 0, b"c2")];
+    for (arcs, code, info) in rows {
+        let mut request = present(alloc, b"1", 2, 1)?;
+        request.preferred_record_syntax = Some(Oid::from_arcs(alloc, arcs)?);
         let response = presented(&mut target, request)?;
         let Some(Records::List(records)) = &response.records else {
             return Err(Fail::from("no records"));
