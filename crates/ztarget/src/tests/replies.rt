@@ -217,10 +217,8 @@ fn an_association_needs_a_version(rt: HostRuntime) -> Result<(), Fail> {
         };
         assert_eq!(&rt; response.result, due);
         assert_eq!(&rt; response.protocol_version.as_slice(), answered.as_slice());
-        assert_eq!(&rt;
-            is_refused(&mut target, &close(0), TargetError::WrongState),
-            !due
-        );
+        let is_over = refuses(alloc, &mut target, &[3], TargetError::WrongState)?;
+        assert_eq!(&rt; is_over, !due);
     }
     Ok(())
 }
