@@ -1,0 +1,13 @@
+pub mod Words
+pub mod Matching
+pub mod Faults
+pub mod Searching
+pub mod Counting
+pub mod Showing
+pub mod Standing
+pub mod Initialising
+pub mod Responding
+pub mod Replies
+pub mod Viewed
+pub mod Receiving
+pub mod Laws

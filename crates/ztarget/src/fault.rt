@@ -1,0 +1,257 @@
+//! Faults: what of a query the target does not support.
+ghost use Rattle.std.specs.Prelude.{◌≡◌, ℕ, ℤ, pos, Option, Some, None, IfOk, if◌then◌else◌};
+ghost use Rattle.std.specs.Fmt.{signed_decimal};
+ghost use Rattle.std.specs.List.{find};
+ghost use Rattle.std.specs.Option.{option_map};
+ghost use Rattle.zquery.specs.Trees.{OfTerm};
+ghost use Rattle.zquery.specs.Viewed.{seen};
+ghost use Rattle.ztarget.specs.Faults.{fault, first_of, is_unknown, is_among, number_fault, row_of, value_fault, set_fault, attr_fault, attrs_fault, term_fault, tree_fault, query_fault, is_known, names_fault, match_fault};
+
+use crate::database::Database;
+use crate::decimal::{decimal, dotted};
+use bytes::Bytes;
+use std::alloc::{AllocError, Global};
+use std::marker::Model;
+use zber::Oid;
+use zquery::{Attr, AttrValue, Query, Rpn, TermValue};
+
+/// Why a request is not done: a condition of the diagnostics of bib-1 (Z39.50-2003, ERR), and what it names.
+#[derive(Drop)]
+pub(crate) struct Fault {
+    pub condition: i64,
+    pub info: Bytes,
+}
+
+impl Model for Fault {
+    ghost use Rattle.ztarget.specs.Faults.{Reason};
+
+    ghost Value = { Reason };
+
+    ghost view = { λ f. record { condition = f.condition; info = f.info } };
+}
+
+/// The arcs of the attribute set bib-1 (Z39.50-2003, ATR).
+const BIB_1: [u32; 6] = [1, 2, 840, 10003, 3, 1];
+
+/// Whether a value is one of those that are supported.
+fn is_among(values: &[u16], value: i64) -> bool
+    ensures { result ≡ is_among values.now value }
+{
+    values
+        .iter()
+        .any(|supported| value == i64::from(*supported))
+}
+
+/// The fault of a value that is not among those that are supported.
+fn unless_among(
+    alloc: Global,
+    values: &[u16],
+    condition: u16,
+    value: i64,
+) -> Result<Option<Fault>, AllocError>
+    ensures { IfOk result (λ f. f ≡ (if is_among values.now value then None else Some (fault condition (signed_decimal value)))) }
+{
+    if is_among(values, value) {
+        return Ok(None);
+    }
+    Ok(Some(Fault {
+        condition: i64::from(condition),
+        info: decimal(alloc, value)?,
+    }))
+}
+
+/// The fault of an attribute type.
+fn unsupported_type(alloc: Global, kind: i64) -> Result<Option<Fault>, AllocError>
+    ensures { IfOk result (λ f. f ≡ Some (fault 113 (signed_decimal kind))) }
+{
+    Ok(Some(Fault {
+        condition: 113,
+        info: decimal(alloc, kind)?,
+    }))
+}
+
+/// The fault of an attribute with a number: Use, Relation, Position, Structure, Truncation, Completeness, and other types.
+fn number_fault(alloc: Global, kind: i64, value: i64) -> Result<Option<Fault>, AllocError>
+    ensures { IfOk result (λ f. f ≡ number_fault kind value (row_of kind)) }
+{
+    match kind {
+        1 => unless_among(alloc, &[4, 7, 12, 21, 31, 1003, 1016], 114, value),
+        2 => unless_among(alloc, &[3], 117, value),
+        3 => unless_among(alloc, &[3], 119, value),
+        4 => unless_among(alloc, &[1, 2], 118, value),
+        5 => unless_among(alloc, &[1, 100], 120, value),
+        6 => unless_among(alloc, &[1], 122, value),
+        _ => unsupported_type(alloc, kind),
+    }
+}
+
+fn value_fault(alloc: Global, kind: i64, value: &AttrValue) -> Result<Option<Fault>, AllocError>
+    ensures { IfOk result (λ f. f ≡ value_fault kind value.now) }
+{
+    match value {
+        AttrValue::Number(value) => number_fault(alloc, kind, *value),
+        AttrValue::Complex(_) => unsupported_type(alloc, kind),
+    }
+}
+
+/// The fault of an attribute set other than bib-1.
+fn set_fault(alloc: Global, set: &Oid) -> Result<Option<Fault>, AllocError>
+    ensures { IfOk result (λ f. f ≡ set_fault (Some set.now)) }
+{
+    if set.arcs() == BIB_1.as_slice() {
+        return Ok(None);
+    }
+    Ok(Some(Fault {
+        condition: 121,
+        info: dotted(alloc, set)?,
+    }))
+}
+
+fn attr_set_fault(alloc: Global, attr: &Attr) -> Result<Option<Fault>, AllocError>
+    ensures { IfOk result (λ f. f ≡ set_fault attr.now.attr_set) }
+{
+    match &attr.attr_set {
+        None => Ok(None),
+        Some(set) => set_fault(alloc, set),
+    }
+}
+
+fn attr_fault(alloc: Global, attr: &Attr) -> Result<Option<Fault>, AllocError>
+    ensures { IfOk result (λ f. f ≡ attr_fault attr.now) }
+{
+    match attr_set_fault(alloc, attr)? {
+        Some(fault) => Ok(Some(fault)),
+        None => value_fault(alloc, attr.kind, &attr.value),
+    }
+}
+
+fn attrs_fault(alloc: Global, attrs: &[Attr]) -> Result<Option<Fault>, AllocError>
+    ensures { IfOk result (λ f. f ≡ attrs_fault attrs.now) }
+{
+    let mut left = attrs;
+    while let [attr, later @ ..] = left {
+        if let Some(fault) = attr_fault(alloc, attr)? {
+            return Ok(Some(fault));
+        }
+        left = later;
+    }
+    Ok(None)
+}
+
+/// The fault of a term of a type that is kept as its element.
+fn term_fault(term: &TermValue) -> Option<Fault>
+    ensures { result ≡ term_fault term.now }
+{
+    match term {
+        TermValue::General(_) | TermValue::Numeric(_) | TermValue::Text(_) => None,
+        TermValue::Other(_) => Some(Fault {
+            condition: 100,
+            info: Bytes::from_static(b"term"),
+        }),
+    }
+}
+
+fn operand_fault(
+    alloc: Global,
+    attrs: &[Attr],
+    term: &TermValue,
+) -> Result<Option<Fault>, AllocError>
+    ensures { IfOk result (λ f. f ≡ tree_fault (OfTerm attrs.now term.now)) }
+{
+    match attrs_fault(alloc, attrs)? {
+        Some(fault) => Ok(Some(fault)),
+        None => Ok(term_fault(term)),
+    }
+}
+
+fn result_set_fault(name: &Bytes) -> Result<Option<Fault>, AllocError>
+    ensures { IfOk result (λ f. f ≡ Some (fault 18 name.now)) }
+{
+    Ok(Some(Fault {
+        condition: 18,
+        info: name.clone()?,
+    }))
+}
+
+/// The first fault of a tree, from the left, an operator's before those of its operands.
+fn tree_fault(alloc: Global, rpn: &Rpn) -> Result<Option<Fault>, AllocError>
+    ensures { IfOk result (λ f. f ≡ tree_fault (seen rpn.now)) }
+{
+    match rpn {
+        Rpn::Term { attrs, term } => operand_fault(alloc, attrs.as_slice(), term),
+        Rpn::ResultSet { name } => result_set_fault(name),
+        Rpn::SetAttrs { name, .. } => result_set_fault(name),
+        Rpn::And(left, right) | Rpn::Or(left, right) | Rpn::Not(left, right) => {
+            match tree_fault(alloc, left)? {
+                Some(fault) => Ok(Some(fault)),
+                None => tree_fault(alloc, right),
+            }
+        }
+        Rpn::Prox(..) => Ok(Some(Fault {
+            condition: 110,
+            info: Bytes::new(),
+        })),
+    }
+}
+
+/// The first fault of a type-1 query: that of its attribute set, then those of its tree from the left.
+pub(crate) fn query_fault(alloc: Global, query: &Query) -> Result<Option<Fault>, AllocError>
+    ensures { IfOk result (λ f. f ≡ query_fault query.now) }
+{
+    match set_fault(alloc, &query.attr_set)? {
+        Some(fault) => Ok(Some(fault)),
+        None => tree_fault(alloc, &query.root),
+    }
+}
+
+fn is_known(databases: &[Database], name: &Bytes) -> bool
+    ensures { result ≡ is_known databases.now name.now }
+{
+    databases
+        .iter()
+        .any(|database| database.name.as_slice() == name.as_slice())
+}
+
+/// The first of the names that no database has.
+fn unknown<'a>(databases: &[Database], names: &'a [Bytes]) -> Option<&'a Bytes>
+    ensures { option_map (λ name. name.now) result ≡ find (is_unknown databases.now) names.now }
+{
+    names.iter().find(|name| !is_known(databases, name))
+}
+
+/// The fault of names of databases: there is none, or one that no database has.
+pub(crate) fn names_fault(
+    databases: &[Database],
+    names: &[Bytes],
+) -> Result<Option<Fault>, AllocError>
+    ensures { IfOk result (λ f. f ≡ names_fault databases.now names.now) }
+{
+    if names.is_empty() {
+        return Ok(Some(Fault {
+            condition: 235,
+            info: Bytes::new(),
+        }));
+    }
+    match unknown(databases, names) {
+        Some(name) => Ok(Some(Fault {
+            condition: 235,
+            info: name.clone()?,
+        })),
+        None => Ok(None),
+    }
+}
+
+/// The first fault of a type-1 query for databases: that of their names, then that of the query.
+pub(crate) fn match_fault(
+    alloc: Global,
+    databases: &[Database],
+    names: &[Bytes],
+    query: &Query,
+) -> Result<Option<Fault>, AllocError>
+    ensures { IfOk result (λ f. f ≡ match_fault databases.now names.now query.now) }
+{
+    match names_fault(databases, names)? {
+        Some(fault) => Ok(Some(fault)),
+        None => query_fault(alloc, query),
+    }
+}

@@ -1,0 +1,32 @@
+//! The other end of Z39.50, exact and in memory: databases, and a target that owes each request one stated reply.
+#![tactic(auto)]
+
+mod database;
+mod decimal;
+mod diagnostic;
+mod error;
+mod fault;
+mod found;
+mod init;
+pub mod laws;
+mod matching;
+mod phase;
+mod present;
+mod query;
+mod record;
+mod result_set;
+mod search;
+mod search_fault;
+mod searched;
+mod sets;
+mod settings;
+mod target;
+mod words;
+
+pub use database::{Database, Entry, Field};
+pub use error::{MatchError, TargetError};
+pub use settings::TargetSettings;
+pub use target::Target;
+
+#[cfg(test)]
+mod tests;

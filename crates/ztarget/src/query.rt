@@ -1,0 +1,89 @@
+//! What a target finds for a query.
+ghost use Rattle.std.specs.Prelude.{◌≡◌, ◌<◌, ◌^◌, None, length, map, IfOk, IfErr, OnOk};
+ghost use Rattle.zquery.specs.Viewed.{seen};
+ghost use Rattle.ztarget.specs.Faults.{match_fault};
+ghost use Rattle.ztarget.specs.Matching.{matches};
+ghost use Rattle.ztarget.specs.Searching.{entries_in, found_places, result_set};
+ghost use Rattle.ztarget.specs.Counting.{places_in};
+ghost use Rattle.ztarget.specs.Replies.{found_by_query};
+ghost use Rattle.ztarget.specs.Receiving.{IsRefusal};
+
+use crate::database::Database;
+use crate::error::MatchError;
+use crate::fault::{Fault, match_fault};
+use crate::found::{Hit, hits, places};
+use crate::searched::searched;
+use bytes::Bytes;
+use std::alloc::{AllocError, Global};
+use zapdu::{SearchQuery, SearchRequest};
+use zquery::Query;
+
+/// The places of the entries that match, counted through the databases named.
+#[tactic(auto, using(crate::proofs::Places::places_in_all, crate::proofs::FewEntries::few_searched))]
+fn found_places(
+    alloc: Global,
+    databases: &[Database],
+    names: &[Bytes],
+    query: &Query,
+) -> Result<Vec<u32>, AllocError>
+    requires { length (entries_in databases.now) < 2 ^ 32 }
+    ensures { IfOk result (λ places. places.items ≡ found_places databases.now names.now query.now.root) }
+{
+    let searched = searched(alloc, databases, names)?;
+    places(alloc, &query.root, &searched)
+}
+
+/// The same, or the first fault of the query.
+pub(crate) fn matching_places(
+    alloc: Global,
+    databases: &[Database],
+    names: &[Bytes],
+    query: &Query,
+) -> Result<Vec<u32>, MatchError>
+    requires { length (entries_in databases.now) < 2 ^ 32 }
+    ensures lawful { OnOk result (match_fault databases.now names.now query.now ≡ None) }
+    ensures places { IfOk result (λ places. places.items ≡ found_places databases.now names.now query.now.root) }
+    ensures refused { IfErr result (λ e. IsRefusal (match_fault databases.now names.now query.now) e) }
+{
+    match match_fault(alloc, databases, names, query)? {
+        Some(Fault { condition, info }) => Err(MatchError::Code {
+            code: condition,
+            info,
+        }),
+        None => Ok(found_places(alloc, databases, names, query)?),
+    }
+}
+
+/// What is found for a type-1 query, in order.
+#[tactic(auto, using(crate::proofs::FewEntries::few_found))]
+fn result_set(
+    alloc: Global,
+    databases: &[Database],
+    names: &[Bytes],
+    query: &Query,
+) -> Result<Vec<Hit>, AllocError>
+    requires { length (entries_in databases.now) < 2 ^ 32 }
+    ensures found { IfOk result (λ hits. hits.items ≡ result_set databases.now names.now query.now.root) }
+    ensures few { IfOk result (λ hits. length hits.items < 2 ^ 32) }
+{
+    let searched = searched(alloc, databases, names)?;
+    hits(alloc, &query.root, &searched)
+}
+
+/// What a search finds, in order.
+pub(crate) fn found(
+    alloc: Global,
+    databases: &[Database],
+    request: &SearchRequest,
+) -> Result<Vec<Hit>, AllocError>
+    requires { length (entries_in databases.now) < 2 ^ 32 }
+    ensures found { IfOk result (λ hits. hits.items ≡ found_by_query databases.now request.now request.now.query) }
+    ensures few { IfOk result (λ hits. length hits.items < 2 ^ 32) }
+{
+    match &request.query {
+        SearchQuery::Rpn(query) => {
+            result_set(alloc, databases, request.database_names.as_slice(), query)
+        }
+        SearchQuery::Other(_) => Ok(Vec::new(alloc)),
+    }
+}

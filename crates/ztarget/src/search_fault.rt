@@ -1,0 +1,82 @@
+//! Why a search fails.
+ghost use Rattle.std.specs.Prelude.{◌≡◌, IfOk};
+ghost use Rattle.zapdu.specs.declared.search_query.SearchQuery.TheVariants.{Rpn};
+ghost use Rattle.ztarget.specs.Responding.{name_fault, kept_fault, search_fault};
+ghost use Rattle.ztarget.specs.Standing.{set_named};
+ghost use Rattle.ztarget.specs.Viewed.{terms_of};
+
+use crate::database::Database;
+use crate::fault::{Fault, match_fault};
+use crate::phase::Terms;
+use crate::result_set::ResultSet;
+use crate::sets::set_named;
+use bytes::Bytes;
+use std::alloc::{AllocError, Global};
+use zapdu::{SearchQuery, SearchRequest};
+use zquery::Query;
+
+/// The fault of a result set's name other than `default` where names are not in force (Z39.50-2003, 3.2.2.1.3).
+fn name_fault(named: bool, name: &Bytes) -> Result<Option<Fault>, AllocError>
+    ensures { IfOk result (λ f. f ≡ name_fault named name.now) }
+{
+    if named || name.as_slice() == b"default".as_slice() {
+        return Ok(None);
+    }
+    Ok(Some(Fault {
+        condition: 22,
+        info: name.clone()?,
+    }))
+}
+
+/// The fault of a search that must not replace a result set that is there.
+fn kept_fault(sets: &[ResultSet], replaces: bool, name: &Bytes) -> Result<Option<Fault>, AllocError>
+    ensures { IfOk result (λ f. f ≡ kept_fault replaces name.now (set_named sets.now name.now)) }
+{
+    match set_named(sets, name) {
+        Some(_) if !replaces => Ok(Some(Fault {
+            condition: 21,
+            info: name.clone()?,
+        })),
+        _ => Ok(None),
+    }
+}
+
+/// The first fault of a search with a type-1 query.
+fn type_1_fault(
+    alloc: Global,
+    databases: &[Database],
+    sets: &[ResultSet],
+    terms: Terms,
+    request: &SearchRequest,
+    query: &Query,
+) -> Result<Option<Fault>, AllocError>
+    ensures { IfOk result (λ f. f ≡ search_fault databases.now sets.now (terms_of terms) request.now (Rpn query.now)) }
+{
+    let name = &request.result_set_name;
+    if let Some(fault) = name_fault(terms.named, name)? {
+        return Ok(Some(fault));
+    }
+    if let Some(fault) = kept_fault(sets, request.replace_indicator, name)? {
+        return Ok(Some(fault));
+    }
+    match_fault(alloc, databases, request.database_names.as_slice(), query)
+}
+
+/// The first fault of a search.
+pub(crate) fn search_fault(
+    alloc: Global,
+    databases: &[Database],
+    sets: &[ResultSet],
+    terms: Terms,
+    request: &SearchRequest,
+) -> Result<Option<Fault>, AllocError>
+    ensures { IfOk result (λ f. f ≡ search_fault databases.now sets.now (terms_of terms) request.now request.now.query) }
+{
+    match &request.query {
+        SearchQuery::Rpn(query) => type_1_fault(alloc, databases, sets, terms, request, query),
+        SearchQuery::Other(_) => Ok(Some(Fault {
+            condition: 107,
+            info: Bytes::new(),
+        })),
+    }
+}

@@ -1,0 +1,307 @@
+//! The target.
+ghost use Rattle.std.specs.Prelude.{◌≡◌, ◌<◌, ◌^◌, [], ◌∷◌, ◌++◌, List, None, length, IfOk, IfErr, OnOk, OnErr};
+ghost use Rattle.zapdu.specs.declared.apdu.Apdu.{Apdu};
+ghost use Rattle.zapdu.specs.declared.apdu.Apdu.TheVariants as apdus;
+ghost use Rattle.ztarget.specs.Faults.{match_fault};
+ghost use Rattle.ztarget.specs.Searching.{entries_in, found_places};
+ghost use Rattle.ztarget.specs.Replies.{close_reply, to_init, to_close, to_search, to_search_unless, to_present, found_by_query};
+ghost use Rattle.ztarget.specs.Responding.{search_failed};
+ghost use Rattle.ztarget.specs.Standing.{Open, put_set};
+ghost use Rattle.ztarget.specs.declared.database.Database.{Database};
+ghost use Rattle.ztarget.specs.declared.settings.TargetSettings.{TargetSettings};
+ghost use Rattle.ztarget.specs.Receiving.{new_target, answered, Receives, After, Answers, is_close, with_released, Releases, IsRefusal};
+ghost use Rattle.ztarget.specs.Viewed.{terms_of};
+
+use crate::database::Database;
+use crate::error::{MatchError, TargetError};
+use crate::fault::Fault;
+use crate::init::{init_response, is_accepted, terms};
+use crate::phase::{Phase, Terms};
+use crate::present::presented;
+use crate::query::{found, matching_places};
+use crate::result_set::ResultSet;
+use crate::search::{search_failed, search_found};
+use crate::search_fault::search_fault;
+use crate::sets::{put_set, set_named};
+use crate::settings::TargetSettings;
+use bytes::Bytes;
+use std::alloc::{AllocError, Global};
+use std::marker::Model;
+use zapdu::{Apdu, Close, InitRequest, PresentRequest, SearchRequest, SearchResponse};
+use zber::Duplicate;
+use zquery::Query;
+
+/// A target of Z39.50 with databases in memory: it owes each request that it takes one reply, a function of the requests
+/// received up to it, and hands the replies out in any order, a Close last.
+#[derive(Drop)]
+pub struct Target {
+    alloc: Global,
+    databases: Vec<Database>,
+    settings: TargetSettings,
+    phase: Phase,
+    sets: Vec<ResultSet>,
+    pending: Vec<Apdu>,
+}
+
+impl Model for Target {
+    ghost use Rattle.std.specs.Prelude.{◌<◌, ◌^◌, length};
+    ghost use Rattle.ztarget.specs.Receiving.{TargetState};
+
+    ghost Value = { TargetState };
+
+    ghost use Rattle.std.specs.Coded.{codes};
+    ghost use Rattle.zber.specs.Coding.{coded_element};
+    ghost use Rattle.zquery.specs.Coding.{coded_query};
+
+    ghost coded = { Prim.hlevel (codes, coded_element, coded_query) };
+
+    ghost use Rattle.ztarget.specs.Searching.{entries_in};
+    ghost use Rattle.ztarget.specs.Viewed.{state_of};
+
+    ghost view = { λ t. record { databases = t.databases.items; settings = t.settings; standing = record { state = state_of t.phase; sets = t.sets.items }; pending = t.pending.items } };
+
+    ghost invariant = { λ t. length (entries_in t.databases.items) < 2 ^ 32 };
+}
+
+/// The answer to a Close: reason 0, finished, and the same reference id.
+fn close_reply(alloc: Global, close: &Close) -> Result<Close, AllocError>
+    ensures { IfOk result (λ reply. reply ≡ close_reply close.now) }
+{
+    Ok(Close {
+        reference_id: close.reference_id.duplicate(alloc)?,
+        close_reason: 0,
+        diagnostic_information: None,
+        resource_report_format: None,
+        resource_report: None,
+        other_info: None,
+    })
+}
+
+fn is_close(apdu: &Apdu) -> bool
+    ensures { result ≡ is_close apdu.now }
+{
+    match apdu {
+        Apdu::Close(_) => true,
+        _ => false,
+    }
+}
+
+impl Target {
+    /// A target that has received nothing yet, with fewer than 4,294,967,296 entries in all.
+    ///
+    /// The names of the databases are meant to be distinct, and the size to be at least 1. Of databases with the same name
+    /// all entries are searched; with a size below 1 each record is too large.
+    ///
+    /// An error only where no memory was found.
+    #[tactic(auto, using(crate::proofs::Histories::at_first))]
+    pub fn new(
+        alloc: Global,
+        databases: Vec<Database>,
+        settings: TargetSettings,
+    ) -> Result<Target, AllocError>
+        requires { length (entries_in databases.items) < 2 ^ 32 }
+        ensures value { IfOk result (λ target. target ≡ new_target databases.items settings) }
+        ensures after { IfOk result (λ target. After databases.items settings [] [] target) }
+    {
+        Ok(Target {
+            alloc,
+            databases,
+            settings,
+            phase: Phase::Fresh,
+            sets: Vec::new(alloc),
+            pending: Vec::new(alloc),
+        })
+    }
+
+    /// Puts the answer to Init last, and begins the association or ends it.
+    fn begin(&mut self, request: &InitRequest) -> Result<(), AllocError>
+        ensures ok { OnOk result (self.new ≡ answered self.old (to_init self.old.settings self.old.standing.sets request.now)) }
+        ensures err { OnErr result (self.new ≡ self.old) }
+    {
+        let settings = self.settings;
+        let response = init_response(self.alloc, settings, request)?;
+        self.pending.push(Apdu::InitResponse(response))?;
+        self.phase = if is_accepted(settings, &request.protocol_version) {
+            Phase::Open(terms(settings, request))
+        } else {
+            Phase::Ended
+        };
+        Ok(())
+    }
+
+    /// Puts the answer to a Close last, and ends the association.
+    fn close(&mut self, close: &Close) -> Result<(), AllocError>
+        ensures ok { OnOk result (self.new ≡ answered self.old (to_close self.old.standing.sets close.now)) }
+        ensures err { OnErr result (self.new ≡ self.old) }
+    {
+        let reply = close_reply(self.alloc, close)?;
+        self.pending.push(Apdu::Close(reply))?;
+        self.phase = Phase::Ended;
+        Ok(())
+    }
+
+    /// Puts the response to a search last, and keeps its result set.
+    fn keep(&mut self, response: SearchResponse, set: ResultSet) -> Result<(), AllocError>
+        ensures ok { OnOk result (self.new ≡ record self.old {
+          standing = record { state = self.old.standing.state; sets = put_set self.old.standing.sets set };
+          pending = self.old.pending ++ apdus.SearchResponse response ∷ [];
+        }) }
+        ensures err { OnErr result (self.new ≡ self.old) }
+    {
+        self.pending.push(Apdu::SearchResponse(response))?;
+        match put_set(&mut self.sets, set) {
+            Ok(()) => Ok(()),
+            Err(error) => {
+                let _ = self.pending.pop();
+                Err(error)
+            }
+        }
+    }
+
+    /// Puts the response to a search that fails last.
+    fn fail(&mut self, request: &SearchRequest, fault: Fault) -> Result<(), AllocError>
+        ensures ok { OnOk result (self.new ≡ record self.old { pending = self.old.pending ++ apdus.SearchResponse (search_failed request.now fault) ∷ [] }) }
+        ensures err { OnErr result (self.new ≡ self.old) }
+    {
+        let response = search_failed(self.alloc, request, fault)?;
+        self.pending.push(Apdu::SearchResponse(response))?;
+        Ok(())
+    }
+
+    /// Puts the response to a search without a fault last, and keeps its result set.
+    fn find(&mut self, terms: Terms, request: &SearchRequest) -> Result<(), AllocError>
+        requires { self.old.standing.state ≡ Open (terms_of terms) }
+        ensures ok { OnOk result (self.new ≡ answered self.old (to_search_unless (terms_of terms) self.old.standing.sets request.now
+            (found_by_query self.old.databases request.now request.now.query) None)) }
+        ensures err { OnErr result (self.new ≡ self.old) }
+    {
+        let found = found(self.alloc, &self.databases, request)?;
+        let response = search_found(self.alloc, terms.size, request, &found)?;
+        let name = request.result_set_name.clone()?;
+        self.keep(response, ResultSet::new(name, found))
+    }
+
+    /// Puts the response to a search last.
+    fn search(&mut self, terms: Terms, request: &SearchRequest) -> Result<(), AllocError>
+        requires { self.old.standing.state ≡ Open (terms_of terms) }
+        ensures ok { OnOk result (self.new ≡ answered self.old (to_search self.old.databases (terms_of terms) self.old.standing.sets request.now)) }
+        ensures err { OnErr result (self.new ≡ self.old) }
+    {
+        match search_fault(self.alloc, &self.databases, &self.sets, terms, request)? {
+            Some(fault) => self.fail(request, fault),
+            None => self.find(terms, request),
+        }
+    }
+
+    /// Puts the response to a request for records last.
+    fn present(&mut self, terms: Terms, request: &PresentRequest) -> Result<(), AllocError>
+        requires { self.old.standing.state ≡ Open (terms_of terms) }
+        ensures ok { OnOk result (self.new ≡ answered self.old (to_present (terms_of terms) self.old.standing.sets request.now)) }
+        ensures err { OnErr result (self.new ≡ self.old) }
+    {
+        let found = set_named(&self.sets, &request.result_set_id);
+        let response = presented(self.alloc, terms.size, request, found)?;
+        self.pending.push(Apdu::PresentResponse(response))?;
+        Ok(())
+    }
+
+    fn receive_search(&mut self, request: &SearchRequest) -> Result<(), TargetError>
+        ensures { Receives self.old (apdus.SearchRequest request.now) result self.new }
+    {
+        match self.phase {
+            Phase::Open(terms) => Ok(self.search(terms, request)?),
+            Phase::Fresh | Phase::Ended => Err(TargetError::WrongState),
+        }
+    }
+
+    fn receive_present(&mut self, request: &PresentRequest) -> Result<(), TargetError>
+        ensures { Receives self.old (apdus.PresentRequest request.now) result self.new }
+    {
+        match self.phase {
+            Phase::Open(terms) => Ok(self.present(terms, request)?),
+            Phase::Fresh | Phase::Ended => Err(TargetError::WrongState),
+        }
+    }
+
+    fn receive_init(&mut self, request: &InitRequest) -> Result<(), TargetError>
+        ensures { Receives self.old (apdus.InitRequest request.now) result self.new }
+    {
+        match self.phase {
+            Phase::Fresh => Ok(self.begin(request)?),
+            Phase::Open(_) | Phase::Ended => Err(TargetError::WrongState),
+        }
+    }
+
+    fn receive_close(&mut self, close: &Close) -> Result<(), TargetError>
+        ensures { Receives self.old (apdus.Close close.now) result self.new }
+    {
+        match self.phase {
+            Phase::Fresh | Phase::Open(_) => Ok(self.close(close)?),
+            Phase::Ended => Err(TargetError::WrongState),
+        }
+    }
+
+    /// Takes a request, and puts the reply that is owed to it last among the pending replies.
+    ///
+    /// Refusals, which leave all as it was: `NotRequest` for a response; `WrongState` before Init for anything but Init and
+    /// Close, for a second Init, and for anything after a Close or after an Init that was refused; `Memory`.
+    #[tactic(auto, using(crate::proofs::Histories::answers_of))]
+    pub fn receive(&mut self, apdu: &Apdu) -> Result<(), TargetError>
+        ensures receives { Receives self.old apdu.now result self.new }
+        ensures answers { (databases : List Database) (settings : TargetSettings) (received released : List Apdu) → After databases settings received released self.old → Answers databases settings received released apdu.now result self.old self.new }
+    {
+        match apdu {
+            Apdu::InitRequest(request) => self.receive_init(request),
+            Apdu::SearchRequest(request) => self.receive_search(request),
+            Apdu::PresentRequest(request) => self.receive_present(request),
+            Apdu::Close(close) => self.receive_close(close),
+            Apdu::InitResponse(_) | Apdu::SearchResponse(_) | Apdu::PresentResponse(_) => {
+                Err(TargetError::NotRequest)
+            }
+        }
+    }
+
+    /// The places of the entries that match the query, counted from 0 through the databases named: in the order of their
+    /// names, a repeated name counting once, and of their entries.
+    ///
+    /// Refusals: `Code` with the condition of a bib-1 diagnostic and what it names, for the first fault: no database named,
+    /// or one that is not known (235); another default set than bib-1 (121); then the tree from the left, operators before
+    /// their operands: proximity (110), a result set (18), an attribute's set (121), a complex value or another type than 1
+    /// to 6 (113), an unsupported value (114, 117, 119, 118, 120, 122 for types 1 to 6), a term of another type (100).
+    /// `Memory`.
+    pub fn matches(&self, names: &[Bytes], query: &Query) -> Result<Vec<u32>, MatchError>
+        ensures lawful { OnOk result (match_fault self.now.databases names.now query.now ≡ None) }
+        ensures places { IfOk result (λ places. places.items ≡ found_places self.now.databases names.now query.now.root) }
+        ensures refused { IfErr result (λ e. IsRefusal (match_fault self.now.databases names.now query.now) e) }
+    {
+        matching_places(self.alloc, &self.databases, names, query)
+    }
+
+    /// How many replies are pending. It takes no memory.
+    pub fn pending(&self) -> usize
+        ensures { result ≡ length self.now.pending }
+    {
+        self.pending.len()
+    }
+
+    /// Takes pending reply `k` out, where it may go.
+    fn take_out(&mut self, k: usize) -> Option<Apdu>
+        ensures { Releases self.old k result self.new }
+    {
+        let count = self.pending.len();
+        if k >= count || (is_close(&self.pending[k]) && count > 1) {
+            return None;
+        }
+        Some(self.pending.remove(k))
+    }
+
+    /// Hands out pending reply `k`, the first being 0; the others stay in order. `None` where there is none, or where it is
+    /// a Close and others are pending. It takes no memory.
+    #[tactic(auto, using(crate::proofs::Histories::release_of))]
+    pub fn release(&mut self, k: usize) -> Option<Apdu>
+        ensures releases { Releases self.old k result self.new }
+        ensures after { (databases : List Database) (settings : TargetSettings) (received released : List Apdu) → After databases settings received released self.old → After databases settings received (with_released released result) self.new }
+    {
+        self.take_out(k)
+    }
+}

@@ -1,0 +1,5 @@
+//! Requests and the replies owed to them.
+mod fixture;
+mod matching;
+mod replies;
+mod searches;
