@@ -1,0 +1,22 @@
+//! The origin's machine: which calls are admitted, what is sent for them, and which replies are accepted.
+#![tactic(auto)]
+
+mod answer;
+mod calls;
+mod facts;
+mod fitting;
+mod origin;
+mod reference;
+mod refusal;
+mod replies;
+mod request;
+mod sending;
+mod settings;
+mod state;
+
+pub use answer::{Answer, Asked, Sent, Taken, What};
+pub use facts::facts_of;
+pub use origin::Origin;
+pub use refusal::{CallRefused, Refused};
+pub use settings::{Ask, Settings};
+pub use state::State;
