@@ -10,7 +10,7 @@ use Rattle.zorigin.specs.declared.refusal.CallRefused.{CallRefused}
 use Rattle.zorigin.specs.declared.refusal.CallRefused.TheVariants as refused
 use Rattle.zorigin.specs.declared.state.Searched.{Searched}
 use Rattle.zorigin.specs.Standings.{Call, Init, Search, Present, Close, Standing, is_fresh, is_ready, search_of}
-use Rattle.zorigin.specs.Sending.{is_unsendable, search_request, present_request, close_request, request_of, Sends}
+use Rattle.zorigin.specs.Sending.{is_unsendable, init_request, search_request, present_request, close_request, request_of, Sends}
 use Rattle.zorigin.specs.Calls.{wrong_state, not_offered, op_used, unsendable, early_refusal, refusal, or_unsendable, answer_by, call_answer, is_unsendable_request, SendsFor}
 use Rattle.zorigin.specs.Changes.{admitted_at, called_at, admitted_unless}
 
@@ -58,11 +58,8 @@ sent_so s c apdu sent ready h =
 
 -- ---- when a call is ready
 
-pub init_early : (s : Standing) → is_fresh s.state ≡ true → early_refusal s Init ≡ None
-init_early s h = rw h refl
-
-pub init_late : (s : Standing) → is_fresh s.state ≡ false → early_refusal s Init ≡ Some refused.WrongState
-init_late s h = rw h refl
+pub ready_init : (s : Standing) → early_refusal s Init ≡ None → IsReady s Init (init_request s.settings)
+ready_init s e = record { early = e; request = refl; sendable = refl }
 
 pub close_early : (s : Standing) → is_ready s.state ≡ true → early_refusal s Close ≡ None
 close_early s h = rw h refl

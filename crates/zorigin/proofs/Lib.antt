@@ -1,2 +1,8 @@
 pub mod Positions
 pub mod Calling
+pub mod Operations
+pub mod Proper
+pub mod CallSteps
+pub mod ReplySteps
+pub mod Ids
+pub mod Fittings

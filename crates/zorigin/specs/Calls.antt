@@ -1,5 +1,5 @@
 -- The table of calls: which are refused, row by row, and what one that is not refused comes to.
-use Rattle.std.specs.Prelude.{◌≡◌, ℕ, ℤ, pos, int_lt, ◌==◌, ◌-◌, Bool, false, not, ◌||◌, ◌&&◌, if◌then◌else◌, [], ◌∷◌, length, slice_get, is_some, is_none, Option, Some, None, Result, Ok, Err}
+use Rattle.std.specs.Prelude.{◌≡◌, ℕ, ℤ, pos, int_lt, ◌==◌, ◌-◌, Bool, false, not, ◌||◌, ◌&&◌, if◌then◌else◌, List, [], ◌∷◌, length, slice_get, is_some, is_none, Option, Some, None, Result, Ok, Err}
 use Rattle.std.specs.List.{list_any}
 use Rattle.zapdu.specs.declared.apdu.Apdu.{Apdu}
 use Rattle.zorigin.specs.declared.settings.Ask.{Ask}
@@ -25,11 +25,12 @@ not_offered s (Search op set ask) = not s.force.search
 not_offered s (Present op set start n) = not s.force.present
 not_offered s _ = false
 
--- an earlier admitted call had this number; none comes before Init
+-- an earlier admitted call had this number, which is 0 for Init
 abbrev pub is_used : Standing → ℕ → Bool
 is_used s op = list_any (λ other. other == op) s.used
 
 abbrev pub op_used : Standing → Call → Bool
+op_used s Init = is_used s 0
 op_used s (Search op set ask) = is_used s op
 op_used s (Present op set start n) = is_used s op
 op_used s _ = false
@@ -102,9 +103,9 @@ abbrev pub unsendable : Standing → Call → Bool
 unsendable s Close = false
 unsendable s call = is_unsendable_request (request_of s call)
 
--- the first reason but that of the request itself
-abbrev pub early_refusal : Standing → Call → Option CallRefused
-early_refusal s call = first_row (
+-- the rows but that of the request itself
+abbrev pub early_rows : Standing → Call → List (Bool × CallRefused)
+early_rows s call =
     (wrong_state s call, refused.WrongState)
     ∷ (not_offered s call, refused.NotOffered)
     ∷ (op_used s call, refused.OpUsed)
@@ -114,7 +115,10 @@ early_refusal s call = first_row (
     ∷ (set_replaced s call, refused.SetReplaced)
     ∷ (out_of_range s call, refused.OutOfRange)
     ∷ (busy s call, refused.Busy)
-    ∷ [])
+    ∷ []
+
+abbrev pub early_refusal : Standing → Call → Option CallRefused
+early_refusal s call = first_row (early_rows s call)
 
 abbrev pub or_unsendable : Bool → Option CallRefused → Option CallRefused
 or_unsendable unsendable (Some reason) = Some reason

@@ -13,6 +13,8 @@ use Rattle.zknow.specs.declared.fact.Fact.TheVariants.{Count, Failed, Seen, Diag
 use Rattle.zorigin.specs.declared.answer.What.{What}
 use Rattle.zorigin.specs.declared.answer.What.TheVariants as what
 use Rattle.zorigin.specs.declared.answer.Answer.{Answer}
+use Rattle.zorigin.specs.declared.answer.Taken.{Taken}
+use Rattle.zorigin.specs.declared.answer.Taken.TheVariants as taken
 use Rattle.zorigin.specs.Fitting.{Fits, records_in, diagnostics_in}
 
 -- record j stands at the j-th position from the first
@@ -62,3 +64,10 @@ asks_positions _ = true
 pub record IsShowable (answer : Answer) : Type 0 where
   pub fits : Fits answer.asked.what answer.reply
   pub positions : asks_positions answer.asked.what ≡ true
+
+-- the answer in it, if it has one, is
+abbrev pub HasShowable : Taken → Type 0
+HasShowable (taken.Opened answer) = IsShowable answer
+HasShowable (taken.Rejected answer) = IsShowable answer
+HasShowable (taken.Answered answer) = IsShowable answer
+HasShowable taken.Closed = Unit {0}

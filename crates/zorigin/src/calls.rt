@@ -7,7 +7,8 @@ ghost use Rattle.zorigin.specs.Calls.{is_latest, search_beyond, past_outcome, ea
 ghost use Rattle.zorigin.specs.Facts.{are_positions, last_position};
 ghost use Rattle.zorigin.specs.Fitting.{is_empty};
 ghost use Rattle.zorigin.specs.Changes.{called_at, admitted_at};
-ghost use Rattle.zorigin.specs.Log.{Answers, IsCalled};
+ghost use Rattle.zorigin.specs.declared.settings.Settings.{Settings};
+ghost use Rattle.zorigin.specs.Log.{Log, Made, past, standing, After, Answers, IsCalled};
 
 use crate::answer::{Asked, Sent, What};
 use crate::origin::Origin;
@@ -101,6 +102,19 @@ impl Origin {
             Some(searched) => searched.set == set,
             None => false,
         }
+    }
+
+    /// Why Init is refused, its request aside.
+    fn init_refusal(&self) -> Option<CallRefused>
+        ensures { result ≡ early_refusal self.now Init }
+    {
+        if !is_fresh(self.state) {
+            return Some(CallRefused::WrongState);
+        }
+        if self.is_used(0) {
+            return Some(CallRefused::OpUsed);
+        }
+        None
     }
 
     /// Why a search is refused, its request aside.
@@ -260,8 +274,8 @@ impl Origin {
         ensures after { IsCalled result → self.new ≡ called_at self.old Init }
         ensures err { OnErr result (self.new ≡ self.old) }
     {
-        if !is_fresh(self.state) {
-            return Err(CallRefused::WrongState);
+        if let Some(reason) = self.init_refusal() {
+            return Err(reason);
         }
         let sent = self.init_sent()?;
         self.admit_init()?;
@@ -305,5 +319,58 @@ impl Origin {
         let sent = send(self.alloc, close_request())?;
         self.state = State::Closing;
         Ok(sent)
+    }
+
+    /// Asks for the association: versions 1 to 3, the options search, present, concurrent operations and named result sets, sizes of 1,048,576
+    /// octets, and the origin's name (Z39.50-2003, 3.2.1.1). It is operation 0.
+    ///
+    /// Refused as `WrongState` elsewhere than in Fresh; as `Unsendable` where the name is too long; as `Memory`. The origin is then as it was.
+    pub fn init(&mut self) -> Result<Sent, CallRefused>
+        ensures answer { (settings : Settings) (log : Log) → After settings log self.old → Answers (call_answer (standing (past settings log)) Init) result }
+        ensures after { (settings : Settings) (log : Log) → After settings log self.old → IsCalled result → After settings (Made Init ∷ log) self.new }
+        ensures err { OnErr result (self.new ≡ self.old) }
+    {
+        self.make_init()
+    }
+
+    /// Searches, as operation `op`, for what is asked, and names the result set `set` (Z39.50-2003, 3.2.2.1). The set's name is its number in
+    /// decimal where named result sets are in force, else `default`; a set of that name is replaced.
+    ///
+    /// `CallRefused` says when it is refused, in its order; the origin is then as it was.
+    pub fn search(&mut self, op: u32, set: u32, ask: &Ask) -> Result<Sent, CallRefused>
+        ensures answer { (settings : Settings) (log : Log) → After settings log self.old → Answers (call_answer (standing (past settings log)) (Search op set ask.now)) result }
+        ensures after { (settings : Settings) (log : Log) → After settings log self.old → IsCalled result → After settings (Made (Search op set ask.now) ∷ log) self.new }
+        ensures err { OnErr result (self.new ≡ self.old) }
+    {
+        self.make_search(op, set, ask)
+    }
+
+    /// Asks, as operation `op`, for `n` records of the set from position `start` on, with the syntax and the element set of the set's search
+    /// (Z39.50-2003, 3.2.3.1). Positions count from 1.
+    ///
+    /// `CallRefused` says when it is refused, in its order; the origin is then as it was.
+    pub fn present(
+        &mut self,
+        op: u32,
+        set: u32,
+        start: i64,
+        n: i64,
+    ) -> Result<Sent, CallRefused>
+        ensures answer { (settings : Settings) (log : Log) → After settings log self.old → Answers (call_answer (standing (past settings log)) (Present op set start n)) result }
+        ensures after { (settings : Settings) (log : Log) → After settings log self.old → IsCalled result → After settings (Made (Present op set start n) ∷ log) self.new }
+        ensures err { OnErr result (self.new ≡ self.old) }
+    {
+        self.make_present(op, set, start, n)
+    }
+
+    /// Ends the association, with reason 0 (finished) and no reference id (Z39.50-2003, 3.2.11.1). Outstanding replies are still taken.
+    ///
+    /// Refused as `WrongState` elsewhere than in Ready, and as `Memory`; the origin is then as it was.
+    pub fn close(&mut self) -> Result<Sent, CallRefused>
+        ensures answer { (settings : Settings) (log : Log) → After settings log self.old → Answers (call_answer (standing (past settings log)) Close) result }
+        ensures after { (settings : Settings) (log : Log) → After settings log self.old → IsCalled result → After settings (Made Close ∷ log) self.new }
+        ensures err { OnErr result (self.new ≡ self.old) }
+    {
+        self.make_close()
     }
 }

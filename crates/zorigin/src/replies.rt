@@ -1,10 +1,12 @@
 //! Replies: which is accepted, and what it changes.
-ghost use Rattle.std.specs.Prelude.{◌≡◌, ◌==◌, Ok, Err};
+ghost use Rattle.std.specs.Prelude.{◌≡◌, ◌==◌, ◌∷◌, Ok, Err, IfOk};
 ghost use Rattle.zorigin.specs.declared.refusal.Refused.TheVariants.{Memory};
 ghost use Rattle.zorigin.specs.Standings.{is_open, ready};
 ghost use Rattle.zorigin.specs.Replies.{only_of, named, taken_by, taken_as, against, verdict, Judges, JudgesBy};
 ghost use Rattle.zorigin.specs.Changes.{force_in, outcome_in, noted_if, noted, opened_at, settled_at};
-ghost use Rattle.zorigin.specs.Log.{IsTaken, Tells};
+ghost use Rattle.zorigin.specs.declared.settings.Settings.{Settings};
+ghost use Rattle.zorigin.specs.Facts.{HasShowable};
+ghost use Rattle.zorigin.specs.Log.{Log, Got, past, standing, After, IsTaken, Tells};
 
 use crate::answer::{Answer, Asked, Taken};
 use crate::fitting::fault_of;
@@ -227,5 +229,27 @@ impl Origin {
             Err(Refused::Memory) => {}
             Err(reason) => self.fail(*reason),
         }
+    }
+
+    /// What `take` would answer. It changes nothing.
+    pub fn peek(&self, reply: &Apdu) -> Result<Taken, Refused>
+        ensures { (settings : Settings) (log : Log) → After settings log self.now → Tells (verdict (standing (past settings log)) reply.now) result }
+    {
+        self.verdict(reply)
+    }
+
+    /// Takes an APDU that came from the target: a reply is accepted where its reference id names an outstanding operation, or is absent where
+    /// concurrent operations are not in force and one is outstanding, and where it fits what that operation asked for (Z39.50-2003, 3.4).
+    ///
+    /// `Refused` says when it is refused, in its order. The origin has then failed; after `WrongState` and `Memory` it is as it was.
+    pub fn take(&mut self, reply: &Apdu) -> Result<Taken, Refused>
+        ensures answer { (settings : Settings) (log : Log) → After settings log self.old → Tells (verdict (standing (past settings log)) reply.now) result }
+        ensures after { (settings : Settings) (log : Log) → After settings log self.old → IsTaken result → After settings (Got reply.now ∷ log) self.new }
+        ensures showable { (settings : Settings) (log : Log) → After settings log self.old → IfOk result HasShowable }
+        ensures memory { result ≡ Err Refused.Memory → self.new ≡ self.old }
+    {
+        let taken = self.verdict(reply);
+        self.settle(&taken);
+        taken
     }
 }
