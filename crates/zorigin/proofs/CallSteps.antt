@@ -1,6 +1,6 @@
 -- Where a connection stands after one call more.
-use Rattle.std.proofs.Common.{◌≡◌, ℕ, Bool, true, false, cond, not, ◌||◌, ◌==◌, nat_eq, List, [], ◌∷◌, ◌++◌, map, filter, Option, None, Some, Result, Ok, Err, refl, sym, ap, subst, ◌∙◌, true≢false, arith, append-nil}
-use Rattle.std.specs.List.{list_any, find, flat_map}
+use Rattle.std.proofs.Common.{◌≡◌, ℕ, Bool, true, false, cond, not, ◌||◌, nat_eq, [], ◌∷◌, ◌++◌, map, filter, Option, None, Some, Result, refl, sym, ap, ◌∙◌, true≢false, append-nil}
+use Rattle.std.specs.List.{list_any, flat_map}
 use Rattle.std.proofs.lemmas.Grind.{flat_map-append}
 use Rattle.std.proofs.lemmas.List.{map-append}
 use Rattle.std.proofs.lemmas.List.Elements.{filter-append}
@@ -17,8 +17,7 @@ use Rattle.zorigin.specs.declared.refusal.CallRefused.{CallRefused}
 use Rattle.zorigin.specs.declared.refusal.Refused.{Refused}
 use Rattle.zorigin.specs.declared.state.State.{State}
 use Rattle.zorigin.specs.declared.state.State.TheVariants as states
-use Rattle.zorigin.specs.declared.state.Searched.{Searched}
-use Rattle.zorigin.specs.Standings.{Call, Init, Search, Present, Close, Standing, is_fresh, is_ready, ready}
+use Rattle.zorigin.specs.Standings.{Call, Init, Search, Present, Close, Standing, is_fresh, is_ready}
 use Rattle.zorigin.specs.Calls.{refusal, call_answer}
 use Rattle.zorigin.specs.Changes.{admitted_at, admitted_unless, called_at, unanswered, force_in}
 use Rattle.zorigin.specs.Log.{Made, Log, Past, past, operation_of, asked, answers, is_answered, outstanding, opening, is_init_call, is_close_call, state_by, opened_state, closing_state, state_from, state_of, force_after, outcome_by, search_in, with_outcome, searches_in, numbered, op_of, standing, admit, admit_unless, After}
@@ -100,7 +99,7 @@ admitted-standing : (p : Past) (c : Call) → IsProper p → IsFree (standing p)
 admitted-standing p Init ok f =
     let fresh = fresh_op p 0 f.op in
     let began = init_state p.fault p.closed (list_any is_close_call p.admitted) (list_any is_close_call (p.admitted ++ Init ∷ [])) (list_any is_init_call p.admitted) (opening p) (ready_if (is_fresh (state_of p)) f.state)
-        ∙ (λ i. state_from p.fault p.closed (list_any is_close_call (p.admitted ++ Init ∷ [])) (sym (changed is_init_call p Init refl) i) (opening p)) in
+    ∙ (λ i. state_from p.fault p.closed (list_any is_close_call (p.admitted ++ Init ∷ [])) (sym (changed is_init_call p Init refl) i) (opening p)) in
     λ i. record {
       settings = p.settings;
       state = began i;
@@ -132,7 +131,7 @@ admitted-standing p (Present op set start n) ok f =
 admitted-standing p Close ok f =
     let same : asked p ≡ asked (admit p Close) = sym (asked_more p Close ∙ append-nil (asked p)) in
     let closed = close_state p.fault p.closed (list_any is_close_call p.admitted) (list_any is_init_call p.admitted) (opening p) (ready_if (is_ready (state_of p)) f.state)
-        ∙ (λ i. state_from p.fault p.closed (sym (changed is_close_call p Close refl) i) (sym (unchanged is_init_call p Close refl) i) (opening p)) in
+    ∙ (λ i. state_from p.fault p.closed (sym (changed is_close_call p Close refl) i) (sym (unchanged is_init_call p Close refl) i) (opening p)) in
     λ i. record {
       settings = p.settings;
       state = closed i;

@@ -9,7 +9,7 @@ use Rattle.zorigin.specs.declared.answer.Sent.{Sent}
 use Rattle.zorigin.specs.declared.refusal.CallRefused.{CallRefused}
 use Rattle.zorigin.specs.declared.refusal.CallRefused.TheVariants as refused
 use Rattle.zorigin.specs.declared.state.Searched.{Searched}
-use Rattle.zorigin.specs.Standings.{Call, Init, Search, Present, Close, Standing, is_fresh, is_ready, search_of}
+use Rattle.zorigin.specs.Standings.{Call, Init, Search, Present, Close, Standing, is_ready, search_of}
 use Rattle.zorigin.specs.Sending.{is_unsendable, init_request, search_request, present_request, close_request, request_of, Sends}
 use Rattle.zorigin.specs.Calls.{wrong_state, not_offered, op_used, unsendable, early_refusal, refusal, or_unsendable, answer_by, call_answer, is_unsendable_request, SendsFor}
 use Rattle.zorigin.specs.Changes.{admitted_at, called_at, admitted_unless}

@@ -1,5 +1,5 @@
 -- A reply fits exactly where no row of the table holds of it.
-use Rattle.std.proofs.Common.{◌≡◌, ◌≢◌, ◌⊎◌, inl, inr, ℕ, ◌≤◌, ℤ, pos, negsuc, ◌≤ℤ◌, int_lt, Bool, true, false, cond, not, ◌||◌, ◌&&◌, nat_eq, ltb, ◌==◌, List, [], ◌∷◌, length, Option, None, Some, refl, sym, ap, ◌∙◌, true≢false, arith}
+use Rattle.std.proofs.Common.{◌≡◌, ◌≢◌, ◌⊎◌, inl, inr, ℕ, ◌≤◌, ℤ, pos, negsuc, ◌≤ℤ◌, int_lt, Bool, true, false, cond, not, ◌||◌, ◌&&◌, ltb, ◌==◌, List, [], ◌∷◌, length, Option, None, Some, refl, sym, ap, ◌∙◌, true≢false, arith}
 use Rattle.std.proofs.lemmas.Bool.Decides.{nat_tests}
 use Rattle.std.proofs.lemmas.Int.{ints}
 use Rattle.zapdu.specs.declared.apdu.Apdu.{Apdu}
@@ -9,7 +9,6 @@ use Rattle.zapdu.specs.declared.search_response.SearchResponse.{SearchResponse}
 use Rattle.zapdu.specs.declared.present_response.PresentResponse.{PresentResponse}
 use Rattle.zorigin.specs.declared.answer.What.{What}
 use Rattle.zorigin.specs.declared.answer.What.TheVariants as what
-use Rattle.zorigin.specs.declared.refusal.Refused.{Refused}
 use Rattle.zorigin.specs.declared.refusal.Refused.TheVariants as refused
 use Rattle.zorigin.specs.Fitting.{records_in, diagnostics_in, is_empty, has_fragment, IsCounted, FitsSearch, FitsPresent, Fits, is_number, exceeds, count_mismatch, bad_number, bad_search, bad_present, search_fault, present_fault, fault_of}
 
@@ -53,7 +52,7 @@ positive_so (pos n) h = omega (arith, ints)
 positive_so (negsuc n) h = absurd (true≢false h)
 
 so_positive : (n : ℤ) → pos 0 ≤ℤ n → int_lt n (pos 0) ≡ false
-so_positive (pos n) h = refl
+so_positive (pos n) h = let e : ltb n 0 ≡ false = grind (arith, nat_tests) in e
 so_positive (negsuc n) h = absurd (omega (arith, ints))
 
 counted_so : (records : Option Records) (n : ℤ) → count_mismatch records n ≡ false → IsCounted records n
@@ -138,7 +137,7 @@ so_present : (n : ℤ) (v : PresentResponse) → FitsPresent n v → present_fau
 so_present n v f =
     let a : count_mismatch v.records v.number_of_records_returned ≡ false = so_counted v.records v.number_of_records_returned f.counted in
     let b : bad_present n v ≡ false = both_false (exceeds (length (records_in v.records)) n || has_fragment v.records) (is_empty (records_in v.records) && is_empty (diagnostics_in v.records))
-        (both_false (exceeds (length (records_in v.records)) n) (has_fragment v.records) (so_within (length (records_in v.records)) n f.within) f.entire) (shown_some v f.some) in
+    (both_false (exceeds (length (records_in v.records)) n) (has_fragment v.records) (so_within (length (records_in v.records)) n f.within) f.entire) (shown_some v f.some) in
     λ i. cond (a i) (Some refused.CountMismatch) (cond (b i) (Some refused.BadShape) None)
 
 pub fitting : (w : What) (reply : Apdu) → fault_of w reply ≡ None → Fits w reply

@@ -6,3 +6,4 @@ pub mod CallSteps
 pub mod ReplySteps
 pub mod Ids
 pub mod Fittings
+pub mod Accepting

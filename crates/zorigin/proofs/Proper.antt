@@ -1,13 +1,11 @@
 -- What holds of each log: how its operations, answers and calls hang together.
-use Rattle.std.proofs.Common.{◌≡◌, ℕ, Bool, true, false, cond, not, ◌||◌, ◌==◌, nat_eq, List, [], ◌∷◌, ◌++◌, map, filter, Option, None, Some, Result, Ok, Err, refl, sym, ap, subst, ◌∙◌, true≢false, arith, append-nil}
-use Rattle.std.specs.List.{list_any, find, flat_map, AllByRecursion}
+use Rattle.std.proofs.Common.{◌≡◌, ℕ, Bool, true, false, cond, not, ◌||◌, ◌==◌, List, [], ◌∷◌, ◌++◌, Option, None, Some, Result, Ok, Err, refl, sym, ap, subst, ◌∙◌, true≢false, arith, append-nil}
+use Rattle.std.specs.List.{list_any, AllByRecursion}
 use Rattle.std.proofs.lemmas.Grind.{flat_map-append}
 use Rattle.std.proofs.lemmas.List.Folds.{list_any-append}
 use Rattle.zapdu.specs.declared.apdu.Apdu.{Apdu}
 use Rattle.zapdu.specs.declared.apdu.Apdu.TheVariants as apdus
 use Rattle.zorigin.specs.declared.settings.Settings.{Settings}
-use Rattle.zorigin.specs.declared.answer.What.{What}
-use Rattle.zorigin.specs.declared.answer.What.TheVariants as what
 use Rattle.zorigin.specs.declared.answer.Asked.{Asked}
 use Rattle.zorigin.specs.declared.answer.Answer.{Answer}
 use Rattle.zorigin.specs.declared.answer.Taken.{Taken}
@@ -15,17 +13,15 @@ use Rattle.zorigin.specs.declared.answer.Taken.TheVariants as taken
 use Rattle.zorigin.specs.declared.refusal.CallRefused.{CallRefused}
 use Rattle.zorigin.specs.declared.refusal.Refused.{Refused}
 use Rattle.zorigin.specs.declared.refusal.Refused.TheVariants as refused
-use Rattle.zorigin.specs.declared.state.State.{State}
-use Rattle.zorigin.specs.declared.state.State.TheVariants as states
 use Rattle.zorigin.specs.References.{number_of}
 use Rattle.zorigin.specs.Fitting.{first_row, fault_of}
 use Rattle.zorigin.specs.Facts.{are_positions, asks_positions}
-use Rattle.zorigin.specs.Standings.{Call, Init, Search, Present, Close, Standing, is_open, is_ready, is_fresh}
+use Rattle.zorigin.specs.Standings.{Call, Init, Search, Present, Close, Standing, is_open, is_ready}
 use Rattle.zorigin.specs.Calls.{refusal, or_unsendable, unsendable, early_rows, early_refusal, wrong_state, op_used, out_of_range}
 use Rattle.zorigin.specs.Replies.{only_of, numbered_as, named, against, judged, answered, verdict, taken_as, taken_by}
 use Rattle.zorigin.specs.Accepts.{id_of}
-use Rattle.zorigin.specs.Log.{Entry, Made, Got, Log, Past, past, nothing, operation_of, asked, answers, is_answered, outstanding, is_init, opens, opening, is_init_call, is_close_call, state_from, state_of, opened_state, standing, admit, admit_unless, accept, after_verdict}
-use Rattle.zorigin.proofs.Operations.{has, AreDistinct, op_same, same_op, or_none, any_ops, find_some, all_filter, all_passed, all_weaker, all_push, all_both, all_looked, all_only, all_has, distinct_push}
+use Rattle.zorigin.specs.Log.{Made, Got, Log, Past, past, operation_of, asked, answers, is_answered, outstanding, is_init, opens, opening, is_init_call, is_close_call, state_from, state_of, standing, admit, admit_unless, accept, after_verdict}
+use Rattle.zorigin.proofs.Operations.{has, AreDistinct, same_op, or_none, any_ops, find_some, all_filter, all_passed, all_push, all_looked, all_only, all_has, distinct_push}
 
 -- ---- operations
 

@@ -1,5 +1,5 @@
 -- Where a connection stands after one APDU more.
-use Rattle.std.proofs.Common.{◌≡◌, ℕ, Bool, true, false, cond, not, ◌||◌, ◌==◌, nat_eq, List, [], ◌∷◌, ◌++◌, map, filter, Option, None, Some, Result, Ok, Err, refl, sym, ap, subst, ◌∙◌, true≢false}
+use Rattle.std.proofs.Common.{◌≡◌, ℕ, Bool, true, false, cond, not, ◌==◌, nat_eq, List, [], ◌∷◌, ◌++◌, map, Option, None, Some, Result, Ok, Err, refl, sym, ap, ◌∙◌, true≢false}
 use Rattle.std.proofs.Common.{arith}
 use Rattle.std.proofs.lemmas.Bool.Decides.{nat_tests}
 use Rattle.std.specs.List.{list_any, find, flat_map, AllByRecursion}
@@ -21,18 +21,17 @@ use Rattle.zorigin.specs.declared.refusal.Refused.TheVariants as refused
 use Rattle.zorigin.specs.declared.state.State.{State}
 use Rattle.zorigin.specs.declared.state.State.TheVariants as states
 use Rattle.zorigin.specs.declared.state.InForce.{InForce}
-use Rattle.zorigin.specs.declared.state.Outcome.{Outcome}
 use Rattle.zorigin.specs.declared.state.Searched.{Searched}
 use Rattle.zorigin.specs.Standings.{Standing, is_open, ready, nothing_in_force}
 use Rattle.std.specs.Prelude.{IfOk}
 use Rattle.zorigin.specs.Fitting.{fault_of}
 use Rattle.zorigin.specs.Facts.{IsShowable, HasShowable}
-use Rattle.zorigin.specs.Replies.{against, judged, answered, verdict, taken_as, taken_by, named}
+use Rattle.zorigin.specs.Replies.{against, judged, answered, verdict, taken_as, named}
 use Rattle.zorigin.specs.Changes.{force_in, outcome_in, noted_if, noted, without, opened_at, settled_at}
-use Rattle.zorigin.specs.Log.{Got, Log, Past, past, asked, answers, is_answered, outstanding, is_init, opens, opening, is_init_call, is_close_call, force_by, force_after, state_by, opened_state, closing_state, failed_or, state_from, state_of, outcome_by, search_in, with_outcome, searches_in, numbered, op_of, standing, accept, after_verdict, After, Tells}
-use Rattle.zorigin.proofs.Operations.{has, op_same, same_op, any_none, distinct_filter, removed, still_open, find_push_first, find_push_other, find_none}
+use Rattle.zorigin.specs.Log.{Got, Log, Past, past, asked, answers, is_answered, outstanding, is_init, opens, opening, is_init_call, is_close_call, force_by, force_after, state_by, closing_state, failed_or, state_from, state_of, outcome_by, search_in, with_outcome, searches_in, numbered, op_of, standing, accept, after_verdict, After, Tells}
+use Rattle.zorigin.proofs.Operations.{op_same, same_op, any_none, distinct_filter, removed, still_open, find_push_first, find_push_other, find_none}
 use Rattle.zorigin.proofs.Fittings.{fitting}
-use Rattle.zorigin.proofs.Proper.{IsProper, proper, IsNews, news, answer_in, verdict_found}
+use Rattle.zorigin.proofs.Proper.{IsProper, proper, IsNews, news, answer_in}
 
 -- ---- the parts of a standing
 
@@ -101,7 +100,7 @@ opening_kept p a h = find_push_other opens p.accepted a h
 none_opened : (p : Past) (reply : Apdu) (a : Answer) → IsProper p → IsNews p reply a → opens a ≡ true → list_any opens p.accepted ≡ false
 none_opened p reply a ok n i =
     any_none (λ (x : Answer). (opens x ≡ true → x.asked.op ≡ 0) × (answers 0 x ≡ false)) opens p.accepted (λ x h o. true≢false (sym (ap (λ m. m == 0) (h.0 o)) ∙ h.1)) (
-        both p.accepted ok.opened_zero (ap (λ m. is_answered p m) (sym (n.zero i)) ∙ n.unanswered)
+    both p.accepted ok.opened_zero (ap (λ m. is_answered p m) (sym (n.zero i)) ∙ n.unanswered)
     )
   where
     both : (xs : List Answer) → AllByRecursion (λ (x : Answer). opens x ≡ true → x.asked.op ≡ 0) xs → list_any (answers 0) xs ≡ false
@@ -186,7 +185,7 @@ settled_first p reply a s f ok n i as_s plain as_f none =
     let running = open_so p.fault p.closed (list_any is_close_call p.admitted) (list_any is_init_call p.admitted) (opening p) n.taking in
     let going = not_closing p ok earlier in
     let state : state_of (accept p a) ≡ s =
-        (λ j. state_from (running.0 j) (running.1 j) (going j) (list_any is_init_call p.admitted) (now j)) ∙ ap (closing_state false) as_s ∙ plain in
+    (λ j. state_from (running.0 j) (running.1 j) (going j) (list_any is_init_call p.admitted) (now j)) ∙ ap (closing_state false) as_s ∙ plain in
     let force : force_after (opening (accept p a)) ≡ f = ap force_after now ∙ as_f in
     λ j. record {
       settings = p.settings;

@@ -349,13 +349,7 @@ impl Origin {
     /// (Z39.50-2003, 3.2.3.1). Positions count from 1.
     ///
     /// `CallRefused` says when it is refused, in its order; the origin is then as it was.
-    pub fn present(
-        &mut self,
-        op: u32,
-        set: u32,
-        start: i64,
-        n: i64,
-    ) -> Result<Sent, CallRefused>
+    pub fn present(&mut self, op: u32, set: u32, start: i64, n: i64) -> Result<Sent, CallRefused>
         ensures answer { (settings : Settings) (log : Log) → After settings log self.old → Answers (call_answer (standing (past settings log)) (Present op set start n)) result }
         ensures after { (settings : Settings) (log : Log) → After settings log self.old → IsCalled result → After settings (Made (Present op set start n) ∷ log) self.new }
         ensures err { OnErr result (self.new ≡ self.old) }

@@ -5,6 +5,7 @@ mod answer;
 mod calls;
 mod facts;
 mod fitting;
+pub mod laws;
 mod origin;
 mod reference;
 mod refusal;
