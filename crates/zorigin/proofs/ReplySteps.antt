@@ -178,7 +178,7 @@ taking s reply x h = elim (is_open s.state) as (λ b. cond b (answered s reply) 
 -- what an answer to Init leaves
 settled_first : (p : Past) (reply : Apdu) (a : Answer) (s : State) (f : InForce) → IsProper p → IsNews p reply a → opens a ≡ true
     → state_by a.reply ≡ s → closing_state false s ≡ s → force_by a.reply ≡ f → outcome_in a.reply ≡ None
-    → record (without (standing p) a) { state = s; force = f } ≡ standing (accept p a)
+    → record (without (standing p) a.asked.op) { state = s; force = f } ≡ standing (accept p a)
 settled_first p reply a s f ok n i as_s plain as_f none =
     let earlier = none_opened p reply a ok n i in
     let now : opening (accept p a) ≡ Some a = find_push_first opens p.accepted a earlier i in
@@ -215,14 +215,14 @@ settled p reply (Ok (taken.Opened a)) ok good n t =
     let none : outcome_in a.reply ≡ None = ap outcome_in good.2 in
     let state : state_by a.reply ≡ ready (force_in w) = ap state_by good.2 ∙ ap (λ b. cond b (ready (force_in w)) states.Closed) good.3 in
     let force : force_by a.reply ≡ force_in w = ap force_by good.2 ∙ ap (λ b. cond b (force_in w) nothing_in_force) good.3 in
-    ap (opened_at (without (standing p) a)) good.2 ∙ settled_first p reply a (ready (force_in w)) (force_in w) ok (n a refl) good.0 state refl force none
+    ap (opened_at (without (standing p) a.asked.op)) good.2 ∙ settled_first p reply a (ready (force_in w)) (force_in w) ok (n a refl) good.0 state refl force none
 settled p reply (Ok (taken.Rejected a)) ok good n t =
     let w = good.1 in
     let none : outcome_in a.reply ≡ None = ap outcome_in good.2 in
     let state : state_by a.reply ≡ states.Closed = ap state_by good.2 ∙ ap (λ b. cond b (ready (force_in w)) states.Closed) good.3 in
     let force : force_by a.reply ≡ nothing_in_force = ap force_by good.2 ∙ ap (λ b. cond b (force_in w) nothing_in_force) good.3 in
     let before : opening p ≡ None = find_none opens p.accepted (none_opened p reply a ok (n a refl) good.0) in
-    (λ j. record (without (standing p) a) { state = states.Closed; force = force_after (before j) })
+    (λ j. record (without (standing p) a.asked.op) { state = states.Closed; force = force_after (before j) })
     ∙ settled_first p reply a states.Closed nothing_in_force ok (n a refl) good.0 state refl force none
 settled p reply (Ok (taken.Answered a)) ok good n t = settled_other p reply a ok (n a refl) good
 settled p reply (Ok taken.Closed) ok good n t =
@@ -231,11 +231,11 @@ settled p reply (Ok taken.Closed) ok good n t =
 settled p reply (Err r) ok good n t =
     elim (is_open (state_of p)) as (λ b. cond b (record (standing p) { state = states.Failed r }) (standing p) ≡ standing (cond b (record p { fault = Some r }) p)) [ true ↦ refl | false ↦ refl ]
 
-pub settled_after : {s t : Standing} (settings : Settings) (log : Log) (reply : Apdu) → After settings log s → t ≡ settled_at s (verdict s reply) → After settings (Got reply ∷ log) t
-settled_after {s} {t} settings log reply h e =
+pub settled_after : {s t : Standing} {v : Result Taken Refused} (settings : Settings) (log : Log) (reply : Apdu) → After settings log s → v ≡ verdict (standing (past settings log)) reply → t ≡ settled_at s v → After settings (Got reply ∷ log) t
+settled_after {s} {t} {v} settings log reply h w e =
     let p = past settings log in
     record {
-      is = e ∙ ap (λ x. settled_at x (verdict x reply)) h.is
+      is = e ∙ ap (λ x. settled_at x v) h.is ∙ ap (settled_at (standing p)) w
           ∙ settled p reply (verdict (standing p) reply) (proper settings log) (good_verdict (standing p) reply) (λ a. news p reply a (proper settings log)) (taking (standing p) reply);
     }
 
@@ -246,9 +246,9 @@ told settings log reply h e = e ∙ ap (λ x. verdict x reply) h.is
 showable : (p : Past) (reply : Apdu) (a : Answer) → IsProper p → answer_in (verdict (standing p) reply) ≡ Some a → IsShowable a
 showable p reply a ok h = let n = news p reply a ok h in record { fits = fitting a.asked.what a.reply n.found.fits; positions = n.positions }
 
-pub shown : {s : Standing} (settings : Settings) (log : Log) (reply : Apdu) (v : Result Taken Refused) → After settings log s → Tells (verdict s reply) v → IfOk v HasShowable
-shown settings log reply (Ok (taken.Opened a)) h t = showable (past settings log) reply a (proper settings log) (ap answer_in (sym (told settings log reply h (t tt))))
-shown settings log reply (Ok (taken.Rejected a)) h t = showable (past settings log) reply a (proper settings log) (ap answer_in (sym (told settings log reply h (t tt))))
-shown settings log reply (Ok (taken.Answered a)) h t = showable (past settings log) reply a (proper settings log) (ap answer_in (sym (told settings log reply h (t tt))))
-shown settings log reply (Ok taken.Closed) h t = tt
-shown settings log reply (Err r) h t = tt
+pub shown : (settings : Settings) (log : Log) (reply : Apdu) (v : Result Taken Refused) → Tells (verdict (standing (past settings log)) reply) v → IfOk v HasShowable
+shown settings log reply (Ok (taken.Opened a)) t = showable (past settings log) reply a (proper settings log) (ap answer_in (sym (t tt)))
+shown settings log reply (Ok (taken.Rejected a)) t = showable (past settings log) reply a (proper settings log) (ap answer_in (sym (t tt)))
+shown settings log reply (Ok (taken.Answered a)) t = showable (past settings log) reply a (proper settings log) (ap answer_in (sym (t tt)))
+shown settings log reply (Ok taken.Closed) t = tt
+shown settings log reply (Err r) t = tt

@@ -75,8 +75,9 @@ noted_if false outcome searched = searched
 abbrev pub noted : ℕ → Option Outcome → List Searched → List Searched
 noted op outcome searches = map (λ (s : Searched). noted_if (s.op == op) outcome s) searches
 
-abbrev pub without : Standing → Answer → Standing
-without s answer = record s { outstanding = shift_remove_entry (nat_eq answer.asked.op) s.outstanding }
+-- the operation is outstanding no more
+abbrev pub without : Standing → ℕ → Standing
+without s op = record s { outstanding = shift_remove_entry (nat_eq op) s.outstanding }
 
 abbrev pub opened_at : Standing → Apdu → Standing
 opened_at s (apdus.InitResponse v) = record s { state = ready (force_in v); force = force_in v }
@@ -84,8 +85,8 @@ opened_at s _ = s
 
 -- the standing after the verdict
 abbrev pub settled_at : Standing → Result Taken Refused → Standing
-settled_at s (Ok (taken.Opened answer)) = opened_at (without s answer) answer.reply
-settled_at s (Ok (taken.Rejected answer)) = record (without s answer) { state = states.Closed }
-settled_at s (Ok (taken.Answered answer)) = record (without s answer) { searches = noted answer.asked.op (outcome_in answer.reply) s.searches }
+settled_at s (Ok (taken.Opened answer)) = opened_at (without s answer.asked.op) answer.reply
+settled_at s (Ok (taken.Rejected answer)) = record (without s answer.asked.op) { state = states.Closed }
+settled_at s (Ok (taken.Answered answer)) = record (without s answer.asked.op) { searches = noted answer.asked.op (outcome_in answer.reply) s.searches }
 settled_at s (Ok taken.Closed) = record s { state = states.Closed }
 settled_at s (Err reason) = if is_open s.state then record s { state = states.Failed reason } else s

@@ -164,15 +164,9 @@ fn present_facts(
     requires high { (start +ℤ pos (length (records_in response.now.records))) <ℤ pos 9223372036854775809 }
     ensures { IfOk result (λ facts. facts.items ≡ present_facts target set start response.now) }
 {
+    let records = records_in(&response.records);
     let mut facts = Vec::new(alloc);
-    put_seen(
-        alloc,
-        target,
-        set,
-        start,
-        records_in(&response.records),
-        &mut facts,
-    )?;
+    put_seen(alloc, target, set, start, records, &mut facts)?;
     put_told(alloc, target, set, start, &response.records, &mut facts)?;
     Ok(facts)
 }

@@ -93,7 +93,8 @@ fn search_fault(response: &SearchResponse) -> Option<Refused>
 fn present_fault(n: i64, response: &PresentResponse) -> Option<Refused>
     ensures { result ≡ present_fault n response.now }
 {
-    if is_count_mismatch(&response.records, response.number_of_records_returned) {
+    let returned = response.number_of_records_returned;
+    if is_count_mismatch(&response.records, returned) {
         return Some(Refused::CountMismatch);
     }
     if is_bad_present(n, response) {

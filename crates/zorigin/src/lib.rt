@@ -1,6 +1,7 @@
 //! The origin's machine: which calls are admitted, what is sent for them, and which replies are accepted.
 #![tactic(auto)]
 
+mod admitting;
 mod answer;
 mod calls;
 mod facts;
@@ -9,6 +10,7 @@ pub mod laws;
 mod origin;
 mod reference;
 mod refusal;
+mod refusing;
 mod replies;
 mod request;
 mod sending;

@@ -3,7 +3,7 @@ ghost use Rattle.std.specs.Prelude.{◌≡◌, ◌==◌, ◌∷◌, Ok, Err, IfO
 ghost use Rattle.zorigin.specs.declared.refusal.Refused.TheVariants.{Memory};
 ghost use Rattle.zorigin.specs.Standings.{is_open, ready};
 ghost use Rattle.zorigin.specs.Replies.{only_of, named, taken_by, taken_as, against, verdict, Judges, JudgesBy};
-ghost use Rattle.zorigin.specs.Changes.{force_in, outcome_in, noted_if, noted, opened_at, settled_at};
+ghost use Rattle.zorigin.specs.Changes.{force_in, outcome_in, noted_if, noted, without, opened_at, settled_at};
 ghost use Rattle.zorigin.specs.declared.settings.Settings.{Settings};
 ghost use Rattle.zorigin.specs.Facts.{HasShowable};
 ghost use Rattle.zorigin.specs.Log.{Log, Got, past, standing, After, IsTaken, Tells};
@@ -179,6 +179,14 @@ impl Origin {
         }
     }
 
+    /// The operation is outstanding no more.
+    fn answered(&mut self, op: u32)
+        ensures { self.new ≡ without self.old op }
+    {
+        self.outstanding.shift_remove(&op);
+    }
+
+    /// What the response to Init has is in force.
     fn open(&mut self, reply: &Apdu)
         ensures { self.new ≡ opened_at self.old reply.now }
     {
@@ -193,15 +201,15 @@ impl Origin {
     {
         match taken {
             Taken::Opened(answer) => {
-                self.outstanding.shift_remove(&answer.asked.op);
+                self.answered(answer.asked.op);
                 self.open(&answer.reply);
             }
             Taken::Rejected(answer) => {
-                self.outstanding.shift_remove(&answer.asked.op);
+                self.answered(answer.asked.op);
                 self.state = State::Closed;
             }
             Taken::Answered(answer) => {
-                self.outstanding.shift_remove(&answer.asked.op);
+                self.answered(answer.asked.op);
                 note(
                     &mut self.searches,
                     answer.asked.op,
@@ -248,7 +256,7 @@ impl Origin {
         ensures showable { (settings : Settings) (log : Log) → After settings log self.old → IfOk result HasShowable }
         ensures memory { result ≡ Err Refused.Memory → self.new ≡ self.old }
     {
-        let taken = self.verdict(reply);
+        let taken = self.peek(reply);
         self.settle(&taken);
         taken
     }
