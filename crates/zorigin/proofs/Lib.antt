@@ -7,3 +7,4 @@ pub mod ReplySteps
 pub mod Ids
 pub mod Fittings
 pub mod Accepting
+pub mod KnownFacts

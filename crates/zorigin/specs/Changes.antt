@@ -7,7 +7,6 @@ use Rattle.zapdu.specs.declared.init_response.InitResponse.{InitResponse}
 use Rattle.zorigin.specs.declared.settings.Ask.{Ask}
 use Rattle.zorigin.specs.declared.answer.Asked.{Asked}
 use Rattle.zorigin.specs.declared.answer.What.TheVariants as what
-use Rattle.zorigin.specs.declared.answer.Answer.{Answer}
 use Rattle.zorigin.specs.declared.answer.Taken.{Taken}
 use Rattle.zorigin.specs.declared.answer.Taken.TheVariants as taken
 use Rattle.zorigin.specs.declared.refusal.CallRefused.{CallRefused}

@@ -71,3 +71,9 @@ HasShowable (taken.Opened answer) = IsShowable answer
 HasShowable (taken.Rejected answer) = IsShowable answer
 HasShowable (taken.Answered answer) = IsShowable answer
 HasShowable taken.Closed = Unit {0}
+
+-- the records of a response of either kind
+abbrev pub records_of : Apdu → List Record
+records_of (apdus.SearchResponse v) = records_in v.records
+records_of (apdus.PresentResponse v) = records_in v.records
+records_of _ = []

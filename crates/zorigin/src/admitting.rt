@@ -68,7 +68,13 @@ impl Origin {
         Ok(())
     }
 
-    pub(crate) fn admit_present(&mut self, op: u32, set: u32, start: i64, n: i64) -> Result<(), CallRefused>
+    pub(crate) fn admit_present(
+        &mut self,
+        op: u32,
+        set: u32,
+        start: i64,
+        n: i64,
+    ) -> Result<(), CallRefused>
         ensures memory { IfErr result (λ e. e ≡ CallRefused.Memory) }
         ensures ok { OnOk result (self.new ≡ admitted_at self.old (Present op set start n)) }
         ensures err { OnErr result (self.new ≡ self.old) }

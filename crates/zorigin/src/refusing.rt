@@ -136,7 +136,13 @@ impl Origin {
     }
 
     /// Why a Present is refused, its request aside.
-    pub(crate) fn present_refusal(&self, op: u32, set: u32, start: i64, n: i64) -> Option<CallRefused>
+    pub(crate) fn present_refusal(
+        &self,
+        op: u32,
+        set: u32,
+        start: i64,
+        n: i64,
+    ) -> Option<CallRefused>
         ensures { result ≡ early_refusal self.now (Present op set start n) }
     {
         if !is_ready(self.state) {
