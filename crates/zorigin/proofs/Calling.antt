@@ -1,0 +1,101 @@
+-- What a call answers, by the rows before its request and by the request.
+use Rattle.std.proofs.Common.{◌≡◌, ◌≢◌, ℕ, ℤ, Bool, true, false, cond, is_none, Option, None, Some, Result, Ok, Err, refl, sym, ap, ◌∙◌}
+use Rattle.std.specs.Option.{option_map}
+use Rattle.zber.specs.Integers.{integer_octets}
+use Rattle.zapdu.specs.declared.apdu.Apdu.{Apdu}
+use Rattle.zapdu.specs.Closes.{close_parts}
+use Rattle.zorigin.specs.declared.settings.Ask.{Ask}
+use Rattle.zorigin.specs.declared.answer.Sent.{Sent}
+use Rattle.zorigin.specs.declared.refusal.CallRefused.{CallRefused}
+use Rattle.zorigin.specs.declared.refusal.CallRefused.TheVariants as refused
+use Rattle.zorigin.specs.declared.state.Searched.{Searched}
+use Rattle.zorigin.specs.Standings.{Call, Init, Search, Present, Close, Standing, is_ready, search_of}
+use Rattle.zorigin.specs.Sending.{is_unsendable, init_request, search_request, present_request, close_request, request_of, Sends}
+use Rattle.zorigin.specs.Calls.{wrong_state, not_offered, op_used, unsendable, early_refusal, refusal, or_unsendable, answer_by, call_answer, is_unsendable_request, SendsFor}
+use Rattle.zorigin.specs.Changes.{admitted_at, called_at, admitted_unless}
+
+-- what a call answers and leaves
+pub record Comes (s : Standing) (c : Call) (r : Result Sent CallRefused) (t : Standing) : Type 0 where
+  pub answer : r ≡ call_answer s c
+  pub new : t ≡ called_at s c
+
+comes : (s : Standing) (c : Call) (r : Option CallRefused) → refusal s c ≡ r → Comes s c (answer_by r (request_of s c)) (admitted_unless s c r)
+comes s c r e = record { answer = ap (λ x. answer_by x (request_of s c)) (sym e); new = ap (λ x. admitted_unless s c x) (sym e) }
+
+pub refused_early : (s : Standing) (c : Call) (reason : CallRefused) → early_refusal s c ≡ Some reason → Comes s c (Err reason) s
+unfolding refusal
+refused_early s c reason e = comes s c (Some reason) (ap (or_unsendable (unsendable s c)) e)
+
+refused_late : (s : Standing) (c : Call) (b : Bool) → early_refusal s c ≡ None → unsendable s c ≡ b → refusal s c ≡ or_unsendable b None
+unfolding refusal
+refused_late s c b e u = ap (or_unsendable (unsendable s c)) e ∙ ap (λ x. or_unsendable x None) u
+
+-- a call that the rows before let pass, with its request
+pub record IsReady (s : Standing) (c : Call) (apdu : Apdu) : Type 0 where
+  pub early : early_refusal s c ≡ None
+  pub request : request_of s c ≡ Some apdu
+  pub sendable : unsendable s c ≡ is_unsendable apdu
+
+sends : (s : Standing) (c : Call) (apdu : Apdu) (r : Result Sent CallRefused) → IsReady s c apdu → SendsFor s c r → Sends apdu r
+sends s c apdu r ready h = rw ready.request at h
+
+not_sent : (s : Standing) (c : Call) (apdu : Apdu) (reason : CallRefused) → IsReady s c apdu → Sends apdu (Err reason) → reason ≢ refused.Memory → Comes s c (Err reason) s
+not_sent s c apdu refused.Unsendable ready h m = comes s c (Some refused.Unsendable) (refused_late s c true ready.early (ready.sendable ∙ h))
+not_sent s c apdu refused.Memory ready h m = absurd (m refl)
+not_sent s c apdu _ ready h m = absurd h
+
+pub unsent : (s : Standing) (c : Call) (apdu : Apdu) (reason : CallRefused) → IsReady s c apdu → SendsFor s c (Err reason) → reason ≢ refused.Memory → Comes s c (Err reason) s
+unsent s c apdu reason ready h m = not_sent s c apdu reason ready (sends s c apdu (Err reason) ready h) m
+
+pub sent_so : (s : Standing) (c : Call) (apdu : Apdu) (sent : Sent) → IsReady s c apdu → SendsFor s c (Ok sent) → Comes s c (Ok sent) (admitted_at s c)
+sent_so s c apdu sent ready h =
+    let given = sends s c apdu (Ok sent) ready h in
+    let free : refusal s c ≡ None = refused_late s c false ready.early (ready.sendable ∙ given.0) in
+    record {
+      answer = ap (λ x. Ok x) given.1 ∙ sym (ap (λ x. answer_by x (request_of s c)) free ∙ ap (answer_by None) ready.request);
+      new = ap (λ x. admitted_unless s c x) (sym free);
+    }
+
+-- ---- when a call is ready
+
+pub ready_init : (s : Standing) → early_refusal s Init ≡ None → IsReady s Init (init_request s.settings)
+ready_init s e = record { early = e; request = refl; sendable = refl }
+
+pub close_early : (s : Standing) → is_ready s.state ≡ true → early_refusal s Close ≡ None
+close_early s h = rw h refl
+
+pub close_late : (s : Standing) → is_ready s.state ≡ false → early_refusal s Close ≡ Some refused.WrongState
+close_late s h = rw h refl
+
+pub close_sendable : is_unsendable close_request ≡ false
+unfolding is_unsendable close_parts integer_octets
+close_sendable = refl
+
+pub ready_search : (s : Standing) (op set : ℕ) (ask : Ask) → early_refusal s (Search op set ask) ≡ None
+    → IsReady s (Search op set ask) (search_request s.force.named op set ask)
+ready_search s op set ask e = record { early = e; request = refl; sendable = refl }
+
+-- a Present that the rows before let pass is of a set that a search made
+known : (s : Standing) (op set : ℕ) (start n : ℤ) (o : Option Searched) → search_of s.searches set ≡ o
+    → early_refusal s (Present op set start n) ≡ None → (x : Searched) × (o ≡ Some x)
+known s op set start n (Some x) e h = (x, refl)
+known s op set start n None e h = absurd (
+    let m : is_none (search_of s.searches set) ≡ true = ap (λ o. is_none o) e in
+    blocked (wrong_state s (Present op set start n)) (not_offered s (Present op set start n)) (op_used s (Present op set start n)) (rw m at h)
+    )
+  where
+    blocked : (a b c : Bool) → cond a (Some refused.WrongState) (cond b (Some refused.NotOffered) (cond c (Some refused.OpUsed) (Some refused.SetUnknown))) ≡ None → ⊥
+    blocked true b c h = cc
+    blocked false true c h = cc
+    blocked false false true h = cc
+    blocked false false false h = cc
+
+pub ready_present : (s : Standing) (op set : ℕ) (start n : ℤ) → early_refusal s (Present op set start n) ≡ None
+    → (apdu : Apdu) × IsReady s (Present op set start n) apdu
+ready_present s op set start n e =
+    let k = known s op set start n (search_of s.searches set) refl e in
+    let r : request_of s (Present op set start n) ≡ Some (present_request s.force.named op start n k.0) = ap (option_map (present_request s.force.named op start n)) k.1 in
+    (present_request s.force.named op start n k.0, record { early = e; request = r; sendable = ap is_unsendable_request r })
+
+pub ready_close : (s : Standing) → is_ready s.state ≡ true → IsReady s Close close_request
+ready_close s h = record { early = close_early s h; request = refl; sendable = sym close_sendable }

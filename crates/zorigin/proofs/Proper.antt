@@ -1,0 +1,260 @@
+-- What holds of each log: how its operations, answers and calls hang together.
+use Rattle.std.proofs.Common.{◌≡◌, ℕ, Bool, true, false, cond, not, ◌||◌, ◌==◌, List, [], ◌∷◌, ◌++◌, Option, None, Some, Result, Ok, Err, refl, sym, ap, subst, ◌∙◌, true≢false, arith, append-nil}
+use Rattle.std.specs.List.{list_any, AllByRecursion}
+use Rattle.std.proofs.lemmas.Grind.{flat_map-append}
+use Rattle.std.proofs.lemmas.List.Folds.{list_any-append}
+use Rattle.zapdu.specs.declared.apdu.Apdu.{Apdu}
+use Rattle.zapdu.specs.declared.apdu.Apdu.TheVariants as apdus
+use Rattle.zorigin.specs.declared.settings.Settings.{Settings}
+use Rattle.zorigin.specs.declared.answer.Asked.{Asked}
+use Rattle.zorigin.specs.declared.answer.Answer.{Answer}
+use Rattle.zorigin.specs.declared.answer.Taken.{Taken}
+use Rattle.zorigin.specs.declared.answer.Taken.TheVariants as taken
+use Rattle.zorigin.specs.declared.refusal.CallRefused.{CallRefused}
+use Rattle.zorigin.specs.declared.refusal.Refused.{Refused}
+use Rattle.zorigin.specs.declared.refusal.Refused.TheVariants as refused
+use Rattle.zorigin.specs.References.{number_of}
+use Rattle.zorigin.specs.Fitting.{first_row, fault_of}
+use Rattle.zorigin.specs.Facts.{are_positions, asks_positions}
+use Rattle.zorigin.specs.Standings.{Call, Init, Search, Present, Close, Standing, is_open, is_ready}
+use Rattle.zorigin.specs.Calls.{refusal, or_unsendable, unsendable, early_rows, early_refusal, wrong_state, op_used, out_of_range}
+use Rattle.zorigin.specs.Replies.{only_of, numbered_as, named, against, judged, answered, verdict, taken_as, taken_by}
+use Rattle.zorigin.specs.Accepts.{id_of}
+use Rattle.zorigin.specs.Log.{Made, Got, Log, Past, past, operation_of, asked, answers, is_answered, outstanding, is_init, opens, opening, is_init_call, is_close_call, state_from, state_of, standing, admit, admit_unless, accept, after_verdict}
+use Rattle.zorigin.proofs.Operations.{has, AreDistinct, same_op, or_none, any_ops, find_some, all_filter, all_passed, all_push, all_looked, all_only, all_has, distinct_push}
+
+-- ---- operations
+
+pub asked_more : (p : Past) (c : Call) → asked (admit p c) ≡ asked p ++ operation_of c
+asked_more p c = flat_map-append operation_of p.admitted (c ∷ []) ∙ ap (λ l. asked p ++ l) (append-nil (operation_of c))
+
+pub record IsProper (p : Past) : Type 0 where
+  -- a reply was accepted only to an operation that was asked
+  pub known : (op : ℕ) → list_any (has op) (asked p) ≡ false → list_any (answers op) p.accepted ≡ false
+  -- Init has number 0, and asked positions are some
+  pub zero : AllByRecursion (λ (q : Asked). is_init q.what ≡ true → q.op ≡ 0) (asked p)
+  pub positions : AllByRecursion (λ (q : Asked). asks_positions q.what ≡ true) (asked p)
+  pub opened_zero : AllByRecursion (λ (a : Answer). opens a ≡ true → a.asked.op ≡ 0) p.accepted
+  pub distinct : AreDistinct (asked p)
+  -- Close comes once Init was answered
+  pub closing : list_any is_close_call p.admitted ≡ true → list_any opens p.accepted ≡ true
+
+-- ---- a verdict
+
+-- the answer in a verdict
+abbrev pub answer_in : Result Taken Refused → Option Answer
+answer_in (Ok (taken.Opened answer)) = Some answer
+answer_in (Ok (taken.Rejected answer)) = Some answer
+answer_in (Ok (taken.Answered answer)) = Some answer
+answer_in (Ok taken.Closed) = None
+answer_in (Err reason) = None
+
+-- what a verdict says of its answer
+pub record IsFound (s : Standing) (got : Apdu) (a : Answer) : Type 0 where
+  pub reply : a.reply ≡ got
+  pub named : named s (id_of got) ≡ Some a.asked
+  pub fits : fault_of a.asked.what a.reply ≡ None
+
+answers_taken : (x a : Answer) → answer_in (Ok (taken_as x)) ≡ Some a → x ≡ a
+answers_taken x a h = by x.reply h
+  where
+    either : (b : Bool) → answer_in (Ok (cond b (taken.Opened x) (taken.Rejected x))) ≡ Some a → x ≡ a
+    either true e = cc
+    either false e = cc
+
+    by : (reply : Apdu) → answer_in (Ok (taken_by x reply)) ≡ Some a → x ≡ a
+    by (apdus.InitRequest v) e = cc
+    by (apdus.InitResponse v) e = either v.result e
+    by (apdus.SearchRequest v) e = cc
+    by (apdus.SearchResponse v) e = cc
+    by (apdus.PresentRequest v) e = cc
+    by (apdus.PresentResponse v) e = cc
+    by (apdus.Close v) e = cc
+
+judged_found : (q : Asked) (reply : Apdu) (a : Answer) (f : Option Refused) → fault_of q.what reply ≡ f
+    → answer_in (judged (record { asked = q; reply = reply }) f) ≡ Some a → (a.reply ≡ reply) × (q ≡ a.asked) × (fault_of a.asked.what a.reply ≡ None)
+judged_found q reply a (Some r) e h = absurd (cc)
+judged_found q reply a None e h =
+    let x : record { asked = q; reply = reply } ≡ a = answers_taken (record { asked = q; reply = reply }) a h in
+    (λ i. (sym x i).reply, λ i. (x i).asked, subst (λ (y : Answer). fault_of y.asked.what y.reply ≡ None) x e)
+
+against_found : (s : Standing) (o : Option Asked) (reply : Apdu) (a : Answer) → named s (id_of reply) ≡ o → answer_in (against o reply) ≡ Some a → IsFound s reply a
+against_found s None reply a n h = absurd (cc)
+against_found s (Some q) reply a n h =
+    let f = judged_found q reply a (fault_of q.what reply) refl h in
+    record { reply = f.0; named = n ∙ ap (λ x. Some x) f.1; fits = f.2 }
+
+answered_found : (s : Standing) (reply : Apdu) (a : Answer) → answer_in (answered s reply) ≡ Some a → IsFound s reply a
+answered_found s (apdus.InitResponse v) a h = against_found s (named s v.reference_id) (apdus.InitResponse v) a refl h
+answered_found s (apdus.SearchResponse v) a h = against_found s (named s v.reference_id) (apdus.SearchResponse v) a refl h
+answered_found s (apdus.PresentResponse v) a h = against_found s (named s v.reference_id) (apdus.PresentResponse v) a refl h
+answered_found s (apdus.InitRequest v) a h = absurd (cc)
+answered_found s (apdus.SearchRequest v) a h = absurd (cc)
+answered_found s (apdus.PresentRequest v) a h = absurd (cc)
+answered_found s (apdus.Close v) a h = absurd (cc)
+
+pub verdict_found : (s : Standing) (reply : Apdu) (a : Answer) → answer_in (verdict s reply) ≡ Some a → (is_open s.state ≡ true) × IsFound s reply a
+unfolding verdict
+verdict_found s reply a h = elim (is_open s.state) as (λ b. answer_in (cond b (answered s reply) (Err refused.WrongState)) ≡ Some a → (b ≡ true) × IsFound s reply a) [
+  | true ↦ λ e. (refl, answered_found s reply a e)
+  | false ↦ λ e. absurd (cc)
+] h
+
+-- what holds of each outstanding operation holds of the one that is named
+pub named_all : (P : Asked → Type 0) (p : Past) → AllByRecursion P (outstanding p) → (id : Option (List ℕ)) (q : Asked) → named (standing p) id ≡ Some q → P q
+named_all P p h None q e = by (standing p).force.concurrent e
+  where
+    by : (b : Bool) → cond b None (only_of (standing p).outstanding) ≡ Some q → P q
+    by true e = absurd (cc)
+    by false e = all_only P (outstanding p) q h e
+named_all P p h (Some id) q e = by (number_of id) e
+  where
+    by : (o : Option ℕ) → numbered_as (standing p).outstanding o ≡ Some q → P q
+    by None e = absurd (cc)
+    by (Some op) e = all_looked P op (outstanding p) q h e
+
+-- what is known of an answer that a verdict gives
+pub record IsNews (p : Past) (reply : Apdu) (a : Answer) : Type 0 where
+  pub taking : is_open (state_of p) ≡ true
+  pub found : IsFound (standing p) reply a
+  pub unanswered : is_answered p a.asked.op ≡ false
+  pub asked : list_any (has a.asked.op) (asked p) ≡ true
+  pub zero : is_init a.asked.what ≡ true → a.asked.op ≡ 0
+  pub positions : asks_positions a.asked.what ≡ true
+
+pub not_false : (b : Bool) → not b ≡ true → b ≡ false
+not_false false h = refl
+not_false true h = absurd (true≢false (sym h))
+
+pub news : (p : Past) (reply : Apdu) (a : Answer) → IsProper p → answer_in (verdict (standing p) reply) ≡ Some a → IsNews p reply a
+news p reply a ok h =
+    let f = verdict_found (standing p) reply a h in
+    let still = λ (q : Asked). not (is_answered p q.op) in
+    let each = λ (P : Asked → Type 0) (all : AllByRecursion P (asked p)). named_all P p (all_filter P still (asked p) all) (id_of reply) a.asked f.1.named in
+    record {
+      taking = f.0;
+      found = f.1;
+      unanswered = not_false (is_answered p a.asked.op) (named_all (λ q. still q ≡ true) p (all_passed still (asked p)) (id_of reply) a.asked f.1.named);
+      asked = each (λ (q : Asked). list_any (has q.op) (asked p) ≡ true) (all_has (asked p));
+      zero = each (λ (q : Asked). is_init q.what ≡ true → q.op ≡ 0) ok.zero;
+      positions = each (λ (q : Asked). asks_positions q.what ≡ true) ok.positions;
+    }
+
+proper_accept : (p : Past) (reply : Apdu) (a : Answer) → IsNews p reply a → IsProper p → IsProper (accept p a)
+proper_accept p reply a n ok = record {
+  known = λ op h. list_any-append (answers op) p.accepted (a ∷ []) ∙ rw (ok.known op h, other op h) refl;
+  zero = ok.zero;
+  positions = ok.positions;
+  opened_zero = all_push (λ (x : Answer). opens x ≡ true → x.asked.op ≡ 0) p.accepted a ok.opened_zero n.zero;
+  distinct = ok.distinct;
+  closing = λ h. list_any-append opens p.accepted (a ∷ []) ∙ rw (ok.closing h) refl;
+}
+  where
+    other : (op : ℕ) → list_any (has op) (asked p) ≡ false → (a.asked.op == op) ≡ false
+    other op h = by (a.asked.op == op) refl
+      where
+        by : (b : Bool) → (a.asked.op == op) ≡ b → (a.asked.op == op) ≡ false
+        by false e = e
+        by true e = absurd (true≢false (sym n.asked ∙ ap (λ m. list_any (has m) (asked p)) (same_op a.asked.op op e) ∙ h))
+
+proper_verdict : (p : Past) (reply : Apdu) (v : Result Taken Refused) → ((a : Answer) → answer_in v ≡ Some a → IsNews p reply a) → IsProper p → IsProper (after_verdict p v)
+proper_verdict p reply (Ok (taken.Opened a)) n ok = proper_accept p reply a (n a refl) ok
+proper_verdict p reply (Ok (taken.Rejected a)) n ok = proper_accept p reply a (n a refl) ok
+proper_verdict p reply (Ok (taken.Answered a)) n ok = proper_accept p reply a (n a refl) ok
+proper_verdict p reply (Ok taken.Closed) n ok = record { known = ok.known; zero = ok.zero; positions = ok.positions; opened_zero = ok.opened_zero; distinct = ok.distinct; closing = ok.closing }
+proper_verdict p reply (Err r) n ok = by (is_open (state_of p))
+  where
+    by : (b : Bool) → IsProper (cond b (record p { fault = Some r }) p)
+    by true = record { known = ok.known; zero = ok.zero; positions = ok.positions; opened_zero = ok.opened_zero; distinct = ok.distinct; closing = ok.closing }
+    by false = ok
+
+-- ---- a call
+
+passed : {R : Type 0} (rows : List (Bool × R)) → first_row rows ≡ None → AllByRecursion (λ (row : Bool × R). row.0 ≡ false) rows
+passed [] h = tt
+passed (row ∷ rows) h =
+    let more = passed rows in
+    elim row.0 as (λ b. row.0 ≡ b → cond b (Some row.1) (first_row rows) ≡ None → AllByRecursion (λ x. x.0 ≡ false) (row ∷ rows)) [ true ↦ λ e g. absurd (cc) | false ↦ λ e g. (e, more g) ] refl h
+
+-- what holds where a call is admitted
+pub record IsFree (s : Standing) (c : Call) : Type 0 where
+  pub state : wrong_state s c ≡ false
+  pub op : op_used s c ≡ false
+  pub range : out_of_range s c ≡ false
+
+early_none : (b : Bool) (o : Option CallRefused) → or_unsendable b o ≡ None → o ≡ None
+early_none b None h = refl
+early_none b (Some r) h = absurd (cc)
+
+pub free : (s : Standing) (c : Call) → refusal s c ≡ None → IsFree s c
+unfolding refusal
+free s c h =
+    let rows = passed (early_rows s c) (early_none (unsendable s c) (early_refusal s c) h) in
+    record { state = rows.0; op = rows.1.1.0; range = rows.1.1.1.1.1.1.1.0 }
+
+-- Ready comes of an answer to Init
+pub ready_opened : (p : Past) → is_ready (state_of p) ≡ true → list_any opens p.accepted ≡ true
+ready_opened p h = by (opening p) refl h
+  where
+    nobody : (f : Option Refused) (closed closing begun : Bool) → is_ready (state_from f closed closing begun None) ≡ true → ⊥
+    nobody (Some r) closed closing begun e = cc
+    nobody None true closing begun e = cc
+    nobody None false closing true e = cc
+    nobody None false closing false e = cc
+
+    by : (o : Option Answer) → opening p ≡ o → is_ready (state_from p.fault p.closed (list_any is_close_call p.admitted) (list_any is_init_call p.admitted) o) ≡ true → list_any opens p.accepted ≡ true
+    by (Some a) e g = find_some opens p.accepted a e
+    by None e g = absurd (nobody p.fault p.closed (list_any is_close_call p.admitted) (list_any is_init_call p.admitted) g)
+
+proper_operation : (p : Past) (c : Call) (q : Asked) → operation_of c ≡ q ∷ [] → is_close_call c ≡ false
+    → list_any (has q.op) (asked p) ≡ false → (is_init q.what ≡ true → q.op ≡ 0) → asks_positions q.what ≡ true → IsProper p → IsProper (admit p c)
+proper_operation p c q e close fresh zero positions ok =
+    let more : asked (admit p c) ≡ asked p ++ q ∷ [] = asked_more p c ∙ ap (λ l. asked p ++ l) e in
+    record {
+      known = λ op h. ok.known op (earlier op (ap (list_any (has op)) (sym more) ∙ h));
+      zero = subst (AllByRecursion (λ (x : Asked). is_init x.what ≡ true → x.op ≡ 0)) (sym more) (all_push (λ (x : Asked). is_init x.what ≡ true → x.op ≡ 0) (asked p) q ok.zero zero);
+      positions = subst (AllByRecursion (λ (x : Asked). asks_positions x.what ≡ true)) (sym more) (all_push (λ (x : Asked). asks_positions x.what ≡ true) (asked p) q ok.positions positions);
+      opened_zero = ok.opened_zero;
+      distinct = subst AreDistinct (sym more) (distinct_push (asked p) q ok.distinct fresh);
+      closing = λ h. ok.closing (sym (or_none (list_any is_close_call p.admitted)) ∙ ap (λ b. list_any is_close_call p.admitted || (b || false)) (sym close) ∙ sym (list_any-append is_close_call p.admitted (c ∷ [])) ∙ h);
+    }
+  where
+    earlier : (op : ℕ) → list_any (has op) (asked p ++ q ∷ []) ≡ false → list_any (has op) (asked p) ≡ false
+    earlier op h = let e = list_any-append (has op) (asked p) (q ∷ []) in grind arith
+
+pub fresh_op : (p : Past) (op : ℕ) → list_any (λ o. o == op) (standing p).used ≡ false → list_any (has op) (asked p) ≡ false
+fresh_op p op h = sym (any_ops op (asked p)) ∙ h
+
+in_range : (b c : Bool) → (not b || c) ≡ false → b ≡ true
+in_range true c h = refl
+in_range false c h = absurd (true≢false h)
+
+pub ready_if : (b : Bool) → not b ≡ false → b ≡ true
+ready_if true h = refl
+ready_if false h = absurd (true≢false h)
+
+proper_admit : (p : Past) (c : Call) → IsFree (standing p) c → IsProper p → IsProper (admit p c)
+proper_admit p Init f ok = proper_operation p Init _ refl refl (fresh_op p 0 f.op) (λ _. refl) refl ok
+proper_admit p (Search op set ask) f ok = proper_operation p (Search op set ask) _ refl refl (fresh_op p op f.op) (λ h. absurd (true≢false (sym h))) refl ok
+proper_admit p (Present op set start n) f ok = proper_operation p (Present op set start n) _ refl refl (fresh_op p op f.op) (λ h. absurd (true≢false (sym h))) (in_range (are_positions start n) _ f.range) ok
+proper_admit p Close f ok =
+    let more : asked (admit p Close) ≡ asked p = asked_more p Close ∙ append-nil (asked p) in
+    record {
+      known = λ op h. ok.known op (ap (list_any (has op)) (sym more) ∙ h);
+      zero = subst (AllByRecursion (λ (x : Asked). is_init x.what ≡ true → x.op ≡ 0)) (sym more) ok.zero;
+      positions = subst (AllByRecursion (λ (x : Asked). asks_positions x.what ≡ true)) (sym more) ok.positions;
+      opened_zero = ok.opened_zero;
+      distinct = subst AreDistinct (sym more) ok.distinct;
+      closing = λ _. ready_opened p (ready_if (is_ready (state_of p)) f.state);
+    }
+
+pub proper_call : (p : Past) (c : Call) (r : Option CallRefused) → refusal (standing p) c ≡ r → IsProper p → IsProper (admit_unless p c r)
+proper_call p c (Some r) e ok = ok
+proper_call p c None e ok = proper_admit p c (free (standing p) c e) ok
+
+pub proper : (settings : Settings) (log : Log) → IsProper (past settings log)
+proper settings [] = record { known = λ op h. refl; zero = tt; positions = tt; opened_zero = tt; distinct = tt; closing = λ h. absurd (true≢false (sym h)) }
+proper settings (Made c ∷ log) = proper_call (past settings log) c (refusal (standing (past settings log)) c) refl (proper settings log)
+proper settings (Got reply ∷ log) =
+    let p = past settings log in
+    proper_verdict p reply (verdict (standing p) reply) (λ a. news p reply a (proper settings log)) (proper settings log)

@@ -1,0 +1,38 @@
+-- Which replies are accepted, said of the whole log and not step by step (Z39.50-2003, 3.4).
+use Rattle.std.specs.Prelude.{◌≡◌, ℕ, true, false, List, [], ◌∷◌, ◌++◌, Option, None, Some, Contains}
+use Rattle.zapdu.specs.declared.apdu.Apdu.{Apdu}
+use Rattle.zapdu.specs.declared.apdu.Apdu.TheVariants as apdus
+use Rattle.zorigin.specs.declared.settings.Settings.{Settings}
+use Rattle.zorigin.specs.declared.answer.Asked.{Asked}
+use Rattle.zorigin.specs.declared.answer.Answer.{Answer}
+use Rattle.zorigin.specs.References.{reference_id}
+use Rattle.zorigin.specs.Standings.{is_open}
+use Rattle.zorigin.specs.Fitting.{Fits}
+use Rattle.zorigin.specs.Log.{Log, Got, past, Past, state_of, asked, is_answered, outstanding, opening, force_after}
+
+-- the reference id of a reply
+abbrev pub id_of : Apdu → Option (List ℕ)
+id_of (apdus.InitRequest v) = v.reference_id
+id_of (apdus.InitResponse v) = v.reference_id
+id_of (apdus.SearchRequest v) = v.reference_id
+id_of (apdus.SearchResponse v) = v.reference_id
+id_of (apdus.PresentRequest v) = v.reference_id
+id_of (apdus.PresentResponse v) = v.reference_id
+id_of (apdus.Close v) = v.reference_id
+
+-- The reference id is the operation's, or is absent where concurrency is not in force and no other operation is outstanding.
+abbrev pub Refers : Past → Asked → Option (List ℕ) → Type 0
+Refers p q (Some id) = id ≡ reference_id q.op
+Refers p q None = ((force_after (opening p)).concurrent ≡ false) × (outstanding p ≡ q ∷ [])
+
+-- The reply was taken after a part of the log in which its request was admitted, was not answered yet, and replies were
+-- taken (so no message before it was refused); its reference id names the request; and it fits it.
+pub record IsAccepted (settings : Settings) (log : Log) (answer : Answer) : Type 0 where
+  pub later : Log
+  pub earlier : Log
+  pub cut : log ≡ later ++ Got answer.reply ∷ earlier
+  pub taking : is_open (state_of (past settings earlier)) ≡ true
+  pub asked : Contains (asked (past settings earlier)) answer.asked
+  pub unanswered : is_answered (past settings earlier) answer.asked.op ≡ false
+  pub refers : Refers (past settings earlier) answer.asked (id_of answer.reply)
+  pub fits : Fits answer.asked.what answer.reply

@@ -1,0 +1,146 @@
+-- The table of calls: which are refused, row by row, and what one that is not refused comes to.
+use Rattle.std.specs.Prelude.{◌≡◌, ℕ, ℤ, pos, int_lt, ◌==◌, ◌-◌, Bool, false, not, ◌||◌, ◌&&◌, if◌then◌else◌, List, [], ◌∷◌, length, slice_get, is_some, is_none, Option, Some, None, Result, Ok, Err}
+use Rattle.std.specs.List.{list_any}
+use Rattle.zapdu.specs.declared.apdu.Apdu.{Apdu}
+use Rattle.zorigin.specs.declared.settings.Ask.{Ask}
+use Rattle.zorigin.specs.declared.answer.Sent.{Sent}
+use Rattle.zorigin.specs.declared.refusal.CallRefused.{CallRefused}
+use Rattle.zorigin.specs.declared.refusal.CallRefused.TheVariants as refused
+use Rattle.zorigin.specs.declared.state.Outcome.{Outcome}
+use Rattle.zorigin.specs.declared.state.Outcome.TheVariants as outcomes
+use Rattle.zorigin.specs.declared.state.Searched.{Searched}
+use Rattle.zorigin.specs.Standings.{Call, Init, Search, Present, Close, Standing, is_fresh, is_ready, is_found, search_of}
+use Rattle.zorigin.specs.Fitting.{first_row, is_empty}
+use Rattle.zorigin.specs.Facts.{are_positions, last_position}
+use Rattle.zorigin.specs.Sending.{request_of, is_unsendable, sent_of, Sends}
+
+-- Init is called first and once, the others in Ready
+abbrev pub wrong_state : Standing → Call → Bool
+wrong_state s Init = not (is_fresh s.state)
+wrong_state s _ = not (is_ready s.state)
+
+-- the option is not in force
+abbrev pub not_offered : Standing → Call → Bool
+not_offered s (Search op set ask) = not s.force.search
+not_offered s (Present op set start n) = not s.force.present
+not_offered s _ = false
+
+-- an earlier admitted call had this number, which is 0 for Init
+abbrev pub is_used : Standing → ℕ → Bool
+is_used s op = list_any (λ other. other == op) s.used
+
+abbrev pub op_used : Standing → Call → Bool
+op_used s Init = is_used s 0
+op_used s (Search op set ask) = is_used s op
+op_used s (Present op set start n) = is_used s op
+op_used s _ = false
+
+-- an earlier admitted search had this set
+abbrev pub set_used : Standing → Call → Bool
+set_used s (Search op set ask) = is_some (search_of s.searches set)
+set_used s _ = false
+
+-- no admitted search had this set
+abbrev pub set_unknown : Standing → Call → Bool
+set_unknown s (Present op set start n) = is_none (search_of s.searches set)
+set_unknown s _ = false
+
+-- its search is unanswered, or failed
+abbrev pub is_unready : Option Searched → Bool
+is_unready None = false
+is_unready (Some searched) = not (is_found searched.outcome)
+
+abbrev pub set_not_ready : Standing → Call → Bool
+set_not_ready s (Present op set start n) = is_unready (search_of s.searches set)
+set_not_ready s _ = false
+
+-- the latest search made the set
+abbrev pub is_set : ℕ → Option Searched → Bool
+is_set set None = false
+is_set set (Some searched) = searched.set == set
+
+abbrev pub is_latest : Standing → ℕ → Bool
+is_latest s set = is_set set (slice_get s.searches (length s.searches - 1))
+
+-- names are not in force, and a later search was admitted
+abbrev pub set_replaced : Standing → Call → Bool
+set_replaced s (Present op set start n) = not s.force.named && not (is_latest s set)
+set_replaced s _ = false
+
+-- set 0, a negative bound, or a large bound not above the small one
+abbrev pub search_beyond : ℕ → Ask → Bool
+search_beyond set ask =
+    set == 0 || int_lt ask.small (pos 0) || int_lt ask.large (pos 0) || int_lt ask.medium (pos 0)
+    || not (int_lt ask.small ask.large)
+
+-- a position past the count that the search told
+abbrev pub past_outcome : ℤ → Option Outcome → Bool
+past_outcome last (Some (outcomes.Found count)) = int_lt count last
+past_outcome last _ = false
+
+abbrev pub is_past : ℤ → Option Searched → Bool
+is_past last None = false
+is_past last (Some searched) = past_outcome last searched.outcome
+
+abbrev pub out_of_range : Standing → Call → Bool
+out_of_range s (Search op set ask) = search_beyond set ask
+out_of_range s (Present op set start n) = not (are_positions start n) || is_past (last_position start n) (search_of s.searches set)
+out_of_range s _ = false
+
+-- an operation is outstanding, and no second one may be: concurrency is not in force, or it is a search that would replace a set
+abbrev pub busy : Standing → Call → Bool
+busy s (Search op set ask) =
+    not (is_empty s.outstanding) && (not s.force.concurrent || (not s.force.named && not (is_empty s.searches)))
+busy s (Present op set start n) = not (is_empty s.outstanding) && not s.force.concurrent
+busy s _ = false
+
+-- the request can't be sent; a Close always can
+abbrev pub is_unsendable_request : Option Apdu → Bool
+is_unsendable_request None = false
+is_unsendable_request (Some apdu) = is_unsendable apdu
+
+abbrev pub unsendable : Standing → Call → Bool
+unsendable s Close = false
+unsendable s call = is_unsendable_request (request_of s call)
+
+-- the rows but that of the request itself
+abbrev pub early_rows : Standing → Call → List (Bool × CallRefused)
+early_rows s call =
+    (wrong_state s call, refused.WrongState)
+    ∷ (not_offered s call, refused.NotOffered)
+    ∷ (op_used s call, refused.OpUsed)
+    ∷ (set_used s call, refused.SetUsed)
+    ∷ (set_unknown s call, refused.SetUnknown)
+    ∷ (set_not_ready s call, refused.SetNotReady)
+    ∷ (set_replaced s call, refused.SetReplaced)
+    ∷ (out_of_range s call, refused.OutOfRange)
+    ∷ (busy s call, refused.Busy)
+    ∷ []
+
+abbrev pub early_refusal : Standing → Call → Option CallRefused
+early_refusal s call = first_row (early_rows s call)
+
+abbrev pub or_unsendable : Bool → Option CallRefused → Option CallRefused
+or_unsendable unsendable (Some reason) = Some reason
+or_unsendable unsendable None = if unsendable then Some refused.Unsendable else None
+
+-- why the call is refused: the first row that holds; none where it is admitted
+unfoldable pub refusal : Standing → Call → Option CallRefused
+refusal s call = or_unsendable (unsendable s call) (early_refusal s call)
+
+-- what the call answers: the request that it sends, or why it is refused
+abbrev pub answer_by : Option CallRefused → Option Apdu → Result Sent CallRefused
+answer_by (Some reason) request = Err reason
+answer_by None (Some apdu) = Ok (sent_of apdu)
+answer_by None None = Err refused.SetUnknown
+
+abbrev pub call_answer : Standing → Call → Result Sent CallRefused
+call_answer s call = answer_by (refusal s call) (request_of s call)
+
+-- what sending the request of a call answers, memory aside
+abbrev pub SendsOf : Option Apdu → Result Sent CallRefused → Type 0
+SendsOf None answer = answer ≡ Err refused.SetUnknown
+SendsOf (Some apdu) answer = Sends apdu answer
+
+abbrev pub SendsFor : Standing → Call → Result Sent CallRefused → Type 0
+SendsFor s call answer = SendsOf (request_of s call) answer

@@ -1,0 +1,91 @@
+-- How a call that is admitted, and an APDU that is taken, change where a connection stands.
+use Rattle.std.specs.Prelude.{ℕ, nat_eq, ◌==◌, Bool, true, false, slice_index_or, if◌then◌else◌, List, [], ◌∷◌, ◌++◌, map, Option, Some, None, Result, Ok, Err}
+use Rattle.indexmap.specs.IndexMap.{insert_entry, shift_remove_entry}
+use Rattle.zapdu.specs.declared.apdu.Apdu.{Apdu}
+use Rattle.zapdu.specs.declared.apdu.Apdu.TheVariants as apdus
+use Rattle.zapdu.specs.declared.init_response.InitResponse.{InitResponse}
+use Rattle.zorigin.specs.declared.settings.Ask.{Ask}
+use Rattle.zorigin.specs.declared.answer.Asked.{Asked}
+use Rattle.zorigin.specs.declared.answer.What.TheVariants as what
+use Rattle.zorigin.specs.declared.answer.Taken.{Taken}
+use Rattle.zorigin.specs.declared.answer.Taken.TheVariants as taken
+use Rattle.zorigin.specs.declared.refusal.CallRefused.{CallRefused}
+use Rattle.zorigin.specs.declared.refusal.Refused.{Refused}
+use Rattle.zorigin.specs.declared.state.State.TheVariants as states
+use Rattle.zorigin.specs.declared.state.InForce.{InForce}
+use Rattle.zorigin.specs.declared.state.Outcome.{Outcome}
+use Rattle.zorigin.specs.declared.state.Outcome.TheVariants as outcomes
+use Rattle.zorigin.specs.declared.state.Searched.{Searched}
+use Rattle.zorigin.specs.Standings.{Call, Init, Search, Present, Close, Standing, is_open, ready}
+use Rattle.zorigin.specs.Calls.{refusal}
+
+-- the operation of a call
+abbrev pub init_asked : Asked
+init_asked = record { op = 0; set = 0; what = what.Init }
+
+abbrev pub search_asked : ℕ → ℕ → Asked
+search_asked op set = record { op = op; set = set; what = what.Search }
+
+-- what is kept of a search that is not answered yet
+abbrev pub unanswered : ℕ → ℕ → Ask → Searched
+unanswered op set ask = record { op = op; set = set; syntax = ask.syntax; elements = ask.elements; outcome = None }
+
+-- ---- calls
+
+abbrev pub with_asked : Standing → Asked → Standing
+with_asked s asked = record s { used = s.used ++ asked.op ∷ []; outstanding = insert_entry nat_eq s.outstanding asked.op asked }
+
+abbrev pub admitted_at : Standing → Call → Standing
+admitted_at s Init = record (with_asked s init_asked) { state = states.Initialising }
+admitted_at s (Search op set ask) = record (with_asked s (search_asked op set)) { searches = s.searches ++ unanswered op set ask ∷ [] }
+admitted_at s (Present op set start n) = with_asked s (record { op = op; set = set; what = what.Present start n })
+admitted_at s Close = record s { state = states.Closing }
+
+abbrev pub admitted_unless : Standing → Call → Option CallRefused → Standing
+admitted_unless s call None = admitted_at s call
+admitted_unless s call (Some reason) = s
+
+-- the standing after a call
+abbrev pub called_at : Standing → Call → Standing
+called_at s call = admitted_unless s call (refusal s call)
+
+-- ---- replies
+
+-- what a response to Init puts in force: what was offered and it has
+abbrev pub force_in : InitResponse → InForce
+force_in v = record {
+  search = slice_index_or v.options 0 false;
+  present = slice_index_or v.options 1 false;
+  v3 = slice_index_or v.protocol_version 2 false;
+  concurrent = slice_index_or v.options 13 false;
+  named = slice_index_or v.options 14 false;
+}
+
+-- what came of a search, by its answer
+abbrev pub outcome_in : Apdu → Option Outcome
+outcome_in (apdus.SearchResponse v) = if v.search_status then Some (outcomes.Found v.result_count) else Some outcomes.Failed
+outcome_in _ = None
+
+abbrev pub noted_if : Bool → Option Outcome → Searched → Searched
+noted_if true outcome searched = record searched { outcome = outcome }
+noted_if false outcome searched = searched
+
+-- the searches once the operation was answered
+abbrev pub noted : ℕ → Option Outcome → List Searched → List Searched
+noted op outcome searches = map (λ (s : Searched). noted_if (s.op == op) outcome s) searches
+
+-- the operation is outstanding no more
+abbrev pub without : Standing → ℕ → Standing
+without s op = record s { outstanding = shift_remove_entry (nat_eq op) s.outstanding }
+
+abbrev pub opened_at : Standing → Apdu → Standing
+opened_at s (apdus.InitResponse v) = record s { state = ready (force_in v); force = force_in v }
+opened_at s _ = s
+
+-- the standing after the verdict
+abbrev pub settled_at : Standing → Result Taken Refused → Standing
+settled_at s (Ok (taken.Opened answer)) = opened_at (without s answer.asked.op) answer.reply
+settled_at s (Ok (taken.Rejected answer)) = record (without s answer.asked.op) { state = states.Closed }
+settled_at s (Ok (taken.Answered answer)) = record (without s answer.asked.op) { searches = noted answer.asked.op (outcome_in answer.reply) s.searches }
+settled_at s (Ok taken.Closed) = record s { state = states.Closed }
+settled_at s (Err reason) = if is_open s.state then record s { state = states.Failed reason } else s

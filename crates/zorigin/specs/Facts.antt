@@ -1,0 +1,79 @@
+-- What a reply that answers an operation says of the target's result sets.
+use Rattle.std.specs.Prelude.{◌≡◌, ℕ, ℤ, pos, ◌+ℤ◌, ◌-ℤ◌, int_le, Bool, true, ◌&&◌, if◌then◌else◌, List, [], ◌∷◌, ◌++◌, map}
+use Rattle.std.specs.List.{enumerate_from}
+use Rattle.zapdu.specs.declared.apdu.Apdu.{Apdu}
+use Rattle.zapdu.specs.declared.apdu.Apdu.TheVariants as apdus
+use Rattle.zapdu.specs.declared.record.Record.{Record}
+use Rattle.zapdu.specs.declared.init_response.InitResponse.{InitResponse}
+use Rattle.zapdu.specs.declared.search_response.SearchResponse.{SearchResponse}
+use Rattle.zapdu.specs.declared.present_response.PresentResponse.{PresentResponse}
+use Rattle.zapdu.specs.declared.diagnostic.DiagRec.{DiagRec}
+use Rattle.zknow.specs.declared.fact.Fact.{Fact}
+use Rattle.zknow.specs.declared.fact.Fact.TheVariants.{Count, Failed, Seen, Diag}
+use Rattle.zorigin.specs.declared.answer.What.{What}
+use Rattle.zorigin.specs.declared.answer.What.TheVariants as what
+use Rattle.zorigin.specs.declared.answer.Answer.{Answer}
+use Rattle.zorigin.specs.declared.answer.Taken.{Taken}
+use Rattle.zorigin.specs.declared.answer.Taken.TheVariants as taken
+use Rattle.zorigin.specs.Fitting.{Fits, records_in, diagnostics_in}
+
+-- record j stands at the j-th position from the first
+abbrev pub seen_from : ℕ → ℕ → ℤ → List Record → List Fact
+seen_from target set first records = map (λ (e : ℕ × Record). Seen target set (first +ℤ pos e.0) e.1) (enumerate_from 0 records)
+
+-- a diagnostic of the search has place 0, one of a Present the first position that was asked
+abbrev pub told_at : ℕ → ℕ → ℤ → List DiagRec → List Fact
+told_at target set place diags = map (λ diag. Diag target set place diag) diags
+
+abbrev pub count_or_failed : ℕ → ℕ → Bool → ℤ → Fact
+count_or_failed target set status count = if status then Count target set count else Failed target set
+
+abbrev pub init_facts : ℕ → InitResponse → List Fact
+init_facts target v = if v.result then [] else Failed target 0 ∷ []
+
+abbrev pub search_facts : ℕ → ℕ → SearchResponse → List Fact
+search_facts target set v =
+    (count_or_failed target set v.search_status v.result_count ∷ []) ++ seen_from target set (pos 1) (records_in v.records)
+    ++ told_at target set (pos 0) (diagnostics_in v.records)
+
+abbrev pub present_facts : ℕ → ℕ → ℤ → PresentResponse → List Fact
+present_facts target set start v =
+    seen_from target set start (records_in v.records) ++ told_at target set start (diagnostics_in v.records)
+
+abbrev pub facts_by : ℕ → ℕ → What → Apdu → List Fact
+facts_by target set what.Init (apdus.InitResponse v) = init_facts target v
+facts_by target set what.Search (apdus.SearchResponse v) = search_facts target set v
+facts_by target set (what.Present start n) (apdus.PresentResponse v) = present_facts target set start v
+facts_by _ _ _ _ = []
+
+abbrev pub facts_of : ℕ → Answer → List Fact
+facts_of target answer = facts_by target answer.asked.set answer.asked.what answer.reply
+
+-- positions that can be asked for, whatever the set's count is
+abbrev pub last_position : ℤ → ℤ → ℤ
+last_position start n = (start +ℤ n) -ℤ pos 1
+
+abbrev pub are_positions : ℤ → ℤ → Bool
+are_positions start n = int_le (pos 1) start && int_le (pos 1) n && int_le (last_position start n) (pos 2147483647)
+
+abbrev pub asks_positions : What → Bool
+asks_positions (what.Present start n) = are_positions start n
+asks_positions _ = true
+
+-- the reply fits, and the positions that were asked are some
+pub record IsShowable (answer : Answer) : Type 0 where
+  pub fits : Fits answer.asked.what answer.reply
+  pub positions : asks_positions answer.asked.what ≡ true
+
+-- the answer in it, if it has one, is
+abbrev pub HasShowable : Taken → Type 0
+HasShowable (taken.Opened answer) = IsShowable answer
+HasShowable (taken.Rejected answer) = IsShowable answer
+HasShowable (taken.Answered answer) = IsShowable answer
+HasShowable taken.Closed = Unit {0}
+
+-- the records of a response of either kind
+abbrev pub records_of : Apdu → List Record
+records_of (apdus.SearchResponse v) = records_in v.records
+records_of (apdus.PresentResponse v) = records_in v.records
+records_of _ = []

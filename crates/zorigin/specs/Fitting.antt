@@ -1,0 +1,117 @@
+-- What a reply has to be like to answer an operation (Z39.50-2003, 3.2.2.1, 3.2.3.1), and what is wrong with one that does not.
+use Rattle.std.specs.Prelude.{◌≡◌, ◌≢◌, ◌⊎◌, ℕ, ℤ, pos, negsuc, ◌≤ℤ◌, int_lt, nat_lt, ◌==◌, Bool, true, false, not, ◌||◌, ◌&&◌, if◌then◌else◌, List, [], ◌∷◌, length, Option, Some, None}
+use Rattle.std.specs.List.{list_any}
+use Rattle.zapdu.specs.declared.apdu.Apdu.{Apdu}
+use Rattle.zapdu.specs.declared.apdu.Apdu.TheVariants as apdus
+use Rattle.zapdu.specs.declared.record.Record.{Record}
+use Rattle.zapdu.specs.declared.record.RecordBody.{RecordBody}
+use Rattle.zapdu.specs.declared.record.RecordBody.TheVariants as bodies
+use Rattle.zapdu.specs.declared.record.Records.{Records}
+use Rattle.zapdu.specs.declared.record.Records.TheVariants as kinds
+use Rattle.zapdu.specs.declared.diagnostic.DiagRec.{DiagRec}
+use Rattle.zapdu.specs.declared.diagnostic.DiagRec.TheVariants.{Default}
+use Rattle.zapdu.specs.declared.search_response.SearchResponse.{SearchResponse}
+use Rattle.zapdu.specs.declared.present_response.PresentResponse.{PresentResponse}
+use Rattle.zorigin.specs.declared.answer.What.{What}
+use Rattle.zorigin.specs.declared.answer.What.TheVariants as what
+use Rattle.zorigin.specs.declared.refusal.Refused.{Refused}
+use Rattle.zorigin.specs.declared.refusal.Refused.TheVariants as refused
+
+-- the records of a response, in order
+abbrev pub records_in : Option Records → List Record
+records_in (Some (kinds.List records)) = records
+records_in _ = []
+
+-- the diagnostics that stand for no record
+abbrev pub diagnostics_in : Option Records → List DiagRec
+diagnostics_in (Some (kinds.OneDiag diag)) = Default diag ∷ []
+diagnostics_in (Some (kinds.ManyDiags diags)) = diags
+diagnostics_in _ = []
+
+abbrev pub is_empty : {X : Type 0} → List X → Bool
+is_empty [] = true
+is_empty (x ∷ xs) = false
+
+abbrev pub is_fragment : RecordBody → Bool
+is_fragment (bodies.Fragment node) = true
+is_fragment _ = false
+
+-- a part of a record, which only segmentation would give a meaning
+abbrev pub has_fragment : Option Records → Bool
+has_fragment records = list_any (λ (r : Record). is_fragment r.body) (records_in records)
+
+-- ---- what fits
+
+-- diagnostics came, or the number is that of the records
+abbrev pub IsCounted : Option Records → ℤ → Type 0
+IsCounted records n = (diagnostics_in records ≢ []) ⊎ (n ≡ pos (length (records_in records)))
+
+pub record FitsSearch (v : SearchResponse) : Type 0 where
+  pub counted : IsCounted v.records v.number_of_records_returned
+  pub positive : pos 0 ≤ℤ v.result_count
+  pub within : pos (length (records_in v.records)) ≤ℤ v.result_count
+  pub entire : has_fragment v.records ≡ false
+
+pub record FitsPresent (n : ℤ) (v : PresentResponse) : Type 0 where
+  pub counted : IsCounted v.records v.number_of_records_returned
+  pub within : pos (length (records_in v.records)) ≤ℤ n
+  pub entire : has_fragment v.records ≡ false
+  pub some : (records_in v.records ≢ []) ⊎ (diagnostics_in v.records ≢ [])
+
+-- the reply, its reference id aside, can answer such an operation
+abbrev pub Fits : What → Apdu → Type 0
+Fits what.Init (apdus.InitResponse v) = Unit {0}
+Fits what.Search (apdus.SearchResponse v) = FitsSearch v
+Fits (what.Present start n) (apdus.PresentResponse v) = FitsPresent n v
+Fits _ _ = ⊥
+
+-- ---- what does not, row by row
+
+-- the first row that holds
+abbrev pub first_row : {R : Type 0} → List (Bool × R) → Option R
+first_row [] = None
+first_row (row ∷ rows) = if row.0 then Some row.1 else first_row rows
+
+-- the number is that of so many
+abbrev pub is_number : ℤ → ℕ → Bool
+is_number (pos n) k = n == k
+is_number (negsuc n) k = false
+
+-- there are more than the number
+abbrev pub exceeds : ℕ → ℤ → Bool
+exceeds k (pos n) = nat_lt n k
+exceeds k (negsuc n) = true
+
+abbrev pub count_mismatch : Option Records → ℤ → Bool
+count_mismatch records n = is_empty (diagnostics_in records) && not (is_number n (length (records_in records)))
+
+abbrev pub bad_number : SearchResponse → Bool
+bad_number v = int_lt v.result_count (pos 0)
+
+abbrev pub bad_search : SearchResponse → Bool
+bad_search v = exceeds (length (records_in v.records)) v.result_count || has_fragment v.records
+
+abbrev pub bad_present : ℤ → PresentResponse → Bool
+bad_present n v =
+    exceeds (length (records_in v.records)) n || has_fragment v.records
+    || (is_empty (records_in v.records) && is_empty (diagnostics_in v.records))
+
+abbrev pub search_fault : SearchResponse → Option Refused
+search_fault v = first_row (
+    (count_mismatch v.records v.number_of_records_returned, refused.CountMismatch)
+    ∷ (bad_number v, refused.BadNumber)
+    ∷ (bad_search v, refused.BadShape)
+    ∷ [])
+
+abbrev pub present_fault : ℤ → PresentResponse → Option Refused
+present_fault n v = first_row (
+    (count_mismatch v.records v.number_of_records_returned, refused.CountMismatch)
+    ∷ (bad_present n v, refused.BadShape)
+    ∷ [])
+
+-- why the reply can't answer such an operation
+abbrev pub fault_of : What → Apdu → Option Refused
+fault_of what.Init (apdus.InitResponse v) = None
+fault_of what.Search (apdus.SearchResponse v) = search_fault v
+fault_of (what.Present start n) (apdus.PresentResponse v) = present_fault n v
+fault_of _ _ = Some refused.WrongKind

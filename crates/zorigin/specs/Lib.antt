@@ -1,0 +1,10 @@
+pub mod References
+pub mod Fitting
+pub mod Facts
+pub mod Standings
+pub mod Sending
+pub mod Calls
+pub mod Replies
+pub mod Changes
+pub mod Log
+pub mod Accepts

@@ -1,0 +1,215 @@
+-- What was done to one origin, as a list, and what it amounts to: the calls that were admitted and the replies that were accepted.
+use Rattle.std.specs.Prelude.{◌≡◌, ◌≢◌, ℕ, ◌==◌, Bool, true, false, not, if◌then◌else◌, List, [], ◌∷◌, ◌++◌, map, filter, Option, None, Some, Result, Ok, Err}
+use Rattle.std.specs.List.{list_any, find, flat_map}
+use Rattle.zapdu.specs.declared.apdu.Apdu.{Apdu}
+use Rattle.zapdu.specs.declared.apdu.Apdu.TheVariants as apdus
+use Rattle.zorigin.specs.declared.settings.Settings.{Settings}
+use Rattle.zorigin.specs.declared.answer.What.{What}
+use Rattle.zorigin.specs.declared.answer.What.TheVariants as what
+use Rattle.zorigin.specs.declared.answer.Asked.{Asked}
+use Rattle.zorigin.specs.declared.answer.Answer.{Answer}
+use Rattle.zorigin.specs.declared.answer.Taken.{Taken}
+use Rattle.zorigin.specs.declared.answer.Taken.TheVariants as taken
+use Rattle.zorigin.specs.declared.refusal.CallRefused.{CallRefused}
+use Rattle.zorigin.specs.declared.refusal.CallRefused.TheVariants as calls
+use Rattle.zorigin.specs.declared.refusal.Refused.{Refused}
+use Rattle.zorigin.specs.declared.refusal.Refused.TheVariants as refused
+use Rattle.zorigin.specs.declared.state.State.{State}
+use Rattle.zorigin.specs.declared.state.State.TheVariants as states
+use Rattle.zorigin.specs.declared.state.InForce.{InForce}
+use Rattle.zorigin.specs.declared.state.Searched.{Searched}
+use Rattle.zorigin.specs.declared.state.Outcome.{Outcome}
+use Rattle.zorigin.specs.Standings.{Call, Init, Search, Present, Close, Standing, is_open, nothing_in_force, ready}
+use Rattle.zorigin.specs.Sending.{request_of}
+use Rattle.zorigin.specs.Calls.{refusal}
+use Rattle.zorigin.specs.Replies.{verdict}
+use Rattle.zorigin.specs.Changes.{init_asked, search_asked, unanswered, force_in, outcome_in}
+
+-- A call that was made, or an APDU that was taken. A call answered for want of memory is none.
+pub data Entry : Type 0 where
+  Made : Call → Entry
+  Got : Apdu → Entry
+
+-- the newest first
+abbrev pub Log : Type 0
+Log = List Entry
+
+-- What the log amounts to: the calls admitted, the requests sent for them and the replies accepted, in order; whether a Close
+-- was taken, and the latest fault.
+pub record Past : Type 0 where
+  pub settings : Settings
+  pub admitted : List Call
+  pub sent : List Apdu
+  pub accepted : List Answer
+  pub closed : Bool
+  pub fault : Option Refused
+
+abbrev pub nothing : Settings → Past
+nothing settings = record { settings = settings; admitted = []; sent = []; accepted = []; closed = false; fault = None }
+
+-- ---- the operations
+
+abbrev pub operation_of : Call → List Asked
+operation_of Init = init_asked ∷ []
+operation_of (Search op set ask) = search_asked op set ∷ []
+operation_of (Present op set start n) = record { op = op; set = set; what = what.Present start n } ∷ []
+operation_of Close = []
+
+-- the operations that were admitted, in the order of the calls
+abbrev pub asked : Past → List Asked
+asked p = flat_map operation_of p.admitted
+
+-- the answer is to the operation with this number
+abbrev pub answers : ℕ → Answer → Bool
+answers op answer = answer.asked.op == op
+
+abbrev pub is_answered : Past → ℕ → Bool
+is_answered p op = list_any (answers op) p.accepted
+
+-- admitted, and not answered yet
+abbrev pub outstanding : Past → List Asked
+outstanding p = filter (λ (q : Asked). not (is_answered p q.op)) (asked p)
+
+-- ---- the association
+
+abbrev pub is_init : What → Bool
+is_init what.Init = true
+is_init _ = false
+
+abbrev pub opens : Answer → Bool
+opens answer = is_init answer.asked.what
+
+-- the reply to Init
+abbrev pub opening : Past → Option Answer
+opening p = find opens p.accepted
+
+abbrev pub is_init_call : Call → Bool
+is_init_call Init = true
+is_init_call _ = false
+
+abbrev pub is_close_call : Call → Bool
+is_close_call Close = true
+is_close_call _ = false
+
+-- what the reply to Init puts in force
+abbrev pub force_by : Apdu → InForce
+force_by (apdus.InitResponse v) = if v.result then force_in v else nothing_in_force
+force_by _ = nothing_in_force
+
+abbrev pub force_after : Option Answer → InForce
+force_after None = nothing_in_force
+force_after (Some answer) = force_by answer.reply
+
+abbrev pub state_by : Apdu → State
+state_by (apdus.InitResponse v) = if v.result then ready (force_in v) else states.Closed
+state_by _ = states.Closed
+
+-- Fresh where no Init was admitted, Initialising where it is unanswered, then what its reply says
+abbrev pub opened_state : Bool → Option Answer → State
+opened_state begun None = if begun then states.Initialising else states.Fresh
+opened_state begun (Some answer) = state_by answer.reply
+
+-- Closing where Close was admitted, unless the association was rejected
+abbrev pub closing_state : Bool → State → State
+closing_state closing (states.Ready v3 concurrent named) = if closing then states.Closing else states.Ready v3 concurrent named
+closing_state closing other = other
+
+-- Failed where there was a fault
+abbrev pub failed_or : State → Option Refused → State
+failed_or other None = other
+failed_or other (Some reason) = states.Failed reason
+
+abbrev pub state_from : Option Refused → Bool → Bool → Bool → Option Answer → State
+state_from fault closed closing begun answer = failed_or (if closed then states.Closed else closing_state closing (opened_state begun answer)) fault
+
+-- of several states that hold the last named stands
+abbrev pub state_of : Past → State
+state_of p = state_from p.fault p.closed (list_any is_close_call p.admitted) (list_any is_init_call p.admitted) (opening p)
+
+-- ---- the searches
+
+abbrev pub search_in : Call → List Searched
+search_in (Search op set ask) = unanswered op set ask ∷ []
+search_in _ = []
+
+abbrev pub outcome_by : Option Answer → Option Outcome
+outcome_by None = None
+outcome_by (Some answer) = outcome_in answer.reply
+
+-- a search with what came of it
+abbrev pub with_outcome : List Answer → Searched → Searched
+with_outcome accepted searched = record searched { outcome = outcome_by (find (answers searched.op) accepted) }
+
+abbrev pub searches_in : Past → List Searched
+searches_in p = map (with_outcome p.accepted) (flat_map search_in p.admitted)
+
+-- ---- what the tables ask
+
+abbrev pub numbered : Asked → ℕ × Asked
+numbered q = (q.op, q)
+
+abbrev pub op_of : Asked → ℕ
+op_of q = q.op
+
+abbrev pub standing : Past → Standing
+standing p = record {
+  settings = p.settings;
+  state = state_of p;
+  force = force_after (opening p);
+  used = map op_of (asked p);
+  searches = searches_in p;
+  outstanding = map numbered (outstanding p);
+}
+
+-- ---- one entry more
+
+abbrev pub request_list : Option Apdu → List Apdu
+request_list None = []
+request_list (Some apdu) = apdu ∷ []
+
+abbrev pub admit : Past → Call → Past
+admit p call = record p { admitted = p.admitted ++ call ∷ []; sent = p.sent ++ request_list (request_of (standing p) call) }
+
+abbrev pub admit_unless : Past → Call → Option CallRefused → Past
+admit_unless p call None = admit p call
+admit_unless p call (Some reason) = p
+
+abbrev pub accept : Past → Answer → Past
+accept p answer = record p { accepted = p.accepted ++ answer ∷ [] }
+
+abbrev pub after_verdict : Past → Result Taken Refused → Past
+after_verdict p (Ok (taken.Opened answer)) = accept p answer
+after_verdict p (Ok (taken.Rejected answer)) = accept p answer
+after_verdict p (Ok (taken.Answered answer)) = accept p answer
+after_verdict p (Ok taken.Closed) = record p { closed = true }
+after_verdict p (Err reason) = if is_open (state_of p) then record p { fault = Some reason } else p
+
+abbrev pub with_entry : Entry → Past → Past
+with_entry (Made call) p = admit_unless p call (refusal (standing p) call)
+with_entry (Got reply) p = after_verdict p (verdict (standing p) reply)
+
+-- by induction on the length of the log
+abbrev pub past : Settings → Log → Past
+past settings [] = nothing settings
+past settings (e ∷ log) = with_entry e (past settings log)
+
+-- The log can have left this origin.
+pub record After (settings : Settings) (log : Log) (origin : Standing) : Type 0 where
+  pub is : origin ≡ standing (past settings log)
+
+-- ---- memory aside
+
+abbrev pub IsCalled : {X : Type 0} → Result X CallRefused → Type 0
+IsCalled (Ok x) = Unit {0}
+IsCalled (Err reason) = reason ≢ calls.Memory
+
+-- the answer is the one given, unless memory was wanting
+abbrev pub Answers : {X : Type 0} → Result X CallRefused → Result X CallRefused → Type 0
+Answers given answer = IsCalled answer → answer ≡ given
+
+abbrev pub IsTaken : Result Taken Refused → Type 0
+IsTaken (Ok x) = Unit {0}
+IsTaken (Err reason) = reason ≢ refused.Memory
+
+abbrev pub Tells : Result Taken Refused → Result Taken Refused → Type 0
+Tells given answer = IsTaken answer → answer ≡ given

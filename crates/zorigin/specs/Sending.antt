@@ -1,0 +1,144 @@
+-- The APDU that is sent for a call (Z39.50-2003, 3.2.1.1, 3.2.2.1, 3.2.3.1, 3.2.11.1), and which can be sent at all.
+use Rattle.std.specs.Prelude.{◌≡◌, ℕ, ℤ, pos, nat_lt, Bool, true, false, ◌||◌, if◌then◌else◌, List, [], ◌∷◌, length, Option, Some, None, Result, Ok, Err, codes}
+use Rattle.std.specs.Option.{option_map}
+use Rattle.std.specs.Fmt.{decimal}
+use Rattle.zber.specs.Elements.{Element, height}
+use Rattle.zber.specs.Canonical.{canonical}
+use Rattle.zapdu.specs.declared.apdu.Apdu.{Apdu}
+use Rattle.zapdu.specs.declared.apdu.Apdu.TheVariants as apdus
+use Rattle.zapdu.specs.declared.element_set_names.ElementSetNames.{ElementSetNames}
+use Rattle.zapdu.specs.declared.element_set_names.ElementSetNames.TheVariants.{Generic}
+use Rattle.zapdu.specs.declared.record_composition.RecordComposition.{RecordComposition}
+use Rattle.zapdu.specs.declared.record_composition.RecordComposition.TheVariants.{Simple}
+use Rattle.zapdu.specs.declared.search_query.SearchQuery.TheVariants.{Rpn}
+use Rattle.zapdu.specs.Writes.{apdu_spelt}
+use Rattle.zorigin.specs.declared.settings.Settings.{Settings}
+use Rattle.zorigin.specs.declared.settings.Ask.{Ask}
+use Rattle.zorigin.specs.declared.state.Searched.{Searched}
+use Rattle.zorigin.specs.declared.answer.Sent.{Sent}
+use Rattle.zorigin.specs.declared.refusal.CallRefused.{CallRefused}
+use Rattle.zorigin.specs.declared.refusal.CallRefused.TheVariants as refused
+use Rattle.zorigin.specs.References.{reference_id}
+use Rattle.zorigin.specs.Standings.{Call, Init, Search, Present, Close, Standing, search_of}
+
+-- versions 1 to 3
+abbrev pub versions : List Bool
+versions = true ∷ true ∷ true ∷ []
+
+-- search 0, present 1, concurrentOperations 13, namedResultSets 14
+abbrev pub options : List Bool
+options = true ∷ true ∷ false ∷ false ∷ false ∷ false ∷ false ∷ false ∷ false ∷ false ∷ false ∷ false ∷ false ∷ true ∷ true ∷ []
+
+abbrev pub init_request : Settings → Apdu
+init_request settings = apdus.InitRequest (record {
+  reference_id = Some (reference_id 0);
+  protocol_version = versions;
+  options = options;
+  preferred_message_size = pos 1048576;
+  exceptional_record_size = pos 1048576;
+  id_authentication = None;
+  implementation_id = None;
+  implementation_name = Some settings.name;
+  implementation_version = None;
+  user_information_field = None;
+  other_info = None;
+})
+
+-- a set's name is its number in decimal where names are in force
+abbrev pub set_name : Bool → ℕ → List ℕ
+set_name named set = if named then decimal set else codes "default"
+
+-- one element set for all databases
+abbrev pub element_set : Option (List ℕ) → Option ElementSetNames
+element_set None = None
+element_set (Some name) = Some (Generic name)
+
+abbrev pub composition : Option (List ℕ) → Option RecordComposition
+composition None = None
+composition (Some name) = Some (Simple (Generic name))
+
+abbrev pub search_request : Bool → ℕ → ℕ → Ask → Apdu
+search_request named op set ask = apdus.SearchRequest (record {
+  reference_id = Some (reference_id op);
+  small_set_upper_bound = ask.small;
+  large_set_lower_bound = ask.large;
+  medium_set_present_number = ask.medium;
+  replace_indicator = true;
+  result_set_name = set_name named set;
+  database_names = ask.databases;
+  small_set_element_set_names = element_set ask.elements;
+  medium_set_element_set_names = element_set ask.elements;
+  preferred_record_syntax = ask.syntax;
+  query = Rpn ask.query;
+  additional_search_info = None;
+  other_info = None;
+})
+
+-- the syntax and the element set are those of the set's search
+abbrev pub present_request : Bool → ℕ → ℤ → ℤ → Searched → Apdu
+present_request named op start n searched = apdus.PresentRequest (record {
+  reference_id = Some (reference_id op);
+  result_set_id = set_name named searched.set;
+  result_set_start_point = start;
+  number_of_records_requested = n;
+  additional_ranges = None;
+  record_composition = composition searched.elements;
+  preferred_record_syntax = searched.syntax;
+  max_segment_count = None;
+  max_record_size = None;
+  max_segment_size = None;
+  other_info = None;
+})
+
+-- reason 0, finished
+abbrev pub close_request : Apdu
+close_request = apdus.Close (record {
+  reference_id = None;
+  close_reason = pos 0;
+  diagnostic_information = None;
+  resource_report_format = None;
+  resource_report = None;
+  other_info = None;
+})
+
+-- none for a Present of a set that no search made
+abbrev pub request_of : Standing → Call → Option Apdu
+request_of s Init = Some (init_request s.settings)
+request_of s (Search op set ask) = Some (search_request s.force.named op set ask)
+request_of s (Present op set start n) = option_map (present_request s.force.named op start n) (search_of s.searches set)
+request_of s Close = Some close_request
+
+-- ---- which can be sent
+
+abbrev pub too_large : Option Element → Bool
+too_large None = true
+too_large (Some n) = nat_lt 64 (height n) || nat_lt 2097152 (length (canonical n))
+
+-- the APDU has no spelling, more than 64 constructed elements within one another, or more than 2,097,152 octets
+unfoldable pub is_unsendable : Apdu → Bool
+is_unsendable apdu = too_large (apdu_spelt apdu)
+
+abbrev pub octets_of : Option Element → List ℕ
+octets_of None = []
+octets_of (Some n) = canonical n
+
+-- the canonical encoding
+unfoldable pub encoding_of : Apdu → List ℕ
+encoding_of apdu = octets_of (apdu_spelt apdu)
+
+-- what encoding an element answers, memory aside
+abbrev pub Encodes : Element → Result (List ℕ) CallRefused → Type 0
+Encodes n (Ok octets) = (too_large (Some n) ≡ false) × (octets ≡ canonical n)
+Encodes n (Err refused.Unsendable) = too_large (Some n) ≡ true
+Encodes n (Err refused.Memory) = Unit {0}
+Encodes n (Err _) = ⊥
+
+abbrev pub sent_of : Apdu → Sent
+sent_of apdu = record { apdu = apdu; octets = encoding_of apdu }
+
+-- what sending an APDU answers, memory aside
+abbrev pub Sends : Apdu → Result Sent CallRefused → Type 0
+Sends apdu (Ok sent) = (is_unsendable apdu ≡ false) × (sent ≡ sent_of apdu)
+Sends apdu (Err refused.Unsendable) = is_unsendable apdu ≡ true
+Sends apdu (Err refused.Memory) = Unit {0}
+Sends apdu (Err _) = ⊥

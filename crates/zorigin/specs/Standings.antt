@@ -1,0 +1,59 @@
+-- What a log amounts to, as the tables ask it, and the calls.
+use Rattle.std.specs.Prelude.{ℕ, ℤ, ◌==◌, Bool, true, false, List, Option, Some}
+use Rattle.std.specs.List.{find}
+use Rattle.zorigin.specs.declared.settings.Settings.{Settings}
+use Rattle.zorigin.specs.declared.settings.Ask.{Ask}
+use Rattle.zorigin.specs.declared.answer.Asked.{Asked}
+use Rattle.zorigin.specs.declared.state.State.{State}
+use Rattle.zorigin.specs.declared.state.State.TheVariants as states
+use Rattle.zorigin.specs.declared.state.InForce.{InForce}
+use Rattle.zorigin.specs.declared.state.Outcome.{Outcome}
+use Rattle.zorigin.specs.declared.state.Outcome.TheVariants as outcomes
+use Rattle.zorigin.specs.declared.state.Searched.{Searched}
+
+-- a call: a search with its operation, its set and what it asks for; a Present with its operation, its set, the first position and how many
+pub data Call : Type 0 where
+  Init : Call
+  Search : ℕ → ℕ → Ask → Call
+  Present : ℕ → ℕ → ℤ → ℤ → Call
+  Close : Call
+
+pub record Standing : Type 0 where
+  pub settings : Settings
+  pub state : State
+  pub force : InForce
+  -- the numbers of the operations that were admitted
+  pub used : List ℕ
+  -- the searches that were admitted, in order, each with what came of it
+  pub searches : List Searched
+  -- the operations that are admitted and unanswered, by number, in the order of their calls
+  pub outstanding : List (ℕ × Asked)
+
+abbrev pub is_fresh : State → Bool
+is_fresh states.Fresh = true
+is_fresh _ = false
+
+abbrev pub is_ready : State → Bool
+is_ready (states.Ready v3 concurrent named) = true
+is_ready _ = false
+
+-- replies are taken
+abbrev pub is_open : State → Bool
+is_open states.Initialising = true
+is_open (states.Ready v3 concurrent named) = true
+is_open states.Closing = true
+is_open _ = false
+
+abbrev pub nothing_in_force : InForce
+nothing_in_force = record { search = false; present = false; v3 = false; concurrent = false; named = false }
+
+abbrev pub ready : InForce → State
+ready force = states.Ready force.v3 force.concurrent force.named
+
+-- the search that made the set
+abbrev pub search_of : List Searched → ℕ → Option Searched
+search_of searches set = find (λ (s : Searched). s.set == set) searches
+
+abbrev pub is_found : Option Outcome → Bool
+is_found (Some (outcomes.Found count)) = true
+is_found _ = false

@@ -1,0 +1,89 @@
+//! What a call that is admitted changes.
+ghost use Rattle.std.specs.Prelude.{◌≡◌, ◌++◌, [], ◌∷◌, nat_eq, IfErr, OnOk, OnErr};
+ghost use Rattle.indexmap.specs.IndexMap.{insert_entry};
+ghost use Rattle.zorigin.specs.Standings.{Init, Search, Present};
+ghost use Rattle.zorigin.specs.Changes.{admitted_at};
+
+use crate::answer::{Asked, What};
+use crate::origin::Origin;
+use crate::refusal::CallRefused;
+use crate::settings::Ask;
+use crate::state::{Searched, State};
+use indexmap::IndexMap;
+use zber::Duplicate;
+
+/// Notes an operation as admitted.
+fn admit(
+    used: &mut Vec<u32>,
+    outstanding: &mut IndexMap<u32, Asked>,
+    asked: Asked,
+) -> Result<(), CallRefused>
+    ensures memory { IfErr result (λ e. e ≡ CallRefused.Memory) }
+    ensures used { OnOk result (used.new.items ≡ used.old.items ++ asked.op ∷ []) }
+    ensures outstanding { OnOk result (outstanding.new.entries ≡ insert_entry nat_eq outstanding.old.entries asked.op asked) }
+    ensures err { OnErr result ((used.new.items ≡ used.old.items) × (outstanding.new.entries ≡ outstanding.old.entries)) }
+{
+    used.reserve(1)?;
+    outstanding.insert(asked.op, asked)?;
+    used.push(asked.op)?;
+    Ok(())
+}
+
+impl Origin {
+    pub(crate) fn admit_init(&mut self) -> Result<(), CallRefused>
+        ensures memory { IfErr result (λ e. e ≡ CallRefused.Memory) }
+        ensures ok { OnOk result (self.new ≡ admitted_at self.old Init) }
+        ensures err { OnErr result (self.new ≡ self.old) }
+    {
+        let asked = Asked {
+            op: 0,
+            set: 0,
+            what: What::Init,
+        };
+        admit(&mut self.used, &mut self.outstanding, asked)?;
+        self.state = State::Initialising;
+        Ok(())
+    }
+
+    pub(crate) fn admit_search(&mut self, op: u32, set: u32, ask: &Ask) -> Result<(), CallRefused>
+        ensures memory { IfErr result (λ e. e ≡ CallRefused.Memory) }
+        ensures ok { OnOk result (self.new ≡ admitted_at self.old (Search op set ask.now)) }
+        ensures err { OnErr result (self.new ≡ self.old) }
+    {
+        let searched = Searched {
+            op,
+            set,
+            syntax: ask.syntax.duplicate(self.alloc)?,
+            elements: ask.elements.duplicate(self.alloc)?,
+            outcome: None,
+        };
+        self.searches.reserve(1)?;
+        let asked = Asked {
+            op,
+            set,
+            what: What::Search,
+        };
+        admit(&mut self.used, &mut self.outstanding, asked)?;
+        self.searches.push(searched)?;
+        Ok(())
+    }
+
+    pub(crate) fn admit_present(
+        &mut self,
+        op: u32,
+        set: u32,
+        start: i64,
+        n: i64,
+    ) -> Result<(), CallRefused>
+        ensures memory { IfErr result (λ e. e ≡ CallRefused.Memory) }
+        ensures ok { OnOk result (self.new ≡ admitted_at self.old (Present op set start n)) }
+        ensures err { OnErr result (self.new ≡ self.old) }
+    {
+        let asked = Asked {
+            op,
+            set,
+            what: What::Present { start, n },
+        };
+        admit(&mut self.used, &mut self.outstanding, asked)
+    }
+}

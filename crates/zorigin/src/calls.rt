@@ -1,0 +1,141 @@
+//! Calls: the request that one sends, or why it is refused.
+ghost use Rattle.std.specs.Prelude.{◌≡◌, ◌∷◌, OnErr};
+ghost use Rattle.zorigin.specs.declared.settings.Settings.{Settings};
+ghost use Rattle.zorigin.specs.Standings.{Init, Search, Present, Close};
+ghost use Rattle.zorigin.specs.Calls.{call_answer, SendsFor};
+ghost use Rattle.zorigin.specs.Changes.{called_at};
+ghost use Rattle.zorigin.specs.Log.{Log, Made, past, standing, After, Answers, IsCalled};
+
+use crate::answer::Sent;
+use crate::origin::Origin;
+use crate::refusal::CallRefused;
+use crate::refusing::{is_ready, search_of};
+use crate::request::{close_request, init_request, present_request, search_request};
+use crate::sending::send;
+use crate::settings::Ask;
+use crate::state::State;
+
+impl Origin {
+    fn init_sent(&self) -> Result<Sent, CallRefused>
+        ensures { SendsFor self.now Init result }
+    {
+        let apdu = init_request(self.alloc, &self.settings)?;
+        send(self.alloc, apdu)
+    }
+
+    fn search_sent(&self, op: u32, set: u32, ask: &Ask) -> Result<Sent, CallRefused>
+        ensures { SendsFor self.now (Search op set ask.now) result }
+    {
+        let apdu = search_request(self.alloc, self.force.named, op, set, ask)?;
+        send(self.alloc, apdu)
+    }
+
+    fn present_sent(&self, op: u32, set: u32, start: i64, n: i64) -> Result<Sent, CallRefused>
+        ensures { SendsFor self.now (Present op set start n) result }
+    {
+        let Some(searched) = search_of(self.searches.as_slice(), set) else {
+            return Err(CallRefused::SetUnknown);
+        };
+        let apdu = present_request(self.alloc, self.force.named, op, start, n, searched)?;
+        send(self.alloc, apdu)
+    }
+
+    fn make_init(&mut self) -> Result<Sent, CallRefused>
+        ensures answer { Answers (call_answer self.old Init) result }
+        ensures after { IsCalled result → self.new ≡ called_at self.old Init }
+        ensures err { OnErr result (self.new ≡ self.old) }
+    {
+        if let Some(reason) = self.init_refusal() {
+            return Err(reason);
+        }
+        let sent = self.init_sent()?;
+        self.admit_init()?;
+        Ok(sent)
+    }
+
+    fn make_search(&mut self, op: u32, set: u32, ask: &Ask) -> Result<Sent, CallRefused>
+        ensures answer { Answers (call_answer self.old (Search op set ask.now)) result }
+        ensures after { IsCalled result → self.new ≡ called_at self.old (Search op set ask.now) }
+        ensures err { OnErr result (self.new ≡ self.old) }
+    {
+        if let Some(reason) = self.search_refusal(op, set, ask) {
+            return Err(reason);
+        }
+        let sent = self.search_sent(op, set, ask)?;
+        self.admit_search(op, set, ask)?;
+        Ok(sent)
+    }
+
+    fn make_present(&mut self, op: u32, set: u32, start: i64, n: i64) -> Result<Sent, CallRefused>
+        ensures answer { Answers (call_answer self.old (Present op set start n)) result }
+        ensures after { IsCalled result → self.new ≡ called_at self.old (Present op set start n) }
+        ensures err { OnErr result (self.new ≡ self.old) }
+    {
+        if let Some(reason) = self.present_refusal(op, set, start, n) {
+            return Err(reason);
+        }
+        let sent = self.present_sent(op, set, start, n)?;
+        self.admit_present(op, set, start, n)?;
+        Ok(sent)
+    }
+
+    fn make_close(&mut self) -> Result<Sent, CallRefused>
+        ensures answer { Answers (call_answer self.old Close) result }
+        ensures after { IsCalled result → self.new ≡ called_at self.old Close }
+        ensures err { OnErr result (self.new ≡ self.old) }
+    {
+        if !is_ready(self.state) {
+            return Err(CallRefused::WrongState);
+        }
+        let sent = send(self.alloc, close_request())?;
+        self.state = State::Closing;
+        Ok(sent)
+    }
+
+    /// Asks for the association: versions 1 to 3, the options search, present, concurrent operations and named result sets, sizes of 1,048,576
+    /// octets, and the origin's name (Z39.50-2003, 3.2.1.1). It is operation 0.
+    ///
+    /// Refused as `WrongState` elsewhere than in Fresh; as `Unsendable` where the name is too long; as `Memory`. The origin is then as it was.
+    pub fn init(&mut self) -> Result<Sent, CallRefused>
+        ensures answer { (settings : Settings) (log : Log) → After settings log self.old → Answers (call_answer (standing (past settings log)) Init) result }
+        ensures after { (settings : Settings) (log : Log) → After settings log self.old → IsCalled result → After settings (Made Init ∷ log) self.new }
+        ensures err { OnErr result (self.new ≡ self.old) }
+    {
+        self.make_init()
+    }
+
+    /// Searches, as operation `op`, for what is asked, and names the result set `set` (Z39.50-2003, 3.2.2.1). The set's name is its number in
+    /// decimal where named result sets are in force, else `default`; a set of that name is replaced.
+    ///
+    /// `CallRefused` says when it is refused, in its order; the origin is then as it was.
+    pub fn search(&mut self, op: u32, set: u32, ask: &Ask) -> Result<Sent, CallRefused>
+        ensures answer { (settings : Settings) (log : Log) → After settings log self.old → Answers (call_answer (standing (past settings log)) (Search op set ask.now)) result }
+        ensures after { (settings : Settings) (log : Log) → After settings log self.old → IsCalled result → After settings (Made (Search op set ask.now) ∷ log) self.new }
+        ensures err { OnErr result (self.new ≡ self.old) }
+    {
+        self.make_search(op, set, ask)
+    }
+
+    /// Asks, as operation `op`, for `n` records of the set from position `start` on, with the syntax and the element set of the set's search
+    /// (Z39.50-2003, 3.2.3.1). Positions count from 1.
+    ///
+    /// `CallRefused` says when it is refused, in its order; the origin is then as it was.
+    pub fn present(&mut self, op: u32, set: u32, start: i64, n: i64) -> Result<Sent, CallRefused>
+        ensures answer { (settings : Settings) (log : Log) → After settings log self.old → Answers (call_answer (standing (past settings log)) (Present op set start n)) result }
+        ensures after { (settings : Settings) (log : Log) → After settings log self.old → IsCalled result → After settings (Made (Present op set start n) ∷ log) self.new }
+        ensures err { OnErr result (self.new ≡ self.old) }
+    {
+        self.make_present(op, set, start, n)
+    }
+
+    /// Ends the association, with reason 0 (finished) and no reference id (Z39.50-2003, 3.2.11.1). Outstanding replies are still taken.
+    ///
+    /// Refused as `WrongState` elsewhere than in Ready, and as `Memory`; the origin is then as it was.
+    pub fn close(&mut self) -> Result<Sent, CallRefused>
+        ensures answer { (settings : Settings) (log : Log) → After settings log self.old → Answers (call_answer (standing (past settings log)) Close) result }
+        ensures after { (settings : Settings) (log : Log) → After settings log self.old → IsCalled result → After settings (Made Close ∷ log) self.new }
+        ensures err { OnErr result (self.new ≡ self.old) }
+    {
+        self.make_close()
+    }
+}

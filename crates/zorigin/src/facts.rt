@@ -1,0 +1,194 @@
+//! What a reply says of a target's result sets.
+ghost use Rattle.std.specs.Prelude.{◌≡◌, ◌++◌, ℤ, pos, ◌+ℤ◌, ◌≤ℤ◌, ◌<ℤ◌, length, IfOk, OnOk};
+ghost use Rattle.zknow.specs.declared.fact.Fact.TheVariants.{Seen};
+ghost use Rattle.zorigin.specs.Facts.{seen_from, told_at, count_or_failed, init_facts, search_facts, present_facts, facts_of, IsShowable};
+ghost use Rattle.zorigin.specs.Fitting.{records_in, diagnostics_in};
+
+use crate::answer::{Answer, What};
+use crate::fitting::records_in;
+use std::alloc::{AllocError, Global};
+use zapdu::{Apdu, DiagRec, InitResponse, PresentResponse, Record, Records, SearchResponse};
+use zber::Duplicate;
+use zknow::Fact;
+
+/// What a record says that stands so far behind the first position.
+fn seen_at(
+    alloc: Global,
+    target: u32,
+    set: u32,
+    first: i64,
+    index: usize,
+    shown: &Record,
+) -> Result<Fact, AllocError>
+    requires low { pos 0 ≤ℤ first }
+    requires high { (first +ℤ pos index) <ℤ pos 9223372036854775808 }
+    ensures { IfOk result (λ fact. fact ≡ Seen target set (first +ℤ pos index) shown.now) }
+{
+    Ok(Fact::Seen {
+        target,
+        set,
+        position: first + index as i64,
+        rec: shown.copy(alloc)?,
+    })
+}
+
+/// Appends what the records say, the first of them at this position.
+fn put_seen(
+    alloc: Global,
+    target: u32,
+    set: u32,
+    first: i64,
+    records: &[Record],
+    out: &mut Vec<Fact>,
+) -> Result<(), AllocError>
+    requires low { pos 0 ≤ℤ first }
+    requires high { (first +ℤ pos (length records.now)) <ℤ pos 9223372036854775809 }
+    ensures { OnOk result (out.new.items ≡ out.old.items ++ seen_from target set first records.now) }
+{
+    for (index, shown) in records.iter().enumerate() {
+        out.push(seen_at(alloc, target, set, first, index, shown)?)?;
+    }
+    Ok(())
+}
+
+/// Appends what diagnostics say.
+fn put_diags(
+    alloc: Global,
+    target: u32,
+    set: u32,
+    place: i64,
+    diags: &[DiagRec],
+    out: &mut Vec<Fact>,
+) -> Result<(), AllocError>
+    ensures { OnOk result (out.new.items ≡ out.old.items ++ told_at target set place diags.now) }
+{
+    for diag in diags {
+        out.push(Fact::Diag {
+            target,
+            set,
+            place,
+            diag: diag.copy(alloc)?,
+        })?;
+    }
+    Ok(())
+}
+
+/// Appends what the diagnostics say that stand for no record.
+fn put_told(
+    alloc: Global,
+    target: u32,
+    set: u32,
+    place: i64,
+    records: &Option<Records>,
+    out: &mut Vec<Fact>,
+) -> Result<(), AllocError>
+    ensures { OnOk result (out.new.items ≡ out.old.items ++ told_at target set place (diagnostics_in records.now)) }
+{
+    match records {
+        Some(Records::OneDiag(diag)) => {
+            out.push(Fact::Diag {
+                target,
+                set,
+                place,
+                diag: DiagRec::Default(diag.duplicate(alloc)?),
+            })?;
+            Ok(())
+        }
+        Some(Records::ManyDiags(diags)) => put_diags(
+            alloc,
+            target,
+            set,
+            place,
+            diags.as_slice(),
+            out,
+        ),
+        _ => Ok(()),
+    }
+}
+
+fn init_facts(alloc: Global, target: u32, response: &InitResponse) -> Result<Vec<Fact>, AllocError>
+    ensures { IfOk result (λ facts. facts.items ≡ init_facts target response.now) }
+{
+    let mut facts = Vec::new(alloc);
+    if !response.result {
+        facts.push(Fact::Failed { target, set: 0 })?;
+    }
+    Ok(facts)
+}
+
+fn count_or_failed(target: u32, set: u32, response: &SearchResponse) -> Fact
+    ensures { result ≡ count_or_failed target set response.now.search_status response.now.result_count }
+{
+    if response.search_status {
+        Fact::Count {
+            target,
+            set,
+            count: response.result_count,
+        }
+    } else {
+        Fact::Failed { target, set }
+    }
+}
+
+fn search_facts(
+    alloc: Global,
+    target: u32,
+    set: u32,
+    response: &SearchResponse,
+) -> Result<Vec<Fact>, AllocError>
+    requires { pos (length (records_in response.now.records)) ≤ℤ response.now.result_count }
+    ensures { IfOk result (λ facts. facts.items ≡ search_facts target set response.now) }
+{
+    let mut facts = Vec::new(alloc);
+    facts.push(count_or_failed(target, set, response))?;
+    put_seen(
+        alloc,
+        target,
+        set,
+        1,
+        records_in(&response.records),
+        &mut facts,
+    )?;
+    put_told(alloc, target, set, 0, &response.records, &mut facts)?;
+    Ok(facts)
+}
+
+fn present_facts(
+    alloc: Global,
+    target: u32,
+    set: u32,
+    start: i64,
+    response: &PresentResponse,
+) -> Result<Vec<Fact>, AllocError>
+    requires low { pos 0 ≤ℤ start }
+    requires high { (start +ℤ pos (length (records_in response.now.records))) <ℤ pos 9223372036854775809 }
+    ensures { IfOk result (λ facts. facts.items ≡ present_facts target set start response.now) }
+{
+    let records = records_in(&response.records);
+    let mut facts = Vec::new(alloc);
+    put_seen(alloc, target, set, start, records, &mut facts)?;
+    put_told(alloc, target, set, start, &response.records, &mut facts)?;
+    Ok(facts)
+}
+
+/// The facts of a reply, of the target with this number: of a rejected Init, that the connection failed; of a search, its count, or that it
+/// failed; each record at its position, which for a Present counts from the first that was asked; each diagnostic that stands
+/// for no record, of a search at place 0, of a Present at the first position that was asked.
+///
+/// An error only where no memory was found.
+pub fn facts_of(alloc: Global, target: u32, answer: &Answer) -> Result<Vec<Fact>, AllocError>
+    requires { IsShowable answer.now }
+    ensures { IfOk result (λ facts. facts.items ≡ facts_of target answer.now) }
+{
+    let set = answer.asked.set;
+    match (answer.asked.what, &answer.reply) {
+        (What::Init, Apdu::InitResponse(response)) => init_facts(alloc, target, response),
+        (What::Search, Apdu::SearchResponse(response)) => {
+            search_facts(alloc, target, set, response)
+        }
+        (What::Present { start, .. }, Apdu::PresentResponse(response)) => {
+            present_facts(alloc, target, set, start, response)
+        }
+        _ => Ok(Vec::new(alloc)),
+    }
+}

@@ -1,0 +1,116 @@
+//! Whether a reply can answer an operation.
+ghost use Rattle.std.specs.Prelude.{◌≡◌, not, length};
+ghost use Rattle.zorigin.specs.Fitting.{records_in, diagnostics_in, is_empty, is_fragment, has_fragment, is_number, exceeds, count_mismatch, bad_number, bad_search, bad_present, search_fault, present_fault, fault_of};
+
+use crate::answer::What;
+use crate::refusal::Refused;
+use zapdu::{Apdu, PresentResponse, Record, RecordBody, Records, SearchResponse};
+
+/// The records of a response.
+pub(crate) fn records_in(records: &Option<Records>) -> &[Record]
+    ensures { result.now ≡ records_in records.now }
+{
+    match records {
+        Some(Records::List(records)) => records.as_slice(),
+        _ => &[],
+    }
+}
+
+/// Whether diagnostics came that stand for no record.
+fn has_diagnostics(records: &Option<Records>) -> bool
+    ensures { result ≡ not (is_empty (diagnostics_in records.now)) }
+{
+    match records {
+        Some(Records::OneDiag(_)) => true,
+        Some(Records::ManyDiags(diags)) => !diags.as_slice().is_empty(),
+        _ => false,
+    }
+}
+
+fn is_fragment(given: &Record) -> bool
+    ensures { result ≡ is_fragment given.now.body }
+{
+    matches!(&given.body, RecordBody::Fragment(_))
+}
+
+fn has_fragment(records: &Option<Records>) -> bool
+    ensures { result ≡ has_fragment records.now }
+{
+    records_in(records).iter().any(|given| is_fragment(given))
+}
+
+/// Whether the number is that of so many.
+fn is_number(number: i64, len: usize) -> bool
+    ensures { result ≡ is_number number len }
+{
+    number >= 0 && number as usize == len
+}
+
+/// Whether there are more than the number.
+fn exceeds(len: usize, number: i64) -> bool
+    ensures { result ≡ exceeds len number }
+{
+    number < 0 || (number as usize) < len
+}
+
+fn is_count_mismatch(records: &Option<Records>, returned: i64) -> bool
+    ensures { result ≡ count_mismatch records.now returned }
+{
+    !has_diagnostics(records) && !is_number(returned, records_in(records).len())
+}
+
+fn is_bad_search(response: &SearchResponse) -> bool
+    ensures { result ≡ bad_search response.now }
+{
+    exceeds(records_in(&response.records).len(), response.result_count)
+        || has_fragment(&response.records)
+}
+
+fn is_bad_present(n: i64, response: &PresentResponse) -> bool
+    ensures { result ≡ bad_present n response.now }
+{
+    let records = records_in(&response.records);
+    exceeds(records.len(), n)
+        || has_fragment(&response.records)
+        || (records.is_empty() && !has_diagnostics(&response.records))
+}
+
+fn search_fault(response: &SearchResponse) -> Option<Refused>
+    ensures { result ≡ search_fault response.now }
+{
+    if is_count_mismatch(&response.records, response.number_of_records_returned) {
+        return Some(Refused::CountMismatch);
+    }
+    if response.result_count < 0 {
+        return Some(Refused::BadNumber);
+    }
+    if is_bad_search(response) {
+        return Some(Refused::BadShape);
+    }
+    None
+}
+
+fn present_fault(n: i64, response: &PresentResponse) -> Option<Refused>
+    ensures { result ≡ present_fault n response.now }
+{
+    let returned = response.number_of_records_returned;
+    if is_count_mismatch(&response.records, returned) {
+        return Some(Refused::CountMismatch);
+    }
+    if is_bad_present(n, response) {
+        return Some(Refused::BadShape);
+    }
+    None
+}
+
+/// Why the reply can't answer an operation that asked for this; none where it fits.
+pub(crate) fn fault_of(what: What, reply: &Apdu) -> Option<Refused>
+    ensures { result ≡ fault_of what reply.now }
+{
+    match (what, reply) {
+        (What::Init, Apdu::InitResponse(_)) => None,
+        (What::Search, Apdu::SearchResponse(response)) => search_fault(response),
+        (What::Present { n, .. }, Apdu::PresentResponse(response)) => present_fault(n, response),
+        _ => Some(Refused::WrongKind),
+    }
+}

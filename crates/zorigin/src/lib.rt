@@ -1,0 +1,25 @@
+//! The origin's machine: which calls are admitted, what is sent for them, and which replies are accepted.
+#![tactic(auto)]
+
+mod admitting;
+mod answer;
+mod calls;
+mod facts;
+mod fitting;
+pub mod laws;
+mod origin;
+mod reference;
+mod refusal;
+mod refusing;
+mod replies;
+mod request;
+mod sending;
+mod settings;
+mod state;
+
+pub use answer::{Answer, Asked, Sent, Taken, What};
+pub use facts::facts_of;
+pub use origin::Origin;
+pub use refusal::{CallRefused, Refused};
+pub use settings::{Ask, Settings};
+pub use state::State;

@@ -1,0 +1,34 @@
+//! Reference ids.
+ghost use Rattle.std.specs.Prelude.{◌≡◌, IfOk};
+ghost use Rattle.zorigin.specs.References.{reference_id, number_of};
+
+use bytes::Bytes;
+use std::alloc::{AllocError, Global};
+
+/// The reference id of an operation: its number in four octets, the greatest place first.
+pub(crate) fn reference_id(alloc: Global, op: u32) -> Result<Bytes, AllocError>
+    ensures { IfOk result (λ id. id ≡ reference_id op) }
+{
+    let octets = [
+        (op / 16_777_216) as u8,
+        (op / 65_536 % 256) as u8,
+        (op / 256 % 256) as u8,
+        (op % 256) as u8,
+    ];
+    Bytes::copy_from_slice(alloc, &octets)
+}
+
+/// The number that a reference id spells; none where it has not four octets.
+pub(crate) fn number_of(id: &Bytes) -> Option<u32>
+    ensures { result ≡ number_of id.now }
+{
+    match id.as_slice() {
+        [a, b, c, d] => Some(
+            16_777_216 * u32::from(*a)
+                + 65_536 * u32::from(*b)
+                + 256 * u32::from(*c)
+                + u32::from(*d),
+        ),
+        _ => None,
+    }
+}

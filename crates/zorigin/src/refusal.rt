@@ -1,0 +1,95 @@
+//! Why a call or a reply is refused.
+
+use std::alloc::{AllocError, AllocFailed};
+use thiserror::Error;
+
+/// Why a call is not admitted. Of several reasons it is the first here. The origin is as it was.
+#[derive(Clone, Copy, Debug, PartialEq, Eq, Error)]
+pub enum CallRefused {
+    /// `init` elsewhere than in Fresh, another call elsewhere than in Ready.
+    #[error("not in this state")]
+    WrongState,
+    /// The search or present option is not in force.
+    #[error("the option is not in force")]
+    NotOffered,
+    /// An earlier admitted call had this number. That of `init` is 0.
+    #[error("the operation's number was used")]
+    OpUsed,
+    /// An earlier admitted search had this set.
+    #[error("the set was used")]
+    SetUsed,
+    /// No admitted search had this set.
+    #[error("the set is unknown")]
+    SetUnknown,
+    /// The set's search is unanswered, or failed.
+    #[error("the set is not ready")]
+    SetNotReady,
+    /// Named result sets are not in force, and a later search was admitted.
+    #[error("the set was replaced")]
+    SetReplaced,
+    /// A search of set 0, with a negative bound, or with a large bound not above the small one. A Present whose start or
+    /// number is below 1, or that asks for a position past the count or past 2,147,483,647.
+    #[error("out of range")]
+    OutOfRange,
+    /// An operation is outstanding, and either concurrent operations are not in force, or the call is a search, named
+    /// result sets are not in force and an earlier search was admitted.
+    #[error("an operation is outstanding")]
+    Busy,
+    /// The APDU has no spelling, more than 64 constructed elements within one another, or more than 2,097,152 octets.
+    #[error("the request can't be sent")]
+    Unsendable,
+    /// No memory was found. It may come in the place of a reason not yet found.
+    #[error("out of memory")]
+    Memory,
+}
+
+/// Why an APDU is not accepted. Of several reasons it is the first here, but that a reply of another kind than its
+/// operation comes after an unknown reference. The origin has then failed, unless said otherwise.
+#[derive(Clone, Copy, Debug, PartialEq, Eq, Error)]
+pub enum Refused {
+    /// The origin is Fresh, Closed or Failed, and is as it was.
+    #[error("not in this state")]
+    WrongState,
+    /// A request, or a reply of another kind than its operation.
+    #[error("not the kind of reply")]
+    WrongKind,
+    /// The reference id is not four octets that name an outstanding operation, or it is absent and concurrent operations
+    /// are in force or not exactly one operation is outstanding.
+    #[error("the reference id names no outstanding operation")]
+    UnknownReference,
+    /// No diagnostics came, and numberOfRecordsReturned is not the number of records.
+    #[error("the number of records is not the one told")]
+    CountMismatch,
+    /// resultCount is negative.
+    #[error("a negative number")]
+    BadNumber,
+    /// More records than resultCount or than asked, a fragment of a record, or a Present's answer with neither a record nor
+    /// a diagnostic.
+    #[error("not the records that were asked for")]
+    BadShape,
+    /// No memory was found; the origin is as it was.
+    #[error("out of memory")]
+    Memory,
+}
+
+impl From<AllocError> for CallRefused {
+    ghost use Rattle.std.specs.Prelude.{◌≡◌};
+    ghost use Rattle.zorigin.specs.declared.refusal.CallRefused.TheVariants.{Memory};
+
+    ghost from_gives = { λ _ e. e ≡ Memory };
+
+    fn from(_: AllocError) -> CallRefused {
+        CallRefused::Memory
+    }
+}
+
+impl<T: Drop> From<AllocFailed<T>> for CallRefused {
+    ghost use Rattle.std.specs.Prelude.{◌≡◌};
+    ghost use Rattle.zorigin.specs.declared.refusal.CallRefused.TheVariants.{Memory};
+
+    ghost from_gives = { λ _ e. e ≡ Memory };
+
+    fn from(_: AllocFailed<T>) -> CallRefused {
+        CallRefused::Memory
+    }
+}

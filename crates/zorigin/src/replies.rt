@@ -1,0 +1,263 @@
+//! Replies: which is accepted, and what it changes.
+ghost use Rattle.std.specs.Prelude.{◌≡◌, ◌==◌, ◌∷◌, Ok, Err, IfOk};
+ghost use Rattle.zorigin.specs.declared.refusal.Refused.TheVariants.{Memory};
+ghost use Rattle.zorigin.specs.Standings.{is_open, ready};
+ghost use Rattle.zorigin.specs.Replies.{only_of, named, taken_by, taken_as, against, verdict, Judges, JudgesBy};
+ghost use Rattle.zorigin.specs.Changes.{force_in, outcome_in, noted_if, noted, without, opened_at, settled_at};
+ghost use Rattle.zorigin.specs.declared.settings.Settings.{Settings};
+ghost use Rattle.zorigin.specs.Facts.{HasShowable};
+ghost use Rattle.zorigin.specs.Log.{Log, Got, past, standing, After, IsTaken, Tells};
+
+use crate::answer::{Answer, Asked, Taken};
+use crate::fitting::fault_of;
+use crate::origin::Origin;
+use crate::reference::number_of;
+use crate::refusal::Refused;
+use crate::state::{InForce, Outcome, Searched, State};
+use bytes::Bytes;
+use zapdu::{Apdu, InitResponse};
+
+/// Whether replies are taken.
+fn is_open(state: State) -> bool
+    ensures { result ≡ is_open state }
+{
+    matches!(
+        state,
+        State::Initialising | State::Ready { .. } | State::Closing
+    )
+}
+
+/// What a response to Init puts in force: what the origin offered, and the response has.
+fn force_in(response: &InitResponse) -> InForce
+    ensures { result ≡ force_in response.now }
+{
+    InForce {
+        search: response.options.bit(0),
+        present: response.options.bit(1),
+        v3: response.protocol_version.bit(2),
+        concurrent: response.options.bit(13),
+        named: response.options.bit(14),
+    }
+}
+
+fn ready(force: InForce) -> State
+    ensures { result ≡ ready force }
+{
+    State::Ready {
+        v3: force.v3,
+        concurrent: force.concurrent,
+        named: force.named,
+    }
+}
+
+/// What came of a search, by its answer.
+fn outcome_in(reply: &Apdu) -> Option<Outcome>
+    ensures { result ≡ outcome_in reply.now }
+{
+    match reply {
+        Apdu::SearchResponse(response) => {
+            if response.search_status {
+                Some(Outcome::Found(response.result_count))
+            } else {
+                Some(Outcome::Failed)
+            }
+        }
+        _ => None,
+    }
+}
+
+/// Notes what came of the search, if it is the one with this operation.
+fn note_if(searched: &mut Searched, op: u32, outcome: Option<Outcome>)
+    ensures { searched.new ≡ noted_if (searched.old.op == op) outcome searched.old }
+{
+    if searched.op == op {
+        searched.outcome = outcome;
+    }
+}
+
+/// Notes what came of the search with this operation.
+fn note(searches: &mut Vec<Searched>, op: u32, outcome: Option<Outcome>)
+    ensures { searches.new.items ≡ noted op outcome searches.old.items }
+{
+    for searched in searches.iter_mut() {
+        note_if(searched, op, outcome);
+    }
+}
+
+/// The answer, by what the reply is.
+fn taken_as(answer: Answer) -> Taken
+    ensures { result ≡ taken_as answer }
+{
+    let accepted = match &answer.reply {
+        Apdu::InitResponse(response) => Some(response.result),
+        _ => None,
+    };
+    match accepted {
+        Some(true) => Taken::Opened(answer),
+        Some(false) => Taken::Rejected(answer),
+        None => Taken::Answered(answer),
+    }
+}
+
+impl Origin {
+    /// The one operation that is outstanding, if it is one.
+    fn only(&self) -> Option<Asked>
+        ensures { result ≡ only_of self.now.outstanding }
+    {
+        if self.outstanding.len() == 1 {
+            self.outstanding.first().map(|(_, asked)| *asked)
+        } else {
+            None
+        }
+    }
+
+    /// The outstanding operation that a reference id names.
+    fn named(&self, id: &Option<Bytes>) -> Option<Asked>
+        ensures { result ≡ named self.now id.now }
+    {
+        match id {
+            Some(id) => match number_of(id) {
+                Some(op) => self.outstanding.get(&op).copied(),
+                None => None,
+            },
+            None => {
+                if self.force.concurrent {
+                    None
+                } else {
+                    self.only()
+                }
+            }
+        }
+    }
+
+    /// The operation that a reply answers, by the reference id in it.
+    fn against(&self, id: &Option<Bytes>, reply: &Apdu) -> Result<Asked, Refused>
+        ensures { JudgesBy (against (named self.now id.now) reply.now) reply.now result }
+    {
+        let Some(asked) = self.named(id) else {
+            return Err(Refused::UnknownReference);
+        };
+        match fault_of(asked.what, reply) {
+            Some(reason) => Err(reason),
+            None => Ok(asked),
+        }
+    }
+
+    /// The operation that an APDU answers, none for a Close; or why it is not accepted.
+    #[tactic(auto, unfolding(crate::specs::Replies::verdict))]
+    fn judged(&self, reply: &Apdu) -> Result<Option<Asked>, Refused>
+        ensures { Judges (verdict self.now reply.now) reply.now result }
+    {
+        if !is_open(self.state) {
+            return Err(Refused::WrongState);
+        }
+        match reply {
+            Apdu::Close(_) => Ok(None),
+            Apdu::InitResponse(response) => {
+                Ok(Some(self.against(&response.reference_id, reply)?))
+            }
+            Apdu::SearchResponse(response) => {
+                Ok(Some(self.against(&response.reference_id, reply)?))
+            }
+            Apdu::PresentResponse(response) => {
+                Ok(Some(self.against(&response.reference_id, reply)?))
+            }
+            _ => Err(Refused::WrongKind),
+        }
+    }
+
+    fn verdict(&self, reply: &Apdu) -> Result<Taken, Refused>
+        ensures { Tells (verdict self.now reply.now) result }
+    {
+        match self.judged(reply) {
+            Ok(None) => Ok(Taken::Closed),
+            Ok(Some(asked)) => match reply.copy(self.alloc) {
+                Ok(reply) => Ok(taken_as(Answer { asked, reply })),
+                Err(_) => Err(Refused::Memory),
+            },
+            Err(reason) => Err(reason),
+        }
+    }
+
+    /// The operation is outstanding no more.
+    fn answered(&mut self, op: u32)
+        ensures { self.new ≡ without self.old op }
+    {
+        self.outstanding.shift_remove(&op);
+    }
+
+    /// What the response to Init has is in force.
+    fn open(&mut self, reply: &Apdu)
+        ensures { self.new ≡ opened_at self.old reply.now }
+    {
+        if let Apdu::InitResponse(response) = reply {
+            self.force = force_in(response);
+            self.state = ready(self.force);
+        }
+    }
+
+    fn accept(&mut self, taken: &Taken)
+        ensures { self.new ≡ settled_at self.old (Ok taken.now) }
+    {
+        match taken {
+            Taken::Opened(answer) => {
+                self.answered(answer.asked.op);
+                self.open(&answer.reply);
+            }
+            Taken::Rejected(answer) => {
+                self.answered(answer.asked.op);
+                self.state = State::Closed;
+            }
+            Taken::Answered(answer) => {
+                self.answered(answer.asked.op);
+                note(
+                    &mut self.searches,
+                    answer.asked.op,
+                    outcome_in(&answer.reply),
+                );
+            }
+            Taken::Closed => self.state = State::Closed,
+        }
+    }
+
+    fn fail(&mut self, reason: Refused)
+        ensures { self.new ≡ settled_at self.old (Err reason) }
+    {
+        if is_open(self.state) {
+            self.state = State::Failed(reason);
+        }
+    }
+
+    fn settle(&mut self, taken: &Result<Taken, Refused>)
+        ensures after { IsTaken taken.now → self.new ≡ settled_at self.old taken.now }
+        ensures memory { taken.now ≡ Err Memory → self.new ≡ self.old }
+    {
+        match taken {
+            Ok(taken) => self.accept(taken),
+            Err(Refused::Memory) => {}
+            Err(reason) => self.fail(*reason),
+        }
+    }
+
+    /// What `take` would answer. It changes nothing.
+    pub fn peek(&self, reply: &Apdu) -> Result<Taken, Refused>
+        ensures { (settings : Settings) (log : Log) → After settings log self.now → Tells (verdict (standing (past settings log)) reply.now) result }
+    {
+        self.verdict(reply)
+    }
+
+    /// Takes an APDU that came from the target: a reply is accepted where its reference id names an outstanding operation, or is absent where
+    /// concurrent operations are not in force and one is outstanding, and where it fits what that operation asked for (Z39.50-2003, 3.4).
+    ///
+    /// `Refused` says when it is refused, in its order. The origin has then failed; after `WrongState` and `Memory` it is as it was.
+    pub fn take(&mut self, reply: &Apdu) -> Result<Taken, Refused>
+        ensures answer { (settings : Settings) (log : Log) → After settings log self.old → Tells (verdict (standing (past settings log)) reply.now) result }
+        ensures after { (settings : Settings) (log : Log) → After settings log self.old → IsTaken result → After settings (Got reply.now ∷ log) self.new }
+        ensures showable { (settings : Settings) (log : Log) → After settings log self.old → IfOk result HasShowable }
+        ensures memory { result ≡ Err Refused.Memory → self.new ≡ self.old }
+    {
+        let taken = self.peek(reply);
+        self.settle(&taken);
+        taken
+    }
+}

@@ -1,0 +1,148 @@
+//! The APDUs that an origin sends.
+ghost use Rattle.std.specs.Prelude.{◌≡◌, IfOk};
+ghost use Rattle.zorigin.specs.Sending.{init_request, set_name, element_set, search_request, composition, present_request, close_request};
+
+use crate::reference::reference_id;
+use crate::settings::{Ask, Settings};
+use crate::state::Searched;
+use bytes::Bytes;
+use std::alloc::{AllocError, Global};
+use zapdu::{
+    Apdu, Close, ElementSetNames, InitRequest, PresentRequest, RecordComposition, SearchQuery,
+    SearchRequest,
+};
+use zber::{Bits, Duplicate};
+
+/// The size that is offered for records and for one record.
+const SIZE: i64 = 1_048_576;
+
+/// Versions 1 to 3.
+const VERSIONS: [bool; 3] = [true, true, true];
+
+/// Search 0, present 1, concurrentOperations 13, namedResultSets 14.
+const OPTIONS: [bool; 15] = [
+    true, true, false, false, false, false, false, false, false, false, false, false, false, true,
+    true,
+];
+
+pub(crate) fn init_request(alloc: Global, settings: &Settings) -> Result<Apdu, AllocError>
+    ensures { IfOk result (λ apdu. apdu ≡ init_request settings.now) }
+{
+    Ok(Apdu::InitRequest(InitRequest {
+        reference_id: Some(reference_id(alloc, 0)?),
+        protocol_version: Bits::from_slice(alloc, &VERSIONS)?,
+        options: Bits::from_slice(alloc, &OPTIONS)?,
+        preferred_message_size: SIZE,
+        exceptional_record_size: SIZE,
+        id_authentication: None,
+        implementation_id: None,
+        implementation_name: Some(settings.name.clone()?),
+        implementation_version: None,
+        user_information_field: None,
+        other_info: None,
+    }))
+}
+
+/// A set's name: its number in decimal where names are in force.
+fn set_name(alloc: Global, named: bool, set: u32) -> Result<Bytes, AllocError>
+    ensures { IfOk result (λ name. name ≡ set_name named set) }
+{
+    if named {
+        let text = set.to_string(alloc)?;
+        Bytes::copy_from_slice(alloc, text.as_bytes())
+    } else {
+        Ok(Bytes::from_static(b"default"))
+    }
+}
+
+/// One element set for all databases.
+fn element_set(
+    alloc: Global,
+    elements: &Option<Bytes>,
+) -> Result<Option<ElementSetNames>, AllocError>
+    ensures { IfOk result (λ names. names ≡ element_set elements.now) }
+{
+    match elements {
+        None => Ok(None),
+        Some(name) => Ok(Some(ElementSetNames::Generic(name.duplicate(alloc)?))),
+    }
+}
+
+pub(crate) fn search_request(
+    alloc: Global,
+    named: bool,
+    op: u32,
+    set: u32,
+    ask: &Ask,
+) -> Result<Apdu, AllocError>
+    ensures { IfOk result (λ apdu. apdu ≡ search_request named op set ask.now) }
+{
+    Ok(Apdu::SearchRequest(SearchRequest {
+        reference_id: Some(reference_id(alloc, op)?),
+        small_set_upper_bound: ask.small,
+        large_set_lower_bound: ask.large,
+        medium_set_present_number: ask.medium,
+        replace_indicator: true,
+        result_set_name: set_name(alloc, named, set)?,
+        database_names: ask.databases.duplicate(alloc)?,
+        small_set_element_set_names: element_set(alloc, &ask.elements)?,
+        medium_set_element_set_names: element_set(alloc, &ask.elements)?,
+        preferred_record_syntax: ask.syntax.duplicate(alloc)?,
+        query: SearchQuery::Rpn(ask.query.copy(alloc)?),
+        additional_search_info: None,
+        other_info: None,
+    }))
+}
+
+/// The element set of a Present.
+fn composition(
+    alloc: Global,
+    elements: &Option<Bytes>,
+) -> Result<Option<RecordComposition>, AllocError>
+    ensures { IfOk result (λ made. made ≡ composition elements.now) }
+{
+    match elements {
+        None => Ok(None),
+        Some(name) => Ok(Some(RecordComposition::Simple(ElementSetNames::Generic(name.duplicate(
+            alloc,
+        )?)))),
+    }
+}
+
+pub(crate) fn present_request(
+    alloc: Global,
+    named: bool,
+    op: u32,
+    start: i64,
+    n: i64,
+    searched: &Searched,
+) -> Result<Apdu, AllocError>
+    ensures { IfOk result (λ apdu. apdu ≡ present_request named op start n searched.now) }
+{
+    Ok(Apdu::PresentRequest(PresentRequest {
+        reference_id: Some(reference_id(alloc, op)?),
+        result_set_id: set_name(alloc, named, searched.set)?,
+        result_set_start_point: start,
+        number_of_records_requested: n,
+        additional_ranges: None,
+        record_composition: composition(alloc, &searched.elements)?,
+        preferred_record_syntax: searched.syntax.duplicate(alloc)?,
+        max_segment_count: None,
+        max_record_size: None,
+        max_segment_size: None,
+        other_info: None,
+    }))
+}
+
+pub(crate) fn close_request() -> Apdu
+    ensures { result ≡ close_request }
+{
+    Apdu::Close(Close {
+        reference_id: None,
+        close_reason: 0,
+        diagnostic_information: None,
+        resource_report_format: None,
+        resource_report: None,
+        other_info: None,
+    })
+}
