@@ -1,277 +1,296 @@
-// Messages and faults of a stream of octets.
+// Messages and faults of a stream of octets, worked out from X.690, 8.1.
 use crate::encodings::{PRESENT_RESPONSE, PRESENT_RESPONSE_INDEFINITE};
+use crate::rows::{LIMIT, element, encoding, octets, pair};
 use std::alloc::{AllocError, Global};
+use std::process::Abort;
 use std::test::Fail;
-use zber::{Body, FaultKind, FrameError, Framer, Node};
+use zber::{Body, FrameError, Framer, Node};
 
-const LIMIT: u32 = 2_097_152;
-
-/// What `next` answers: the kind and the place of a fault, or how many elements a message holds, or nothing.
-#[derive(Clone, Copy, Debug, PartialEq, Eq)]
-enum Answer {
-    Nothing,
-    Primitive(usize),
-    Elements(usize),
-    Fault(FaultKind, usize),
-    Memory,
-}
-
-fn next_of(framer: &mut Framer) -> Answer {
-    match framer.next() {
-        Ok(None) => Answer::Nothing,
-        Ok(Some(node)) => match &node.body {
-            Body::Prim(contents) => Answer::Primitive(contents.len()),
-            Body::Cons(nodes) => Answer::Elements(nodes.len()),
-        },
-        Err(FrameError::Fault { kind, at }) => Answer::Fault(kind, at),
-        Err(FrameError::Memory) => Answer::Memory,
+fn shape(alloc: Global, node: &Node) -> Result<String, AllocError> {
+    match &node.body {
+        Body::Prim(contents) => format!(in alloc; "primitive {}", contents.len()),
+        Body::Cons(nodes) => format!(in alloc; "elements {}", nodes.len()),
     }
 }
 
-/// What octets show, with the fault decided by the very last of them.
-const FAULTS: [(&[u8], FaultKind, usize); 31] = [
-    (&[0x1f, 0x80], FaultKind::TagForm, 0),
-    (&[0x1f, 0x1e], FaultKind::TagForm, 0),
-    (&[0x1f, 0x00], FaultKind::TagForm, 0),
-    (&[0xbf, 0x80], FaultKind::TagForm, 0),
-    (&[0x30, 0x80, 0x5f, 0x1e], FaultKind::TagForm, 2),
-    (
-        &[0x1f, 0x90, 0x80, 0x80, 0x80, 0x00],
-        FaultKind::TagTooLarge,
-        0,
-    ),
-    (
-        &[0x1f, 0x90, 0x80, 0x80, 0x80, 0x80],
-        FaultKind::TagTooLarge,
-        0,
-    ),
-    (
-        &[0xff, 0xff, 0xff, 0xff, 0xff, 0xff],
-        FaultKind::TagTooLarge,
-        0,
-    ),
-    (&[0x00], FaultKind::StrayEnd, 0),
-    (&[0x20], FaultKind::StrayEnd, 0),
-    (&[0x30, 0x02, 0x00], FaultKind::StrayEnd, 2),
-    (&[0x30, 0x02, 0x20], FaultKind::StrayEnd, 2),
-    (&[0x30, 0x80, 0x00, 0x05], FaultKind::StrayEnd, 2),
-    (&[0x30, 0x80, 0x20], FaultKind::StrayEnd, 2),
-    (&[0x30, 0x80, 0x30, 0x02, 0x00], FaultKind::StrayEnd, 4),
-    (&[0x04, 0xff], FaultKind::LengthForm, 0),
-    (&[0x04, 0x89], FaultKind::LengthForm, 0),
-    (&[0x30, 0xff], FaultKind::LengthForm, 0),
-    (&[0x30, 0x03, 0x04, 0x89], FaultKind::LengthForm, 2),
-    (&[0x04, 0x80], FaultKind::IndefinitePrimitive, 0),
-    (&[0x30, 0x80, 0x04, 0x80], FaultKind::IndefinitePrimitive, 2),
-    (&[0x30, 0x02, 0x04, 0x01], FaultKind::Overrun, 2),
-    (&[0x30, 0x01, 0x04], FaultKind::Overrun, 2),
-    (&[0x30, 0x02, 0x04, 0x82], FaultKind::Overrun, 2),
-    (&[0x30, 0x02, 0x30, 0x80], FaultKind::Overrun, 4),
-    (&[0x30, 0x03, 0x30, 0x80, 0x00], FaultKind::Overrun, 4),
-    (&[0x30, 0x04, 0x30, 0x03], FaultKind::Overrun, 2),
-    (&[0x30, 0x04, 0x05, 0x00, 0x04, 0x01], FaultKind::Overrun, 4),
-    (&[0x04, 0x83, 0x1f, 0xff, 0xfc], FaultKind::TooLong, 0),
-    (
-        &[0x04, 0x88, 0x7f, 0xff, 0xff, 0xff, 0xff, 0xff, 0xff, 0xff],
-        FaultKind::TooLong,
-        0,
-    ),
-    (
-        &[0x30, 0x80, 0x05, 0x00, 0x04, 0x83, 0x20, 0x00, 0x00],
-        FaultKind::TooLong,
-        4,
-    ),
-];
+// What is next: a fault and its place, or a message's form and how many octets or elements it has, or nothing.
+fn next(alloc: Global, framer: &mut Framer) -> Result<String, AllocError> {
+    match framer.next() {
+        Ok(None) => String::from_str(alloc, "nothing"),
+        Ok(Some(node)) => shape(alloc, &node),
+        Err(error) => error.to_string(alloc),
+    }
+}
 
-#[test]
-fn a_fault_comes_with_the_octet_that_decides_it(rt: HostRuntime) -> Result<(), Fail> {
-    for (octets, kind, at) in &FAULTS {
-        let mut whole = Framer::new(rt.alloc(), LIMIT);
-        whole.feed(octets)?;
-        assert_eq!(rt;
-            next_of(&mut whole),
-            Answer::Fault(*kind, *at),
-            "{octets:?}"
-        );
-        // For good, whatever comes.
-        whole.feed(&PRESENT_RESPONSE)?;
-        assert_eq!(rt;
-            next_of(&mut whole),
-            Answer::Fault(*kind, *at),
-            "{octets:?}"
-        );
-        let finished = whole.finish();
-        assert!(rt;
-            matches!(finished, Err(FrameError::Fault { .. })),
-            "{octets:?}"
-        );
+fn is_next(alloc: Global, framer: &mut Framer, due: &str) -> Result<bool, AllocError> {
+    Ok(next(alloc, framer)?.as_str() == due)
+}
 
-        let mut by_octet = Framer::new(rt.alloc(), LIMIT);
-        for (i, octet) in octets.iter().enumerate() {
-            by_octet.feed(&[*octet])?;
-            let due = if i + 1 == octets.len() {
-                Answer::Fault(*kind, *at)
-            } else {
-                Answer::Nothing
-            };
-            assert_eq!(rt; next_of(&mut by_octet), due, "{octets:?} at {i}");
+fn finish(alloc: Global, framer: &Framer) -> Result<String, AllocError> {
+    match framer.finish() {
+        Ok(done) => done.to_string(alloc),
+        Err(error) => error.to_string(alloc),
+    }
+}
+
+fn is_finish(alloc: Global, framer: &Framer, due: &str) -> Result<bool, AllocError> {
+    Ok(finish(alloc, framer)?.as_str() == due)
+}
+
+fn fed(alloc: Global, octets: &[u8]) -> Result<Framer, AllocError> {
+    let mut framer = Framer::new(alloc, LIMIT);
+    framer.feed(octets)?;
+    Ok(framer)
+}
+
+// The octets that digits spell.
+fn feed(alloc: Global, framer: &mut Framer, digits: &str) -> Result<(), Fail> {
+    let octets = octets(alloc, digits)?;
+    framer.feed(octets.as_slice())?;
+    Ok(())
+}
+
+// What octets show, with the fault decided by the very last of them.
+const FAULTS: &str = "\
+1f80 TagForm at 0
+1f1e TagForm at 0
+1f00 TagForm at 0
+bf80 TagForm at 0
+30805f1e TagForm at 2
+1f9080808000 TagTooLarge at 0
+1f9080808080 TagTooLarge at 0
+ffffffffffff TagTooLarge at 0
+00 StrayEnd at 0
+20 StrayEnd at 0
+300200 StrayEnd at 2
+300220 StrayEnd at 2
+30800005 StrayEnd at 2
+308020 StrayEnd at 2
+3080300200 StrayEnd at 4
+04ff LengthForm at 0
+0489 LengthForm at 0
+30ff LengthForm at 0
+30030489 LengthForm at 2
+0480 IndefinitePrimitive at 0
+30800480 IndefinitePrimitive at 2
+30020401 Overrun at 2
+300104 Overrun at 2
+30020482 Overrun at 2
+30023080 Overrun at 4
+3003308000 Overrun at 4
+30043003 Overrun at 2
+300405000401 Overrun at 4
+04831ffffc TooLong at 0
+04887fffffffffffffff TooLong at 0
+308005000483200000 TooLong at 4
+";
+
+// A fault is answered for good, whatever comes.
+fn stays(alloc: Global, octets: &[u8], due: &str) -> Result<bool, Fail> {
+    let mut framer = fed(alloc, octets)?;
+    let first = is_next(alloc, &mut framer, due)?;
+    feed(alloc, &mut framer, PRESENT_RESPONSE)?;
+    Ok(first && is_next(alloc, &mut framer, due)? && is_finish(alloc, &framer, due)?)
+}
+
+// It comes with the last octet and not before.
+fn comes_last(alloc: Global, octets: &[u8], due: &str) -> Result<bool, Fail> {
+    let (last, before) = octets.split_last().ok_or("no octets")?;
+    let mut framer = Framer::new(alloc, LIMIT);
+    for octet in before {
+        framer.feed(&[*octet])?;
+        if !is_next(alloc, &mut framer, "nothing")? {
+            return Ok(false);
         }
     }
-    Ok(())
+    framer.feed(&[*last])?;
+    Ok(is_next(alloc, &mut framer, due)?)
+}
+
+// It comes after the messages before it, and its place counts from the message at fault.
+fn comes_after(alloc: Global, octets: &[u8], due: &str) -> Result<bool, Fail> {
+    let mut framer = Framer::new(alloc, LIMIT);
+    feed(alloc, &mut framer, PRESENT_RESPONSE)?;
+    framer.feed(octets)?;
+    Ok(is_next(alloc, &mut framer, "elements 5")? && is_next(alloc, &mut framer, due)?)
+}
+
+fn is_fault(alloc: Global, row: &str) -> Result<bool, Fail> {
+    let (digits, due) = pair(row)?;
+    let octets = octets(alloc, digits)?;
+    let octets = octets.as_slice();
+    Ok(
+        stays(alloc, octets, due)?
+            && comes_last(alloc, octets, due)?
+            && comes_after(alloc, octets, due)?,
+    )
 }
 
 #[test]
-fn a_fault_comes_after_the_messages_before_it(rt: HostRuntime) -> Result<(), Fail> {
-    for (octets, kind, at) in &FAULTS {
-        let mut framer = Framer::new(rt.alloc(), LIMIT);
-        framer.feed(&PRESENT_RESPONSE)?;
-        framer.feed(octets)?;
-        assert_eq!(rt; next_of(&mut framer), Answer::Elements(5));
-        // Its place counts from the message at fault, not from the stream's first octet.
-        assert_eq!(rt;
-            next_of(&mut framer),
-            Answer::Fault(*kind, *at),
-            "{octets:?}"
-        );
+fn faults_come_with_the_octets_that_decide_them(rt: HostRuntime) -> Result<(), Fail> {
+    for row in FAULTS.lines() {
+        assert!(rt; is_fault(rt.alloc(), row)?, "{row}");
     }
     Ok(())
+}
+
+// Headers at the borders of what is lawful.
+const ACCEPTED: &str = "\
+0500 primitive 0
+3000 elements 0
+30800000 elements 0
+1f1f00 primitive 0
+1f8fffffff7f00 primitive 0
+04880000000000000001aa primitive 1
+048100 primitive 0
+300430800000 elements 1
+3080050005000000 elements 2
+";
+
+fn is_accepted(alloc: Global, row: &str) -> Result<bool, Fail> {
+    let (digits, due) = pair(row)?;
+    let mut framer = Framer::new(alloc, LIMIT);
+    feed(alloc, &mut framer, digits)?;
+    Ok(is_next(alloc, &mut framer, due)? && is_finish(alloc, &framer, "true")?)
 }
 
 #[test]
 fn headers_at_the_borders_are_accepted(rt: HostRuntime) -> Result<(), Fail> {
-    let rows: [(&[u8], Answer); 9] = [
-        (&[0x05, 0x00], Answer::Primitive(0)),
-        (&[0x30, 0x00], Answer::Elements(0)),
-        (&[0x30, 0x80, 0x00, 0x00], Answer::Elements(0)),
-        (&[0x1f, 0x1f, 0x00], Answer::Primitive(0)),
-        (
-            &[0x1f, 0x8f, 0xff, 0xff, 0xff, 0x7f, 0x00],
-            Answer::Primitive(0),
-        ),
-        (
-            &[0x04, 0x88, 0, 0, 0, 0, 0, 0, 0, 0x01, 0xaa],
-            Answer::Primitive(1),
-        ),
-        (&[0x04, 0x81, 0x00], Answer::Primitive(0)),
-        (&[0x30, 0x04, 0x30, 0x80, 0x00, 0x00], Answer::Elements(1)),
-        (
-            &[0x30, 0x80, 0x05, 0x00, 0x05, 0x00, 0x00, 0x00],
-            Answer::Elements(2),
-        ),
-    ];
-    for (octets, due) in &rows {
-        let mut framer = Framer::new(rt.alloc(), LIMIT);
-        framer.feed(octets)?;
-        assert_eq!(rt; next_of(&mut framer), *due, "{octets:?}");
-        assert!(rt; framer.finish()?, "{octets:?}");
+    for row in ACCEPTED.lines() {
+        assert!(rt; is_accepted(rt.alloc(), row)?, "{row}");
     }
     Ok(())
+}
+
+// Whether two pieces, the second not empty, give one message, and only with the second.
+fn is_one_cut(alloc: Global, first: &[u8], second: &[u8]) -> Result<bool, AllocError> {
+    let mut framer = fed(alloc, first)?;
+    let early = !second.is_empty() && !is_next(alloc, &mut framer, "nothing")?;
+    framer.feed(second)?;
+    Ok(
+        !early
+            && is_next(alloc, &mut framer, "elements 5")?
+            && is_next(alloc, &mut framer, "nothing")?,
+    )
 }
 
 #[test]
 fn any_cutting_gives_the_same_message(rt: HostRuntime) -> Result<(), Fail> {
-    for at in 0..=PRESENT_RESPONSE.len() {
-        let (first, second) = PRESENT_RESPONSE.split_at(at);
-        let mut framer = Framer::new(rt.alloc(), LIMIT);
-        framer.feed(first)?;
-        if at < PRESENT_RESPONSE.len() {
-            assert_eq!(rt; next_of(&mut framer), Answer::Nothing, "cut at {at}");
-        }
-        framer.feed(second)?;
-        assert_eq!(rt; next_of(&mut framer), Answer::Elements(5), "cut at {at}");
-        assert_eq!(rt; next_of(&mut framer), Answer::Nothing, "cut at {at}");
+    let octets = octets(rt.alloc(), PRESENT_RESPONSE)?;
+    for at in 0..=octets.len() {
+        let (first, second) = octets.as_slice().split_at(at);
+        assert!(rt; is_one_cut(rt.alloc(), first, second)?, "{at}");
     }
-    let mut framer = Framer::new(rt.alloc(), LIMIT);
-    let mut given = 0u32;
-    for octet in &PRESENT_RESPONSE_INDEFINITE {
-        framer.feed(&[*octet])?;
-        if next_of(&mut framer) == Answer::Elements(5) {
-            given = given.saturating_add(1);
-        }
-    }
-    assert_eq!(rt; given, 1);
     Ok(())
+}
+
+// How many messages of five elements octets give, fed one by one.
+fn messages(alloc: Global, octets: &[u8]) -> Result<u32, AllocError> {
+    let mut framer = Framer::new(alloc, LIMIT);
+    let mut count = 0u32;
+    for octet in octets {
+        framer.feed(&[*octet])?;
+        if is_next(alloc, &mut framer, "elements 5")? {
+            count = count.saturating_add(1);
+        }
+    }
+    Ok(count)
+}
+
+#[test]
+fn octet_by_octet_a_message_comes_once(rt: HostRuntime) -> Result<(), Fail> {
+    let octets = octets(rt.alloc(), PRESENT_RESPONSE_INDEFINITE)?;
+    assert!(rt; messages(rt.alloc(), octets.as_slice())? == 1);
+    Ok(())
+}
+
+// What is left of one message that comes in two pieces, before and after each question.
+fn is_finished_late(alloc: Global, first: &[u8], second: &[u8]) -> Result<bool, AllocError> {
+    let mut framer = fed(alloc, first)?;
+    let early = is_finish(alloc, &framer, "false")?
+        && is_next(alloc, &mut framer, "nothing")?
+        && is_finish(alloc, &framer, "Truncated at 20")?;
+    // It changes nothing: the rest of the message may still come.
+    framer.feed(second)?;
+    Ok(early && is_next(alloc, &mut framer, "elements 5")? && is_finish(alloc, &framer, "true")?)
 }
 
 #[test]
 fn finish_tells_what_is_left(rt: HostRuntime) -> Result<(), Fail> {
-    let mut framer = Framer::new(rt.alloc(), LIMIT);
-    assert_eq!(rt; next_of(&mut framer), Answer::Nothing);
-    assert!(rt; framer.finish()?);
-    framer.feed(&PRESENT_RESPONSE[..20])?;
-    assert!(rt; !framer.finish()?);
-    assert_eq!(rt; next_of(&mut framer), Answer::Nothing);
-    let truncated = FrameError::Fault {
-        kind: FaultKind::Truncated,
-        at: 20,
-    };
-    assert_eq!(rt; framer.finish().err(), Some(truncated));
-    // It changes nothing: the rest of the message may still come.
-    framer.feed(&PRESENT_RESPONSE[20..])?;
-    assert_eq!(rt; next_of(&mut framer), Answer::Elements(5));
-    assert!(rt; framer.finish()?);
+    let octets = octets(rt.alloc(), PRESENT_RESPONSE)?;
+    let (first, second) = octets.as_slice().split_at_checked(20).ok_or("short")?;
+    assert!(rt; is_finished_late(rt.alloc(), first, second)?);
     Ok(())
 }
 
-/// So many constructed elements of indefinite length within one another, and then so many ends.
-fn nested(alloc: Global, opens: usize, ends: usize) -> Result<Vec<u8>, AllocError> {
-    let mut octets = Vec::new(alloc);
+#[test]
+fn nothing_fed_is_finished(rt: HostRuntime) -> Result<(), Fail> {
+    let mut framer = Framer::new(rt.alloc(), LIMIT);
+    assert!(rt; is_finish(rt.alloc(), &framer, "true")?);
+    assert!(rt; is_next(rt.alloc(), &mut framer, "nothing")?);
+    assert!(rt; is_finish(rt.alloc(), &framer, "true")?);
+    Ok(())
+}
+
+// So many constructed elements of indefinite length within one another, octets, and so many ends.
+fn is_nested(
+    alloc: Global,
+    opens: usize,
+    octets: &[u8],
+    ends: usize,
+    due: &str,
+) -> Result<bool, AllocError> {
+    let mut framer = Framer::new(alloc, LIMIT);
     for _ in 0..opens {
-        octets.extend_from_slice(&[0x30, 0x80])?;
+        framer.feed(&[0x30, 0x80])?;
     }
+    framer.feed(octets)?;
     for _ in 0..ends {
-        octets.extend_from_slice(&[0x00, 0x00])?;
+        framer.feed(&[0x00, 0x00])?;
     }
-    Ok(octets)
+    Ok(is_next(alloc, &mut framer, due)? && is_finish(alloc, &framer, "true")? == (ends > 0))
 }
 
 #[test]
 fn sixty_four_levels_are_read(rt: HostRuntime) -> Result<(), Fail> {
-    let mut framer = Framer::new(rt.alloc(), LIMIT);
-    framer.feed(&nested(rt.alloc(), 64, 64)?)?;
-    assert_eq!(rt; next_of(&mut framer), Answer::Elements(1));
-    assert!(rt; framer.finish()?);
-    let mut deeper = Framer::new(rt.alloc(), LIMIT);
-    deeper.feed(&nested(rt.alloc(), 65, 0)?)?;
-    assert_eq!(rt;
-        next_of(&mut deeper),
-        Answer::Fault(FaultKind::TooDeep, 128)
-    );
+    let alloc = rt.alloc();
+    assert!(rt; is_nested(alloc, 64, &[], 64, "elements 1")?);
+    assert!(rt; is_nested(alloc, 65, &[], 0, "TooDeep at 128")?);
     // A primitive element within 64 open ones is read.
-    let mut primitive = Framer::new(rt.alloc(), LIMIT);
-    primitive.feed(&nested(rt.alloc(), 64, 0)?)?;
-    primitive.feed(&[0x05, 0x00])?;
-    primitive.feed(&nested(rt.alloc(), 0, 64)?)?;
-    assert_eq!(rt; next_of(&mut primitive), Answer::Elements(1));
+    assert!(rt; is_nested(alloc, 64, &[0x05, 0x00], 64, "elements 1")?);
     Ok(())
 }
 
 #[test]
 fn the_longest_message_is_read(rt: HostRuntime) -> Result<(), Fail> {
     let contents = vec![in rt.alloc(); 0u8; 2_097_147]?;
-    let mut framer = Framer::new(rt.alloc(), LIMIT);
-    framer.feed(&[0x04, 0x83, 0x1f, 0xff, 0xfb])?;
+    let mut framer = fed(rt.alloc(), &[0x04, 0x83, 0x1f, 0xff, 0xfb])?;
     framer.feed(&contents)?;
-    assert_eq!(rt; next_of(&mut framer), Answer::Primitive(2_097_147));
-    assert!(rt; framer.finish()?);
-    // One octet more of an indefinite length passes the limit where the octets reach it.
-    let mut longer = Framer::new(rt.alloc(), 8);
-    longer.feed(&[0x30, 0x80, 0x04, 0x03, 1, 2, 3])?;
-    assert_eq!(rt; next_of(&mut longer), Answer::Nothing);
-    longer.feed(&[0x05])?;
-    assert_eq!(rt; next_of(&mut longer), Answer::Fault(FaultKind::TooLong, 7));
+    assert!(rt; is_next(rt.alloc(), &mut framer, "primitive 2097147")?);
+    assert!(rt; is_finish(rt.alloc(), &framer, "true")?);
     Ok(())
+}
+
+// One octet more of an indefinite length passes the limit where the octets reach it.
+#[test]
+fn a_message_ends_at_the_limit(rt: HostRuntime) -> Result<(), Fail> {
+    let mut framer = Framer::new(rt.alloc(), 8);
+    framer.feed(&[0x30, 0x80, 0x04, 0x03, 1, 2, 3])?;
+    assert!(rt; is_next(rt.alloc(), &mut framer, "nothing")?);
+    framer.feed(&[0x05])?;
+    assert!(rt; is_next(rt.alloc(), &mut framer, "TooLong at 7")?);
+    Ok(())
+}
+
+// A copy of the message that octets spell, which is gone by then.
+fn copied(alloc: Global, digits: &str) -> Result<Node, Fail> {
+    let node = element(alloc, digits)?;
+    Ok(node.copy(alloc)?)
 }
 
 #[test]
 fn a_copy_is_kept_apart(rt: HostRuntime) -> Result<(), Fail> {
-    let mut framer = Framer::new(rt.alloc(), LIMIT);
-    framer.feed(&PRESENT_RESPONSE)?;
-    let node: Node = framer.next()?.ok_or("none")?;
-    let copy = node.copy(rt.alloc())?;
-    drop(node);
-    let mut octets = Vec::new(rt.alloc());
-    copy.canonical(rt.alloc(), &mut octets)?;
-    assert_eq!(rt; octets.as_slice(), PRESENT_RESPONSE.as_slice());
+    let copy = copied(rt.alloc(), PRESENT_RESPONSE)?;
+    assert!(rt; encoding(rt.alloc(), &copy)?.as_str() == PRESENT_RESPONSE);
     Ok(())
 }

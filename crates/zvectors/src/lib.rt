@@ -1,24 +1,14 @@
 //! Octets from outside, each with what it stands for: the tests that cross crates.
 #![tactic(auto)]
 
-#[cfg(test)]
-mod apdus;
 pub mod encodings;
 #[cfg(test)]
 mod framing;
 #[cfg(test)]
+mod headers;
+#[cfg(test)]
 mod identifiers;
 #[cfg(test)]
-mod kinds;
-#[cfg(test)]
-mod notation;
-#[cfg(test)]
-mod perturbed;
-#[cfg(test)]
-mod queries;
-#[cfg(test)]
-mod servers;
-#[cfg(test)]
-mod structures;
+mod rows;
 #[cfg(test)]
 mod values;
