@@ -4,50 +4,57 @@ use crate::rows::{LIMIT, element, encoding, octets, pair};
 use std::alloc::{AllocError, Global};
 use std::process::Abort;
 use std::test::Fail;
-use zber::{Body, FrameError, Framer, Node};
+use zber::{Body, Framer, Node};
 
-fn shape(alloc: Global, node: &Node) -> Result<String, AllocError> {
+// Appends a message's form, and how many octets or elements it has.
+fn put_form(node: &Node, trace: &mut String) -> Result<(), AllocError> {
     match &node.body {
-        Body::Prim(contents) => format!(in alloc; "primitive {}", contents.len()),
-        Body::Cons(nodes) => format!(in alloc; "elements {}", nodes.len()),
+        Body::Prim(contents) => write!(trace, "primitive {};", contents.len()),
+        Body::Cons(nodes) => write!(trace, "elements {};", nodes.len()),
     }
 }
 
-// What is next: a fault and its place, or a message's form and how many octets or elements it has, or nothing.
-fn next(alloc: Global, framer: &mut Framer) -> Result<String, AllocError> {
+// Appends what is next: nothing, a message, or a fault and its place.
+fn next(framer: &mut Framer, trace: &mut String) -> Result<(), AllocError> {
     match framer.next() {
-        Ok(None) => String::from_str(alloc, "nothing"),
-        Ok(Some(node)) => shape(alloc, &node),
-        Err(error) => error.to_string(alloc),
+        Ok(None) => trace.push_str("nothing;"),
+        Ok(Some(node)) => put_form(&node, trace),
+        Err(error) => write!(trace, "{error};"),
     }
 }
 
-fn is_next(alloc: Global, framer: &mut Framer, due: &str) -> Result<bool, AllocError> {
-    Ok(next(alloc, framer)?.as_str() == due)
-}
-
-fn finish(alloc: Global, framer: &Framer) -> Result<String, AllocError> {
+fn finish(framer: &Framer, trace: &mut String) -> Result<(), AllocError> {
     match framer.finish() {
-        Ok(done) => done.to_string(alloc),
-        Err(error) => error.to_string(alloc),
+        Ok(whole) => write!(trace, "{whole};"),
+        Err(error) => write!(trace, "{error};"),
     }
 }
 
-fn is_finish(alloc: Global, framer: &Framer, due: &str) -> Result<bool, AllocError> {
-    Ok(finish(alloc, framer)?.as_str() == due)
+// A word of a script: octets to feed, the question what is next, or the question what is left.
+fn step(alloc: Global, framer: &mut Framer, word: &str, trace: &mut String) -> Result<(), Fail> {
+    match word {
+        "next" => Ok(next(framer, trace)?),
+        "finish" => Ok(finish(framer, trace)?),
+        digits => {
+            let octets = octets(alloc, digits)?;
+            Ok(framer.feed(octets.as_slice())?)
+        }
+    }
 }
 
-fn fed(alloc: Global, octets: &[u8]) -> Result<Framer, AllocError> {
-    let mut framer = Framer::new(alloc, LIMIT);
-    framer.feed(octets)?;
-    Ok(framer)
-}
-
-// The octets that digits spell.
-fn feed(alloc: Global, framer: &mut Framer, digits: &str) -> Result<(), Fail> {
-    let octets = octets(alloc, digits)?;
-    framer.feed(octets.as_slice())?;
+fn play(alloc: Global, framer: &mut Framer, script: &str, trace: &mut String) -> Result<(), Fail> {
+    for word in script.split_whitespace() {
+        step(alloc, framer, word, trace)?;
+    }
     Ok(())
+}
+
+// What a framer of this limit answers in a script.
+fn answers(alloc: Global, limit: u32, script: &str) -> Result<String, Fail> {
+    let mut trace = String::new(alloc);
+    let mut framer = Framer::new(alloc, limit);
+    play(alloc, &mut framer, script, &mut trace)?;
+    Ok(trace)
 }
 
 // What octets show, with the fault decided by the very last of them.
@@ -86,43 +93,50 @@ ffffffffffff TagTooLarge at 0
 ";
 
 // A fault is answered for good, whatever comes.
-fn stays(alloc: Global, octets: &[u8], due: &str) -> Result<bool, Fail> {
-    let mut framer = fed(alloc, octets)?;
-    let first = is_next(alloc, &mut framer, due)?;
-    feed(alloc, &mut framer, PRESENT_RESPONSE)?;
-    Ok(first && is_next(alloc, &mut framer, due)? && is_finish(alloc, &framer, due)?)
-}
-
-// It comes with the last octet and not before.
-fn comes_last(alloc: Global, octets: &[u8], due: &str) -> Result<bool, Fail> {
-    let (last, before) = octets.split_last().ok_or("no octets")?;
-    let mut framer = Framer::new(alloc, LIMIT);
-    for octet in before {
-        framer.feed(&[*octet])?;
-        if !is_next(alloc, &mut framer, "nothing")? {
-            return Ok(false);
-        }
-    }
-    framer.feed(&[*last])?;
-    Ok(is_next(alloc, &mut framer, due)?)
+fn stays(alloc: Global, digits: &str, due: &str) -> Result<bool, Fail> {
+    let script = format!(in alloc; "{digits} next {PRESENT_RESPONSE} next finish")?;
+    let due = format!(in alloc; "{due};{due};{due};")?;
+    Ok(answers(alloc, LIMIT, script.as_str())? == due)
 }
 
 // It comes after the messages before it, and its place counts from the message at fault.
-fn comes_after(alloc: Global, octets: &[u8], due: &str) -> Result<bool, Fail> {
+fn comes_after(alloc: Global, digits: &str, due: &str) -> Result<bool, Fail> {
+    let script = format!(in alloc; "{PRESENT_RESPONSE} {digits} next next")?;
+    let due = format!(in alloc; "elements 5;{due};")?;
+    Ok(answers(alloc, LIMIT, script.as_str())? == due)
+}
+
+fn feed_each(framer: &mut Framer, octets: &[u8], trace: &mut String) -> Result<(), AllocError> {
+    for octet in octets {
+        framer.feed(&[*octet])?;
+        next(framer, trace)?;
+    }
+    Ok(())
+}
+
+// What octets show that are fed one by one.
+fn by_octet(alloc: Global, octets: &[u8]) -> Result<String, AllocError> {
+    let mut trace = String::new(alloc);
     let mut framer = Framer::new(alloc, LIMIT);
-    feed(alloc, &mut framer, PRESENT_RESPONSE)?;
-    framer.feed(octets)?;
-    Ok(is_next(alloc, &mut framer, "elements 5")? && is_next(alloc, &mut framer, due)?)
+    feed_each(&mut framer, octets, &mut trace)?;
+    Ok(trace)
+}
+
+// It comes with the last octet and not before.
+fn comes_last(alloc: Global, digits: &str, due: &str) -> Result<bool, Fail> {
+    let octets = octets(alloc, digits)?;
+    let trace = by_octet(alloc, octets.as_slice())?;
+    let before = "nothing;".repeat(alloc, octets.len().saturating_sub(1))?;
+    let due = format!(in alloc; "{before}{due};")?;
+    Ok(trace == due)
 }
 
 fn is_fault(alloc: Global, row: &str) -> Result<bool, Fail> {
     let (digits, due) = pair(row)?;
-    let octets = octets(alloc, digits)?;
-    let octets = octets.as_slice();
     Ok(
-        stays(alloc, octets, due)?
-            && comes_last(alloc, octets, due)?
-            && comes_after(alloc, octets, due)?,
+        stays(alloc, digits, due)?
+            && comes_last(alloc, digits, due)?
+            && comes_after(alloc, digits, due)?,
     )
 }
 
@@ -134,151 +148,100 @@ fn faults_come_with_the_octets_that_decide_them(rt: HostRuntime) -> Result<(), F
     Ok(())
 }
 
-// Headers at the borders of what is lawful.
+// Scripts and answers: headers at the borders of what is lawful; what is left before, in and after a message.
 const ACCEPTED: &str = "\
-0500 primitive 0
-3000 elements 0
-30800000 elements 0
-1f1f00 primitive 0
-1f8fffffff7f00 primitive 0
-04880000000000000001aa primitive 1
-048100 primitive 0
-300430800000 elements 1
-3080050005000000 elements 2
+0500 next finish: primitive 0;true;
+3000 next finish: elements 0;true;
+30800000 next finish: elements 0;true;
+1f1f00 next finish: primitive 0;true;
+1f8fffffff7f00 next finish: primitive 0;true;
+04880000000000000001aa next finish: primitive 1;true;
+048100 next finish: primitive 0;true;
+300430800000 next finish: elements 1;true;
+3080050005000000 next finish: elements 2;true;
+finish next finish: true;nothing;true;
+bf300000000000000000000000000000000000 next next finish: elements 0;StrayEnd at 0;StrayEnd at 0;
+b9268204000000029801019901029b0100bc1530 finish next finish 13a111a10f280d06072a8648ce13050a81026869 next finish: false;nothing;Truncated at 20;elements 5;true;
 ";
 
 fn is_accepted(alloc: Global, row: &str) -> Result<bool, Fail> {
-    let (digits, due) = pair(row)?;
-    let mut framer = Framer::new(alloc, LIMIT);
-    feed(alloc, &mut framer, digits)?;
-    Ok(is_next(alloc, &mut framer, due)? && is_finish(alloc, &framer, "true")?)
+    let (script, due) = row.split_once(": ").ok_or("no answers")?;
+    Ok(answers(alloc, LIMIT, script)?.as_str() == due)
 }
 
 #[test]
-fn headers_at_the_borders_are_accepted(rt: HostRuntime) -> Result<(), Fail> {
+fn lawful_octets_are_messages(rt: HostRuntime) -> Result<(), Fail> {
     for row in ACCEPTED.lines() {
         assert!(rt; is_accepted(rt.alloc(), row)?, "{row}");
     }
     Ok(())
 }
 
-// Whether two pieces, the second not empty, give one message, and only with the second.
-fn is_one_cut(alloc: Global, first: &[u8], second: &[u8]) -> Result<bool, AllocError> {
-    let mut framer = fed(alloc, first)?;
-    let early = !second.is_empty() && !is_next(alloc, &mut framer, "nothing")?;
-    framer.feed(second)?;
-    Ok(
-        !early
-            && is_next(alloc, &mut framer, "elements 5")?
-            && is_next(alloc, &mut framer, "nothing")?,
-    )
+// What the PresentResponse shows that is cut at a place of its digits.
+fn cut(alloc: Global, at: usize) -> Result<String, Fail> {
+    let (first, second) = PRESENT_RESPONSE.split_at_checked(at).ok_or("no place")?;
+    let script = format!(in alloc; "{first} next {second} next next")?;
+    answers(alloc, LIMIT, script.as_str())
 }
 
 #[test]
 fn any_cutting_gives_the_same_message(rt: HostRuntime) -> Result<(), Fail> {
-    let octets = octets(rt.alloc(), PRESENT_RESPONSE)?;
-    for at in 0..=octets.len() {
-        let (first, second) = octets.as_slice().split_at(at);
-        assert!(rt; is_one_cut(rt.alloc(), first, second)?, "{at}");
+    for at in 1..40 {
+        let trace = cut(rt.alloc(), 2 * at)?;
+        assert!(rt; trace.as_str() == "nothing;elements 5;nothing;", "{at}");
     }
     Ok(())
-}
-
-// How many messages of five elements octets give, fed one by one.
-fn messages(alloc: Global, octets: &[u8]) -> Result<u32, AllocError> {
-    let mut framer = Framer::new(alloc, LIMIT);
-    let mut count = 0u32;
-    for octet in octets {
-        framer.feed(&[*octet])?;
-        if is_next(alloc, &mut framer, "elements 5")? {
-            count = count.saturating_add(1);
-        }
-    }
-    Ok(count)
 }
 
 #[test]
 fn octet_by_octet_a_message_comes_once(rt: HostRuntime) -> Result<(), Fail> {
     let octets = octets(rt.alloc(), PRESENT_RESPONSE_INDEFINITE)?;
-    assert!(rt; messages(rt.alloc(), octets.as_slice())? == 1);
+    let trace = by_octet(rt.alloc(), octets.as_slice())?;
+    let before = "nothing;".repeat(rt.alloc(), 45)?;
+    let due = format!(in rt.alloc(); "{before}elements 5;nothing;nothing;")?;
+    assert!(rt; trace == due, "{trace}");
     Ok(())
 }
 
-// What is left of one message that comes in two pieces, before and after each question.
-fn is_finished_late(alloc: Global, first: &[u8], second: &[u8]) -> Result<bool, AllocError> {
-    let mut framer = fed(alloc, first)?;
-    let early = is_finish(alloc, &framer, "false")?
-        && is_next(alloc, &mut framer, "nothing")?
-        && is_finish(alloc, &framer, "Truncated at 20")?;
-    // It changes nothing: the rest of the message may still come.
-    framer.feed(second)?;
-    Ok(early && is_next(alloc, &mut framer, "elements 5")? && is_finish(alloc, &framer, "true")?)
-}
-
-#[test]
-fn finish_tells_what_is_left(rt: HostRuntime) -> Result<(), Fail> {
-    let octets = octets(rt.alloc(), PRESENT_RESPONSE)?;
-    let (first, second) = octets.as_slice().split_at_checked(20).ok_or("short")?;
-    assert!(rt; is_finished_late(rt.alloc(), first, second)?);
-    Ok(())
-}
-
-#[test]
-fn nothing_fed_is_finished(rt: HostRuntime) -> Result<(), Fail> {
-    let mut framer = Framer::new(rt.alloc(), LIMIT);
-    assert!(rt; is_finish(rt.alloc(), &framer, "true")?);
-    assert!(rt; is_next(rt.alloc(), &mut framer, "nothing")?);
-    assert!(rt; is_finish(rt.alloc(), &framer, "true")?);
-    Ok(())
-}
-
-// So many constructed elements of indefinite length within one another, octets, and so many ends.
-fn is_nested(
-    alloc: Global,
-    opens: usize,
-    octets: &[u8],
-    ends: usize,
-    due: &str,
-) -> Result<bool, AllocError> {
-    let mut framer = Framer::new(alloc, LIMIT);
-    for _ in 0..opens {
-        framer.feed(&[0x30, 0x80])?;
-    }
-    framer.feed(octets)?;
-    for _ in 0..ends {
-        framer.feed(&[0x00, 0x00])?;
-    }
-    Ok(is_next(alloc, &mut framer, due)? && is_finish(alloc, &framer, "true")? == (ends > 0))
+// What so many constructed elements of indefinite length within one another show, octets within them, and so many ends.
+fn nested(alloc: Global, opens: usize, within: &str, ends: usize) -> Result<String, Fail> {
+    let opens = "3080".repeat(alloc, opens)?;
+    let ends = "0000".repeat(alloc, ends)?;
+    let script = format!(in alloc; "{opens}{within}{ends} next")?;
+    answers(alloc, LIMIT, script.as_str())
 }
 
 #[test]
 fn sixty_four_levels_are_read(rt: HostRuntime) -> Result<(), Fail> {
     let alloc = rt.alloc();
-    assert!(rt; is_nested(alloc, 64, &[], 64, "elements 1")?);
-    assert!(rt; is_nested(alloc, 65, &[], 0, "TooDeep at 128")?);
+    assert!(rt; nested(alloc, 64, "", 64)?.as_str() == "elements 1;");
+    assert!(rt; nested(alloc, 65, "", 0)?.as_str() == "TooDeep at 128;");
     // A primitive element within 64 open ones is read.
-    assert!(rt; is_nested(alloc, 64, &[0x05, 0x00], 64, "elements 1")?);
+    assert!(rt; nested(alloc, 64, "0500", 64)?.as_str() == "elements 1;");
     Ok(())
+}
+
+fn feed_longest(alloc: Global, framer: &mut Framer) -> Result<(), AllocError> {
+    let contents = vec![in alloc; 0u8; 2_097_147]?;
+    framer.feed(&contents)
 }
 
 #[test]
 fn the_longest_message_is_read(rt: HostRuntime) -> Result<(), Fail> {
-    let contents = vec![in rt.alloc(); 0u8; 2_097_147]?;
-    let mut framer = fed(rt.alloc(), &[0x04, 0x83, 0x1f, 0xff, 0xfb])?;
-    framer.feed(&contents)?;
-    assert!(rt; is_next(rt.alloc(), &mut framer, "primitive 2097147")?);
-    assert!(rt; is_finish(rt.alloc(), &framer, "true")?);
+    let mut trace = String::new(rt.alloc());
+    let mut framer = Framer::new(rt.alloc(), LIMIT);
+    framer.feed(&[0x04, 0x83, 0x1f, 0xff, 0xfb])?;
+    feed_longest(rt.alloc(), &mut framer)?;
+    play(rt.alloc(), &mut framer, "next finish", &mut trace)?;
+    assert!(rt; trace.as_str() == "primitive 2097147;true;");
     Ok(())
 }
 
 // One octet more of an indefinite length passes the limit where the octets reach it.
 #[test]
 fn a_message_ends_at_the_limit(rt: HostRuntime) -> Result<(), Fail> {
-    let mut framer = Framer::new(rt.alloc(), 8);
-    framer.feed(&[0x30, 0x80, 0x04, 0x03, 1, 2, 3])?;
-    assert!(rt; is_next(rt.alloc(), &mut framer, "nothing")?);
-    framer.feed(&[0x05])?;
-    assert!(rt; is_next(rt.alloc(), &mut framer, "TooLong at 7")?);
+    let trace = answers(rt.alloc(), 8, "30800403010203 next 05 next")?;
+    assert!(rt; trace.as_str() == "nothing;TooLong at 7;");
     Ok(())
 }
 

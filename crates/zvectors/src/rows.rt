@@ -12,6 +12,12 @@ pub(crate) fn pair(row: &str) -> Result<(&str, &str), Fail> {
     Ok(parts)
 }
 
+/// The two parts of a row, which an arrow divides.
+pub(crate) fn halves(row: &str) -> Result<(&str, &str), Fail> {
+    let parts = row.split_once(" => ").ok_or("no second part")?;
+    Ok(parts)
+}
+
 /// The octets that digits spell; `-` stands for none.
 pub(crate) fn octets(alloc: Global, digits: &str) -> Result<Vec<u8>, Fail> {
     if digits == "-" {
@@ -49,4 +55,22 @@ pub(crate) fn encoding(alloc: Global, node: &Node) -> Result<String, AllocError>
     let mut octets = Vec::new(alloc);
     node.canonical(alloc, &mut octets)?;
     digits(alloc, octets.as_slice())
+}
+
+/// The octets of a text in which `%` and two digits stand for one octet.
+pub(crate) fn unescaped(alloc: Global, text: &str) -> Result<Vec<u8>, Fail> {
+    let mut out = Vec::new(alloc);
+    let mut digits = 0u8;
+    for part in text.split('%') {
+        let (escaped, plain) = part.split_at_checked(digits as usize).ok_or("no digits")?;
+        put_octets(alloc, escaped, &mut out)?;
+        out.extend_from_slice(plain.as_bytes())?;
+        digits = 2;
+    }
+    Ok(out)
+}
+
+fn put_octets(alloc: Global, digits: &str, out: &mut Vec<u8>) -> Result<(), Fail> {
+    let octets = hex::decode(alloc, digits)?;
+    Ok(out.extend_from_slice(octets.as_slice())?)
 }
