@@ -1,7 +1,13 @@
 //! Octets from outside, each with what it stands for: the tests that cross crates.
 #![tactic(auto)]
 
+#[cfg(test)]
+mod apdus;
 pub mod encodings;
+#[cfg(test)]
+mod facts;
+#[cfg(test)]
+mod fields;
 #[cfg(test)]
 mod framing;
 #[cfg(test)]
@@ -9,6 +15,24 @@ mod headers;
 #[cfg(test)]
 mod identifiers;
 #[cfg(test)]
+mod known;
+#[cfg(test)]
+mod misfits;
+#[cfg(test)]
+mod notation;
+#[cfg(test)]
+mod perturbed;
+#[cfg(test)]
+mod plain;
+#[cfg(test)]
+mod printed;
+#[cfg(test)]
+mod queries;
+#[cfg(test)]
 mod rows;
+#[cfg(test)]
+mod servers;
+#[cfg(test)]
+mod structures;
 #[cfg(test)]
 mod values;
