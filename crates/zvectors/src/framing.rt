@@ -1,277 +1,259 @@
-// Messages and faults of a stream of octets.
+// Messages and faults of a stream of octets, worked out from X.690, 8.1.
 use crate::encodings::{PRESENT_RESPONSE, PRESENT_RESPONSE_INDEFINITE};
+use crate::rows::{LIMIT, element, encoding, octets, pair};
 use std::alloc::{AllocError, Global};
+use std::process::Abort;
 use std::test::Fail;
-use zber::{Body, FaultKind, FrameError, Framer, Node};
+use zber::{Body, Framer, Node};
 
-const LIMIT: u32 = 2_097_152;
-
-/// What `next` answers: the kind and the place of a fault, or how many elements a message holds, or nothing.
-#[derive(Clone, Copy, Debug, PartialEq, Eq)]
-enum Answer {
-    Nothing,
-    Primitive(usize),
-    Elements(usize),
-    Fault(FaultKind, usize),
-    Memory,
-}
-
-fn next_of(framer: &mut Framer) -> Answer {
-    match framer.next() {
-        Ok(None) => Answer::Nothing,
-        Ok(Some(node)) => match &node.body {
-            Body::Prim(contents) => Answer::Primitive(contents.len()),
-            Body::Cons(nodes) => Answer::Elements(nodes.len()),
-        },
-        Err(FrameError::Fault { kind, at }) => Answer::Fault(kind, at),
-        Err(FrameError::Memory) => Answer::Memory,
+// Appends a message's form, and how many octets or elements it has.
+fn put_form(node: &Node, trace: &mut String) -> Result<(), AllocError> {
+    match &node.body {
+        Body::Prim(contents) => write!(trace, "primitive {};", contents.len()),
+        Body::Cons(nodes) => write!(trace, "elements {};", nodes.len()),
     }
 }
 
-/// What octets show, with the fault decided by the very last of them.
-const FAULTS: [(&[u8], FaultKind, usize); 31] = [
-    (&[0x1f, 0x80], FaultKind::TagForm, 0),
-    (&[0x1f, 0x1e], FaultKind::TagForm, 0),
-    (&[0x1f, 0x00], FaultKind::TagForm, 0),
-    (&[0xbf, 0x80], FaultKind::TagForm, 0),
-    (&[0x30, 0x80, 0x5f, 0x1e], FaultKind::TagForm, 2),
-    (
-        &[0x1f, 0x90, 0x80, 0x80, 0x80, 0x00],
-        FaultKind::TagTooLarge,
-        0,
-    ),
-    (
-        &[0x1f, 0x90, 0x80, 0x80, 0x80, 0x80],
-        FaultKind::TagTooLarge,
-        0,
-    ),
-    (
-        &[0xff, 0xff, 0xff, 0xff, 0xff, 0xff],
-        FaultKind::TagTooLarge,
-        0,
-    ),
-    (&[0x00], FaultKind::StrayEnd, 0),
-    (&[0x20], FaultKind::StrayEnd, 0),
-    (&[0x30, 0x02, 0x00], FaultKind::StrayEnd, 2),
-    (&[0x30, 0x02, 0x20], FaultKind::StrayEnd, 2),
-    (&[0x30, 0x80, 0x00, 0x05], FaultKind::StrayEnd, 2),
-    (&[0x30, 0x80, 0x20], FaultKind::StrayEnd, 2),
-    (&[0x30, 0x80, 0x30, 0x02, 0x00], FaultKind::StrayEnd, 4),
-    (&[0x04, 0xff], FaultKind::LengthForm, 0),
-    (&[0x04, 0x89], FaultKind::LengthForm, 0),
-    (&[0x30, 0xff], FaultKind::LengthForm, 0),
-    (&[0x30, 0x03, 0x04, 0x89], FaultKind::LengthForm, 2),
-    (&[0x04, 0x80], FaultKind::IndefinitePrimitive, 0),
-    (&[0x30, 0x80, 0x04, 0x80], FaultKind::IndefinitePrimitive, 2),
-    (&[0x30, 0x02, 0x04, 0x01], FaultKind::Overrun, 2),
-    (&[0x30, 0x01, 0x04], FaultKind::Overrun, 2),
-    (&[0x30, 0x02, 0x04, 0x82], FaultKind::Overrun, 2),
-    (&[0x30, 0x02, 0x30, 0x80], FaultKind::Overrun, 4),
-    (&[0x30, 0x03, 0x30, 0x80, 0x00], FaultKind::Overrun, 4),
-    (&[0x30, 0x04, 0x30, 0x03], FaultKind::Overrun, 2),
-    (&[0x30, 0x04, 0x05, 0x00, 0x04, 0x01], FaultKind::Overrun, 4),
-    (&[0x04, 0x83, 0x1f, 0xff, 0xfc], FaultKind::TooLong, 0),
-    (
-        &[0x04, 0x88, 0x7f, 0xff, 0xff, 0xff, 0xff, 0xff, 0xff, 0xff],
-        FaultKind::TooLong,
-        0,
-    ),
-    (
-        &[0x30, 0x80, 0x05, 0x00, 0x04, 0x83, 0x20, 0x00, 0x00],
-        FaultKind::TooLong,
-        4,
-    ),
-];
+// Appends what is next: nothing, a message, or a fault and its place.
+fn next(framer: &mut Framer, trace: &mut String) -> Result<(), AllocError> {
+    match framer.next() {
+        Ok(None) => trace.push_str("nothing;"),
+        Ok(Some(node)) => put_form(&node, trace),
+        Err(error) => write!(trace, "{error};"),
+    }
+}
 
-#[test]
-fn a_fault_comes_with_the_octet_that_decides_it(rt: HostRuntime) -> Result<(), Fail> {
-    for (octets, kind, at) in &FAULTS {
-        let mut whole = Framer::new(rt.alloc(), LIMIT);
-        whole.feed(octets)?;
-        assert_eq!(rt;
-            next_of(&mut whole),
-            Answer::Fault(*kind, *at),
-            "{octets:?}"
-        );
-        // For good, whatever comes.
-        whole.feed(&PRESENT_RESPONSE)?;
-        assert_eq!(rt;
-            next_of(&mut whole),
-            Answer::Fault(*kind, *at),
-            "{octets:?}"
-        );
-        let finished = whole.finish();
-        assert!(rt;
-            matches!(finished, Err(FrameError::Fault { .. })),
-            "{octets:?}"
-        );
+fn finish(framer: &Framer, trace: &mut String) -> Result<(), AllocError> {
+    match framer.finish() {
+        Ok(whole) => write!(trace, "{whole};"),
+        Err(error) => write!(trace, "{error};"),
+    }
+}
 
-        let mut by_octet = Framer::new(rt.alloc(), LIMIT);
-        for (i, octet) in octets.iter().enumerate() {
-            by_octet.feed(&[*octet])?;
-            let due = if i + 1 == octets.len() {
-                Answer::Fault(*kind, *at)
-            } else {
-                Answer::Nothing
-            };
-            assert_eq!(rt; next_of(&mut by_octet), due, "{octets:?} at {i}");
+// A word of a script: octets to feed, the question what is next, or the question what is left.
+fn step(alloc: Global, framer: &mut Framer, word: &str, trace: &mut String) -> Result<(), Fail> {
+    match word {
+        "next" => Ok(next(framer, trace)?),
+        "finish" => Ok(finish(framer, trace)?),
+        digits => {
+            let octets = octets(alloc, digits)?;
+            Ok(framer.feed(octets.as_slice())?)
         }
     }
-    Ok(())
 }
 
-#[test]
-fn a_fault_comes_after_the_messages_before_it(rt: HostRuntime) -> Result<(), Fail> {
-    for (octets, kind, at) in &FAULTS {
-        let mut framer = Framer::new(rt.alloc(), LIMIT);
-        framer.feed(&PRESENT_RESPONSE)?;
-        framer.feed(octets)?;
-        assert_eq!(rt; next_of(&mut framer), Answer::Elements(5));
-        // Its place counts from the message at fault, not from the stream's first octet.
-        assert_eq!(rt;
-            next_of(&mut framer),
-            Answer::Fault(*kind, *at),
-            "{octets:?}"
-        );
+fn play(alloc: Global, framer: &mut Framer, script: &str, trace: &mut String) -> Result<(), Fail> {
+    for word in script.split_whitespace() {
+        step(alloc, framer, word, trace)?;
     }
     Ok(())
 }
 
-#[test]
-fn headers_at_the_borders_are_accepted(rt: HostRuntime) -> Result<(), Fail> {
-    let rows: [(&[u8], Answer); 9] = [
-        (&[0x05, 0x00], Answer::Primitive(0)),
-        (&[0x30, 0x00], Answer::Elements(0)),
-        (&[0x30, 0x80, 0x00, 0x00], Answer::Elements(0)),
-        (&[0x1f, 0x1f, 0x00], Answer::Primitive(0)),
-        (
-            &[0x1f, 0x8f, 0xff, 0xff, 0xff, 0x7f, 0x00],
-            Answer::Primitive(0),
-        ),
-        (
-            &[0x04, 0x88, 0, 0, 0, 0, 0, 0, 0, 0x01, 0xaa],
-            Answer::Primitive(1),
-        ),
-        (&[0x04, 0x81, 0x00], Answer::Primitive(0)),
-        (&[0x30, 0x04, 0x30, 0x80, 0x00, 0x00], Answer::Elements(1)),
-        (
-            &[0x30, 0x80, 0x05, 0x00, 0x05, 0x00, 0x00, 0x00],
-            Answer::Elements(2),
-        ),
-    ];
-    for (octets, due) in &rows {
-        let mut framer = Framer::new(rt.alloc(), LIMIT);
-        framer.feed(octets)?;
-        assert_eq!(rt; next_of(&mut framer), *due, "{octets:?}");
-        assert!(rt; framer.finish()?, "{octets:?}");
+// What a framer of this limit answers in a script.
+fn answers(alloc: Global, limit: u32, script: &str) -> Result<String, Fail> {
+    let mut trace = String::new(alloc);
+    let mut framer = Framer::new(alloc, limit);
+    play(alloc, &mut framer, script, &mut trace)?;
+    Ok(trace)
+}
+
+// What octets show, with the fault decided by the very last of them.
+const FAULTS: &str = "\
+1f80 TagForm at 0
+1f1e TagForm at 0
+1f00 TagForm at 0
+bf80 TagForm at 0
+30805f1e TagForm at 2
+1f9080808000 TagTooLarge at 0
+1f9080808080 TagTooLarge at 0
+ffffffffffff TagTooLarge at 0
+00 StrayEnd at 0
+20 StrayEnd at 0
+300200 StrayEnd at 2
+300220 StrayEnd at 2
+30800005 StrayEnd at 2
+308020 StrayEnd at 2
+3080300200 StrayEnd at 4
+04ff LengthForm at 0
+0489 LengthForm at 0
+30ff LengthForm at 0
+30030489 LengthForm at 2
+0480 IndefinitePrimitive at 0
+30800480 IndefinitePrimitive at 2
+30020401 Overrun at 2
+300104 Overrun at 2
+30020482 Overrun at 2
+30023080 Overrun at 4
+3003308000 Overrun at 4
+30043003 Overrun at 2
+300405000401 Overrun at 4
+04831ffffc TooLong at 0
+04887fffffffffffffff TooLong at 0
+308005000483200000 TooLong at 4
+";
+
+// A fault is answered for good, whatever comes.
+fn stays(alloc: Global, digits: &str, due: &str) -> Result<bool, Fail> {
+    let script = format!(in alloc; "{digits} next {PRESENT_RESPONSE} next finish")?;
+    let due = format!(in alloc; "{due};{due};{due};")?;
+    Ok(answers(alloc, LIMIT, script.as_str())? == due)
+}
+
+// It comes after the messages before it, and its place counts from the message at fault.
+fn comes_after(alloc: Global, digits: &str, due: &str) -> Result<bool, Fail> {
+    let script = format!(in alloc; "{PRESENT_RESPONSE} {digits} next next")?;
+    let due = format!(in alloc; "elements 5;{due};")?;
+    Ok(answers(alloc, LIMIT, script.as_str())? == due)
+}
+
+fn feed_each(framer: &mut Framer, octets: &[u8], trace: &mut String) -> Result<(), AllocError> {
+    for octet in octets {
+        framer.feed(&[*octet])?;
+        next(framer, trace)?;
     }
     Ok(())
+}
+
+// What octets show that are fed one by one.
+fn by_octet(alloc: Global, octets: &[u8]) -> Result<String, AllocError> {
+    let mut trace = String::new(alloc);
+    let mut framer = Framer::new(alloc, LIMIT);
+    feed_each(&mut framer, octets, &mut trace)?;
+    Ok(trace)
+}
+
+// It comes with the last octet and not before.
+fn comes_last(alloc: Global, digits: &str, due: &str) -> Result<bool, Fail> {
+    let octets = octets(alloc, digits)?;
+    let trace = by_octet(alloc, octets.as_slice())?;
+    let before = "nothing;".repeat(alloc, octets.len().saturating_sub(1))?;
+    let due = format!(in alloc; "{before}{due};")?;
+    Ok(trace == due)
+}
+
+fn is_fault(alloc: Global, row: &str) -> Result<bool, Fail> {
+    let (digits, due) = pair(row)?;
+    Ok(
+        stays(alloc, digits, due)?
+            && comes_last(alloc, digits, due)?
+            && comes_after(alloc, digits, due)?,
+    )
+}
+
+#[test]
+fn faults_come_with_the_octets_that_decide_them(rt: HostRuntime) -> Result<(), Fail> {
+    for row in FAULTS.lines() {
+        assert!(rt; is_fault(rt.alloc(), row)?, "{row}");
+    }
+    Ok(())
+}
+
+// Scripts and answers: headers at the borders of what is lawful; what is left before, in and after a message.
+const ACCEPTED: &str = "\
+0500 next finish: primitive 0;true;
+3000 next finish: elements 0;true;
+30800000 next finish: elements 0;true;
+1f1f00 next finish: primitive 0;true;
+1f8fffffff7f00 next finish: primitive 0;true;
+04880000000000000001aa next finish: primitive 1;true;
+048100 next finish: primitive 0;true;
+300430800000 next finish: elements 1;true;
+3080050005000000 next finish: elements 2;true;
+finish next finish: true;nothing;true;
+bf300000000000000000000000000000000000 next next finish: elements 0;StrayEnd at 0;StrayEnd at 0;
+b9268204000000029801019901029b0100bc1530 finish next finish 13a111a10f280d06072a8648ce13050a81026869 next finish: false;nothing;Truncated at 20;elements 5;true;
+";
+
+fn is_accepted(alloc: Global, row: &str) -> Result<bool, Fail> {
+    let (script, due) = row.split_once(": ").ok_or("no answers")?;
+    Ok(answers(alloc, LIMIT, script)?.as_str() == due)
+}
+
+#[test]
+fn lawful_octets_are_messages(rt: HostRuntime) -> Result<(), Fail> {
+    for row in ACCEPTED.lines() {
+        assert!(rt; is_accepted(rt.alloc(), row)?, "{row}");
+    }
+    Ok(())
+}
+
+// What the PresentResponse shows that is cut at a place of its digits.
+fn cut(alloc: Global, at: usize) -> Result<String, Fail> {
+    let (first, second) = PRESENT_RESPONSE.split_at_checked(at).ok_or("no place")?;
+    let script = format!(in alloc; "{first} next {second} next next")?;
+    answers(alloc, LIMIT, script.as_str())
 }
 
 #[test]
 fn any_cutting_gives_the_same_message(rt: HostRuntime) -> Result<(), Fail> {
-    for at in 0..=PRESENT_RESPONSE.len() {
-        let (first, second) = PRESENT_RESPONSE.split_at(at);
-        let mut framer = Framer::new(rt.alloc(), LIMIT);
-        framer.feed(first)?;
-        if at < PRESENT_RESPONSE.len() {
-            assert_eq!(rt; next_of(&mut framer), Answer::Nothing, "cut at {at}");
-        }
-        framer.feed(second)?;
-        assert_eq!(rt; next_of(&mut framer), Answer::Elements(5), "cut at {at}");
-        assert_eq!(rt; next_of(&mut framer), Answer::Nothing, "cut at {at}");
+    for at in 1..40 {
+        let trace = cut(rt.alloc(), 2 * at)?;
+        assert!(rt; trace.as_str() == "nothing;elements 5;nothing;", "{at}");
     }
-    let mut framer = Framer::new(rt.alloc(), LIMIT);
-    let mut given = 0u32;
-    for octet in &PRESENT_RESPONSE_INDEFINITE {
-        framer.feed(&[*octet])?;
-        if next_of(&mut framer) == Answer::Elements(5) {
-            given = given.saturating_add(1);
-        }
-    }
-    assert_eq!(rt; given, 1);
     Ok(())
 }
 
 #[test]
-fn finish_tells_what_is_left(rt: HostRuntime) -> Result<(), Fail> {
-    let mut framer = Framer::new(rt.alloc(), LIMIT);
-    assert_eq!(rt; next_of(&mut framer), Answer::Nothing);
-    assert!(rt; framer.finish()?);
-    framer.feed(&PRESENT_RESPONSE[..20])?;
-    assert!(rt; !framer.finish()?);
-    assert_eq!(rt; next_of(&mut framer), Answer::Nothing);
-    let truncated = FrameError::Fault {
-        kind: FaultKind::Truncated,
-        at: 20,
-    };
-    assert_eq!(rt; framer.finish().err(), Some(truncated));
-    // It changes nothing: the rest of the message may still come.
-    framer.feed(&PRESENT_RESPONSE[20..])?;
-    assert_eq!(rt; next_of(&mut framer), Answer::Elements(5));
-    assert!(rt; framer.finish()?);
+fn octet_by_octet_a_message_comes_once(rt: HostRuntime) -> Result<(), Fail> {
+    let octets = octets(rt.alloc(), PRESENT_RESPONSE_INDEFINITE)?;
+    let trace = by_octet(rt.alloc(), octets.as_slice())?;
+    let before = "nothing;".repeat(rt.alloc(), 45)?;
+    let due = format!(in rt.alloc(); "{before}elements 5;nothing;nothing;")?;
+    assert!(rt; trace == due, "{trace}");
     Ok(())
 }
 
-/// So many constructed elements of indefinite length within one another, and then so many ends.
-fn nested(alloc: Global, opens: usize, ends: usize) -> Result<Vec<u8>, AllocError> {
-    let mut octets = Vec::new(alloc);
-    for _ in 0..opens {
-        octets.extend_from_slice(&[0x30, 0x80])?;
-    }
-    for _ in 0..ends {
-        octets.extend_from_slice(&[0x00, 0x00])?;
-    }
-    Ok(octets)
+// What so many constructed elements of indefinite length within one another show, octets within them, and so many ends.
+fn nested(alloc: Global, opens: usize, within: &str, ends: usize) -> Result<String, Fail> {
+    let opens = "3080".repeat(alloc, opens)?;
+    let ends = "0000".repeat(alloc, ends)?;
+    let script = format!(in alloc; "{opens}{within}{ends} next")?;
+    answers(alloc, LIMIT, script.as_str())
 }
 
 #[test]
 fn sixty_four_levels_are_read(rt: HostRuntime) -> Result<(), Fail> {
-    let mut framer = Framer::new(rt.alloc(), LIMIT);
-    framer.feed(&nested(rt.alloc(), 64, 64)?)?;
-    assert_eq!(rt; next_of(&mut framer), Answer::Elements(1));
-    assert!(rt; framer.finish()?);
-    let mut deeper = Framer::new(rt.alloc(), LIMIT);
-    deeper.feed(&nested(rt.alloc(), 65, 0)?)?;
-    assert_eq!(rt;
-        next_of(&mut deeper),
-        Answer::Fault(FaultKind::TooDeep, 128)
-    );
+    let alloc = rt.alloc();
+    assert!(rt; nested(alloc, 64, "", 64)?.as_str() == "elements 1;");
+    assert!(rt; nested(alloc, 65, "", 0)?.as_str() == "TooDeep at 128;");
     // A primitive element within 64 open ones is read.
-    let mut primitive = Framer::new(rt.alloc(), LIMIT);
-    primitive.feed(&nested(rt.alloc(), 64, 0)?)?;
-    primitive.feed(&[0x05, 0x00])?;
-    primitive.feed(&nested(rt.alloc(), 0, 64)?)?;
-    assert_eq!(rt; next_of(&mut primitive), Answer::Elements(1));
+    assert!(rt; nested(alloc, 64, "0500", 64)?.as_str() == "elements 1;");
     Ok(())
+}
+
+fn feed_longest(alloc: Global, framer: &mut Framer) -> Result<(), AllocError> {
+    let contents = vec![in alloc; 0u8; 2_097_147]?;
+    framer.feed(&contents)
 }
 
 #[test]
 fn the_longest_message_is_read(rt: HostRuntime) -> Result<(), Fail> {
-    let contents = vec![in rt.alloc(); 0u8; 2_097_147]?;
+    let mut trace = String::new(rt.alloc());
     let mut framer = Framer::new(rt.alloc(), LIMIT);
     framer.feed(&[0x04, 0x83, 0x1f, 0xff, 0xfb])?;
-    framer.feed(&contents)?;
-    assert_eq!(rt; next_of(&mut framer), Answer::Primitive(2_097_147));
-    assert!(rt; framer.finish()?);
-    // One octet more of an indefinite length passes the limit where the octets reach it.
-    let mut longer = Framer::new(rt.alloc(), 8);
-    longer.feed(&[0x30, 0x80, 0x04, 0x03, 1, 2, 3])?;
-    assert_eq!(rt; next_of(&mut longer), Answer::Nothing);
-    longer.feed(&[0x05])?;
-    assert_eq!(rt; next_of(&mut longer), Answer::Fault(FaultKind::TooLong, 7));
+    feed_longest(rt.alloc(), &mut framer)?;
+    play(rt.alloc(), &mut framer, "next finish", &mut trace)?;
+    assert!(rt; trace.as_str() == "primitive 2097147;true;");
     Ok(())
+}
+
+// One octet more of an indefinite length passes the limit where the octets reach it.
+#[test]
+fn a_message_ends_at_the_limit(rt: HostRuntime) -> Result<(), Fail> {
+    let trace = answers(rt.alloc(), 8, "30800403010203 next 05 next")?;
+    assert!(rt; trace.as_str() == "nothing;TooLong at 7;");
+    Ok(())
+}
+
+// A copy of the message that octets spell, which is gone by then.
+fn copied(alloc: Global, digits: &str) -> Result<Node, Fail> {
+    let node = element(alloc, digits)?;
+    Ok(node.copy(alloc)?)
 }
 
 #[test]
 fn a_copy_is_kept_apart(rt: HostRuntime) -> Result<(), Fail> {
-    let mut framer = Framer::new(rt.alloc(), LIMIT);
-    framer.feed(&PRESENT_RESPONSE)?;
-    let node: Node = framer.next()?.ok_or("none")?;
-    let copy = node.copy(rt.alloc())?;
-    drop(node);
-    let mut octets = Vec::new(rt.alloc());
-    copy.canonical(rt.alloc(), &mut octets)?;
-    assert_eq!(rt; octets.as_slice(), PRESENT_RESPONSE.as_slice());
+    let copy = copied(rt.alloc(), PRESENT_RESPONSE)?;
+    assert!(rt; encoding(rt.alloc(), &copy)?.as_str() == PRESENT_RESPONSE);
     Ok(())
 }

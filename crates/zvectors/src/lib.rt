@@ -5,17 +5,31 @@
 mod apdus;
 pub mod encodings;
 #[cfg(test)]
+mod facts;
+#[cfg(test)]
+mod fields;
+#[cfg(test)]
 mod framing;
+#[cfg(test)]
+mod headers;
 #[cfg(test)]
 mod identifiers;
 #[cfg(test)]
-mod kinds;
+mod known;
+#[cfg(test)]
+mod misfits;
 #[cfg(test)]
 mod notation;
 #[cfg(test)]
 mod perturbed;
 #[cfg(test)]
+mod plain;
+#[cfg(test)]
+mod printed;
+#[cfg(test)]
 mod queries;
+#[cfg(test)]
+mod rows;
 #[cfg(test)]
 mod servers;
 #[cfg(test)]

@@ -1,270 +1,305 @@
-// Values and encodings of elements, worked out from X.690.
+// Values in contents octets, worked out from X.690, 8.2, 8.3, 8.6 to 8.8 and 8.19.
+use crate::rows::{digits, octets, pair};
 use bytes::Bytes;
+use std::alloc::{AllocError, Global};
 use std::process::Abort;
 use std::test::Fail;
-use zber::{Bits, Body, EncodeError, Framer, Node, Tag, ValueError};
+use zber::{Bits, Body, Node, Oid, OidError, Tag, ValueError};
 
-const LIMIT: u32 = 2_097_152;
+// Types, contents and values: integers next to each power of 256 and its half, the first bits of 10111011 10111011 1.
+const VALUES: &str = "\
+integer 00 0
+integer 01 1
+integer ff -1
+integer 7f 127
+integer 0080 128
+integer 80 -128
+integer ff7f -129
+integer 00ff 255
+integer 0100 256
+integer ff01 -255
+integer ff00 -256
+integer feff -257
+integer 7fff 32767
+integer 008000 32768
+integer 8000 -32768
+integer ff7fff -32769
+integer 7fffff 8388607
+integer 00800000 8388608
+integer 800000 -8388608
+integer ff7fffff -8388609
+integer 7fffffff 2147483647
+integer 0080000000 2147483648
+integer 80000000 -2147483648
+integer ff7fffffff -2147483649
+integer 7fffffffff 549755813887
+integer 008000000000 549755813888
+integer 8000000000 -549755813888
+integer ff7fffffffff -549755813889
+integer 7fffffffffff 140737488355327
+integer 00800000000000 140737488355328
+integer 800000000000 -140737488355328
+integer ff7fffffffffff -140737488355329
+integer 7fffffffffffff 36028797018963967
+integer 0080000000000000 36028797018963968
+integer 80000000000000 -36028797018963968
+integer ff7fffffffffffff -36028797018963969
+integer 7fffffffffffffff 9223372036854775807
+integer 8000000000000000 -9223372036854775808
+bits 00 -
+bits 0780 1
+bits 0680 10
+bits 05a0 101
+bits 04b0 1011
+bits 03b8 10111
+bits 02b8 101110
+bits 01ba 1011101
+bits 00bb 10111011
+bits 07bb80 101110111
+bits 06bb80 1011101110
+bits 05bba0 10111011101
+bits 04bbb0 101110111011
+bits 03bbb8 1011101110111
+bits 02bbb8 10111011101110
+bits 01bbba 101110111011101
+bits 00bbbb 1011101110111011
+bits 07bbbb80 10111011101110111
+bits 01c006 110000000000011
+boolean ff true
+boolean 00 false
+null - null
+octets 64756e65 64756e65
+octets - -
+oid 8837 2.999
+oid 2a 1.2
+oid 00 0.0
+oid 4f 1.39
+oid 50 2.0
+oid 2a8648ce13050a 1.2.840.10003.5.10
+oid 908080804f8fffffff7f 2.4294967295.4294967295
+";
 
-// A primitive element of context tag 1 with these contents.
-fn held(rt: &impl AllocGlobal, octets: &[u8]) -> Result<Node, Fail> {
-    Ok(Node::prim(Tag::context(1), Bytes::copy_from_slice(rt.alloc(), octets)?))
+// The same of contents that are not written, each with its value or why it has none; `()` stands for a constructed element.
+const READ: &str = "\
+integer 000001 1
+integer ffff -1
+integer - WrongLength
+integer 000000000000000000 IntegerTooLarge
+integer () WrongForm
+bits 04ff 1111
+bits - WrongLength
+bits 01 WrongLength
+bits 08ff WrongLength
+bits ffff WrongLength
+bits () WrongForm
+boolean 01 true
+boolean 80 true
+boolean - WrongLength
+boolean 0000 WrongLength
+boolean () WrongForm
+null 00 WrongLength
+null () WrongForm
+octets () WrongForm
+oid - BadOid
+oid 8001 BadOid
+oid 2a8001 BadOid
+oid 2a86 BadOid
+oid 9080808050 BadOid
+oid 2a9080808000 BadOid
+oid 2affffffffffffffffffffff7f BadOid
+oid () WrongForm
+";
+
+// An element with these contents.
+fn held(alloc: Global, digits: &str) -> Result<Node, Fail> {
+    if digits == "()" {
+        return Ok(Node::cons(Tag::context(1), Vec::new(alloc)));
+    }
+    let octets = octets(alloc, digits)?;
+    let contents = Bytes::from_vec(octets)?;
+    let tag = Tag::context(1);
+    Ok(Node::prim(tag, contents))
 }
 
-// The contents octets of a primitive element.
-fn contents(node: &Node) -> Option<&[u8]> {
+// The contents of a primitive element.
+fn contents(alloc: Global, node: &Node) -> Result<String, Fail> {
     match &node.body {
-        Body::Prim(octets) => Some(octets.as_slice()),
-        Body::Cons(_) => None,
+        Body::Prim(octets) => Ok(digits(alloc, octets.as_slice())?),
+        Body::Cons(_) => Err(Fail::from("constructed")),
     }
 }
 
-// The shortest two's complement of the numbers next to each power of 256 and its half.
-const INTEGERS: [(i64, &[u8]); 38] = [
-    (0, &[0x00]),
-    (1, &[0x01]),
-    (-1, &[0xff]),
-    (127, &[0x7f]),
-    (128, &[0x00, 0x80]),
-    (-128, &[0x80]),
-    (-129, &[0xff, 0x7f]),
-    (255, &[0x00, 0xff]),
-    (256, &[0x01, 0x00]),
-    (-255, &[0xff, 0x01]),
-    (-256, &[0xff, 0x00]),
-    (-257, &[0xfe, 0xff]),
-    (32_767, &[0x7f, 0xff]),
-    (32_768, &[0x00, 0x80, 0x00]),
-    (-32_768, &[0x80, 0x00]),
-    (-32_769, &[0xff, 0x7f, 0xff]),
-    (8_388_607, &[0x7f, 0xff, 0xff]),
-    (8_388_608, &[0x00, 0x80, 0x00, 0x00]),
-    (-8_388_608, &[0x80, 0x00, 0x00]),
-    (-8_388_609, &[0xff, 0x7f, 0xff, 0xff]),
-    (2_147_483_647, &[0x7f, 0xff, 0xff, 0xff]),
-    (2_147_483_648, &[0x00, 0x80, 0x00, 0x00, 0x00]),
-    (-2_147_483_648, &[0x80, 0x00, 0x00, 0x00]),
-    (-2_147_483_649, &[0xff, 0x7f, 0xff, 0xff, 0xff]),
-    (549_755_813_887, &[0x7f, 0xff, 0xff, 0xff, 0xff]),
-    (549_755_813_888, &[0x00, 0x80, 0x00, 0x00, 0x00, 0x00]),
-    (-549_755_813_888, &[0x80, 0x00, 0x00, 0x00, 0x00]),
-    (-549_755_813_889, &[0xff, 0x7f, 0xff, 0xff, 0xff, 0xff]),
-    (140_737_488_355_327, &[0x7f, 0xff, 0xff, 0xff, 0xff, 0xff]),
-    (
-        140_737_488_355_328,
-        &[0x00, 0x80, 0x00, 0x00, 0x00, 0x00, 0x00],
-    ),
-    (-140_737_488_355_328, &[0x80, 0x00, 0x00, 0x00, 0x00, 0x00]),
-    (
-        -140_737_488_355_329,
-        &[0xff, 0x7f, 0xff, 0xff, 0xff, 0xff, 0xff],
-    ),
-    (
-        36_028_797_018_963_967,
-        &[0x7f, 0xff, 0xff, 0xff, 0xff, 0xff, 0xff],
-    ),
-    (
-        36_028_797_018_963_968,
-        &[0x00, 0x80, 0x00, 0x00, 0x00, 0x00, 0x00, 0x00],
-    ),
-    (
-        -36_028_797_018_963_968,
-        &[0x80, 0x00, 0x00, 0x00, 0x00, 0x00, 0x00],
-    ),
-    (
-        -36_028_797_018_963_969,
-        &[0xff, 0x7f, 0xff, 0xff, 0xff, 0xff, 0xff, 0xff],
-    ),
-    (i64::MAX, &[0x7f, 0xff, 0xff, 0xff, 0xff, 0xff, 0xff, 0xff]),
-    (i64::MIN, &[0x80, 0x00, 0x00, 0x00, 0x00, 0x00, 0x00, 0x00]),
-];
-
-#[test]
-fn integers(rt: HostRuntime) -> Result<(), Fail> {
-    for (number, octets) in INTEGERS {
-        let node = Node::of_int(rt.alloc(), Tag::context(1), number)?;
-        assert!(rt; contents(&node) == Some(octets), "{number}");
-        assert_eq!(rt; held(&rt, octets)?.as_int(), Ok(number));
-    }
-    // longer than need be
-    assert_eq!(rt; held(&rt, &[0, 0, 1])?.as_int(), Ok(1));
-    assert_eq!(rt; held(&rt, &[0xff, 0xff])?.as_int(), Ok(-1));
-    assert_eq!(rt; held(&rt, &[])?.as_int(), Err(ValueError::WrongLength));
-    assert_eq!(rt;
-        held(&rt, &[0; 9])?.as_int(),
-        Err(ValueError::IntegerTooLarge)
-    );
-    Ok(())
+fn refusal(alloc: Global, error: ValueError) -> Result<String, AllocError> {
+    format!(in alloc; "{error:?}")
 }
 
-// The contents of the first 0 to 17 of the bits 10111011 10111011 1.
-const BIT_STRINGS: [&[u8]; 18] = [
-    &[0],
-    &[7, 0x80],
-    &[6, 0x80],
-    &[5, 0xa0],
-    &[4, 0xb0],
-    &[3, 0xb8],
-    &[2, 0xb8],
-    &[1, 0xba],
-    &[0, 0xbb],
-    &[7, 0xbb, 0x80],
-    &[6, 0xbb, 0x80],
-    &[5, 0xbb, 0xa0],
-    &[4, 0xbb, 0xb0],
-    &[3, 0xbb, 0xb8],
-    &[2, 0xbb, 0xb8],
-    &[1, 0xbb, 0xba],
-    &[0, 0xbb, 0xbb],
-    &[7, 0xbb, 0xbb, 0x80],
-];
+fn integer(alloc: Global, node: &Node) -> Result<String, AllocError> {
+    match node.as_int() {
+        Ok(number) => number.to_string(alloc),
+        Err(error) => refusal(alloc, error),
+    }
+}
+
+fn boolean(alloc: Global, node: &Node) -> Result<String, AllocError> {
+    match node.as_bool() {
+        Ok(value) => value.to_string(alloc),
+        Err(error) => refusal(alloc, error),
+    }
+}
+
+fn null(alloc: Global, node: &Node) -> Result<String, AllocError> {
+    match node.as_null() {
+        Ok(()) => String::from_str(alloc, "null"),
+        Err(error) => refusal(alloc, error),
+    }
+}
+
+fn string(alloc: Global, node: &Node) -> Result<String, AllocError> {
+    match node.as_octets(alloc) {
+        Ok(octets) => digits(alloc, octets.as_slice()),
+        Err(error) => refusal(alloc, error),
+    }
+}
+
+fn identifier(alloc: Global, node: &Node) -> Result<String, AllocError> {
+    match node.as_oid(alloc) {
+        Ok(oid) => oid.text(alloc),
+        Err(error) => refusal(alloc, error),
+    }
+}
+
+// The first so many bits, as digits.
+pub(crate) fn bit_digits(alloc: Global, bits: &Bits, count: usize) -> Result<String, AllocError> {
+    let mut text = String::new(alloc);
+    for i in 0..count {
+        text.push(if bits.bit(i) { '1' } else { '0' })?;
+    }
+    if count == 0 {
+        text.push('-')?;
+    }
+    Ok(text)
+}
+
+fn bits(alloc: Global, node: &Node) -> Result<String, AllocError> {
+    match node.as_bits(alloc) {
+        Ok(bits) => bit_digits(alloc, &bits, bits.len()),
+        Err(error) => refusal(alloc, error),
+    }
+}
+
+// The value of an element, or why it has none.
+fn read(alloc: Global, kind: &str, node: &Node) -> Result<String, AllocError> {
+    match kind {
+        "integer" => integer(alloc, node),
+        "boolean" => boolean(alloc, node),
+        "null" => null(alloc, node),
+        "octets" => string(alloc, node),
+        "oid" => identifier(alloc, node),
+        _ => bits(alloc, node),
+    }
+}
+
+fn is_read(alloc: Global, row: &str) -> Result<bool, Fail> {
+    let (kind, rest) = pair(row)?;
+    let (digits, value) = pair(rest)?;
+    let node = held(alloc, digits)?;
+    Ok(read(alloc, kind, &node)?.as_str() == value)
+}
 
 #[test]
-fn bit_strings(rt: HostRuntime) -> Result<(), Fail> {
-    let mut bits = Vec::new(rt.alloc());
-    for (count, octets) in BIT_STRINGS.iter().enumerate() {
-        let written = Bits::from_slice(rt.alloc(), &bits)?;
-        let node = Node::of_bits(rt.alloc(), Tag::context(3), &written)?;
-        assert!(rt; contents(&node) == Some(*octets), "{count}");
-        let read = node.as_bits(rt.alloc())?;
-        assert!(rt; read.as_slice() == bits.as_slice(), "{count}");
-        assert_eq!(rt; read.copy(rt.alloc())?.len(), count);
-        assert!(rt; !read.bit(count));
-        assert!(rt; !read.bit(usize::MAX));
-        bits.push(count % 4 != 1)?;
+fn values_are_read(rt: HostRuntime) -> Result<(), Fail> {
+    for row in VALUES.lines() {
+        assert!(rt; is_read(rt.alloc(), row)?, "{row}");
     }
-    // the options search, present, concurrentOperations and namedResultSets
-    let options = held(&rt, &[0x01, 0xc0, 0x06])?.as_bits(rt.alloc())?;
-    assert_eq!(rt; options.len(), 15);
-    for i in 0..20 {
-        assert_eq!(rt; options.bit(i), [0, 1, 13, 14].contains(&i), "{i}");
-    }
-    // unused bits that are set mean nothing
-    let four = held(&rt, &[4, 0xff])?.as_bits(rt.alloc())?;
-    assert_eq!(rt; four.as_slice(), [true, true, true, true].as_slice());
-    let refused: [&[u8]; 4] = [&[], &[1], &[8, 0xff], &[255, 0xff]];
-    for octets in refused {
-        let error = held(&rt, octets)?.as_bits(rt.alloc()).err();
-        assert_eq!(rt; error, Some(ValueError::WrongLength));
-    }
-    assert_eq!(rt; Bits::from_vec(bits).len(), 18);
     Ok(())
 }
 
 #[test]
-fn truth_values_and_nulls(rt: HostRuntime) -> Result<(), Fail> {
-    for (octet, value) in [(0x00, false), (0x01, true), (0x80, true), (0xff, true)] {
-        assert_eq!(rt; held(&rt, &[octet])?.as_bool(), Ok(value));
+fn other_contents_are_read_or_refused(rt: HostRuntime) -> Result<(), Fail> {
+    for row in READ.lines() {
+        assert!(rt; is_read(rt.alloc(), row)?, "{row}");
     }
-    assert_eq!(rt; held(&rt, &[])?.as_bool(), Err(ValueError::WrongLength));
-    assert_eq!(rt; held(&rt, &[0, 0])?.as_bool(), Err(ValueError::WrongLength));
-    let tag = Tag::context(16);
-    assert!(rt; contents(&Node::of_bool(tag, true)) == Some(&[0xff]));
-    assert!(rt; contents(&Node::of_bool(tag, false)) == Some(&[0x00]));
-    assert_eq!(rt; held(&rt, &[])?.as_null(), Ok(()));
-    assert_eq!(rt; held(&rt, &[0])?.as_null(), Err(ValueError::WrongLength));
-    assert!(rt; contents(&Node::of_null(tag)) == Some(&[]));
-    let text = Bytes::copy_from_slice(rt.alloc(), b"dune")?;
-    let node = Node::of_octets(rt.alloc(), tag, &text)?;
-    assert!(rt; node.as_octets(rt.alloc())?.as_slice() == b"dune".as_slice());
-    let whole = Node::cons(tag, Vec::new(rt.alloc()));
-    assert_eq!(rt; whole.as_int(), Err(ValueError::WrongForm));
-    assert_eq!(rt; whole.as_bool(), Err(ValueError::WrongForm));
-    assert_eq!(rt; whole.as_null(), Err(ValueError::WrongForm));
-    assert!(rt; whole.as_bits(rt.alloc()).err() == Some(ValueError::WrongForm));
-    assert!(rt; whole.as_octets(rt.alloc()).err() == Some(ValueError::WrongForm));
     Ok(())
 }
 
-// The octets of an element, behind one that is there before; or the refusal, and what is there then.
-fn encoded(
-    rt: &impl AllocGlobal,
-    node: &Node,
-    limit: u32,
-) -> Result<(Vec<u8>, Result<(), EncodeError>), Fail> {
-    let mut out = Vec::from_slice(rt.alloc(), &[0xaa])?;
-    let answer = node.encode(rt.alloc(), limit, &mut out);
-    Ok((out, answer))
+// The bits that digits say, through a copy.
+fn bits_of(alloc: Global, text: &str) -> Result<Bits, AllocError> {
+    let mut bits = Vec::new(alloc);
+    for octet in text.bytes() {
+        if octet != b'-' {
+            bits.push(octet == b'1')?;
+        }
+    }
+    let first = Bits::from_slice(alloc, bits.as_slice())?;
+    first.copy(alloc)
+}
+
+fn write_bits(alloc: Global, value: &str) -> Result<Node, AllocError> {
+    let bits = bits_of(alloc, value)?;
+    Node::of_bits(alloc, Tag::context(1), &bits)
+}
+
+fn write_integer(alloc: Global, value: &str) -> Result<Node, Fail> {
+    let tag = Tag::context(1);
+    let number = value.parse::<i64>()?;
+    Ok(Node::of_int(alloc, tag, number)?)
+}
+
+fn write_octets(alloc: Global, value: &str) -> Result<Node, Fail> {
+    let octets = Bytes::from_vec(octets(alloc, value)?)?;
+    Ok(Node::of_octets(alloc, Tag::context(1), &octets)?)
+}
+
+// The identifier of a text, through its arcs and a copy.
+fn identifier_of(alloc: Global, text: &str) -> Result<Oid, OidError> {
+    let oid = Oid::parse_dotted(alloc, text.as_bytes())?;
+    let same = Oid::from_arcs(alloc, oid.arcs())?;
+    same.copy(alloc).map_err(|_| OidError::Memory)
+}
+
+fn write_oid(alloc: Global, value: &str) -> Result<Node, Fail> {
+    let oid = identifier_of(alloc, value)?;
+    Ok(Node::of_oid(alloc, Tag::context(1), &oid)?)
+}
+
+// The element of a value.
+fn written(alloc: Global, kind: &str, value: &str) -> Result<Node, Fail> {
+    match kind {
+        "integer" => write_integer(alloc, value),
+        "boolean" => Ok(Node::of_bool(Tag::context(1), value == "true")),
+        "null" => Ok(Node::of_null(Tag::context(1))),
+        "octets" => write_octets(alloc, value),
+        "oid" => write_oid(alloc, value),
+        _ => Ok(write_bits(alloc, value)?),
+    }
+}
+
+fn is_written(alloc: Global, row: &str) -> Result<bool, Fail> {
+    let (kind, rest) = pair(row)?;
+    let (digits, value) = pair(rest)?;
+    let node = written(alloc, kind, value)?;
+    Ok(contents(alloc, &node)?.as_str() == digits)
 }
 
 #[test]
-fn close(rt: HostRuntime) -> Result<(), Fail> {
-    let mut kids = Vec::new(rt.alloc());
-    kids.push(Node::of_int(rt.alloc(), Tag::context(211), 0)?)?;
-    let close = Node::cons(Tag::context(48), kids);
-    let (out, answer) = encoded(&rt, &close, 8)?;
-    assert_eq!(rt; answer, Ok(()));
-    assert_eq!(rt;
-        out.as_slice(),
-        [0xaa, 0xbf, 0x30, 5, 0x9f, 0x81, 0x53, 1, 0].as_slice()
-    );
-    let (out, answer) = encoded(&rt, &close, 7)?;
-    assert_eq!(rt; answer, Err(EncodeError::TooLong));
-    assert_eq!(rt; out.as_slice(), [0xaa].as_slice());
+fn values_are_written(rt: HostRuntime) -> Result<(), Fail> {
+    for row in VALUES.lines() {
+        assert!(rt; is_written(rt.alloc(), row)?, "{row}");
+    }
     Ok(())
 }
 
-// So many constructed elements within one another.
-fn nested(rt: &impl AllocGlobal, levels: u32) -> Result<Node, Fail> {
-    let mut node = Node::of_null(Tag::context(0));
-    for _ in 0..levels {
-        let mut kids = Vec::new(rt.alloc());
-        kids.push(node)?;
-        node = Node::cons(Tag::universal(16), kids);
-    }
-    Ok(node)
+fn first_bits(alloc: Global, digits: &str) -> Result<String, Fail> {
+    let node = held(alloc, digits)?;
+    let bits = node.as_bits(alloc)?;
+    Ok(bit_digits(alloc, &bits, 20)?)
 }
 
 #[test]
-fn deep_encodings(rt: HostRuntime) -> Result<(), Fail> {
-    let (out, answer) = encoded(&rt, &nested(&rt, 64)?, 1000)?;
-    assert_eq!(rt; answer, Ok(()));
-    let mut framer = Framer::new(rt.alloc(), LIMIT);
-    framer.feed(out.get(1..).ok_or("short")?)?;
-    assert!(rt; framer.next()?.is_some());
-    assert!(rt; framer.finish()?);
-    let long = encoded(&rt, &nested(&rt, 64)?, 7)?.1;
-    assert_eq!(rt; long, Err(EncodeError::TooLong));
-    for limit in [1000, 7] {
-        let (out, answer) = encoded(&rt, &nested(&rt, 65)?, limit)?;
-        assert_eq!(rt; answer, Err(EncodeError::TooDeep));
-        assert_eq!(rt; out.as_slice(), [0xaa].as_slice());
-    }
-    let mut out = Vec::new(rt.alloc());
-    nested(&rt, 200)?.canonical(rt.alloc(), &mut out)?;
-    assert_eq!(rt; out.get(..3), Some([0x30, 0x82, 0x02].as_slice()));
-    Ok(())
-}
-
-// What stands before contents of so many octets under a context tag.
-const HEADERS: [(u32, usize, &[u8]); 13] = [
-    (0, 0, &[0x80, 0]),
-    (30, 1, &[0x9e, 1]),
-    (31, 0, &[0x9f, 0x1f, 0]),
-    (127, 0, &[0x9f, 0x7f, 0]),
-    (128, 0, &[0x9f, 0x81, 0x00, 0]),
-    (16_383, 0, &[0x9f, 0xff, 0x7f, 0]),
-    (16_384, 0, &[0x9f, 0x81, 0x80, 0x00, 0]),
-    (u32::MAX, 0, &[0x9f, 0x8f, 0xff, 0xff, 0xff, 0x7f, 0]),
-    (4, 127, &[0x84, 0x7f]),
-    (4, 128, &[0x84, 0x81, 0x80]),
-    (4, 255, &[0x84, 0x81, 0xff]),
-    (4, 256, &[0x84, 0x82, 0x01, 0x00]),
-    (4, 65_536, &[0x84, 0x83, 0x01, 0x00, 0x00]),
-];
-
-#[test]
-fn headers(rt: HostRuntime) -> Result<(), Fail> {
-    for (number, count, header) in HEADERS {
-        let octets = vec![in rt.alloc(); 0x55; count]?;
-        let node = Node::prim(Tag::context(number), Bytes::from_vec(octets)?);
-        let whole = header.len().saturating_add(count);
-        let (out, answer) = encoded(&rt, &node, whole as u32)?;
-        assert_eq!(rt; answer, Ok(()));
-        assert_eq!(rt; out.len(), whole.saturating_add(1));
-        assert!(rt; out[1..].starts_with(header), "{number}, {count}");
-        let short = encoded(&rt, &node, whole.saturating_sub(1) as u32)?.1;
-        assert_eq!(rt; short, Err(EncodeError::TooLong));
-    }
+fn bits_past_the_end_are_not_set(rt: HostRuntime) -> Result<(), Fail> {
+    let alloc = rt.alloc();
+    assert!(rt; first_bits(alloc, "01c006")?.as_str() == "11000000000001100000");
+    assert!(rt; first_bits(alloc, "04ff")?.as_str() == "11110000000000000000");
+    assert!(rt; !bits_of(alloc, "11111111")?.bit(usize::MAX));
     Ok(())
 }

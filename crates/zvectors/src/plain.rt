@@ -1,0 +1,89 @@
+//! The calls of the layers below without their contracts, and with large values in boxes: no test needs the contracts, and
+//! what is proved of a function is dear where it owns a large value.
+use std::alloc::{AllocError, Global};
+use std::test::Fail;
+use zapdu::{Apdu, ApduError, BuildError, DiagRec, Record};
+use zber::Node;
+use zquery::{PqfError, PrintError, Query};
+
+fn boxed<T: Drop>(alloc: Global, value: T) -> Result<Box<T>, AllocError> {
+    Ok(Box::new(alloc, value)?)
+}
+
+pub(crate) fn parse(alloc: Global, text: &[u8]) -> Result<Box<Query>, Fail> {
+    let query = zquery::parse_pqf(alloc, text)?;
+    Ok(boxed(alloc, query)?)
+}
+
+pub(crate) fn parse_refusal(alloc: Global, text: &[u8]) -> Option<PqfError> {
+    zquery::parse_pqf(alloc, text).err()
+}
+
+pub(crate) fn print(alloc: Global, query: &Query, out: &mut Vec<u8>) -> Result<(), PrintError> {
+    zquery::print_pqf(alloc, query, out)
+}
+
+pub(crate) fn query_node(alloc: Global, query: &Query) -> Result<Node, BuildError> {
+    zquery::to_node(alloc, query)
+}
+
+pub(crate) fn query_of(alloc: Global, node: &Node) -> Result<Box<Query>, Fail> {
+    let query = zquery::from_node(alloc, node)?.ok_or("no query")?;
+    Ok(boxed(alloc, query)?)
+}
+
+pub(crate) fn is_query(alloc: Global, node: &Node) -> Result<bool, AllocError> {
+    let query = zquery::from_node(alloc, node)?;
+    Ok(query.is_some())
+}
+
+pub(crate) fn query_copy(alloc: Global, query: &Query) -> Result<Box<Query>, AllocError> {
+    let copy = query.copy(alloc)?;
+    boxed(alloc, copy)
+}
+
+pub(crate) fn apdu_node(alloc: Global, apdu: &Apdu) -> Result<Node, BuildError> {
+    zapdu::to_node(alloc, apdu)
+}
+
+pub(crate) fn apdu_of(alloc: Global, node: &Node) -> Result<Box<Apdu>, Fail> {
+    let apdu = zapdu::from_node(alloc, node)?;
+    Ok(boxed(alloc, apdu)?)
+}
+
+pub(crate) fn apdu_refusal(alloc: Global, node: &Node) -> Option<ApduError> {
+    zapdu::from_node(alloc, node).err()
+}
+
+pub(crate) fn apdu_copy(alloc: Global, apdu: &Apdu) -> Result<Box<Apdu>, AllocError> {
+    let copy = apdu.copy(alloc)?;
+    boxed(alloc, copy)
+}
+
+pub(crate) fn record_node(alloc: Global, record: &Record) -> Result<Node, BuildError> {
+    zapdu::record_node(alloc, record)
+}
+
+pub(crate) fn record_of(alloc: Global, node: &Node) -> Result<Box<Record>, Fail> {
+    let record = zapdu::record_of(alloc, node)?.ok_or("no record")?;
+    Ok(boxed(alloc, record)?)
+}
+
+pub(crate) fn record_copy(alloc: Global, record: &Record) -> Result<Box<Record>, AllocError> {
+    let copy = record.copy(alloc)?;
+    boxed(alloc, copy)
+}
+
+pub(crate) fn diag_node(alloc: Global, diag: &DiagRec) -> Result<Node, BuildError> {
+    zapdu::diag_node(alloc, diag)
+}
+
+pub(crate) fn diag_of(alloc: Global, node: &Node) -> Result<Box<DiagRec>, Fail> {
+    let diag = zapdu::diag_of(alloc, node)?.ok_or("no diagnostic")?;
+    Ok(boxed(alloc, diag)?)
+}
+
+pub(crate) fn diag_copy(alloc: Global, diag: &DiagRec) -> Result<Box<DiagRec>, AllocError> {
+    let copy = diag.copy(alloc)?;
+    boxed(alloc, copy)
+}
