@@ -18,3 +18,9 @@ pub mod BlockLines
 pub mod ListKeys
 pub mod SortedKeys
 pub mod TableKeys
+pub mod FactSpelled
+pub mod SavedParts
+pub mod OneElement
+pub mod LoadExact
+pub mod LoadSteps
+pub mod FrontElements

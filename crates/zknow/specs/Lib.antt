@@ -8,6 +8,14 @@ pub mod Table
 pub mod TableLaws
 pub mod Keys
 pub mod Facts
+pub mod Naturals
+pub mod Limited
+pub mod SavedFacts
+pub mod Saved
+pub mod Saving
+pub mod Loaded
+pub mod Fronts
+pub mod Loading
 pub mod Tables
 pub mod Sections
 pub mod Known

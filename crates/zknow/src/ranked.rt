@@ -85,7 +85,7 @@ impl Ranked for DiagRec {
 }
 
 /// Does nothing: it tells that an element stands for the diagnostic, whichever it is.
-fn spelled(diag: &DiagRec)
+pub(crate) fn spelled(diag: &DiagRec)
     ensures { IsSpellable diag_rec diag.now }
 {
     match diag {
@@ -120,7 +120,7 @@ fn fits(number: i64)
     ensures { is_i64 number ≡ true }
 {}
 
-fn number_fits(number: &i64)
+pub(crate) fn number_fits(number: &i64)
     ensures { is_i64 number.now ≡ true }
 {
     fits(*number);

@@ -1,0 +1,16 @@
+use Rattle.std.proofs.Common.{◌++◌, false, ap, ◌∙◌}
+use Rattle.zber.specs.Stream.{Stream}
+use Rattle.zknow.proofs.FrontElements.{found_is, fault_is}
+use Rattle.zknow.proofs.front.element_in.Goals as goal
+
+pub returns-in-Ok : goal.returns-in-Ok
+returns-in-Ok c =
+    let start = c.new-framer.ensures in
+    let fed_is = c.in_ok-feed.ensures.ok (ap (λ (q : Stream). q.fault) start) ∙ ap (λ (q : Stream). record q { octets = q.octets ++ c.args.octets.now; asked = false }) start in
+    found_is c.feed.new.self c.next.new.self c.args.octets.now c.in-Ok.found fed_is c.in-Ok.ensures
+
+pub returns-in-Err-Fault : goal.returns-in-Err-Fault
+returns-in-Err-Fault c =
+    let start = c.new-framer.ensures in
+    let fed_is = c.in_ok-feed.ensures.ok (ap (λ (q : Stream). q.fault) start) ∙ ap (λ (q : Stream). record q { octets = q.octets ++ c.args.octets.now; asked = false }) start in
+    fault_is c.feed.new.self c.next.new.self c.args.octets.now c.in-Err-Fault.field-0-0 c.in-Err-Fault.field-0-1 fed_is (rw c.in-Err-Fault.field-0-is at c.in-Err-Fault.ensures)
