@@ -11,4 +11,6 @@ mod identifiers;
 #[cfg(test)]
 mod rows;
 #[cfg(test)]
+mod saved;
+#[cfg(test)]
 mod values;
