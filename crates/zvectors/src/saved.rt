@@ -119,7 +119,7 @@ struct Tally {
     files: u32,
     not_knowledge: u32,
     not_canonical: u32,
-    places: u32,
+    places: usize,
 }
 
 impl Tally {
@@ -132,11 +132,11 @@ impl Tally {
             }
             Err(LoadError::NotKnowledge { at }) => {
                 self.not_knowledge = self.not_knowledge.saturating_add(1);
-                self.places = self.places.saturating_add(at as u32);
+                self.places = self.places.saturating_add(at);
             }
             Err(LoadError::NotCanonical { at }) => {
                 self.not_canonical = self.not_canonical.saturating_add(1);
-                self.places = self.places.saturating_add(at as u32);
+                self.places = self.places.saturating_add(at);
             }
             Err(LoadError::Memory) => return Err(Fail::from("out of memory")),
         }
