@@ -31,8 +31,12 @@ mod queries;
 #[cfg(test)]
 mod rows;
 #[cfg(test)]
+mod saved;
+#[cfg(test)]
 mod servers;
 #[cfg(test)]
 mod structures;
+#[cfg(test)]
+mod target;
 #[cfg(test)]
 mod values;

@@ -1,10 +1,10 @@
 //! Which entries queries match.
-use crate::tests::fixture::{entry, sized, target_of, text, three};
-use crate::{Database, Target};
+use crate::target::fixture::{entry, sized, target_of, text, three};
 use std::process::Abort;
 use std::test::Fail;
 use zber::Seq;
 use zquery::parse_pqf;
+use ztarget::{Database, Target};
 
 /// Queries, and the entry's title (4) and author (1003).
 const ROWS: [(&[u8], &[u8], &[u8], bool); 35] = [
