@@ -1,12 +1,13 @@
 // APDUs in octets, worked out by hand from Z39.50-2003, 4.1, and X.690, each tag of each production in one of them; and what
 // they stand for. Of each kind one has all parts that may be absent, and one has none.
+use crate::encodings::{PRESENT_RESPONSE, PRESENT_RESPONSE_INDEFINITE};
 use crate::plain::{apdu_copy, apdu_node, apdu_of};
 use crate::printed::put_apdu;
-use crate::rows::{encoding, message, octets, pair};
+use crate::rows::{element, encoding, message, octets, pair};
 use std::alloc::{AllocError, Global};
 use std::process::Abort;
 use std::test::Fail;
-use zapdu::Apdu;
+use zapdu::{Apdu, PresentResponse, Record, Records, print_record};
 use zber::{Body, Node};
 
 // Canonical encodings, and the fields.
@@ -93,6 +94,42 @@ fn each_apdu_is_read_and_written(rt: HostRuntime) -> Result<(), Fail> {
     for row in APDUS.lines() {
         assert!(rt; is_read(rt.alloc(), row)?, "{row}");
     }
+    Ok(())
+}
+
+fn put_lines(alloc: Global, records: &[Record], out: &mut Vec<u8>) -> Result<(), AllocError> {
+    for record in records {
+        print_record(alloc, record, false, out)?;
+    }
+    Ok(())
+}
+
+// Appends the texts of a PresentResponse's records.
+fn put_texts(alloc: Global, apdu: &Apdu, out: &mut Vec<u8>) -> Result<(), Fail> {
+    match apdu {
+        Apdu::PresentResponse(
+            PresentResponse {
+                records: Some(Records::List(records)),
+                ..
+            },
+        ) => { Ok(put_lines(alloc, records.as_slice(), out)?) }
+        _ => Err(Fail::from("no records")),
+    }
+}
+
+fn texts(alloc: Global, digits: &str) -> Result<Vec<u8>, Fail> {
+    let node = element(alloc, digits)?;
+    let apdu = apdu_of(alloc, &node)?;
+    let mut out = Vec::new(alloc);
+    put_texts(alloc, &apdu, &mut out)?;
+    Ok(out)
+}
+
+#[test]
+fn both_spellings_print_one_record(rt: HostRuntime) -> Result<(), Fail> {
+    let due = b"rec 1.2.840.10003.5.10 - \"hi\"".as_slice();
+    assert!(rt; texts(rt.alloc(), PRESENT_RESPONSE)?.as_slice() == due);
+    assert!(rt; texts(rt.alloc(), PRESENT_RESPONSE_INDEFINITE)?.as_slice() == due);
     Ok(())
 }
 

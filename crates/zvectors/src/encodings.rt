@@ -7,6 +7,3 @@ pub const PRESENT_RESPONSE: &str =
 /// The same with indefinite lengths, and a definite length that is not the shortest; a second message begins behind it.
 pub const PRESENT_RESPONSE_INDEFINITE: &str =
     "b9808204000000029801019901029b0100bc803015a113a1112882000d06072a8648ce13050a8102686900000000b926";
-
-/// A Close, reason finished.
-pub const CLOSE: &str = "bf30059f81530100";

@@ -4,7 +4,7 @@ ghost use Rattle.zapdu.specs.Records.{IsSpellable};
 ghost use Rattle.zknow.specs.Facts.{IsFact};
 
 use crate::fields::{put_node, put_number, put_word};
-use crate::plain::{diag_node, record_node};
+use crate::plain::{boxed, diag_node, record_node};
 use crate::rows::{element, octets, pair, unescaped};
 use bytes::Bytes;
 use std::alloc::{AllocError, Global};
@@ -138,9 +138,20 @@ fn add_all(alloc: Global, knowledge: &mut Knowledge, rows: &str) -> Result<(), F
     Ok(())
 }
 
+/// Nothing known.
+pub(crate) fn nothing(alloc: Global) -> Result<Box<Knowledge>, AllocError> {
+    boxed(alloc, Knowledge::new(alloc))
+}
+
+/// A copy of what is known.
+pub(crate) fn copied(alloc: Global, knowledge: &Knowledge) -> Result<Box<Knowledge>, AllocError> {
+    let copy = knowledge.copy()?;
+    boxed(alloc, copy)
+}
+
 /// The knowledge of all facts of a table.
-pub(crate) fn known(alloc: Global, rows: &str) -> Result<Knowledge, Fail> {
-    let mut knowledge = Knowledge::new(alloc);
+pub(crate) fn known(alloc: Global, rows: &str) -> Result<Box<Knowledge>, Fail> {
+    let mut knowledge = nothing(alloc)?;
     add_all(alloc, &mut knowledge, rows)?;
     Ok(knowledge)
 }

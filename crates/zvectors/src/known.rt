@@ -1,5 +1,5 @@
 // What is known: facts in every order, twice, absorbed and copied; two values at one place; the printed list.
-use crate::facts::{add, has_facts, is_at, is_count, is_listed, known};
+use crate::facts::{add, copied, has_facts, is_at, is_count, is_listed, known, nothing};
 use std::alloc::{AllocError, Global};
 use std::process::Abort;
 use std::test::Fail;
@@ -46,6 +46,18 @@ fn order(alloc: Global, count: usize, number: usize) -> Result<Vec<usize>, Alloc
     Ok(order)
 }
 
+fn add_at(
+    alloc: Global,
+    knowledge: &mut Knowledge,
+    rows: &[&str],
+    place: usize,
+) -> Result<(), Fail> {
+    match rows.get(place) {
+        Some(row) => add(alloc, knowledge, row),
+        None => Err(Fail::from("no row")),
+    }
+}
+
 fn add_in_order(
     alloc: Global,
     knowledge: &mut Knowledge,
@@ -53,16 +65,13 @@ fn add_in_order(
     places: &[usize],
 ) -> Result<(), Fail> {
     for place in places {
-        match rows.get(*place) {
-            Some(row) => add(alloc, knowledge, row)?,
-            None => return Err(Fail::from("no row")),
-        }
+        add_at(alloc, knowledge, rows, *place)?;
     }
     Ok(())
 }
 
 fn is_list_of(alloc: Global, rows: &[&str], places: &[usize], due: &str) -> Result<bool, Fail> {
-    let mut knowledge = Knowledge::new(alloc);
+    let mut knowledge = nothing(alloc)?;
     add_in_order(alloc, &mut knowledge, rows, places)?;
     is_listed(alloc, &knowledge, "a", Mode::Text, due)
 }
@@ -114,7 +123,7 @@ fn records_that_differ_have_one_list_in_every_order(rt: HostRuntime) -> Result<(
 
 // Whether a copy has the list.
 fn is_copied(alloc: Global, knowledge: &Knowledge, due: &str) -> Result<bool, Fail> {
-    let copy = knowledge.copy()?;
+    let copy = copied(alloc, knowledge)?;
     is_listed(alloc, &copy, "a", Mode::Text, due)
 }
 
@@ -180,7 +189,7 @@ fn facts_stand_in_order_and_once(rt: HostRuntime) -> Result<(), Fail> {
 
 #[test]
 fn nothing_is_known_at_first(rt: HostRuntime) -> Result<(), Fail> {
-    let empty = Knowledge::new(rt.alloc());
+    let empty = nothing(rt.alloc())?;
     assert!(rt; is_at(rt.alloc(), &empty, 1, " nothing")?);
     assert!(rt; is_count(rt.alloc(), &empty, 0, 1, " nothing")?);
     assert!(rt; has_facts(rt.alloc(), &empty, "")?);

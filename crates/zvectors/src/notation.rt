@@ -1,5 +1,5 @@
 // Texts of the prefix notation, their tokens, and queries that no text stands for.
-use crate::plain::{parse, print, query_copy};
+use crate::plain::{boxed, parse, print, query_copy};
 use crate::queries::{is_printed, refusal};
 use crate::rows::{halves, unescaped};
 use bytes::Bytes;
@@ -10,12 +10,17 @@ use zber::{Node, Oid, Seq, Tag};
 use zquery::{Attr, AttrValue, PrintError, Query, Rpn, TermValue, tokens};
 
 // Texts, and what their queries are printed as.
-const PRINTED: &str = r#"%20 dune%09%0d%0a => "dune"
+const PRINTED: &str = r#"dune => "dune"
+%20 dune%09%0d%0a => "dune"
+@attr 1=4 dune => @attr 1=4 "dune"
+@attr 1=4 @and dune @attr 1=1003 herbert => @and @attr 1=4 "dune" @attr 1=1003 "herbert"
+@attr 1=4 @attr 2=3 @attr 1=7 a => @attr 1=7 @attr 2=3 "a"
 @attr 1=4 @and a @attr 1=5 @or b @attr 2=3 c => @and @attr 1=4 "a" @or @attr 1=5 "b" @attr 1=5 @attr 2=3 "c"
 @or a @not b c => @or "a" @not "b" "c"
 @set "x" => @set "x"
 @attr 1=4 @set x => @attr 1=4 @set "x"
 @set @and => @set "@and"
+"@and" => "@and"
 @attrset bib-1 a => "a"
 @attrset BIB-1 a => "a"
 @attrset 1.2.840.10003.3.1 a => "a"
@@ -30,8 +35,10 @@ const PRINTED: &str = r#"%20 dune%09%0d%0a => "dune"
 @term numeric -9223372036854775808 => @term numeric "-9223372036854775808"
 @term numeric 0009 => @term numeric "9"
 @term string @and a @term general b => @and @term string "a" "b"
+@and @term numeric 5 6 => @and @term numeric "5" "6"
 @term numeric @attr 4=109 1971 => @attr 4=109 @term numeric "1971"
 "a \"b\\ \c" => "a \"b\\ c"
+"" => ""
 "#;
 
 fn is_copied(alloc: Global, query: &Query, due: &[u8]) -> Result<bool, Fail> {
@@ -212,7 +219,7 @@ pub(crate) fn has_no_text(alloc: Global, query: &Query) -> Result<bool, AllocErr
 }
 
 fn is_refused(alloc: Global, attr_set: Oid, root: Rpn) -> Result<bool, AllocError> {
-    let query = Query { attr_set, root };
+    let query = boxed(alloc, Query { attr_set, root })?;
     has_no_text(alloc, &query)
 }
 

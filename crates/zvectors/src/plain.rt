@@ -6,7 +6,7 @@ use zapdu::{Apdu, ApduError, BuildError, DiagRec, Record};
 use zber::Node;
 use zquery::{PqfError, PrintError, Query};
 
-fn boxed<T: Drop>(alloc: Global, value: T) -> Result<Box<T>, AllocError> {
+pub(crate) fn boxed<T: Drop>(alloc: Global, value: T) -> Result<Box<T>, AllocError> {
     Ok(Box::new(alloc, value)?)
 }
 
@@ -33,8 +33,8 @@ pub(crate) fn query_of(alloc: Global, node: &Node) -> Result<Box<Query>, Fail> {
 }
 
 pub(crate) fn is_query(alloc: Global, node: &Node) -> Result<bool, AllocError> {
-    let query = zquery::from_node(alloc, node)?;
-    Ok(query.is_some())
+    let absent = zquery::from_node(alloc, node)?.ok_or(()).err();
+    Ok(absent.is_none())
 }
 
 pub(crate) fn query_copy(alloc: Global, query: &Query) -> Result<Box<Query>, AllocError> {

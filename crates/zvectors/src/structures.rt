@@ -1,6 +1,6 @@
 // Elements that are queries without a text, or no queries, worked out from Z39.50-2003, 4.1, and X.690.
 use crate::notation::{complex, has_no_text, near, other};
-use crate::plain::{is_query, query_copy, query_node, query_of};
+use crate::plain::{boxed, is_query, query_copy, query_node, query_of};
 use crate::queries::{is_printed, unwrapped};
 use crate::rows::{element, encoding, pair};
 use bytes::Bytes;
@@ -178,7 +178,7 @@ fn is_spelt(alloc: Global, query: &Query) -> Result<bool, Fail> {
 }
 
 fn over(alloc: Global, attr_set: Oid, root: Rpn) -> Result<Box<Query>, AllocError> {
-    Ok(Box::new(alloc, Query { attr_set, root })?)
+    boxed(alloc, Query { attr_set, root })
 }
 
 // The mark where the query of a root has an element, and a dot where it has none.

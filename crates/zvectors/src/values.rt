@@ -168,7 +168,7 @@ fn identifier(alloc: Global, node: &Node) -> Result<String, AllocError> {
     }
 }
 
-// The first so many bits, as digits.
+// The first so many bits, as digits; and a plus sign where the one past the end is set.
 pub(crate) fn bit_digits(alloc: Global, bits: &Bits, count: usize) -> Result<String, AllocError> {
     let mut text = String::new(alloc);
     for i in 0..count {
@@ -176,6 +176,9 @@ pub(crate) fn bit_digits(alloc: Global, bits: &Bits, count: usize) -> Result<Str
     }
     if count == 0 {
         text.push('-')?;
+    }
+    if bits.bit(bits.len()) {
+        text.push('+')?;
     }
     Ok(text)
 }
@@ -222,7 +225,7 @@ fn other_contents_are_read_or_refused(rt: HostRuntime) -> Result<(), Fail> {
     Ok(())
 }
 
-// The bits that digits say, through a copy.
+// The bits that digits say, through a slice and a copy.
 fn bits_of(alloc: Global, text: &str) -> Result<Bits, AllocError> {
     let mut bits = Vec::new(alloc);
     for octet in text.bytes() {
@@ -230,8 +233,9 @@ fn bits_of(alloc: Global, text: &str) -> Result<Bits, AllocError> {
             bits.push(octet == b'1')?;
         }
     }
-    let first = Bits::from_slice(alloc, bits.as_slice())?;
-    first.copy(alloc)
+    let first = Bits::from_vec(bits);
+    let second = Bits::from_slice(alloc, first.as_slice())?;
+    second.copy(alloc)
 }
 
 fn write_bits(alloc: Global, value: &str) -> Result<Node, AllocError> {
