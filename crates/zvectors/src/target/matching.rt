@@ -1,10 +1,11 @@
 //! Which entries queries match.
 use crate::target::fixture::{entry, sized, target_of, text, three};
+use ztarget::{Database, Target};
+use std::alloc::Global;
 use std::process::Abort;
 use std::test::Fail;
 use zber::Seq;
-use zquery::parse_pqf;
-use ztarget::{Database, Target};
+use zquery::{Attr, AttrValue, Query, Rpn, TermValue, parse_pqf};
 
 /// Queries, and the entry's title (4) and author (1003).
 const ROWS: [(&[u8], &[u8], &[u8], bool); 35] = [
@@ -65,6 +66,47 @@ fn words_stand_one_after_the_other(rt: HostRuntime) -> Result<(), Fail> {
         entries.push(entry(alloc, b"r", &[(4, title), (1003, author)])?)?;
         let target = target_of(&rt, sized(4096), entries)?;
         let places = target.matches(&[text(alloc, b"d")?], &parse_pqf(alloc, pqf)?)?;
+        assert_eq!(&rt; places.len() == 1, due, "row {i}");
+    }
+    Ok(())
+}
+
+/// A term with these attributes, of which two may have one type.
+fn attributed(alloc: Global, numbers: &[(i64, i64)], term: &[u8]) -> Result<Query, Fail> {
+    let mut attrs = Vec::new(alloc);
+    for (kind, value) in numbers {
+        attrs.push(Attr {
+            attr_set: None,
+            kind: *kind,
+            value: AttrValue::Number(*value),
+        })?;
+    }
+    let term = TermValue::General(text(alloc, term)?);
+    let mut query = parse_pqf(alloc, b"a")?;
+    query.root = Rpn::Term {
+        attrs: Seq::from_vec(attrs),
+        term,
+    };
+    Ok(query)
+}
+
+#[test]
+fn the_last_of_several_attributes_counts(rt: HostRuntime) -> Result<(), Fail> {
+    let alloc = rt.alloc();
+    let mut entries = Vec::new(alloc);
+    entries.push(entry(alloc, b"r", &[(4, b"dune"), (1003, b"herbert")])?)?;
+    let target = target_of(&rt, sized(4096), entries)?;
+    let rows: [(&[(i64, i64)], &[u8], bool); 6] = [
+        (&[(1, 4), (1, 1003)], b"herbert", true),
+        (&[(1, 4), (1, 1003)], b"dune", false),
+        (&[(1, 1003), (1, 4)], b"dune", true),
+        (&[(1, 4), (1, 1016)], b"herbert", true),
+        (&[(5, 1), (5, 100)], b"dun", false),
+        (&[(5, 100), (1, 4), (5, 1)], b"dun", true),
+    ];
+    for (i, (numbers, term, due)) in rows.into_iter().enumerate() {
+        let query = attributed(alloc, numbers, term)?;
+        let places = target.matches(&[text(alloc, b"d")?], &query)?;
         assert_eq!(&rt; places.len() == 1, due, "row {i}");
     }
     Ok(())
