@@ -8,3 +8,4 @@ pub mod Ids
 pub mod Fittings
 pub mod Accepting
 pub mod KnownFacts
+pub mod SpelledRecords

@@ -10,8 +10,13 @@ pub enum What {
     Init,
     /// A result set.
     Search,
-    /// Records of the set: so many, from this position on.
-    Present { start: i64, n: i64 },
+    /// Records of the set.
+    Present {
+        /// The first record's position, from 1 on.
+        start: i64,
+        /// How many, from 1 on.
+        n: i64,
+    },
 }
 
 /// An operation that was admitted.
@@ -28,7 +33,9 @@ pub struct Asked {
 /// A reply with the operation that it answers.
 #[derive(Drop)]
 pub struct Answer {
+    /// The operation.
     pub asked: Asked,
+    /// The reply, as it came.
     pub reply: Apdu,
 }
 
@@ -48,6 +55,7 @@ pub enum Taken {
 /// A request to be sent.
 #[derive(Drop)]
 pub struct Sent {
+    /// The request.
     pub apdu: Apdu,
     /// Its canonical encoding.
     pub octets: Bytes,

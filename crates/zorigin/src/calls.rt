@@ -92,10 +92,11 @@ impl Origin {
         Ok(sent)
     }
 
-    /// Asks for the association: versions 1 to 3, the options search, present, concurrent operations and named result sets, sizes of 1,048,576
-    /// octets, and the origin's name (Z39.50-2003, 3.2.1.1). It is operation 0.
+    /// Asks for the association: versions 1 to 3, the options search, present, concurrent operations and named result
+    /// sets, sizes of 1,048,576 octets, and the origin's name (Z39.50-2003, 3.2.1.1). It is operation 0.
     ///
-    /// Refused as `WrongState` elsewhere than in Fresh; as `Unsendable` where the name is too long; as `Memory`. The origin is then as it was.
+    /// Refused as `WrongState` elsewhere than in Fresh; as `Unsendable` where the name is too long; as `Memory`. The
+    /// origin is then as it was.
     pub fn init(&mut self) -> Result<Sent, CallRefused>
         ensures answer { (settings : Settings) (log : Log) → After settings log self.old → Answers (call_answer (standing (past settings log)) Init) result }
         ensures after { (settings : Settings) (log : Log) → After settings log self.old → IsCalled result → After settings (Made Init ∷ log) self.new }
@@ -104,8 +105,9 @@ impl Origin {
         self.make_init()
     }
 
-    /// Searches, as operation `op`, for what is asked, and names the result set `set` (Z39.50-2003, 3.2.2.1). The set's name is its number in
-    /// decimal where named result sets are in force, else `default`; a set of that name is replaced.
+    /// Searches, as operation `op`, for what is asked, and names the result set `set` (Z39.50-2003, 3.2.2.1). The set's
+    /// name is its number in decimal where named result sets are in force, else `default`; a set of that name is
+    /// replaced.
     ///
     /// `CallRefused` says when it is refused, in its order; the origin is then as it was.
     pub fn search(&mut self, op: u32, set: u32, ask: &Ask) -> Result<Sent, CallRefused>
@@ -116,8 +118,8 @@ impl Origin {
         self.make_search(op, set, ask)
     }
 
-    /// Asks, as operation `op`, for `n` records of the set from position `start` on, with the syntax and the element set of the set's search
-    /// (Z39.50-2003, 3.2.3.1). Positions count from 1.
+    /// Asks, as operation `op`, for `n` records of the set from position `start` on, with the syntax and the element
+    /// set of the set's search (Z39.50-2003, 3.2.3.1). Positions count from 1.
     ///
     /// `CallRefused` says when it is refused, in its order; the origin is then as it was.
     pub fn present(&mut self, op: u32, set: u32, start: i64, n: i64) -> Result<Sent, CallRefused>
@@ -128,7 +130,8 @@ impl Origin {
         self.make_present(op, set, start, n)
     }
 
-    /// Ends the association, with reason 0 (finished) and no reference id (Z39.50-2003, 3.2.11.1). Outstanding replies are still taken.
+    /// Ends the association, with reason 0 (finished) and no reference id (Z39.50-2003, 3.2.11.1). Outstanding replies
+    /// are still taken.
     ///
     /// Refused as `WrongState` elsewhere than in Ready, and as `Memory`; the origin is then as it was.
     pub fn close(&mut self) -> Result<Sent, CallRefused>

@@ -171,9 +171,10 @@ fn present_facts(
     Ok(facts)
 }
 
-/// The facts of a reply, of the target with this number: of a rejected Init, that the connection failed; of a search, its count, or that it
-/// failed; each record at its position, which for a Present counts from the first that was asked; each diagnostic that stands
-/// for no record, of a search at place 0, of a Present at the first position that was asked.
+/// The facts of a reply, of the target with this number: of a rejected Init, that the connection failed; of a search,
+/// its count, or that it failed; each record at its position, which for a Present counts from the first that was asked;
+/// each diagnostic that stands for no record, of a search at place 0, of a Present at the first position that was
+/// asked.
 ///
 /// An error only where no memory was found.
 pub fn facts_of(alloc: Global, target: u32, answer: &Answer) -> Result<Vec<Fact>, AllocError>

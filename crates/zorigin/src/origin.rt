@@ -10,8 +10,8 @@ use indexmap::IndexMap;
 use std::alloc::Global;
 use std::marker::Model;
 
-/// An origin: one connection's operations (Z39.50-2003, 3.2 and 3.4). It sends and receives nothing itself: a call gives the request to be
-/// sent, and what was received is taken.
+/// An origin: one connection's operations (Z39.50-2003, 3.2 and 3.4). It sends and receives nothing itself: a call
+/// gives the request to be sent, and what was received is taken.
 ///
 /// Contracts speak of each log, the list of the calls and APDUs so far, that can have left it.
 #[derive(Drop)]

@@ -246,10 +246,12 @@ impl Origin {
         self.verdict(reply)
     }
 
-    /// Takes an APDU that came from the target: a reply is accepted where its reference id names an outstanding operation, or is absent where
-    /// concurrent operations are not in force and one is outstanding, and where it fits what that operation asked for (Z39.50-2003, 3.4).
+    /// Takes an APDU that came from the target: a reply is accepted where its reference id names an outstanding
+    /// operation, or is absent where concurrent operations are not in force and one is outstanding, and where it fits
+    /// what that operation asked for (Z39.50-2003, 3.4).
     ///
-    /// `Refused` says when it is refused, in its order. The origin has then failed; after `WrongState` and `Memory` it is as it was.
+    /// `Refused` says when it is refused, in its order. The origin has then failed; after `WrongState` and `Memory` it
+    /// is as it was.
     pub fn take(&mut self, reply: &Apdu) -> Result<Taken, Refused>
         ensures answer { (settings : Settings) (log : Log) → After settings log self.old → Tells (verdict (standing (past settings log)) reply.now) result }
         ensures after { (settings : Settings) (log : Log) → After settings log self.old → IsTaken result → After settings (Got reply.now ∷ log) self.new }
