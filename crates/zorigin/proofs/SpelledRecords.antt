@@ -3,7 +3,6 @@ use Rattle.std.proofs.Common.{ℕ, zero, suc, List, [], ◌∷◌, Option, Some,
 use Rattle.std.specs.List.{AllByRecursion}
 use Rattle.zber.specs.Elements.{Element, Primitive, Constructed, elements}
 use Rattle.zber.specs.Productions.Standing as standing
-use Rattle.zber.specs.Productions.Place.{Place}
 use Rattle.zber.specs.Productions.Table.{Table, required, optional, ended, also, fields, Stand}
 use Rattle.zber.specs.Productions.Within.{each}
 use Rattle.zapdu.specs.declared.apdu.Apdu.{Apdu}
