@@ -35,6 +35,8 @@ mod saved;
 #[cfg(test)]
 mod servers;
 #[cfg(test)]
+mod sessions;
+#[cfg(test)]
 mod structures;
 #[cfg(test)]
 mod target;
