@@ -39,6 +39,4 @@ mod sessions;
 #[cfg(test)]
 mod structures;
 #[cfg(test)]
-mod target;
-#[cfg(test)]
 mod values;

@@ -2,6 +2,7 @@
 ghost use Rattle.std.specs.Prelude.{◌≡◌, ◌∷◌, [], ◌<◌, ◌^◌, length, IfOk};
 ghost use Rattle.ztarget.specs.Searching.{entries_in};
 
+use crate::{Database, Entry, Field, Target, TargetSettings};
 use bytes::Bytes;
 use std::alloc::Global;
 use std::process::Abort;
@@ -12,7 +13,6 @@ use zapdu::{
 };
 use zber::{Bits, Oid, Seq};
 use zquery::parse_pqf;
-use ztarget::{Database, Entry, Field, Target, TargetSettings};
 
 /// USmarc.
 pub(crate) const SYNTAX: [u32; 6] = [1, 2, 840, 10003, 5, 10];

@@ -1,7 +1,8 @@
 //! What responses hold, and the diagnostic of each fault.
-use crate::target::fixture::{
+use crate::tests::fixture::{
     SYNTAX, diagnosis, init, present, reply, search, shown, sized, text, three,
 };
+use crate::{MatchError, Target, TargetSettings};
 use std::alloc::Global;
 use std::process::Abort;
 use std::test::Fail;
@@ -11,7 +12,6 @@ use zapdu::{
 };
 use zber::{Node, Oid, Seq, Tag};
 use zquery::{Attr, AttrValue, Query, Rpn, TermValue, parse_pqf};
-use ztarget::{MatchError, Target, TargetSettings};
 
 fn searched(target: &mut Target, request: SearchRequest) -> Result<SearchResponse, Fail> {
     match reply(target, &Apdu::SearchRequest(request))? {

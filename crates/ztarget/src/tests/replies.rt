@@ -1,11 +1,11 @@
 //! Replies over octets, and the order of requests and releases.
-use crate::target::fixture::{close, entry, init, present, reply, search, sized, target_of, three};
+use crate::tests::fixture::{close, entry, init, present, reply, search, sized, target_of, three};
+use crate::{Target, TargetError, TargetSettings};
 use std::alloc::Global;
 use std::process::Abort;
 use std::test::Fail;
 use zapdu::{Apdu, from_node, to_node};
 use zber::{Bits, Framer};
-use ztarget::{Target, TargetError, TargetSettings};
 
 const INIT: [u8; 35] = [
     0xb4, 0x21, 0x82, 0x04, 0, 0, 0, 0, 0x83, 0x02, 0x05, 0xe0, 0x84, 0x03, 0x01, 0xc0, 0x06, 0x85,
