@@ -1,9 +1,11 @@
 // Saved files, worked out by hand and by a reader of another kind: what is read and written alike, and what is refused.
+use crate::facts::known;
 use crate::rows::{digits, octets, pair};
-use std::alloc::Global;
+use std::alloc::{AllocError, Global};
 use std::process::Abort;
 use std::test::Fail;
-use zknow::{Knowledge, LoadError, Names, load, save};
+use zber::Seq;
+use zknow::{Knowledge, LoadError, Names, SaveError, load, save};
 
 fn saved(alloc: Global, knowledge: &Knowledge, names: &Names) -> Result<Vec<u8>, Fail> {
     let mut out = Vec::new(alloc);
@@ -178,5 +180,30 @@ fn each_changed_octet_is_told(rt: HostRuntime) -> Result<(), Fail> {
         places: 58550,
     };
     assert_eq!(rt; tally, due);
+    Ok(())
+}
+
+/// A record whose fragment has so many constructed elements within one another.
+fn nested(alloc: Global, levels: usize) -> Result<String, AllocError> {
+    let opens = "3080".repeat(alloc, levels)?;
+    let ends = "0000".repeat(alloc, levels)?;
+    format!(in alloc; "seen 0 1 1 3080a180a380{opens}{ends}000000000000")
+}
+
+/// What is appended to one octet for such a record, or why nothing is.
+fn appended(alloc: Global, levels: usize) -> Result<Result<usize, SaveError>, Fail> {
+    let knowledge = known(alloc, nested(alloc, levels)?.as_str())?;
+    let names = Seq::from_vec(Vec::new(alloc));
+    let mut out = Vec::new(alloc);
+    out.push(7_u8)?;
+    let saved = save(alloc, &knowledge, &names, &mut out);
+    Ok(saved.map(|()| out.len()))
+}
+
+// The fact is one element more: 60 of them are 64 with it, the record and its parts.
+#[test]
+fn more_than_64_levels_are_not_saved(rt: HostRuntime) -> Result<(), Fail> {
+    assert!(rt; appended(rt.alloc(), 60)?.is_ok_and(|len| len > 64));
+    assert!(rt; matches!(appended(rt.alloc(), 61)?, Err(SaveError::TooDeep)));
     Ok(())
 }
