@@ -2,6 +2,8 @@
 #![tactic(auto)]
 
 #[cfg(test)]
+mod answers;
+#[cfg(test)]
 mod apdus;
 pub mod encodings;
 #[cfg(test)]
@@ -40,3 +42,5 @@ mod sessions;
 mod structures;
 #[cfg(test)]
 mod values;
+#[cfg(test)]
+mod windows;

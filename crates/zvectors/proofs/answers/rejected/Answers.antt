@@ -1,0 +1,4 @@
+use Rattle.zvectors.proofs.answers.rejected.Goals as goal
+
+pub told-requires : goal.told-requires
+told-requires c = (_, (_, c.in_ok-init.ensures.after _ _ c.new-origin.ensures tt))

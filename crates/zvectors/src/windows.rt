@@ -1,0 +1,116 @@
+// Windows of up to 64 outstanding operations (Z39.50-2003, 3.4), and names that are too long to be sent.
+use crate::plain::boxed;
+use crate::sessions::{answer, apdu, origin};
+use bytes::Bytes;
+use std::alloc::Global;
+use std::process::Abort;
+use std::test::Fail;
+use zapdu::Apdu;
+use zorigin::{CallRefused, Origin, Settings, Taken};
+
+// An association with concurrent operations, and a set of 100 records.
+const READY: &str = "\
+init -
+take b51c820400000000830205e0840301c006850310000086031000008c01ff
+search 1 1
+take b7128204000000019701649801009901009601ff
+";
+
+fn ready(alloc: Global) -> Result<Box<Origin>, Fail> {
+    let mut origin = origin(alloc)?;
+    for row in READY.lines() {
+        answer(alloc, &mut origin, row)?;
+    }
+    Ok(origin)
+}
+
+// The operation that asks for the record at this place of the window.
+fn operation(place: u8) -> u32 {
+    u32::from(place) + 2
+}
+
+fn is_asked(origin: &mut Origin, place: u8) -> bool {
+    origin
+        .present(operation(place), 1, i64::from(place) + 1, 1)
+        .is_ok()
+}
+
+fn are_asked(origin: &mut Origin, window: u8) -> bool {
+    for place in 0..window {
+        if !is_asked(origin, place) {
+            return false;
+        }
+    }
+    true
+}
+
+// A reply with one record to this operation.
+fn reply(alloc: Global, op: u32) -> Result<Box<Apdu>, Fail> {
+    let id = hex::encode(alloc, &op.to_be_bytes())?;
+    let digits = format!(in alloc;
+        "b9268204{id}9801019901009b0100bc153013a111a10f280d06072a8648ce13050a81026869"
+    )?;
+    apdu(alloc, digits.as_str())
+}
+
+// The operation that the reply answers.
+fn answered(origin: &mut Origin, reply: &Apdu) -> Option<u32> {
+    match origin.take(reply) {
+        Ok(Taken::Answered(answer)) => Some(answer.asked.op),
+        _ => None,
+    }
+}
+
+fn is_answered(alloc: Global, origin: &mut Origin, place: u8) -> Result<bool, Fail> {
+    let op = operation(place);
+    let reply = reply(alloc, op)?;
+    Ok(answered(origin, &reply) == Some(op))
+}
+
+fn are_answered(alloc: Global, origin: &mut Origin, from: u8, to: u8) -> Result<bool, Fail> {
+    for place in from..to {
+        if !is_answered(alloc, origin, place)? {
+            return Ok(false);
+        }
+    }
+    Ok(true)
+}
+
+// Whether the replies from this place on come first, and then the others.
+fn is_window(alloc: Global, window: u8, first: u8) -> Result<bool, Fail> {
+    let mut origin = ready(alloc)?;
+    let asked = are_asked(&mut origin, window);
+    let first_half = are_answered(alloc, &mut origin, first, window)?;
+    let second_half = are_answered(alloc, &mut origin, 0, first)?;
+    Ok(asked && first_half && second_half)
+}
+
+#[test]
+fn windows_are_answered_in_any_order(rt: HostRuntime) -> Result<(), Fail> {
+    for (window, first) in [
+        (1, 0),
+        (2, 1),
+        (3, 2),
+        (63, 31),
+        (64, 1),
+        (64, 32),
+        (64, 63),
+    ] {
+        assert!(rt; is_window(rt.alloc(), window, first)?, "{window} {first}");
+    }
+    Ok(())
+}
+
+// Whether Init is refused for a name of so many octets.
+fn is_unsendable(alloc: Global, len: usize) -> Result<bool, Fail> {
+    let name = Bytes::from_vec(vec![in alloc; b'a'; len]?)?;
+    let mut origin = boxed(alloc, Origin::new(alloc, Settings { name }))?;
+    Ok(matches!(origin.init(), Err(CallRefused::Unsendable)))
+}
+
+#[test]
+fn a_long_name_is_not_sent(rt: HostRuntime) -> Result<(), Fail> {
+    assert!(rt; is_unsendable(rt.alloc(), 2_097_152)?);
+    assert!(rt; !is_unsendable(rt.alloc(), 2_097_100)?);
+    Ok(())
+}
