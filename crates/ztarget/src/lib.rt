@@ -27,6 +27,3 @@ pub use database::{Database, Entry, Field};
 pub use error::{MatchError, TargetError};
 pub use settings::TargetSettings;
 pub use target::Target;
-
-#[cfg(test)]
-mod tests;
