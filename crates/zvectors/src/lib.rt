@@ -41,6 +41,8 @@ mod sessions;
 #[cfg(test)]
 mod structures;
 #[cfg(test)]
+mod target;
+#[cfg(test)]
 mod values;
 #[cfg(test)]
 mod windows;
