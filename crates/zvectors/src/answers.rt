@@ -7,7 +7,7 @@ use bytes::Bytes;
 use std::alloc::Global;
 use std::process::Abort;
 use std::test::Fail;
-use zapdu::Apdu;
+use zapdu::{Apdu, DefaultDiag, DiagRec};
 use zknow::Fact;
 use zorigin::{Ask, Origin, Settings, Taken, facts_of};
 
@@ -106,6 +106,33 @@ fn a_search_is_counted_and_its_record_seen(rt: HostRuntime) -> Result<(), Fail> 
     Ok(())
 }
 
+// A set that does not stand, for the Use 5.
+const FAILED: &str =
+    "b7288204000000019701009801009901009601009a0103bf81020f06072a8648ce1304010201721a0135";
+
+// That the set failed, and why.
+#[test]
+fn a_search_that_failed_is_told_with_its_diagnostic(rt: HostRuntime) -> Result<(), Fail> {
+    let opened = apdu(rt.alloc(), OPENED)?;
+    let reply = apdu(rt.alloc(), FAILED)?;
+    let ask = ask(rt.alloc(), 0, 1, 0)?;
+    let facts = found(rt.alloc(), &opened, &ask, &reply)?;
+    let is_due = matches!(
+        facts.as_slice(),
+        [
+            Fact::Failed { target: 7, set: 1 },
+            Fact::Diag {
+                target: 7,
+                set: 1,
+                place: 0,
+                diag: DiagRec::Default(DefaultDiag { condition: 114, .. })
+            }
+        ]
+    );
+    assert!(rt; is_due);
+    Ok(())
+}
+
 // Two records, which count from the position that was asked.
 const SHOWN: &str =
     "b93b8204000000029801029901009b0100bc2a3013a111a10f280d06072a8648ce13050a810268693013a111a10f280d06072a8648ce13050a81026869";
@@ -131,6 +158,38 @@ fn records_are_seen_at_the_positions_asked(rt: HostRuntime) -> Result<(), Fail> 
                 set: 1,
                 position: 4,
                 ..
+            }
+        ]
+    );
+    assert!(rt; is_due);
+    Ok(())
+}
+
+// Two diagnostics in the place of records.
+const REFUSED: &str =
+    "b9348204000000029801009901009b0105bf814d21300e06072a8648ce13040102010d1a00300f06072a8648ce13040102011e1a0131";
+
+#[test]
+fn diagnostics_are_told_at_the_first_position_asked(rt: HostRuntime) -> Result<(), Fail> {
+    let opened = apdu(rt.alloc(), OPENED)?;
+    let first = apdu(rt.alloc(), FOUND)?;
+    let reply = apdu(rt.alloc(), REFUSED)?;
+    let ask = ask(rt.alloc(), 0, 1, 0)?;
+    let facts = shown(rt.alloc(), &opened, &ask, &first, &reply)?;
+    let is_due = matches!(
+        facts.as_slice(),
+        [
+            Fact::Diag {
+                target: 7,
+                set: 1,
+                place: 3,
+                diag: DiagRec::Default(DefaultDiag { condition: 13, .. })
+            },
+            Fact::Diag {
+                target: 7,
+                set: 1,
+                place: 3,
+                diag: DiagRec::Default(DefaultDiag { condition: 30, .. })
             }
         ]
     );

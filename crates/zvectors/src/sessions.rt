@@ -9,7 +9,7 @@ use std::alloc::{AllocError, Global};
 use std::process::Abort;
 use std::test::Fail;
 use zapdu::Apdu;
-use zber::Seq;
+use zber::{Oid, Seq};
 use zorigin::{Ask, CallRefused, Origin, Refused, Sent, Settings, Taken};
 
 fn databases(alloc: Global) -> Result<Seq<Bytes>, Fail> {
@@ -32,6 +32,14 @@ pub(crate) fn ask(alloc: Global, small: i64, large: i64, medium: i64) -> Result<
         medium,
     };
     Ok(boxed(alloc, ask)?)
+}
+
+// The same, of which no record is to come with the response, for the element set `F` of USmarc.
+fn full_ask(alloc: Global) -> Result<Box<Ask>, Fail> {
+    let mut ask = ask(alloc, 0, 1, 0)?;
+    ask.syntax = Some(Oid::from_arcs(alloc, &[1, 2, 840, 10003, 5, 10])?);
+    ask.elements = Some(Bytes::from_static(b"F"));
+    Ok(ask)
 }
 
 pub(crate) fn origin(alloc: Global) -> Result<Box<Origin>, AllocError> {
@@ -111,6 +119,13 @@ fn search_row(alloc: Global, origin: &mut Origin, row: &str) -> Result<String, F
     Ok(search(alloc, origin, op.parse::<u32>()?, set.parse::<u32>()?, &ask)?)
 }
 
+// `full OP SET`
+fn full_row(alloc: Global, origin: &mut Origin, row: &str) -> Result<String, Fail> {
+    let (op, set) = pair(row)?;
+    let ask = full_ask(alloc)?;
+    Ok(search(alloc, origin, op.parse::<u32>()?, set.parse::<u32>()?, &ask)?)
+}
+
 // `bounds OP SMALL LARGE MEDIUM`, of set 1
 fn bounds_row(alloc: Global, origin: &mut Origin, row: &str) -> Result<String, Fail> {
     let (op, bounds) = pair(row)?;
@@ -159,6 +174,7 @@ pub(crate) fn answer(alloc: Global, origin: &mut Origin, step: &str) -> Result<S
         "close" => Ok(close(alloc, origin)?),
         "state" => Ok(state(alloc, origin)?),
         "search" => search_row(alloc, origin, row),
+        "full" => full_row(alloc, origin, row),
         "bounds" => bounds_row(alloc, origin, row),
         "present" => present_row(alloc, origin, row),
         "take" => take_row(alloc, origin, row),
