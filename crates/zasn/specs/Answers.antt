@@ -1,6 +1,8 @@
 -- What readers and builders answer, against what reading and building give.
-use Rattle.std.specs.Prelude.{◌≡◌, List, Option, Some, None, Result, Ok, Err}
-use Rattle.zber.specs.Elements.{Element}
+use Rattle.std.specs.Prelude.{◌≡◌, Bool, false, List, [], ◌∷◌, Option, Some, None, Result, Ok, Err}
+use Rattle.zber.specs.Names.{Name}
+use Rattle.zber.specs.Elements.{Element, tag_of}
+use Rattle.zber.specs.Productions.Tags.{among}
 use Rattle.zber.specs.declared.value.ValueError.{ValueError}
 use Rattle.zber.specs.declared.value.ValueError.TheVariants as values
 use Rattle.zasn.specs.declared.error.PartError.{PartError}
@@ -12,6 +14,11 @@ use Rattle.zasn.specs.declared.error.BuildError.TheVariants as builds
 abbrev pub part_error_of : ValueError → PartError
 part_error_of values.Memory = Memory
 part_error_of _ = Misfit
+
+-- whether the first element has the tag
+abbrev pub begins : Name → List Element → Bool
+begins tag [] = false
+begins tag (n ∷ ns) = among (tag_of n) (tag ∷ [])
 
 -- what the reader of one element returned is what the element means, unless memory ran out
 abbrev pub Means : {A : Type 0} → Option A → Result A PartError → Type 0

@@ -53,7 +53,7 @@ pub fn write_any(alloc: Global, node: &Node, tag: Tag) -> Result<Node, BuildErro
 }
 
 /// An element with the tag, of either form.
-pub fn write_kept(alloc: Global, node: &Node, tag: Tag) -> Result<Node, BuildError>
+pub(crate) fn write_kept(alloc: Global, node: &Node, tag: Tag) -> Result<Node, BuildError>
     ensures { Makes ((kept tag []).spelt node.now) result }
 {
     if node.tag != tag {

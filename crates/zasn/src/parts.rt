@@ -1,10 +1,10 @@
 //! The elements of a production, read from left to right.
-ghost use Rattle.std.specs.Prelude.{◌≡◌, [], ◌∷◌, length};
+ghost use Rattle.std.specs.Prelude.{◌≡◌, [], ◌∷◌, true, false, length, IfSome, IfNone};
 ghost use Rattle.zber.specs.Productions.Reading.{optional_at, required_at, ended_at};
 ghost use Rattle.zber.specs.Productions.Place.{Place};
 ghost use Rattle.zber.specs.Productions.Table.{Elements};
 ghost use Rattle.zber.specs.Productions.Within.{alone_at, any_at, list_of, sequence_of};
-ghost use Rattle.zasn.specs.Answers.{Takes, Finds};
+ghost use Rattle.zasn.specs.Answers.{Takes, Finds, begins};
 ghost use Rattle.zasn.specs.Places.{alone, kept, text_under};
 
 use crate::any::read_any;
@@ -51,38 +51,34 @@ impl<'a> Parts<'a> {
         self.left.len()
     }
 
+    /// The next element and those behind it, where it has the tag.
+    fn next_with(&self, tag: Tag) -> Option<(&'a Node, &'a [Node])>
+        ensures some { IfSome result (λ n. begins tag self.now ≡ true × self.now ≡ n.0.now ∷ n.1.now) }
+        ensures none { IfNone result (begins tag self.now ≡ false) }
+    {
+        match self.left {
+            [first, others @ ..] if first.tag == tag => Some((first, others)),
+            _ => None,
+        }
+    }
+
     /// The value of the next element, where it has the tag.
     pub fn optional<T: Contents>(&mut self, alloc: Global, tag: Tag) -> Result<Option<T>, PartError>
         ensures { Takes (optional_at (tag ∷ []) (T.place tag).meaning self.old) result self.new }
     {
-        match self.left {
-            [] => Ok(None),
-            [first, others @ ..] => {
-                if first.tag != tag {
-                    return Ok(None);
-                }
-                let value = T::of_node(alloc, first)?;
-                self.left = others;
-                Ok(Some(value))
-            }
-        }
+        let Some((first, others)) = self.next_with(tag) else {
+            return Ok(None);
+        };
+        let value = T::of_node(alloc, first)?;
+        self.left = others;
+        Ok(Some(value))
     }
 
     /// The value of the next element, which has the tag.
     pub fn required<T: Contents>(&mut self, alloc: Global, tag: Tag) -> Result<T, PartError>
         ensures { Takes (required_at (tag ∷ []) (T.place tag).meaning self.old) result self.new }
     {
-        match self.left {
-            [] => Err(PartError::Misfit),
-            [first, others @ ..] => {
-                if first.tag != tag {
-                    return Err(PartError::Misfit);
-                }
-                let value = T::of_node(alloc, first)?;
-                self.left = others;
-                Ok(value)
-            }
-        }
+        self.optional(alloc, tag)?.ok_or(PartError::Misfit)
     }
 
     /// The value of the next element, where it has one of the value's tags.
@@ -106,17 +102,7 @@ impl<'a> Parts<'a> {
     pub fn required_tagged<T: Tagged>(&mut self, alloc: Global) -> Result<T, PartError>
         ensures { Takes (required_at T.place.tags T.place.meaning self.old) result self.new }
     {
-        match self.left {
-            [] => Err(PartError::Misfit),
-            [first, others @ ..] => {
-                if !T::has(first.tag) {
-                    return Err(PartError::Misfit);
-                }
-                let value = T::of_element(alloc, first)?;
-                self.left = others;
-                Ok(value)
-            }
-        }
+        self.optional_tagged(alloc)?.ok_or(PartError::Misfit)
     }
 
     /// The value of the one element within the next, where that has the outer tag (explicit tagging).
@@ -128,17 +114,12 @@ impl<'a> Parts<'a> {
     ) -> Result<Option<T>, PartError>
         ensures { Takes (optional_at (outer ∷ []) (sequence_of (alone_at (inner ∷ []) (T.place inner).meaning)) self.old) result self.new }
     {
-        match self.left {
-            [] => Ok(None),
-            [first, others @ ..] => {
-                if first.tag != outer {
-                    return Ok(None);
-                }
-                let value = read_alone(alloc, first, inner)?;
-                self.left = others;
-                Ok(Some(value))
-            }
-        }
+        let Some((first, others)) = self.next_with(outer) else {
+            return Ok(None);
+        };
+        let value = read_alone(alloc, first, inner)?;
+        self.left = others;
+        Ok(Some(value))
     }
 
     /// The value of the one element within the next, which has the outer tag; that element has a tag of its own.
@@ -149,17 +130,8 @@ impl<'a> Parts<'a> {
     ) -> Result<T, PartError>
         ensures { Takes (required_at (outer ∷ []) (sequence_of (alone_at T.place.tags T.place.meaning)) self.old) result self.new }
     {
-        match self.left {
-            [] => Err(PartError::Misfit),
-            [first, others @ ..] => {
-                if first.tag != outer {
-                    return Err(PartError::Misfit);
-                }
-                let value = read_alone_tagged(alloc, first)?;
-                self.left = others;
-                Ok(value)
-            }
-        }
+        self.optional_explicit_tagged(alloc, outer)?
+            .ok_or(PartError::Misfit)
     }
 
     /// The value of the one element within the next, where that has the outer tag; that element has a tag of its own.
@@ -170,17 +142,12 @@ impl<'a> Parts<'a> {
     ) -> Result<Option<T>, PartError>
         ensures { Takes (optional_at (outer ∷ []) (sequence_of (alone T.place).at) self.old) result self.new }
     {
-        match self.left {
-            [] => Ok(None),
-            [first, others @ ..] => {
-                if first.tag != outer {
-                    return Ok(None);
-                }
-                let value = read_alone_tagged(alloc, first)?;
-                self.left = others;
-                Ok(Some(value))
-            }
-        }
+        let Some((first, others)) = self.next_with(outer) else {
+            return Ok(None);
+        };
+        let value = read_alone_tagged(alloc, first)?;
+        self.left = others;
+        Ok(Some(value))
     }
 
     /// The texts of the elements within the next, which has the outer tag; each of them has the inner one.
@@ -192,51 +159,36 @@ impl<'a> Parts<'a> {
     ) -> Result<Seq<Bytes>, PartError>
         ensures { Takes (required_at (outer ∷ []) (list_of (text_under inner)) self.old) result self.new }
     {
-        match self.left {
-            [] => Err(PartError::Misfit),
-            [first, others @ ..] => {
-                if first.tag != outer {
-                    return Err(PartError::Misfit);
-                }
-                let texts = read_texts(alloc, first, inner)?;
-                self.left = others;
-                Ok(texts)
-            }
-        }
+        let Some((first, others)) = self.next_with(outer) else {
+            return Err(PartError::Misfit);
+        };
+        let texts = read_texts(alloc, first, inner)?;
+        self.left = others;
+        Ok(texts)
     }
 
     /// The one element within the next, whichever it is, where the next has the tag (explicit tagging of ANY).
     pub fn optional_any(&mut self, alloc: Global, tag: Tag) -> Result<Option<Node>, PartError>
         ensures { Takes (optional_at (tag ∷ []) (sequence_of any_at) self.old) result self.new }
     {
-        match self.left {
-            [] => Ok(None),
-            [first, others @ ..] => {
-                if first.tag != tag {
-                    return Ok(None);
-                }
-                let value = read_any(alloc, first)?;
-                self.left = others;
-                Ok(Some(value))
-            }
-        }
+        let Some((first, others)) = self.next_with(tag) else {
+            return Ok(None);
+        };
+        let value = read_any(alloc, first)?;
+        self.left = others;
+        Ok(Some(value))
     }
 
     /// The next element as it stands, of either form, where it has the tag.
     pub fn optional_kept(&mut self, alloc: Global, tag: Tag) -> Result<Option<Node>, PartError>
         ensures { Takes (optional_at (tag ∷ []) (kept tag []).meaning self.old) result self.new }
     {
-        match self.left {
-            [] => Ok(None),
-            [first, others @ ..] => {
-                if first.tag != tag {
-                    return Ok(None);
-                }
-                let value = first.copy(alloc)?;
-                self.left = others;
-                Ok(Some(value))
-            }
-        }
+        let Some((first, others)) = self.next_with(tag) else {
+            return Ok(None);
+        };
+        let value = first.copy(alloc)?;
+        self.left = others;
+        Ok(Some(value))
     }
 
     /// Nothing is left.

@@ -9,7 +9,7 @@ use std::io::{ErrorKind, Read, Write};
 
 /// A reader of some octets.
 #[derive(Drop)]
-pub struct Broken<'a> {
+pub(crate) struct Broken<'a> {
     pub octets: &'a [u8],
     pub calls: u32,
     pub fails_at: u32,
@@ -31,7 +31,7 @@ impl Read for Broken<'_> {
 
 /// A writer that keeps nothing.
 #[derive(Drop)]
-pub struct Full {
+pub(crate) struct Full {
     pub calls: u32,
     pub fails_at: u32,
 }
@@ -52,14 +52,14 @@ impl Write for Full {
 
 /// What a command answered, printed and told.
 #[derive(Drop)]
-pub struct Run {
+pub(crate) struct Run {
     pub status: Status,
     pub printed: Vec<u8>,
     pub told: Vec<u8>,
 }
 
 /// `show` on an input that is read without a failure.
-pub fn run_of(alloc: Global, input: &[u8]) -> Run {
+pub(crate) fn run_of(alloc: Global, input: &[u8]) -> Run {
     let mut reader = input;
     let mut printed = Vec::new(alloc);
     let mut told = Vec::new(alloc);
@@ -72,7 +72,7 @@ pub fn run_of(alloc: Global, input: &[u8]) -> Run {
 }
 
 /// `pqf` on a text.
-pub fn query_run_of(alloc: Global, text: &str) -> Run {
+pub(crate) fn query_run_of(alloc: Global, text: &str) -> Run {
     let mut printed = Vec::new(alloc);
     let mut told = Vec::new(alloc);
     let status = pqf(alloc, text, &mut printed, &mut told);

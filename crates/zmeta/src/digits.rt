@@ -7,7 +7,7 @@ use std::alloc::Global;
 
 /// The octets whose hexadecimal digits the text has, in either case. ASCII white space (space, tab, line feed, form feed,
 /// carriage return) is ignored wherever it stands. `Hex` where the rest is no even number of digits, else `Memory`.
-pub fn decode(alloc: Global, text: &[u8]) -> Result<Vec<u8>, Fault<'static>>
+pub(crate) fn decode(alloc: Global, text: &[u8]) -> Result<Vec<u8>, Fault<'static>>
     ensures { IsDecoded text.now result }
 {
     let digits: Vec<u8> = text

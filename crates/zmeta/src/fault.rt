@@ -216,7 +216,7 @@ impl From<LoadError> for Fault<'_> {
 
 impl Fault<'_> {
     /// The status of a command that the fault stopped.
-    pub fn status(&self) -> Status
+    fn status(&self) -> Status
         ensures { result ≡ status_of self.now }
     {
         match self {
@@ -226,7 +226,7 @@ impl Fault<'_> {
     }
 
     /// Tells the fault on standard error, in a line after the program's name, and answers its status.
-    pub fn report<E: Write>(&self, errors: &mut E) -> Status
+    pub(crate) fn report<E: Write>(&self, errors: &mut E) -> Status
         ensures { result ≡ status_of self.now }
     {
         // A fault that cannot be told keeps its status.

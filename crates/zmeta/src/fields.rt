@@ -10,7 +10,7 @@ use zber::Bits;
 
 /// The word of the kind, and the reference id.
 #[tactic(auto, unfolding(crate::specs::Fields::start_text))]
-pub fn put_start(
+pub(crate) fn put_start(
     alloc: Global,
     kind: Kind,
     reference: &Option<Bytes>,
@@ -24,7 +24,7 @@ pub fn put_start(
 }
 
 /// Bits as digits, behind a space.
-pub fn put_bits(bits: &Bits, text: &mut Vec<u8>) -> Result<(), AllocError>
+pub(crate) fn put_bits(bits: &Bits, text: &mut Vec<u8>) -> Result<(), AllocError>
     ensures { OnOk result (text.new.items ≡ text.old.items ++ bits_text bits.now) }
 {
     text.extend_from_slice(b" ")?;
@@ -35,7 +35,7 @@ pub fn put_bits(bits: &Bits, text: &mut Vec<u8>) -> Result<(), AllocError>
 }
 
 /// A truth value as a word, behind a space.
-pub fn put_truth(value: bool, text: &mut Vec<u8>) -> Result<(), AllocError>
+pub(crate) fn put_truth(value: bool, text: &mut Vec<u8>) -> Result<(), AllocError>
     ensures { OnOk result (text.new.items ≡ text.old.items ++ truth_text value) }
 {
     if value {
@@ -46,7 +46,11 @@ pub fn put_truth(value: bool, text: &mut Vec<u8>) -> Result<(), AllocError>
 }
 
 /// A name in quotes, or a dash, behind a space.
-pub fn put_name(alloc: Global, name: &Option<Bytes>, text: &mut Vec<u8>) -> Result<(), AllocError>
+pub(crate) fn put_name(
+    alloc: Global,
+    name: &Option<Bytes>,
+    text: &mut Vec<u8>,
+) -> Result<(), AllocError>
     ensures { OnOk result (text.new.items ≡ text.old.items ++ name_text name.now) }
 {
     text.extend_from_slice(b" ")?;
@@ -57,7 +61,7 @@ pub fn put_name(alloc: Global, name: &Option<Bytes>, text: &mut Vec<u8>) -> Resu
 }
 
 /// A reference id in hexadecimal, or a dash.
-pub fn put_reference(
+pub(crate) fn put_reference(
     alloc: Global,
     reference: &Option<Bytes>,
     text: &mut Vec<u8>,
@@ -74,7 +78,11 @@ pub fn put_reference(
 }
 
 /// Numbers, each behind a space.
-pub fn put_numbers(alloc: Global, numbers: &[i64], text: &mut Vec<u8>) -> Result<(), AllocError>
+pub(crate) fn put_numbers(
+    alloc: Global,
+    numbers: &[i64],
+    text: &mut Vec<u8>,
+) -> Result<(), AllocError>
     ensures { OnOk result (text.new.items ≡ text.old.items ++ numbers_text numbers.now) }
 {
     for number in numbers {

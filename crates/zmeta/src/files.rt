@@ -6,7 +6,7 @@ use std::io::{ErrorKind, Read};
 use std::rt::Files;
 
 /// A file that opens at its first read.
-pub struct NamedFile<'a, F: Files> {
+pub(crate) struct NamedFile<'a, F: Files> {
     files: &'a F,
     path: &'a str,
     file: Option<F::File>,
@@ -14,7 +14,7 @@ pub struct NamedFile<'a, F: Files> {
 
 impl<'a, F: Files> NamedFile<'a, F> {
     /// The file at a path. It is not opened yet.
-    pub fn new(files: &'a F, path: &'a str) -> NamedFile<'a, F> {
+    pub(crate) fn new(files: &'a F, path: &'a str) -> NamedFile<'a, F> {
         NamedFile {
             files,
             path,

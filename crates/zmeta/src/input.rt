@@ -11,7 +11,7 @@ const READS: u32 = 1_000_000;
 
 /// All that the reader has left, read in at most 1,000,000 reads of at most 4,096 octets, the last of which finds the end.
 /// A read that fails is `Read(path)`, as is one more read; then the reader has lost what was read.
-pub fn read_all<'a, R: Read>(
+pub(crate) fn read_all<'a, R: Read>(
     alloc: Global,
     reader: &mut R,
     path: &'a str,

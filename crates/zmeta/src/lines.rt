@@ -14,7 +14,7 @@ use zapdu::{
 };
 
 /// The word of a kind of APDU.
-pub fn apdu_word(kind: Kind) -> &'static str
+pub(crate) fn apdu_word(kind: Kind) -> &'static str
     ensures { result.now ≡ apdu_word kind }
 {
     match kind {
@@ -30,7 +30,7 @@ pub fn apdu_word(kind: Kind) -> &'static str
 
 /// Appends the lines of an APDU: its word and its fields in their order, and an indented line for each record or text.
 /// A reference id is hexadecimal, and what is absent is `-`. After a failure the text is unchanged.
-pub fn print_apdu(alloc: Global, apdu: &Apdu, text: &mut Vec<u8>) -> Result<(), AllocError>
+pub(crate) fn print_apdu(alloc: Global, apdu: &Apdu, text: &mut Vec<u8>) -> Result<(), AllocError>
     ensures ok { OnOk result (text.new.items ≡ text.old.items ++ apdu_text apdu.now) }
     ensures err { OnErr result (text.new.items ≡ text.old.items) }
 {

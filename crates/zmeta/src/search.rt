@@ -11,7 +11,7 @@ use zber::{Node, Oid};
 use zquery::{BuildError, PrintError, Query, print_pqf, to_node};
 
 /// Appends the lines of a SearchRequest.
-pub fn put_search_request(
+pub(crate) fn put_search_request(
     alloc: Global,
     request: &SearchRequest,
     text: &mut Vec<u8>,

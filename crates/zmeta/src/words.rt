@@ -12,7 +12,7 @@ use std::io::Write;
 
 /// What the words ask for.
 #[derive(Clone, Copy, Debug, PartialEq, Eq)]
-pub enum Words<'a> {
+pub(crate) enum Words<'a> {
     /// Show the messages whose hexadecimal digits standard input has.
     Show,
     /// Print a query and its encoding.
@@ -172,7 +172,7 @@ fn command<'a>(alloc: Global, forms: &[Form]) -> Result<Command<'a>, AllocError>
 
 /// What the words ask for, the first being the program's name. Else the text for words that are wrong or that ask for
 /// help; its kind is `OutOfMemory` where memory ran out.
-pub fn parse<'a>(alloc: Global, words: &'a [String]) -> Result<Words<'a>, Error> {
+pub(crate) fn parse<'a>(alloc: Global, words: &'a [String]) -> Result<Words<'a>, Error> {
     let mut command = command(alloc, &FORMS)?;
     let matches = command.try_get_matches_from_mut(words)?;
     match matches.subcommand() {
@@ -190,7 +190,7 @@ pub fn parse<'a>(alloc: Global, words: &'a [String]) -> Result<Words<'a>, Error>
 }
 
 /// The text for words that are not UTF-8.
-pub fn odd_words(alloc: Global) -> Result<Error, AllocError>
+pub(crate) fn odd_words(alloc: Global) -> Result<Error, AllocError>
     ensures { IfOk result (λ e. kind_of e ≡ InvalidValue) }
 {
     let message = "invalid UTF-8 was detected in one or more arguments";
@@ -198,7 +198,7 @@ pub fn odd_words(alloc: Global) -> Result<Error, AllocError>
 }
 
 /// Prints the text of `parse` and answers the status: of wrong words on standard error, of help on standard output.
-pub fn tell<R: Print + Eprint, E: Write>(rt: &R, error: &Error, errors: &mut E) -> Status
+pub(crate) fn tell<R: Print + Eprint, E: Write>(rt: &R, error: &Error, errors: &mut E) -> Status
     ensures memory { kind_of error.now ≡ OutOfMemory → result ≡ Status.Memory }
     ensures help { (kind_of error.now ≡ DisplayHelp) ⊎ (kind_of error.now ≡ DisplayVersion)
         → (result ≡ Status.Done) ⊎ (result ≡ Status.Refused) }

@@ -58,7 +58,7 @@ pub(crate) fn put(attrs: &mut Vec<Attr>, attr: Attr) -> Result<(), AllocError>
 
 impl Attr {
     /// An equal attribute, or the refusal of the memory for it.
-    pub fn copy(&self, alloc: Global) -> Result<Attr, AllocError>
+    pub(crate) fn copy(&self, alloc: Global) -> Result<Attr, AllocError>
         ensures { IfOk result (λ a. a ≡ self.now) }
     {
         let attr_set = match &self.attr_set {

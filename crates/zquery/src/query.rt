@@ -79,7 +79,7 @@ impl Model for Query {
 
 impl TermValue {
     /// An equal term, or the refusal of the memory for it.
-    pub fn copy(&self, alloc: Global) -> Result<TermValue, AllocError>
+    pub(crate) fn copy(&self, alloc: Global) -> Result<TermValue, AllocError>
         ensures { IfOk result (λ t. t ≡ self.now) }
     {
         match self {
@@ -93,7 +93,7 @@ impl TermValue {
 
 impl Rpn {
     /// An equal tree, or the refusal of the memory for it.
-    pub fn copy(&self, alloc: Global) -> Result<Rpn, AllocError>
+    pub(crate) fn copy(&self, alloc: Global) -> Result<Rpn, AllocError>
         ensures { IfOk result (λ r. seen r ≡ seen self.now) }
     {
         match self {
