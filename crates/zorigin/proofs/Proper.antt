@@ -1,5 +1,5 @@
 -- What holds of each log: how its operations, answers and calls hang together.
-use Rattle.std.proofs.Common.{◌≡◌, ℕ, Bool, true, false, cond, not, ◌||◌, ◌==◌, List, [], ◌∷◌, ◌++◌, Option, None, Some, Result, Ok, Err, refl, sym, ap, subst, ◌∙◌, true≢false, arith, append-nil}
+use Rattle.std.proofs.Common.{◌≡◌, ℕ, Bool, true, false, cond, not, ◌||◌, ◌==◌, nat_eq, List, [], ◌∷◌, ◌++◌, Option, None, Some, Result, Ok, Err, refl, sym, ap, subst, ◌∙◌, true≢false, arith, append-nil}
 use Rattle.std.specs.List.{list_any, AllByRecursion}
 use Rattle.std.proofs.lemmas.Grind.{flat_map-append}
 use Rattle.std.proofs.lemmas.List.Folds.{list_any-append}
@@ -222,7 +222,7 @@ proper_operation p c q e close fresh zero positions ok =
     earlier : (op : ℕ) → list_any (has op) (asked p ++ q ∷ []) ≡ false → list_any (has op) (asked p) ≡ false
     earlier op h = let e = list_any-append (has op) (asked p) (q ∷ []) in grind arith
 
-pub fresh_op : (p : Past) (op : ℕ) → list_any (λ o. o == op) (standing p).used ≡ false → list_any (has op) (asked p) ≡ false
+pub fresh_op : (p : Past) (op : ℕ) → list_any (nat_eq op) (standing p).used ≡ false → list_any (has op) (asked p) ≡ false
 fresh_op p op h = sym (any_ops op (asked p)) ∙ h
 
 in_range : (b c : Bool) → (not b || c) ≡ false → b ≡ true

@@ -1,6 +1,7 @@
 -- How a call that is admitted, and an APDU that is taken, change where a connection stands.
 use Rattle.std.specs.Prelude.{ℕ, nat_eq, ◌==◌, Bool, true, false, slice_index_or, if◌then◌else◌, List, [], ◌∷◌, ◌++◌, map, Option, Some, None, Result, Ok, Err}
 use Rattle.indexmap.specs.IndexMap.{insert_entry, shift_remove_entry}
+use Rattle.indexmap.specs.IndexSet.{insert_key}
 use Rattle.zapdu.specs.declared.apdu.Apdu.{Apdu}
 use Rattle.zapdu.specs.declared.apdu.Apdu.TheVariants as apdus
 use Rattle.zapdu.specs.declared.init_response.InitResponse.{InitResponse}
@@ -33,7 +34,7 @@ unanswered op set ask = record { op = op; set = set; syntax = ask.syntax; elemen
 -- ---- calls
 
 abbrev pub with_asked : Standing → Asked → Standing
-with_asked s asked = record s { used = s.used ++ asked.op ∷ []; outstanding = insert_entry nat_eq s.outstanding asked.op asked }
+with_asked s asked = record s { used = insert_key nat_eq s.used asked.op; outstanding = insert_entry nat_eq s.outstanding asked.op asked }
 
 abbrev pub admitted_at : Standing → Call → Standing
 admitted_at s Init = record (with_asked s init_asked) { state = states.Initialising }

@@ -76,7 +76,7 @@ impl Origin {
     fn is_used(&self, op: u32) -> bool
         ensures { result ≡ is_used self.now op }
     {
-        self.used.iter().any(|&other| other == op)
+        self.used.contains(&op)
     }
 
     fn is_idle(&self) -> bool
