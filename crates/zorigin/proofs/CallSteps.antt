@@ -1,5 +1,5 @@
 -- Where a connection stands after one call more.
-use Rattle.std.proofs.Common.{◌≡◌, ℕ, Bool, true, false, cond, not, ◌||◌, nat_eq, [], ◌∷◌, ◌++◌, map, filter, Option, None, Some, Result, refl, sym, ap, ◌∙◌, true≢false, append-nil}
+use Rattle.std.proofs.Common.{◌≡◌, ℕ, Bool, true, false, cond, not, ◌||◌, nat_eq, is_some, [], ◌∷◌, ◌++◌, map, filter, Option, None, Some, Result, refl, sym, ap, ◌∙◌, true≢false, append-nil}
 use Rattle.std.specs.List.{list_any, flat_map}
 use Rattle.std.proofs.lemmas.Grind.{flat_map-append}
 use Rattle.std.proofs.lemmas.List.{map-append}
@@ -18,11 +18,12 @@ use Rattle.zorigin.specs.declared.refusal.CallRefused.{CallRefused}
 use Rattle.zorigin.specs.declared.refusal.Refused.{Refused}
 use Rattle.zorigin.specs.declared.state.State.{State}
 use Rattle.zorigin.specs.declared.state.State.TheVariants as states
-use Rattle.zorigin.specs.Standings.{Call, Init, Search, Present, Close, Standing, is_fresh, is_ready}
+use Rattle.zorigin.specs.Standings.{Call, Init, Search, Present, Close, Standing, is_fresh, is_ready, search_of}
 use Rattle.zorigin.specs.Calls.{refusal, call_answer}
 use Rattle.zorigin.specs.Changes.{admitted_at, admitted_unless, called_at, unanswered, force_in}
-use Rattle.zorigin.specs.Log.{Made, Log, Past, past, operation_of, asked, answers, is_answered, outstanding, opening, is_init_call, is_close_call, state_by, opened_state, closing_state, state_from, state_of, force_after, outcome_by, search_in, with_outcome, searches_in, numbered, op_of, standing, admit, admit_unless, After}
+use Rattle.zorigin.specs.Log.{Made, Log, Past, past, operation_of, asked, answers, is_answered, outstanding, opening, is_init_call, is_close_call, state_by, opened_state, closing_state, state_from, state_of, force_after, outcome_by, search_in, with_outcome, searches_in, numbered, filed, op_of, standing, admit, admit_unless, After}
 use Rattle.zorigin.proofs.Operations.{has, or_none, or_last, any_ops, any_filter, insert_absent, find_none}
+use Rattle.zorigin.proofs.Searches.{file_absent}
 use Rattle.zorigin.proofs.Proper.{IsProper, asked_more, IsFree, free, fresh_op, ready_if, proper}
 
 -- ---- the parts of a standing
@@ -59,10 +60,10 @@ searches_more p c =
 no_search : (p : Past) (c : Call) → search_in c ≡ [] → searches_in p ≡ searches_in (admit p c)
 no_search p c e = sym (searches_more p c ∙ ap (λ l. searches_in p ++ map (with_outcome p.accepted) l) e ∙ append-nil (searches_in p))
 
-one_search : (p : Past) (op set : ℕ) (ask : Ask) → is_answered p op ≡ false
-    → searches_in p ++ unanswered op set ask ∷ [] ≡ searches_in (admit p (Search op set ask))
-one_search p op set ask h =
-    sym (searches_more p (Search op set ask) ∙ ap (λ l. searches_in p ++ l) (λ i. record (unanswered op set ask) { outcome = outcome_by (find_none (answers op) p.accepted h i) } ∷ []))
+one_search : (p : Past) (op set : ℕ) (ask : Ask) → is_answered p op ≡ false → is_some (search_of (standing p).searches set) ≡ false
+    → insert_entry nat_eq (map filed (searches_in p)) set (unanswered op set ask) ≡ map filed (searches_in (admit p (Search op set ask)))
+one_search p op set ask h absent =
+    file_absent (unanswered op set ask) (searches_in p) absent ∙ ap (map filed) (sym (searches_more p (Search op set ask) ∙ ap (λ l. searches_in p ++ l) (λ i. record (unanswered op set ask) { outcome = outcome_by (find_none (answers op) p.accepted h i) } ∷ [])))
 
 -- ---- the calls
 
@@ -109,7 +110,7 @@ admitted-standing p Init ok f =
       state = began i;
       force = force_after (opening p);
       used = used_more p Init _ refl fresh i;
-      searches = no_search p Init refl i;
+      searches = map filed (no_search p Init refl i);
       outstanding = outstanding_more p Init _ ok refl fresh i;
     }
 admitted-standing p (Search op set ask) ok f =
@@ -119,7 +120,7 @@ admitted-standing p (Search op set ask) ok f =
       state = same_state p (Search op set ask) refl refl i;
       force = force_after (opening p);
       used = used_more p (Search op set ask) _ refl fresh i;
-      searches = one_search p op set ask (ok.known op fresh) i;
+      searches = one_search p op set ask (ok.known op fresh) f.set i;
       outstanding = outstanding_more p (Search op set ask) _ ok refl fresh i;
     }
 admitted-standing p (Present op set start n) ok f =
@@ -129,7 +130,7 @@ admitted-standing p (Present op set start n) ok f =
       state = same_state p (Present op set start n) refl refl i;
       force = force_after (opening p);
       used = used_more p (Present op set start n) _ refl fresh i;
-      searches = no_search p (Present op set start n) refl i;
+      searches = map filed (no_search p (Present op set start n) refl i);
       outstanding = outstanding_more p (Present op set start n) _ ok refl fresh i;
     }
 admitted-standing p Close ok f =
@@ -141,7 +142,7 @@ admitted-standing p Close ok f =
       state = closed i;
       force = force_after (opening p);
       used = map op_of (same i);
-      searches = no_search p Close refl i;
+      searches = map filed (no_search p Close refl i);
       outstanding = map numbered (filter (λ (x : Asked). not (is_answered p x.op)) (same i));
     }
 

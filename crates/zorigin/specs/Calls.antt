@@ -55,9 +55,9 @@ set_not_ready s (Present op set start n) = is_unready (search_of s.searches set)
 set_not_ready s _ = false
 
 -- the latest search made the set
-abbrev pub is_set : ℕ → Option Searched → Bool
+abbrev pub is_set : ℕ → Option (ℕ × Searched) → Bool
 is_set set None = false
-is_set set (Some searched) = searched.set == set
+is_set set (Some latest) = latest.0 == set
 
 abbrev pub is_latest : Standing → ℕ → Bool
 is_latest s set = is_set set (slice_get s.searches (length s.searches - 1))

@@ -65,7 +65,7 @@ impl Origin {
             what: What::Search,
         };
         admit(&mut self.used, &mut self.outstanding, asked)?;
-        self.searches.push(searched)?;
+        self.searches.insert(set, searched)?;
         Ok(())
     }
 

@@ -23,8 +23,8 @@ pub struct Origin {
     pub(crate) force: InForce,
     /// The numbers of the operations that were admitted, in the order of their calls.
     pub(crate) used: IndexSet<u32>,
-    /// The searches that were admitted, in order.
-    pub(crate) searches: Vec<Searched>,
+    /// The searches that were admitted, by set, in order.
+    pub(crate) searches: IndexMap<u32, Searched>,
     /// The operations that are admitted and unanswered, by number, in the order of their calls.
     pub(crate) outstanding: IndexMap<u32, Asked>,
 }
@@ -34,7 +34,7 @@ impl Model for Origin {
 
     ghost Value = { Standing };
 
-    ghost view = { λ o. record { settings = o.settings; state = o.state; force = o.force; used = o.used.keys; searches = o.searches.items; outstanding = o.outstanding.entries } };
+    ghost view = { λ o. record { settings = o.settings; state = o.state; force = o.force; used = o.used.keys; searches = o.searches.entries; outstanding = o.outstanding.entries } };
 }
 
 impl Origin {
@@ -54,7 +54,7 @@ impl Origin {
                 named: false,
             },
             used: IndexSet::new(alloc),
-            searches: Vec::new(alloc),
+            searches: IndexMap::new(alloc),
             outstanding: IndexMap::new(alloc),
         }
     }
