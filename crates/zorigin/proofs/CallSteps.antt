@@ -1,11 +1,12 @@
 -- Where a connection stands after one call more.
-use Rattle.std.proofs.Common.{◌≡◌, ℕ, Bool, true, false, cond, not, ◌||◌, nat_eq, [], ◌∷◌, ◌++◌, map, filter, Option, None, Some, Result, refl, sym, ap, ◌∙◌, true≢false, append-nil}
+use Rattle.std.proofs.Common.{◌≡◌, ℕ, Bool, true, false, cond, not, ◌||◌, nat_eq, is_some, [], ◌∷◌, ◌++◌, map, filter, Option, None, Some, Result, refl, sym, ap, ◌∙◌, true≢false, append-nil}
 use Rattle.std.specs.List.{list_any, flat_map}
 use Rattle.std.proofs.lemmas.Grind.{flat_map-append}
 use Rattle.std.proofs.lemmas.List.{map-append}
 use Rattle.std.proofs.lemmas.List.Elements.{filter-append}
 use Rattle.std.proofs.lemmas.List.Folds.{list_any-append}
 use Rattle.indexmap.specs.IndexMap.{insert_entry}
+use Rattle.indexmap.specs.IndexSet.{insert_key}
 use Rattle.zapdu.specs.declared.apdu.Apdu.{Apdu}
 use Rattle.zapdu.specs.declared.apdu.Apdu.TheVariants as apdus
 use Rattle.zorigin.specs.declared.settings.Settings.{Settings}
@@ -17,11 +18,12 @@ use Rattle.zorigin.specs.declared.refusal.CallRefused.{CallRefused}
 use Rattle.zorigin.specs.declared.refusal.Refused.{Refused}
 use Rattle.zorigin.specs.declared.state.State.{State}
 use Rattle.zorigin.specs.declared.state.State.TheVariants as states
-use Rattle.zorigin.specs.Standings.{Call, Init, Search, Present, Close, Standing, is_fresh, is_ready}
+use Rattle.zorigin.specs.Standings.{Call, Init, Search, Present, Close, Standing, is_fresh, is_ready, search_of}
 use Rattle.zorigin.specs.Calls.{refusal, call_answer}
 use Rattle.zorigin.specs.Changes.{admitted_at, admitted_unless, called_at, unanswered, force_in}
-use Rattle.zorigin.specs.Log.{Made, Log, Past, past, operation_of, asked, answers, is_answered, outstanding, opening, is_init_call, is_close_call, state_by, opened_state, closing_state, state_from, state_of, force_after, outcome_by, search_in, with_outcome, searches_in, numbered, op_of, standing, admit, admit_unless, After}
-use Rattle.zorigin.proofs.Operations.{has, or_none, or_last, any_filter, insert_absent, find_none}
+use Rattle.zorigin.specs.Log.{Made, Log, Past, past, operation_of, asked, answers, is_answered, outstanding, opening, is_init_call, is_close_call, state_by, opened_state, closing_state, state_from, state_of, force_after, outcome_by, search_in, with_outcome, searches_in, numbered, filed, op_of, standing, admit, admit_unless, After}
+use Rattle.zorigin.proofs.Operations.{has, or_none, or_last, any_ops, any_filter, insert_absent, find_none}
+use Rattle.zorigin.proofs.Searches.{file_absent}
 use Rattle.zorigin.proofs.Proper.{IsProper, asked_more, IsFree, free, fresh_op, ready_if, proper}
 
 -- ---- the parts of a standing
@@ -35,8 +37,11 @@ changed t p c h = list_any-append t p.admitted (c ∷ []) ∙ ap (λ b. list_any
 same_state : (p : Past) (c : Call) → is_close_call c ≡ false → is_init_call c ≡ false → state_of p ≡ state_of (admit p c)
 same_state p c h k = λ i. state_from p.fault p.closed (sym (unchanged is_close_call p c h) i) (sym (unchanged is_init_call p c k) i) (opening p)
 
-used_more : (p : Past) (c : Call) (q : Asked) → operation_of c ≡ q ∷ [] → map op_of (asked p) ++ q.op ∷ [] ≡ map op_of (asked (admit p c))
-used_more p c q e = sym (ap (map op_of) (asked_more p c ∙ ap (λ l. asked p ++ l) e) ∙ map-append op_of (asked p) (q ∷ []))
+used_more : (p : Past) (c : Call) (q : Asked) → operation_of c ≡ q ∷ [] → list_any (has q.op) (asked p) ≡ false
+    → insert_key nat_eq (map op_of (asked p)) q.op ≡ map op_of (asked (admit p c))
+used_more p c q e fresh =
+    ap (λ b. cond b (map op_of (asked p)) (map op_of (asked p) ++ q.op ∷ [])) (any_ops q.op (asked p) ∙ fresh)
+    ∙ sym (ap (map op_of) (asked_more p c ∙ ap (λ l. asked p ++ l) e) ∙ map-append op_of (asked p) (q ∷ []))
 
 outstanding_more : (p : Past) (c : Call) (q : Asked) → IsProper p → operation_of c ≡ q ∷ [] → list_any (has q.op) (asked p) ≡ false
     → insert_entry nat_eq (map numbered (outstanding p)) q.op q ≡ map numbered (outstanding (admit p c))
@@ -55,10 +60,10 @@ searches_more p c =
 no_search : (p : Past) (c : Call) → search_in c ≡ [] → searches_in p ≡ searches_in (admit p c)
 no_search p c e = sym (searches_more p c ∙ ap (λ l. searches_in p ++ map (with_outcome p.accepted) l) e ∙ append-nil (searches_in p))
 
-one_search : (p : Past) (op set : ℕ) (ask : Ask) → is_answered p op ≡ false
-    → searches_in p ++ unanswered op set ask ∷ [] ≡ searches_in (admit p (Search op set ask))
-one_search p op set ask h =
-    sym (searches_more p (Search op set ask) ∙ ap (λ l. searches_in p ++ l) (λ i. record (unanswered op set ask) { outcome = outcome_by (find_none (answers op) p.accepted h i) } ∷ []))
+one_search : (p : Past) (op set : ℕ) (ask : Ask) → is_answered p op ≡ false → is_some (search_of (standing p).searches set) ≡ false
+    → insert_entry nat_eq (map filed (searches_in p)) set (unanswered op set ask) ≡ map filed (searches_in (admit p (Search op set ask)))
+one_search p op set ask h absent =
+    file_absent (unanswered op set ask) (searches_in p) absent ∙ ap (map filed) (sym (searches_more p (Search op set ask) ∙ ap (λ l. searches_in p ++ l) (λ i. record (unanswered op set ask) { outcome = outcome_by (find_none (answers op) p.accepted h i) } ∷ [])))
 
 -- ---- the calls
 
@@ -104,8 +109,8 @@ admitted-standing p Init ok f =
       settings = p.settings;
       state = began i;
       force = force_after (opening p);
-      used = used_more p Init _ refl i;
-      searches = no_search p Init refl i;
+      used = used_more p Init _ refl fresh i;
+      searches = map filed (no_search p Init refl i);
       outstanding = outstanding_more p Init _ ok refl fresh i;
     }
 admitted-standing p (Search op set ask) ok f =
@@ -114,8 +119,8 @@ admitted-standing p (Search op set ask) ok f =
       settings = p.settings;
       state = same_state p (Search op set ask) refl refl i;
       force = force_after (opening p);
-      used = used_more p (Search op set ask) _ refl i;
-      searches = one_search p op set ask (ok.known op fresh) i;
+      used = used_more p (Search op set ask) _ refl fresh i;
+      searches = one_search p op set ask (ok.known op fresh) f.set i;
       outstanding = outstanding_more p (Search op set ask) _ ok refl fresh i;
     }
 admitted-standing p (Present op set start n) ok f =
@@ -124,8 +129,8 @@ admitted-standing p (Present op set start n) ok f =
       settings = p.settings;
       state = same_state p (Present op set start n) refl refl i;
       force = force_after (opening p);
-      used = used_more p (Present op set start n) _ refl i;
-      searches = no_search p (Present op set start n) refl i;
+      used = used_more p (Present op set start n) _ refl fresh i;
+      searches = map filed (no_search p (Present op set start n) refl i);
       outstanding = outstanding_more p (Present op set start n) _ ok refl fresh i;
     }
 admitted-standing p Close ok f =
@@ -137,7 +142,7 @@ admitted-standing p Close ok f =
       state = closed i;
       force = force_after (opening p);
       used = map op_of (same i);
-      searches = no_search p Close refl i;
+      searches = map filed (no_search p Close refl i);
       outstanding = map numbered (filter (λ (x : Asked). not (is_answered p x.op)) (same i));
     }
 

@@ -1,6 +1,7 @@
 pub mod Positions
 pub mod Calling
 pub mod Operations
+pub mod Searches
 pub mod Proper
 pub mod CallSteps
 pub mod ReplySteps

@@ -34,9 +34,11 @@ or_last false = refl
 
 -- ---- tests
 
-pub any_ops : (op : ℕ) (qs : List Asked) → list_any (λ o. o == op) (map op_of qs) ≡ list_any (has op) qs
+pub any_ops : (op : ℕ) (qs : List Asked) → list_any (nat_eq op) (map op_of qs) ≡ list_any (has op) qs
 any_ops op [] = refl
-any_ops op (q ∷ qs) = ap (λ b. (q.op == op) || b) (any_ops op qs)
+any_ops op (q ∷ qs) =
+    let symmetric : nat_eq op q.op ≡ (q.op == op) = grind (arith, nat_tests) in
+    λ i. symmetric i || any_ops op qs i
 
 pub any_filter : (t u : Asked → Bool) (qs : List Asked) → list_any t qs ≡ false → list_any t (filter u qs) ≡ false
 any_filter t u [] h = refl

@@ -1,11 +1,13 @@
 -- What holds of each log: how its operations, answers and calls hang together.
-use Rattle.std.proofs.Common.{◌≡◌, ℕ, Bool, true, false, cond, not, ◌||◌, ◌==◌, List, [], ◌∷◌, ◌++◌, Option, None, Some, Result, Ok, Err, refl, sym, ap, subst, ◌∙◌, true≢false, arith, append-nil}
-use Rattle.std.specs.List.{list_any, AllByRecursion}
+use Rattle.std.proofs.Common.{◌≡◌, ℕ, Bool, true, false, cond, not, ◌||◌, ◌==◌, nat_eq, List, [], ◌∷◌, ◌++◌, Option, None, Some, Result, Ok, Err, refl, sym, ap, subst, ◌∙◌, true≢false, arith, append-nil}
+use Rattle.std.specs.List.{list_any, flat_map, AllByRecursion}
 use Rattle.std.proofs.lemmas.Grind.{flat_map-append}
 use Rattle.std.proofs.lemmas.List.Folds.{list_any-append}
 use Rattle.zapdu.specs.declared.apdu.Apdu.{Apdu}
 use Rattle.zapdu.specs.declared.apdu.Apdu.TheVariants as apdus
 use Rattle.zorigin.specs.declared.settings.Settings.{Settings}
+use Rattle.zorigin.specs.declared.settings.Ask.{Ask}
+use Rattle.zorigin.specs.declared.answer.What.TheVariants as what
 use Rattle.zorigin.specs.declared.answer.Asked.{Asked}
 use Rattle.zorigin.specs.declared.answer.Answer.{Answer}
 use Rattle.zorigin.specs.declared.answer.Taken.{Taken}
@@ -13,20 +15,33 @@ use Rattle.zorigin.specs.declared.answer.Taken.TheVariants as taken
 use Rattle.zorigin.specs.declared.refusal.CallRefused.{CallRefused}
 use Rattle.zorigin.specs.declared.refusal.Refused.{Refused}
 use Rattle.zorigin.specs.declared.refusal.Refused.TheVariants as refused
+use Rattle.zorigin.specs.declared.state.Searched.{Searched}
 use Rattle.zorigin.specs.References.{number_of}
 use Rattle.zorigin.specs.Fitting.{first_row, fault_of}
 use Rattle.zorigin.specs.Facts.{are_positions, asks_positions}
 use Rattle.zorigin.specs.Standings.{Call, Init, Search, Present, Close, Standing, is_open, is_ready}
-use Rattle.zorigin.specs.Calls.{refusal, or_unsendable, unsendable, early_rows, early_refusal, wrong_state, op_used, out_of_range}
+use Rattle.zorigin.specs.Calls.{refusal, or_unsendable, unsendable, early_rows, early_refusal, wrong_state, op_used, set_used, out_of_range}
 use Rattle.zorigin.specs.Replies.{only_of, numbered_as, named, against, judged, answered, verdict, taken_as, taken_by}
+use Rattle.zorigin.specs.Changes.{init_asked, search_asked, unanswered}
 use Rattle.zorigin.specs.Accepts.{id_of}
-use Rattle.zorigin.specs.Log.{Made, Got, Log, Past, past, operation_of, asked, answers, is_answered, outstanding, is_init, opens, opening, is_init_call, is_close_call, state_from, state_of, standing, admit, admit_unless, accept, after_verdict}
+use Rattle.zorigin.specs.Log.{Made, Got, Log, Past, past, operation_of, asked, answers, is_answered, outstanding, is_init, opens, opening, is_init_call, is_close_call, state_from, state_of, search_in, standing, admit, admit_unless, accept, after_verdict}
 use Rattle.zorigin.proofs.Operations.{has, AreDistinct, same_op, or_none, any_ops, find_some, all_filter, all_passed, all_push, all_looked, all_only, all_has, distinct_push}
+use Rattle.zorigin.proofs.Searches.{of_set, AreSetsDistinct, Agrees, AreAgreed, sets_push, agreed_more, agreed_new, none_filed}
 
 -- ---- operations
 
 pub asked_more : (p : Past) (c : Call) → asked (admit p c) ≡ asked p ++ operation_of c
 asked_more p c = flat_map-append operation_of p.admitted (c ∷ []) ∙ ap (λ l. asked p ++ l) (append-nil (operation_of c))
+
+-- the searches, without what came of them
+abbrev pub made : Past → List Searched
+made p = flat_map search_in p.admitted
+
+made_more : (p : Past) (c : Call) → made (admit p c) ≡ made p ++ search_in c
+made_more p c = flat_map-append search_in p.admitted (c ∷ []) ∙ ap (λ l. made p ++ l) (append-nil (search_in c))
+
+made_same : (p : Past) (c : Call) → search_in c ≡ [] → made (admit p c) ≡ made p
+made_same p c e = made_more p c ∙ ap (λ l. made p ++ l) e ∙ append-nil (made p)
 
 pub record IsProper (p : Past) : Type 0 where
   -- a reply was accepted only to an operation that was asked
@@ -36,6 +51,9 @@ pub record IsProper (p : Past) : Type 0 where
   pub positions : AllByRecursion (λ (q : Asked). asks_positions q.what ≡ true) (asked p)
   pub opened_zero : AllByRecursion (λ (a : Answer). opens a ≡ true → a.asked.op ≡ 0) p.accepted
   pub distinct : AreDistinct (asked p)
+  -- no two searches have one set, and one with an operation's number has its set
+  pub sets : AreSetsDistinct (made p)
+  pub agreed : AreAgreed (made p) (asked p)
   -- Close comes once Init was answered
   pub closing : list_any is_close_call p.admitted ≡ true → list_any opens p.accepted ≡ true
 
@@ -121,6 +139,7 @@ pub record IsNews (p : Past) (reply : Apdu) (a : Answer) : Type 0 where
   pub asked : list_any (has a.asked.op) (asked p) ≡ true
   pub zero : is_init a.asked.what ≡ true → a.asked.op ≡ 0
   pub positions : asks_positions a.asked.what ≡ true
+  pub agreed : AllByRecursion (Agrees a.asked) (made p)
 
 pub not_false : (b : Bool) → not b ≡ true → b ≡ false
 not_false false h = refl
@@ -138,6 +157,7 @@ news p reply a ok h =
       asked = each (λ (q : Asked). list_any (has q.op) (asked p) ≡ true) (all_has (asked p));
       zero = each (λ (q : Asked). is_init q.what ≡ true → q.op ≡ 0) ok.zero;
       positions = each (λ (q : Asked). asks_positions q.what ≡ true) ok.positions;
+      agreed = each (λ (q : Asked). AllByRecursion (Agrees q) (made p)) ok.agreed;
     }
 
 proper_accept : (p : Past) (reply : Apdu) (a : Answer) → IsNews p reply a → IsProper p → IsProper (accept p a)
@@ -147,6 +167,8 @@ proper_accept p reply a n ok = record {
   positions = ok.positions;
   opened_zero = all_push (λ (x : Answer). opens x ≡ true → x.asked.op ≡ 0) p.accepted a ok.opened_zero n.zero;
   distinct = ok.distinct;
+  sets = ok.sets;
+  agreed = ok.agreed;
   closing = λ h. list_any-append opens p.accepted (a ∷ []) ∙ rw (ok.closing h) refl;
 }
   where
@@ -161,11 +183,11 @@ proper_verdict : (p : Past) (reply : Apdu) (v : Result Taken Refused) → ((a : 
 proper_verdict p reply (Ok (taken.Opened a)) n ok = proper_accept p reply a (n a refl) ok
 proper_verdict p reply (Ok (taken.Rejected a)) n ok = proper_accept p reply a (n a refl) ok
 proper_verdict p reply (Ok (taken.Answered a)) n ok = proper_accept p reply a (n a refl) ok
-proper_verdict p reply (Ok taken.Closed) n ok = record { known = ok.known; zero = ok.zero; positions = ok.positions; opened_zero = ok.opened_zero; distinct = ok.distinct; closing = ok.closing }
+proper_verdict p reply (Ok taken.Closed) n ok = record { known = ok.known; zero = ok.zero; positions = ok.positions; opened_zero = ok.opened_zero; distinct = ok.distinct; sets = ok.sets; agreed = ok.agreed; closing = ok.closing }
 proper_verdict p reply (Err r) n ok = by (is_open (state_of p))
   where
     by : (b : Bool) → IsProper (cond b (record p { fault = Some r }) p)
-    by true = record { known = ok.known; zero = ok.zero; positions = ok.positions; opened_zero = ok.opened_zero; distinct = ok.distinct; closing = ok.closing }
+    by true = record { known = ok.known; zero = ok.zero; positions = ok.positions; opened_zero = ok.opened_zero; distinct = ok.distinct; sets = ok.sets; agreed = ok.agreed; closing = ok.closing }
     by false = ok
 
 -- ---- a call
@@ -180,6 +202,7 @@ passed (row ∷ rows) h =
 pub record IsFree (s : Standing) (c : Call) : Type 0 where
   pub state : wrong_state s c ≡ false
   pub op : op_used s c ≡ false
+  pub set : set_used s c ≡ false
   pub range : out_of_range s c ≡ false
 
 early_none : (b : Bool) (o : Option CallRefused) → or_unsendable b o ≡ None → o ≡ None
@@ -190,7 +213,7 @@ pub free : (s : Standing) (c : Call) → refusal s c ≡ None → IsFree s c
 unfolding refusal
 free s c h =
     let rows = passed (early_rows s c) (early_none (unsendable s c) (early_refusal s c) h) in
-    record { state = rows.0; op = rows.1.1.0; range = rows.1.1.1.1.1.1.1.0 }
+    record { state = rows.0; op = rows.1.1.0; set = rows.1.1.1.0; range = rows.1.1.1.1.1.1.1.0 }
 
 -- Ready comes of an answer to Init
 pub ready_opened : (p : Past) → is_ready (state_of p) ≡ true → list_any opens p.accepted ≡ true
@@ -207,8 +230,9 @@ ready_opened p h = by (opening p) refl h
     by None e g = absurd (nobody p.fault p.closed (list_any is_close_call p.admitted) (list_any is_init_call p.admitted) g)
 
 proper_operation : (p : Past) (c : Call) (q : Asked) → operation_of c ≡ q ∷ [] → is_close_call c ≡ false
-    → list_any (has q.op) (asked p) ≡ false → (is_init q.what ≡ true → q.op ≡ 0) → asks_positions q.what ≡ true → IsProper p → IsProper (admit p c)
-proper_operation p c q e close fresh zero positions ok =
+    → list_any (has q.op) (asked p) ≡ false → (is_init q.what ≡ true → q.op ≡ 0) → asks_positions q.what ≡ true
+    → AreSetsDistinct (made (admit p c)) → AreAgreed (made (admit p c)) (asked p ++ q ∷ []) → IsProper p → IsProper (admit p c)
+proper_operation p c q e close fresh zero positions sets agreed ok =
     let more : asked (admit p c) ≡ asked p ++ q ∷ [] = asked_more p c ∙ ap (λ l. asked p ++ l) e in
     record {
       known = λ op h. ok.known op (earlier op (ap (list_any (has op)) (sym more) ∙ h));
@@ -216,13 +240,15 @@ proper_operation p c q e close fresh zero positions ok =
       positions = subst (AllByRecursion (λ (x : Asked). asks_positions x.what ≡ true)) (sym more) (all_push (λ (x : Asked). asks_positions x.what ≡ true) (asked p) q ok.positions positions);
       opened_zero = ok.opened_zero;
       distinct = subst AreDistinct (sym more) (distinct_push (asked p) q ok.distinct fresh);
+      sets = sets;
+      agreed = subst (AreAgreed (made (admit p c))) (sym more) agreed;
       closing = λ h. ok.closing (sym (or_none (list_any is_close_call p.admitted)) ∙ ap (λ b. list_any is_close_call p.admitted || (b || false)) (sym close) ∙ sym (list_any-append is_close_call p.admitted (c ∷ [])) ∙ h);
     }
   where
     earlier : (op : ℕ) → list_any (has op) (asked p ++ q ∷ []) ≡ false → list_any (has op) (asked p) ≡ false
     earlier op h = let e = list_any-append (has op) (asked p) (q ∷ []) in grind arith
 
-pub fresh_op : (p : Past) (op : ℕ) → list_any (λ o. o == op) (standing p).used ≡ false → list_any (has op) (asked p) ≡ false
+pub fresh_op : (p : Past) (op : ℕ) → list_any (nat_eq op) (standing p).used ≡ false → list_any (has op) (asked p) ≡ false
 fresh_op p op h = sym (any_ops op (asked p)) ∙ h
 
 in_range : (b c : Bool) → (not b || c) ≡ false → b ≡ true
@@ -233,10 +259,40 @@ pub ready_if : (b : Bool) → not b ≡ false → b ≡ true
 ready_if true h = refl
 ready_if false h = absurd (true≢false h)
 
+-- a call that is no search
+sets_same : (p : Past) (c : Call) → search_in c ≡ [] → IsProper p → AreSetsDistinct (made (admit p c))
+sets_same p c e ok = subst AreSetsDistinct (sym (made_same p c e)) ok.sets
+
+agreed_same : (p : Past) (c : Call) (q : Asked) → search_in c ≡ [] → list_any (has q.op) (asked p) ≡ false → IsProper p → AreAgreed (made (admit p c)) (asked p ++ q ∷ [])
+agreed_same p c q e fresh ok =
+    subst (λ ss. AreAgreed ss (asked p ++ q ∷ [])) (sym (made_same p c e))
+    (all_push (λ (x : Asked). AllByRecursion (Agrees x) (made p)) (asked p) q ok.agreed (agreed_new q p.admitted fresh))
+
+sets_search : (p : Past) (op set : ℕ) (ask : Ask) → list_any (of_set set) (made p) ≡ false → IsProper p → AreSetsDistinct (made (admit p (Search op set ask)))
+sets_search p op set ask fresh ok = subst AreSetsDistinct (sym (made_more p (Search op set ask))) (sets_push (made p) (unanswered op set ask) ok.sets fresh)
+
+agreed_search : (p : Past) (op set : ℕ) (ask : Ask) → list_any (has op) (asked p) ≡ false → IsProper p
+    → AreAgreed (made (admit p (Search op set ask))) (asked p ++ search_asked op set ∷ [])
+agreed_search p op set ask fresh ok =
+    let q = search_asked op set in
+    let s = unanswered op set ask in
+    subst (λ ss. AreAgreed ss (asked p ++ q ∷ [])) (sym (made_more p (Search op set ask)))
+    (all_push (λ (x : Asked). AllByRecursion (Agrees x) (made p ++ s ∷ [])) (asked p) q (agreed_more s (asked p) (made p) fresh ok.agreed)
+    (all_push (Agrees q) (made p) s (agreed_new q p.admitted fresh) (λ _. refl)))
+
 proper_admit : (p : Past) (c : Call) → IsFree (standing p) c → IsProper p → IsProper (admit p c)
-proper_admit p Init f ok = proper_operation p Init _ refl refl (fresh_op p 0 f.op) (λ _. refl) refl ok
-proper_admit p (Search op set ask) f ok = proper_operation p (Search op set ask) _ refl refl (fresh_op p op f.op) (λ h. absurd (true≢false (sym h))) refl ok
-proper_admit p (Present op set start n) f ok = proper_operation p (Present op set start n) _ refl refl (fresh_op p op f.op) (λ h. absurd (true≢false (sym h))) (in_range (are_positions start n) _ f.range) ok
+proper_admit p Init f ok =
+    let fresh = fresh_op p 0 f.op in
+    proper_operation p Init init_asked refl refl fresh (λ _. refl) refl (sets_same p Init refl ok) (agreed_same p Init init_asked refl fresh ok) ok
+proper_admit p (Search op set ask) f ok =
+    let fresh = fresh_op p op f.op in
+    proper_operation p (Search op set ask) (search_asked op set) refl refl fresh (λ h. absurd (true≢false (sym h))) refl
+    (sets_search p op set ask (none_filed p.accepted set (made p) f.set) ok) (agreed_search p op set ask fresh ok) ok
+proper_admit p (Present op set start n) f ok =
+    let fresh = fresh_op p op f.op in
+    let q : Asked = record { op = op; set = set; what = what.Present start n } in
+    proper_operation p (Present op set start n) q refl refl fresh (λ h. absurd (true≢false (sym h))) (in_range (are_positions start n) _ f.range)
+    (sets_same p (Present op set start n) refl ok) (agreed_same p (Present op set start n) q refl fresh ok) ok
 proper_admit p Close f ok =
     let more : asked (admit p Close) ≡ asked p = asked_more p Close ∙ append-nil (asked p) in
     record {
@@ -245,6 +301,8 @@ proper_admit p Close f ok =
       positions = subst (AllByRecursion (λ (x : Asked). asks_positions x.what ≡ true)) (sym more) ok.positions;
       opened_zero = ok.opened_zero;
       distinct = subst AreDistinct (sym more) ok.distinct;
+      sets = sets_same p Close refl ok;
+      agreed = subst (AreAgreed (made (admit p Close))) (sym more) (subst (λ ss. AreAgreed ss (asked p)) (sym (made_same p Close refl)) ok.agreed);
       closing = λ _. ready_opened p (ready_if (is_ready (state_of p)) f.state);
     }
 
@@ -253,7 +311,7 @@ proper_call p c (Some r) e ok = ok
 proper_call p c None e ok = proper_admit p c (free (standing p) c e) ok
 
 pub proper : (settings : Settings) (log : Log) → IsProper (past settings log)
-proper settings [] = record { known = λ op h. refl; zero = tt; positions = tt; opened_zero = tt; distinct = tt; closing = λ h. absurd (true≢false (sym h)) }
+proper settings [] = record { known = λ op h. refl; zero = tt; positions = tt; opened_zero = tt; distinct = tt; sets = tt; agreed = tt; closing = λ h. absurd (true≢false (sym h)) }
 proper settings (Made c ∷ log) = proper_call (past settings log) c (refusal (standing (past settings log)) c) refl (proper settings log)
 proper settings (Got reply ∷ log) =
     let p = past settings log in

@@ -28,10 +28,11 @@ use Rattle.zorigin.specs.Fitting.{fault_of}
 use Rattle.zorigin.specs.Facts.{IsShowable, HasShowable}
 use Rattle.zorigin.specs.Replies.{against, judged, answered, verdict, taken_as, named}
 use Rattle.zorigin.specs.Changes.{force_in, outcome_in, noted_if, noted, without, opened_at, settled_at}
-use Rattle.zorigin.specs.Log.{Got, Log, Past, past, asked, answers, is_answered, outstanding, is_init, opens, opening, is_init_call, is_close_call, force_by, force_after, state_by, closing_state, failed_or, state_from, state_of, outcome_by, search_in, with_outcome, searches_in, numbered, op_of, standing, accept, after_verdict, After, Tells}
+use Rattle.zorigin.specs.Log.{Got, Log, Past, past, asked, answers, is_answered, outstanding, is_init, opens, opening, is_init_call, is_close_call, force_by, force_after, state_by, closing_state, failed_or, state_from, state_of, outcome_by, search_in, with_outcome, searches_in, numbered, filed, op_of, standing, accept, after_verdict, After, Tells}
 use Rattle.zorigin.proofs.Operations.{op_same, same_op, any_none, distinct_filter, removed, still_open, find_push_first, find_push_other, find_none}
 use Rattle.zorigin.proofs.Fittings.{fitting}
-use Rattle.zorigin.proofs.Proper.{IsProper, proper, IsNews, news, answer_in}
+use Rattle.zorigin.proofs.Searches.{Agrees, sets_with, agreed_with, each_noted, filed_noted}
+use Rattle.zorigin.proofs.Proper.{IsProper, made, proper, IsNews, news, answer_in}
 
 -- ---- the parts of a standing
 
@@ -61,7 +62,7 @@ outcome_more acc a s h = by (s.op == a.asked.op) refl
         different m n h = grind (arith, nat_tests)
 
 outcomes_more : (acc : List Answer) (a : Answer) (ss : List Searched) → list_any (answers a.asked.op) acc ≡ false
-    → noted a.asked.op (outcome_in a.reply) (map (with_outcome acc) ss) ≡ map (with_outcome (acc ++ a ∷ [])) ss
+    → each_noted a.asked.op (outcome_in a.reply) (map (with_outcome acc) ss) ≡ map (with_outcome (acc ++ a ∷ [])) ss
 outcomes_more acc a [] h = refl
 outcomes_more acc a (s ∷ ss) h = λ i. outcome_more acc a s h i ∷ outcomes_more acc a ss h i
 
@@ -75,17 +76,20 @@ outcome_none acc op s h = by (s.op == op) refl
         λ i. record s { outcome = outcome_by (sym none i) }
     by false e = refl
 
-outcomes_none : (acc : List Answer) (op : ℕ) (ss : List Searched) → list_any (answers op) acc ≡ false → noted op None (map (with_outcome acc) ss) ≡ map (with_outcome acc) ss
+outcomes_none : (acc : List Answer) (op : ℕ) (ss : List Searched) → list_any (answers op) acc ≡ false → each_noted op None (map (with_outcome acc) ss) ≡ map (with_outcome acc) ss
 outcomes_none acc op [] h = refl
 outcomes_none acc op (s ∷ ss) h = λ i. outcome_none acc op s h i ∷ outcomes_none acc op ss h i
 
-searches_noted : (p : Past) (a : Answer) → is_answered p a.asked.op ≡ false → noted a.asked.op (outcome_in a.reply) (searches_in p) ≡ searches_in (accept p a)
-searches_noted p a h = outcomes_more p.accepted a (flat_map search_in p.admitted) h
+searches_noted : (p : Past) (a : Answer) → IsProper p → AllByRecursion (Agrees a.asked) (made p) → is_answered p a.asked.op ≡ false
+    → noted a.asked (outcome_in a.reply) (map filed (searches_in p)) ≡ map filed (searches_in (accept p a))
+searches_noted p a ok agreed h =
+    filed_noted a.asked (outcome_in a.reply) (searches_in p) (sets_with p.accepted (made p) ok.sets) (agreed_with p.accepted a.asked (made p) agreed)
+    ∙ ap (map filed) (outcomes_more p.accepted a (made p) h)
 
 searches_kept : (p : Past) (a : Answer) → is_answered p a.asked.op ≡ false → outcome_in a.reply ≡ None → searches_in p ≡ searches_in (accept p a)
 searches_kept p a h none =
-    sym (outcomes_none p.accepted a.asked.op (flat_map search_in p.admitted) h)
-    ∙ ap (λ o. noted a.asked.op o (searches_in p)) (sym none) ∙ searches_noted p a h
+    sym (outcomes_none p.accepted a.asked.op (made p) h)
+    ∙ ap (λ o. each_noted a.asked.op o (searches_in p)) (sym none) ∙ outcomes_more p.accepted a (made p) h
 
 -- where replies are taken there was no fault and no Close
 open_so : (f : Option Refused) (closed closing begun : Bool) (o : Option Answer) → is_open (state_from f closed closing begun o) ≡ true → (f ≡ None) × (closed ≡ false)
@@ -192,7 +196,7 @@ settled_first p reply a s f ok n i as_s plain as_f none =
       state = sym state j;
       force = sym force j;
       used = map op_of (asked p);
-      searches = searches_kept p a n.unanswered none j;
+      searches = map filed (searches_kept p a n.unanswered none j);
       outstanding = outstanding_less p a ok j;
     }
 
@@ -204,7 +208,7 @@ settled_other p reply a ok n i =
       state = state_from p.fault p.closed (list_any is_close_call p.admitted) (list_any is_init_call p.admitted) (same j);
       force = force_after (same j);
       used = map op_of (asked p);
-      searches = searches_noted p a n.unanswered j;
+      searches = searches_noted p a ok n.agreed n.unanswered j;
       outstanding = outstanding_less p a ok j;
     }
 

@@ -1,5 +1,5 @@
 -- The table of calls: which are refused, row by row, and what one that is not refused comes to.
-use Rattle.std.specs.Prelude.{◌≡◌, ℕ, ℤ, pos, int_lt, ◌==◌, ◌-◌, Bool, false, not, ◌||◌, ◌&&◌, if◌then◌else◌, List, [], ◌∷◌, length, slice_get, is_some, is_none, Option, Some, None, Result, Ok, Err}
+use Rattle.std.specs.Prelude.{◌≡◌, ℕ, ℤ, pos, int_lt, nat_eq, ◌==◌, ◌-◌, Bool, false, not, ◌||◌, ◌&&◌, if◌then◌else◌, List, [], ◌∷◌, length, slice_get, is_some, is_none, Option, Some, None, Result, Ok, Err}
 use Rattle.std.specs.List.{list_any}
 use Rattle.zapdu.specs.declared.apdu.Apdu.{Apdu}
 use Rattle.zorigin.specs.declared.settings.Ask.{Ask}
@@ -27,7 +27,7 @@ not_offered s _ = false
 
 -- an earlier admitted call had this number, which is 0 for Init
 abbrev pub is_used : Standing → ℕ → Bool
-is_used s op = list_any (λ other. other == op) s.used
+is_used s op = list_any (nat_eq op) s.used
 
 abbrev pub op_used : Standing → Call → Bool
 op_used s Init = is_used s 0
@@ -55,9 +55,9 @@ set_not_ready s (Present op set start n) = is_unready (search_of s.searches set)
 set_not_ready s _ = false
 
 -- the latest search made the set
-abbrev pub is_set : ℕ → Option Searched → Bool
+abbrev pub is_set : ℕ → Option (ℕ × Searched) → Bool
 is_set set None = false
-is_set set (Some searched) = searched.set == set
+is_set set (Some latest) = latest.0 == set
 
 abbrev pub is_latest : Standing → ℕ → Bool
 is_latest s set = is_set set (slice_get s.searches (length s.searches - 1))

@@ -1,6 +1,8 @@
 -- How a call that is admitted, and an APDU that is taken, change where a connection stands.
-use Rattle.std.specs.Prelude.{ℕ, nat_eq, ◌==◌, Bool, true, false, slice_index_or, if◌then◌else◌, List, [], ◌∷◌, ◌++◌, map, Option, Some, None, Result, Ok, Err}
+use Rattle.std.specs.Prelude.{ℕ, nat_eq, ◌==◌, Bool, true, false, slice_index_or, if◌then◌else◌, List, Option, Some, None, Result, Ok, Err}
+use Rattle.std.specs.Map.{set_value}
 use Rattle.indexmap.specs.IndexMap.{insert_entry, shift_remove_entry}
+use Rattle.indexmap.specs.IndexSet.{insert_key}
 use Rattle.zapdu.specs.declared.apdu.Apdu.{Apdu}
 use Rattle.zapdu.specs.declared.apdu.Apdu.TheVariants as apdus
 use Rattle.zapdu.specs.declared.init_response.InitResponse.{InitResponse}
@@ -16,7 +18,7 @@ use Rattle.zorigin.specs.declared.state.InForce.{InForce}
 use Rattle.zorigin.specs.declared.state.Outcome.{Outcome}
 use Rattle.zorigin.specs.declared.state.Outcome.TheVariants as outcomes
 use Rattle.zorigin.specs.declared.state.Searched.{Searched}
-use Rattle.zorigin.specs.Standings.{Call, Init, Search, Present, Close, Standing, is_open, ready}
+use Rattle.zorigin.specs.Standings.{Call, Init, Search, Present, Close, Standing, is_open, ready, search_of}
 use Rattle.zorigin.specs.Calls.{refusal}
 
 -- the operation of a call
@@ -33,11 +35,11 @@ unanswered op set ask = record { op = op; set = set; syntax = ask.syntax; elemen
 -- ---- calls
 
 abbrev pub with_asked : Standing → Asked → Standing
-with_asked s asked = record s { used = s.used ++ asked.op ∷ []; outstanding = insert_entry nat_eq s.outstanding asked.op asked }
+with_asked s asked = record s { used = insert_key nat_eq s.used asked.op; outstanding = insert_entry nat_eq s.outstanding asked.op asked }
 
 abbrev pub admitted_at : Standing → Call → Standing
 admitted_at s Init = record (with_asked s init_asked) { state = states.Initialising }
-admitted_at s (Search op set ask) = record (with_asked s (search_asked op set)) { searches = s.searches ++ unanswered op set ask ∷ [] }
+admitted_at s (Search op set ask) = record (with_asked s (search_asked op set)) { searches = insert_entry nat_eq s.searches set (unanswered op set ask) }
 admitted_at s (Present op set start n) = with_asked s (record { op = op; set = set; what = what.Present start n })
 admitted_at s Close = record s { state = states.Closing }
 
@@ -70,9 +72,13 @@ abbrev pub noted_if : Bool → Option Outcome → Searched → Searched
 noted_if true outcome searched = record searched { outcome = outcome }
 noted_if false outcome searched = searched
 
--- the searches once the operation was answered
-abbrev pub noted : ℕ → Option Outcome → List Searched → List Searched
-noted op outcome searches = map (λ (s : Searched). noted_if (s.op == op) outcome s) searches
+abbrev pub noted_at : Asked → Option Outcome → List (ℕ × Searched) → Option Searched → List (ℕ × Searched)
+noted_at asked outcome searches None = searches
+noted_at asked outcome searches (Some searched) = set_value (nat_eq asked.set) searches (noted_if (searched.op == asked.op) outcome searched)
+
+-- the searches once the operation was answered: that of its set has the outcome, where it is the operation
+abbrev pub noted : Asked → Option Outcome → List (ℕ × Searched) → List (ℕ × Searched)
+noted asked outcome searches = noted_at asked outcome searches (search_of searches asked.set)
 
 -- the operation is outstanding no more
 abbrev pub without : Standing → ℕ → Standing
@@ -86,6 +92,6 @@ opened_at s _ = s
 abbrev pub settled_at : Standing → Result Taken Refused → Standing
 settled_at s (Ok (taken.Opened answer)) = opened_at (without s answer.asked.op) answer.reply
 settled_at s (Ok (taken.Rejected answer)) = record (without s answer.asked.op) { state = states.Closed }
-settled_at s (Ok (taken.Answered answer)) = record (without s answer.asked.op) { searches = noted answer.asked.op (outcome_in answer.reply) s.searches }
+settled_at s (Ok (taken.Answered answer)) = record (without s answer.asked.op) { searches = noted answer.asked (outcome_in answer.reply) s.searches }
 settled_at s (Ok taken.Closed) = record s { state = states.Closed }
 settled_at s (Err reason) = if is_open s.state then record s { state = states.Failed reason } else s

@@ -148,6 +148,9 @@ searches_in p = map (with_outcome p.accepted) (flat_map search_in p.admitted)
 abbrev pub numbered : Asked → ℕ × Asked
 numbered q = (q.op, q)
 
+abbrev pub filed : Searched → ℕ × Searched
+filed searched = (searched.set, searched)
+
 abbrev pub op_of : Asked → ℕ
 op_of q = q.op
 
@@ -157,7 +160,7 @@ standing p = record {
   state = state_of p;
   force = force_after (opening p);
   used = map op_of (asked p);
-  searches = searches_in p;
+  searches = map filed (searches_in p);
   outstanding = map numbered (outstanding p);
 }
 

@@ -1,6 +1,6 @@
 -- What a log amounts to, as the tables ask it, and the calls.
-use Rattle.std.specs.Prelude.{ℕ, ℤ, ◌==◌, Bool, true, false, List, Option, Some}
-use Rattle.std.specs.List.{find}
+use Rattle.std.specs.Prelude.{ℕ, ℤ, nat_eq, Bool, true, false, List, Option, Some}
+use Rattle.std.specs.Map.{lookup}
 use Rattle.zorigin.specs.declared.settings.Settings.{Settings}
 use Rattle.zorigin.specs.declared.settings.Ask.{Ask}
 use Rattle.zorigin.specs.declared.answer.Asked.{Asked}
@@ -24,8 +24,8 @@ pub record Standing : Type 0 where
   pub force : InForce
   -- the numbers of the operations that were admitted
   pub used : List ℕ
-  -- the searches that were admitted, in order, each with what came of it
-  pub searches : List Searched
+  -- the searches that were admitted, by set, in the order of their calls, each with what came of it
+  pub searches : List (ℕ × Searched)
   -- the operations that are admitted and unanswered, by number, in the order of their calls
   pub outstanding : List (ℕ × Asked)
 
@@ -51,8 +51,8 @@ abbrev pub ready : InForce → State
 ready force = states.Ready force.v3 force.concurrent force.named
 
 -- the search that made the set
-abbrev pub search_of : List Searched → ℕ → Option Searched
-search_of searches set = find (λ (s : Searched). s.set == set) searches
+abbrev pub search_of : List (ℕ × Searched) → ℕ → Option Searched
+search_of searches set = lookup (nat_eq set) searches
 
 abbrev pub is_found : Option Outcome → Bool
 is_found (Some (outcomes.Found count)) = true

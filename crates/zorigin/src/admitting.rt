@@ -1,6 +1,7 @@
 //! What a call that is admitted changes.
-ghost use Rattle.std.specs.Prelude.{◌≡◌, ◌++◌, [], ◌∷◌, nat_eq, IfErr, OnOk, OnErr};
+ghost use Rattle.std.specs.Prelude.{◌≡◌, nat_eq, IfErr, OnOk, OnErr};
 ghost use Rattle.indexmap.specs.IndexMap.{insert_entry};
+ghost use Rattle.indexmap.specs.IndexSet.{insert_key};
 ghost use Rattle.zorigin.specs.Standings.{Init, Search, Present};
 ghost use Rattle.zorigin.specs.Changes.{admitted_at};
 
@@ -9,23 +10,23 @@ use crate::origin::Origin;
 use crate::refusal::CallRefused;
 use crate::settings::Ask;
 use crate::state::{Searched, State};
-use indexmap::IndexMap;
+use indexmap::{IndexMap, IndexSet};
 use zber::Duplicate;
 
 /// Notes an operation as admitted.
 fn admit(
-    used: &mut Vec<u32>,
+    used: &mut IndexSet<u32>,
     outstanding: &mut IndexMap<u32, Asked>,
     asked: Asked,
 ) -> Result<(), CallRefused>
     ensures memory { IfErr result (λ e. e ≡ CallRefused.Memory) }
-    ensures used { OnOk result (used.new.items ≡ used.old.items ++ asked.op ∷ []) }
+    ensures used { OnOk result (used.new.keys ≡ insert_key nat_eq used.old.keys asked.op) }
     ensures outstanding { OnOk result (outstanding.new.entries ≡ insert_entry nat_eq outstanding.old.entries asked.op asked) }
-    ensures err { OnErr result ((used.new.items ≡ used.old.items) × (outstanding.new.entries ≡ outstanding.old.entries)) }
+    ensures err { OnErr result ((used.new.keys ≡ used.old.keys) × (outstanding.new.entries ≡ outstanding.old.entries)) }
 {
     used.reserve(1)?;
     outstanding.insert(asked.op, asked)?;
-    used.push(asked.op)?;
+    used.insert(asked.op)?;
     Ok(())
 }
 
@@ -64,7 +65,7 @@ impl Origin {
             what: What::Search,
         };
         admit(&mut self.used, &mut self.outstanding, asked)?;
-        self.searches.push(searched)?;
+        self.searches.insert(set, searched)?;
         Ok(())
     }
 

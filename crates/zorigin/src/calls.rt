@@ -33,7 +33,7 @@ impl Origin {
     fn present_sent(&self, op: u32, set: u32, start: i64, n: i64) -> Result<Sent, CallRefused>
         ensures { SendsFor self.now (Present op set start n) result }
     {
-        let Some(searched) = search_of(self.searches.as_slice(), set) else {
+        let Some(searched) = search_of(&self.searches, set) else {
             return Err(CallRefused::SetUnknown);
         };
         let apdu = present_request(self.alloc, self.force.named, op, start, n, searched)?;

@@ -6,7 +6,7 @@ ghost use Rattle.zorigin.specs.Log.{Log, After, past, state_of};
 use crate::answer::Asked;
 use crate::settings::Settings;
 use crate::state::{InForce, Searched, State};
-use indexmap::IndexMap;
+use indexmap::{IndexMap, IndexSet};
 use std::alloc::Global;
 use std::marker::Model;
 
@@ -21,10 +21,10 @@ pub struct Origin {
     pub(crate) state: State,
     /// What is in force; it lasts while the connection closes.
     pub(crate) force: InForce,
-    /// The numbers of the operations that were admitted.
-    pub(crate) used: Vec<u32>,
-    /// The searches that were admitted, in order.
-    pub(crate) searches: Vec<Searched>,
+    /// The numbers of the operations that were admitted, in the order of their calls.
+    pub(crate) used: IndexSet<u32>,
+    /// The searches that were admitted, by set, in order.
+    pub(crate) searches: IndexMap<u32, Searched>,
     /// The operations that are admitted and unanswered, by number, in the order of their calls.
     pub(crate) outstanding: IndexMap<u32, Asked>,
 }
@@ -34,7 +34,7 @@ impl Model for Origin {
 
     ghost Value = { Standing };
 
-    ghost view = { λ o. record { settings = o.settings; state = o.state; force = o.force; used = o.used.items; searches = o.searches.items; outstanding = o.outstanding.entries } };
+    ghost view = { λ o. record { settings = o.settings; state = o.state; force = o.force; used = o.used.keys; searches = o.searches.entries; outstanding = o.outstanding.entries } };
 }
 
 impl Origin {
@@ -53,8 +53,8 @@ impl Origin {
                 concurrent: false,
                 named: false,
             },
-            used: Vec::new(alloc),
-            searches: Vec::new(alloc),
+            used: IndexSet::new(alloc),
+            searches: IndexMap::new(alloc),
             outstanding: IndexMap::new(alloc),
         }
     }

@@ -10,6 +10,7 @@ use crate::origin::Origin;
 use crate::refusal::CallRefused;
 use crate::settings::Ask;
 use crate::state::{Outcome, Searched, State};
+use indexmap::IndexMap;
 
 /// The highest position that can be asked for.
 const LAST_POSITION: i64 = 2_147_483_647;
@@ -27,10 +28,10 @@ pub(crate) fn is_ready(state: State) -> bool
 }
 
 /// The search that made the set.
-pub(crate) fn search_of(searches: &[Searched], set: u32) -> Option<&Searched>
-    ensures { option_map (λ r. r.now) result ≡ search_of searches.now set }
+pub(crate) fn search_of(searches: &IndexMap<u32, Searched>, set: u32) -> Option<&Searched>
+    ensures { option_map (λ r. r.now) result ≡ search_of searches.now.entries set }
 {
-    searches.iter().find(|searched| searched.set == set)
+    searches.get(&set)
 }
 
 /// Whether the search was answered, and made a set.
@@ -76,7 +77,7 @@ impl Origin {
     fn is_used(&self, op: u32) -> bool
         ensures { result ≡ is_used self.now op }
     {
-        self.used.iter().any(|&other| other == op)
+        self.used.contains(&op)
     }
 
     fn is_idle(&self) -> bool
@@ -90,7 +91,7 @@ impl Origin {
         ensures { result ≡ is_latest self.now set }
     {
         match self.searches.last() {
-            Some(searched) => searched.set == set,
+            Some((latest, _)) => *latest == set,
             None => false,
         }
     }
@@ -121,7 +122,7 @@ impl Origin {
         if self.is_used(op) {
             return Some(CallRefused::OpUsed);
         }
-        if search_of(self.searches.as_slice(), set).is_some() {
+        if search_of(&self.searches, set).is_some() {
             return Some(CallRefused::SetUsed);
         }
         if is_beyond(set, ask) {
@@ -154,7 +155,7 @@ impl Origin {
         if self.is_used(op) {
             return Some(CallRefused::OpUsed);
         }
-        let Some(searched) = search_of(self.searches.as_slice(), set) else {
+        let Some(searched) = search_of(&self.searches, set) else {
             return Some(CallRefused::SetUnknown);
         };
         if !is_found(searched.outcome) {

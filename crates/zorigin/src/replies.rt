@@ -15,6 +15,7 @@ use crate::reference::number_of;
 use crate::refusal::Refused;
 use crate::state::{InForce, Outcome, Searched, State};
 use bytes::Bytes;
+use indexmap::IndexMap;
 use zapdu::{Apdu, InitResponse};
 
 /// Whether replies are taken.
@@ -75,12 +76,12 @@ fn note_if(searched: &mut Searched, op: u32, outcome: Option<Outcome>)
     }
 }
 
-/// Notes what came of the search with this operation.
-fn note(searches: &mut Vec<Searched>, op: u32, outcome: Option<Outcome>)
-    ensures { searches.new.items ≡ noted op outcome searches.old.items }
+/// Notes what came of the operation's search, if it is one.
+fn note(searches: &mut IndexMap<u32, Searched>, asked: Asked, outcome: Option<Outcome>)
+    ensures { searches.new.entries ≡ noted asked outcome searches.old.entries }
 {
-    for searched in searches.iter_mut() {
-        note_if(searched, op, outcome);
+    if let Some(searched) = searches.get_mut(&asked.set) {
+        note_if(searched, asked.op, outcome);
     }
 }
 
@@ -210,11 +211,7 @@ impl Origin {
             }
             Taken::Answered(answer) => {
                 self.answered(answer.asked.op);
-                note(
-                    &mut self.searches,
-                    answer.asked.op,
-                    outcome_in(&answer.reply),
-                );
+                note(&mut self.searches, answer.asked, outcome_in(&answer.reply));
             }
             Taken::Closed => self.state = State::Closed,
         }
