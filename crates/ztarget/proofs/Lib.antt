@@ -5,3 +5,4 @@ pub mod LongestRuns
 pub mod Phrases
 pub mod WhatFits
 pub mod ExactPlaces
+pub mod NamedSets

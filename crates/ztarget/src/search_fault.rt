@@ -8,8 +8,7 @@ ghost use Rattle.ztarget.specs.Viewed.{terms_of};
 use crate::database::Database;
 use crate::fault::{Fault, match_fault};
 use crate::phase::Terms;
-use crate::result_set::ResultSet;
-use crate::sets::set_named;
+use crate::sets::ResultSets;
 use bytes::Bytes;
 use std::alloc::{AllocError, Global};
 use zapdu::{SearchQuery, SearchRequest};
@@ -29,10 +28,10 @@ fn name_fault(named: bool, name: &Bytes) -> Result<Option<Fault>, AllocError>
 }
 
 /// The fault of a search that must not replace a result set that is there.
-fn kept_fault(sets: &[ResultSet], replaces: bool, name: &Bytes) -> Result<Option<Fault>, AllocError>
+fn kept_fault(sets: &ResultSets, replaces: bool, name: &Bytes) -> Result<Option<Fault>, AllocError>
     ensures { IfOk result (λ f. f ≡ kept_fault replaces name.now (set_named sets.now name.now)) }
 {
-    match set_named(sets, name) {
+    match sets.named(name) {
         Some(_) if !replaces => Ok(Some(Fault {
             condition: 21,
             info: name.clone()?,
@@ -45,7 +44,7 @@ fn kept_fault(sets: &[ResultSet], replaces: bool, name: &Bytes) -> Result<Option
 fn type_1_fault(
     alloc: Global,
     databases: &[Database],
-    sets: &[ResultSet],
+    sets: &ResultSets,
     terms: Terms,
     request: &SearchRequest,
     query: &Query,
@@ -66,7 +65,7 @@ fn type_1_fault(
 pub(crate) fn search_fault(
     alloc: Global,
     databases: &[Database],
-    sets: &[ResultSet],
+    sets: &ResultSets,
     terms: Terms,
     request: &SearchRequest,
 ) -> Result<Option<Fault>, AllocError>

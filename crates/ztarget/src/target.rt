@@ -22,7 +22,7 @@ use crate::query::{found, matching_places};
 use crate::result_set::ResultSet;
 use crate::search::{search_failed, search_found};
 use crate::search_fault::search_fault;
-use crate::sets::{put_set, set_named};
+use crate::sets::ResultSets;
 use crate::settings::TargetSettings;
 use bytes::Bytes;
 use std::alloc::{AllocError, Global};
@@ -39,7 +39,7 @@ pub struct Target {
     databases: Vec<Database>,
     settings: TargetSettings,
     phase: Phase,
-    sets: Vec<ResultSet>,
+    sets: ResultSets,
     pending: Vec<Apdu>,
 }
 
@@ -58,7 +58,7 @@ impl Model for Target {
     ghost use Rattle.ztarget.specs.Searching.{entries_in};
     ghost use Rattle.ztarget.specs.Viewed.{state_of};
 
-    ghost view = { λ t. record { databases = t.databases.items; settings = t.settings; standing = record { state = state_of t.phase; sets = t.sets.items }; pending = t.pending.items } };
+    ghost view = { λ t. record { databases = t.databases.items; settings = t.settings; standing = record { state = state_of t.phase; sets = t.sets }; pending = t.pending.items } };
 
     ghost invariant = { λ t. length (entries_in t.databases.items) < 2 ^ 32 };
 }
@@ -108,7 +108,7 @@ impl Target {
             databases,
             settings,
             phase: Phase::Fresh,
-            sets: Vec::new(alloc),
+            sets: ResultSets::new(alloc),
             pending: Vec::new(alloc),
         })
     }
@@ -141,15 +141,20 @@ impl Target {
     }
 
     /// Puts the response to a search last, and keeps its result set.
-    fn keep(&mut self, response: SearchResponse, set: ResultSet) -> Result<(), AllocError>
+    fn keep(
+        &mut self,
+        response: SearchResponse,
+        name: Bytes,
+        set: ResultSet,
+    ) -> Result<(), AllocError>
         ensures ok { OnOk result (self.new ≡ record self.old {
-          standing = record { state = self.old.standing.state; sets = put_set self.old.standing.sets set };
+          standing = record { state = self.old.standing.state; sets = put_set self.old.standing.sets (record { name = name; found = set }) };
           pending = self.old.pending ++ apdus.SearchResponse response ∷ [];
         }) }
         ensures err { OnErr result (self.new ≡ self.old) }
     {
         self.pending.push(Apdu::SearchResponse(response))?;
-        match put_set(&mut self.sets, set) {
+        match self.sets.put(name, set) {
             Ok(()) => Ok(()),
             Err(error) => {
                 let _ = self.pending.pop();
@@ -178,7 +183,7 @@ impl Target {
         let found = found(self.alloc, &self.databases, request)?;
         let response = search_found(self.alloc, terms.size, request, &found)?;
         let name = request.result_set_name.clone()?;
-        self.keep(response, ResultSet::new(name, found))
+        self.keep(response, name, ResultSet::new(found))
     }
 
     /// Puts the response to a search last.
@@ -199,7 +204,7 @@ impl Target {
         ensures ok { OnOk result (self.new ≡ answered self.old (to_present (terms_of terms) self.old.standing.sets request.now)) }
         ensures err { OnErr result (self.new ≡ self.old) }
     {
-        let found = set_named(&self.sets, &request.result_set_id);
+        let found = self.sets.named(&request.result_set_id);
         let response = presented(self.alloc, terms.size, request, found)?;
         self.pending.push(Apdu::PresentResponse(response))?;
         Ok(())
