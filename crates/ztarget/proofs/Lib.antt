@@ -6,3 +6,4 @@ pub mod Phrases
 pub mod WhatFits
 pub mod ExactPlaces
 pub mod NamedSets
+pub mod KeptSets

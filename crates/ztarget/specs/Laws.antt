@@ -1,5 +1,5 @@
 -- What the definitions come to, in the words of the rules.
-use Rattle.std.specs.Prelude.{◌≡◌, ◌↔◌, ◌⊎◌, ℕ, ◌+◌, ◌<◌, ◌≤◌, List, [], ◌∷◌, ◌++◌, length, Bool, true, false, ◌&&◌, Some, slice_get}
+use Rattle.std.specs.Prelude.{◌≡◌, ◌≢◌, ◌↔◌, ◌⊎◌, ℕ, ◌+◌, ◌<◌, ◌≤◌, List, [], ◌∷◌, ◌++◌, length, Bool, true, false, ◌&&◌, Some, slice_get}
 use Rattle.std.specs.List.{AllByRecursion}
 use Rattle.zapdu.specs.declared.record.Record.{Record}
 use Rattle.zquery.specs.Trees.{Tree}
@@ -8,6 +8,7 @@ use Rattle.ztarget.specs.Searching.{entries_in, searched, found_places}
 use Rattle.ztarget.specs.Words.{is_in_words, has_octets, runs}
 use Rattle.ztarget.specs.Matching.{is_nothing, has_phrase, matches}
 use Rattle.ztarget.specs.Showing.{size_of, held}
+use Rattle.ztarget.specs.Standing.{NamedSet, set_named, put_set}
 
 abbrev pub InWord : ℕ → Type 0
 InWord b = is_in_words b ≡ true
@@ -38,16 +39,16 @@ abbrev pub LongestRuns : Type 0
 LongestRuns = (text : List ℕ) → AreRuns (runs text) text
 
 -- a word found is the word asked for, or begins with it where that is truncated
-abbrev pub Answers : Bool → List ℕ → List ℕ → Type 0
-Answers false asked found = asked ≡ found
-Answers true asked found = (rest : List ℕ) × (found ≡ asked ++ rest)
+abbrev pub IsAnswer : Bool → List ℕ → List ℕ → Type 0
+IsAnswer false asked found = asked ≡ found
+IsAnswer true asked found = (rest : List ℕ) × (found ≡ asked ++ rest)
 
 -- word by word, where the last may be truncated
 abbrev pub AreAnswers : Bool → List (List ℕ) → List (List ℕ) → Type 0
 AreAnswers truncated [] [] = Unit {0}
 AreAnswers truncated [] (v ∷ found) = ⊥
 AreAnswers truncated (w ∷ asked) [] = ⊥
-AreAnswers truncated (w ∷ asked) (v ∷ found) = Answers (truncated && is_nothing asked) w v × AreAnswers truncated asked found
+AreAnswers truncated (w ∷ asked) (v ∷ found) = IsAnswer (truncated && is_nothing asked) w v × AreAnswers truncated asked found
 
 -- they are a contiguous part of the words found
 pub record IsPart (truncated : Bool) (asked found : List (List ℕ)) : Type 0 where
@@ -100,3 +101,11 @@ pub record ArePlaces {X : Type 0} (p : X → Bool) (xs : List X) (places : List 
 
 abbrev pub ExactPlaces : Type 0
 ExactPlaces = (databases : List Database) (names : List (List ℕ)) (tree : Tree) → ArePlaces (matches tree) (entries_in (searched databases names)) (found_places databases names tree)
+
+-- the name has this result set, and each other name has what it had
+pub record IsKept (set : NamedSet) (before after : List NamedSet) : Type 0 where
+  pub kept : set_named after set.name ≡ Some set.found
+  pub others : (name : List ℕ) → name ≢ set.name → set_named after name ≡ set_named before name
+
+abbrev pub KeptSets : Type 0
+KeptSets = (sets : List NamedSet) (set : NamedSet) → IsKept set sets (put_set sets set)

@@ -27,7 +27,7 @@ fn name_fault(named: bool, name: &Bytes) -> Result<Option<Fault>, AllocError>
     }))
 }
 
-/// The fault of a search that must not replace a result set that is there.
+/// The fault of a search that must not replace a result set that is there (Z39.50-2003, 3.2.2.1.3).
 fn kept_fault(sets: &ResultSets, replaces: bool, name: &Bytes) -> Result<Option<Fault>, AllocError>
     ensures { IfOk result (λ f. f ≡ kept_fault replaces name.now (set_named sets.now name.now)) }
 {

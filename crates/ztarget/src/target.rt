@@ -31,7 +31,7 @@ use zapdu::{Apdu, Close, InitRequest, PresentRequest, SearchRequest, SearchRespo
 use zber::Duplicate;
 use zquery::Query;
 
-/// A target of Z39.50 with databases in memory: it owes each request that it takes one reply, a function of the requests
+/// A target of Z39.50 with databases in memory (Z39.50-2003, 3.2): it owes each request that it takes one reply, a function of the requests
 /// received up to it, and hands the replies out in any order, a Close last.
 #[derive(Drop)]
 pub struct Target {
@@ -246,7 +246,8 @@ impl Target {
         }
     }
 
-    /// Takes a request, and puts the reply that is owed to it last among the pending replies.
+    /// Takes a request (Z39.50-2003, 3.2), and puts the reply that is owed to it last among the pending replies. A search
+    /// or a request for records that fails is answered too, by a diagnostic, and is no refusal.
     ///
     /// Refusals, which leave all as it was: `NotRequest` for a response; `WrongState` before Init for anything but Init and
     /// Close, for a second Init, and for anything after a Close or after an Init that was refused; `Memory`.
@@ -266,10 +267,14 @@ impl Target {
         }
     }
 
-    /// The places of the entries that match the query, counted from 0 through the databases named: in the order of their
-    /// names, a repeated name counting once, and of their entries.
+    /// The places of the entries that match the query (Z39.50-2003, 3.7), counted from 0 through the databases named: in
+    /// the order of their names, a repeated name counting once, and of their entries.
     ///
-    /// Refusals: `Code` with the condition of a bib-1 diagnostic and what it names, for the first fault: no database named,
+    /// Supported of bib-1 (Z39.50-2003, ATR): Use (type 1) 4, 7, 12, 21, 31, 1003 and 1016, which is any field and stands
+    /// where none is given; Relation (2) 3; Position (3) 3; Structure (4) 1 and 2; Truncation (5) 1, of the last word on its
+    /// right, and 100, none; Completeness (6) 1. The last Use and the last Truncation of a term count.
+    ///
+    /// Refusals: `Code` with the condition of a bib-1 diagnostic (Z39.50-2003, ERR) and what it names, for the first fault: no database named,
     /// or one that is not known (235); another default set than bib-1 (121); then the tree from the left, operators before
     /// their operands: proximity (110), a result set (18), an attribute's set (121), a complex value or another type than 1
     /// to 6 (113), an unsupported value (114, 117, 119, 118, 120, 122 for types 1 to 6), a term of another type (100).
@@ -282,7 +287,7 @@ impl Target {
         matching_places(self.alloc, &self.databases, names, query)
     }
 
-    /// How many replies are pending. It takes no memory.
+    /// How many replies are pending: those owed and not yet handed out. It takes no memory.
     pub fn pending(&self) -> usize
         ensures { result ≡ length self.now.pending }
     {
@@ -301,7 +306,7 @@ impl Target {
     }
 
     /// Hands out pending reply `k`, the first being 0; the others stay in order. `None` where there is none, or where it is
-    /// a Close and others are pending. It takes no memory.
+    /// a Close and others are pending (Z39.50-2003, 3.2.11.1). It takes no memory.
     #[tactic(auto, using(crate::proofs::Histories::release_of))]
     pub fn release(&mut self, k: usize) -> Option<Apdu>
         ensures releases { Releases self.old k result self.new }
