@@ -10,6 +10,7 @@ pub mod OneAnswers
 pub mod OneLexing
 pub mod Opening
 pub mod PairLemmas
+pub mod PlainSpelled
 pub mod PrintedNumbers
 pub mod PrintedPhrases
 pub mod PrintedTexts
@@ -17,6 +18,8 @@ pub mod PrintedTokens
 pub mod PrintedWords
 pub mod PutLemmas
 pub mod Quoting
+pub mod ReadPlain
+pub mod ReadTexts
 pub mod Refusing
 pub mod SetLemmas
 pub mod TokenLists

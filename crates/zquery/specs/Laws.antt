@@ -1,6 +1,7 @@
 -- The laws of the notation.
 use Rattle.std.specs.Prelude.{◌≡◌, ◌≤◌, ◌↔◌, ◌⊎◌, ℕ, true, List, Some, None}
 use Rattle.zber.specs.Dotted.{dotted}
+use Rattle.zber.specs.Elements.{Element}
 use Rattle.zber.specs.Oids.{IsOid}
 use Rattle.zquery.specs.declared.token.Token.{Token}
 use Rattle.zquery.specs.declared.error.PqfError.{PqfError}
@@ -13,6 +14,7 @@ use Rattle.zquery.specs.Fronts.{IsFirstFault}
 use Rattle.zquery.specs.Texts.{IsText, IsFault}
 use Rattle.zquery.specs.Lawful.{IsLawful}
 use Rattle.zquery.specs.Printing.{printable, query_text}
+use Rattle.zquery.specs.Type1.{WritesQuery}
 
 -- a text has one list of tokens, or one quote that stays open
 pub record OneLexing : Type 0 where
@@ -45,3 +47,11 @@ pub record OneAnswer : Type 0 where
 -- a printed text is that of its query
 abbrev pub PrintedReads : Type 0
 PrintedReads = (q : RpnQuery) → IsLawful q → printable q ≡ true → IsText (query_text q) q
+
+-- the query of a text can be printed, where its height is 32 at most
+abbrev pub TextPrintable : Type 0
+TextPrintable = (text : List ℕ) (q : RpnQuery) → IsText text q → height q.root ≤ 32 → printable q ≡ true
+
+-- an element stands for the query of a text
+abbrev pub TextSpellable : Type 0
+TextSpellable = (text : List ℕ) (q : RpnQuery) → IsText text q → (n : Element) × WritesQuery q n

@@ -1,5 +1,5 @@
 // Laws of the definitions, each the contract of a function that does nothing.
-ghost use Rattle.zquery.specs.Laws.{OneLexing, SetNames, OneQuery, NoneRefused, FirstFault, OneAnswer, PrintedReads};
+ghost use Rattle.zquery.specs.Laws.{OneLexing, SetNames, OneQuery, NoneRefused, FirstFault, OneAnswer, PrintedReads, TextPrintable, TextSpellable};
 
 /// A text has one list of tokens, or one quote that stays open.
 pub fn one_lexing()
@@ -34,4 +34,14 @@ pub fn one_answer()
 /// The text that is printed for a query is that of the query.
 pub fn printed_reads()
     ensures { PrintedReads }
+{}
+
+/// The query of a text can be printed, where its height is 32 at most.
+pub fn text_printable()
+    ensures { TextPrintable }
+{}
+
+/// An element stands for the query of a text.
+pub fn text_spellable()
+    ensures { TextSpellable }
 {}

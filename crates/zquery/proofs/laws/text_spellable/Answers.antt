@@ -1,0 +1,5 @@
+use Rattle.zquery.proofs.ReadTexts.{text-spellable}
+use Rattle.zquery.proofs.laws.text_spellable.Goals as goal
+
+pub returns : goal.returns
+returns c = text-spellable
