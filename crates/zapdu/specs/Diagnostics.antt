@@ -1,5 +1,5 @@
 -- Diagnostics (Z39.50-2003, 4.1: DiagRec, DefaultDiagFormat).
-use Rattle.std.specs.Prelude.{◌≡◌, refl}
+use Rattle.std.specs.Prelude.{◌≡◌, Option, refl}
 use Rattle.std.proofs.Common.{inl, inr}
 use Rattle.zber.specs.Names.{universal}
 use Rattle.zber.specs.Elements.{Element}
@@ -69,3 +69,7 @@ diag_rec = of_choice diag_recs diag_pick diag-same diag-back refl
 -- the element stands for the diagnostic
 abbrev pub WritesDiag : DiagRec → Element → Type 0
 WritesDiag v n = diag_rec.stands v n
+
+-- the one element that spells the diagnostic, its contents octets those of the canonical encoding
+abbrev pub diag_spelt : DiagRec → Option Element
+diag_spelt v = diag_rec.spelt v

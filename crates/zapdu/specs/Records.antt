@@ -1,5 +1,5 @@
 -- Records of a response (Z39.50-2003, 4.1: Records, NamePlusRecord).
-use Rattle.std.specs.Prelude.{◌≡◌, [], ◌∷◌, refl}
+use Rattle.std.specs.Prelude.{◌≡◌, [], ◌∷◌, Option, refl}
 use Rattle.std.proofs.Common.{inl, inr}
 use Rattle.zber.specs.Names.{context, universal}
 use Rattle.zber.specs.Elements.{Element}
@@ -56,6 +56,10 @@ whole_record = within (universal 16) record_parts
 -- the element stands for the record
 abbrev pub WritesRecord : Record → Element → Type 0
 WritesRecord v n = whole_record.stands v n
+
+-- the one element that spells the record, its contents octets those of the canonical encoding
+abbrev pub record_spelt : Record → Option Element
+record_spelt v = whole_record.spelt v
 
 -- some element stands for the record
 abbrev pub IsSpellable : Record → Type 0

@@ -1,7 +1,7 @@
 //! APDUs, records and diagnostics built as elements.
 ghost use Rattle.zasn.specs.Answers.{Makes, IsWritten};
-ghost use Rattle.zapdu.specs.Records.{WritesRecord};
-ghost use Rattle.zapdu.specs.Diagnostics.{WritesDiag};
+ghost use Rattle.zapdu.specs.Records.{WritesRecord, record_spelt};
+ghost use Rattle.zapdu.specs.Diagnostics.{WritesDiag, diag_spelt};
 ghost use Rattle.zapdu.specs.Writes.{Writes, apdu_spelt};
 
 use crate::apdu::Apdu;
@@ -25,32 +25,37 @@ fn built(alloc: Global, apdu: &Apdu) -> Result<Node, BuildError>
     }
 }
 
-/// The element that stands for an APDU (Z39.50-2003, 4.1).
+/// The element that stands for an APDU (Z39.50-2003, 4.1), with the contents octets of the canonical encoding: TRUE is FF,
+/// an INTEGER has as few octets as hold it, and unused bits are zero. What the APDU keeps as an element stands as it is.
 ///
 /// Refused as `NotSpellable` where a part that the APDU keeps as an element has no lawful tag or form for its place, and
 /// as `Memory`.
 pub fn to_node(alloc: Global, apdu: &Apdu) -> Result<Node, BuildError>
-    ensures { IsWritten (Writes apdu.now) result }
+    ensures exact { Makes (apdu_spelt apdu.now) result }
+    ensures written { IsWritten (Writes apdu.now) result }
 {
     built(alloc, apdu)
 }
 
 fn element_of<T: Tagged>(alloc: Global, value: &T) -> Result<Node, BuildError>
-    ensures { IsWritten (T.place.stands value.now) result }
+    ensures exact { Makes (T.place.spelt value.now) result }
+    ensures written { IsWritten (T.place.stands value.now) result }
 {
     value.to_element(alloc)
 }
 
-/// The element that stands for a record (NamePlusRecord). Refused as `to_node` is.
+/// The element that stands for a record (NamePlusRecord). Its contents octets, and refusals, are as those of `to_node`.
 pub fn record_node(alloc: Global, value: &Record) -> Result<Node, BuildError>
-    ensures { IsWritten (WritesRecord value.now) result }
+    ensures exact { Makes (record_spelt value.now) result }
+    ensures written { IsWritten (WritesRecord value.now) result }
 {
     element_of(alloc, value)
 }
 
-/// The element that stands for a diagnostic (DiagRec). Refused as `to_node` is.
+/// The element that stands for a diagnostic (DiagRec). Its contents octets, and refusals, are as those of `to_node`.
 pub fn diag_node(alloc: Global, diag: &DiagRec) -> Result<Node, BuildError>
-    ensures { IsWritten (WritesDiag diag.now) result }
+    ensures exact { Makes (diag_spelt diag.now) result }
+    ensures written { IsWritten (WritesDiag diag.now) result }
 {
     element_of(alloc, diag)
 }

@@ -1,5 +1,5 @@
 use Rattle.zapdu.proofs.Written.{place_written}
 use Rattle.zapdu.proofs.encode.element_of.Goals as goal
 
-pub returns : goal.returns
-returns g c = place_written g.T.Tagged.place c.args.value.now c.to_element.result c.to_element.ensures
+pub returns-clause-written : goal.returns-clause-written
+returns-clause-written g c = place_written g.T.Tagged.place c.args.value.now c.to_element.result c.to_element.ensures
