@@ -8,6 +8,7 @@ pub mod Table
 pub mod TableLaws
 pub mod Keys
 pub mod Facts
+pub mod FactLaws
 pub mod Naturals
 pub mod Limited
 pub mod SavedFacts
