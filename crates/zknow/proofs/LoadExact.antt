@@ -1,7 +1,6 @@
--- A saved file has no fault, and is the file of one list of facts.
-use Rattle.std.proofs.Common.{◌≡◌, ℕ, ◌<◌, List, [], ◌∷◌, ◌++◌, length, refl, sym, ap, subst, ◌∙◌, ⊎_elim, arith, append_assoc, length-append}
-use Rattle.std.specs.Prelude.{Result, Ok, Err, MatchResult}
-use Rattle.std.specs.List.{flat_map, AllByRecursion}
+-- A file is that of one list of facts, or has one fault, and not both.
+use Rattle.std.proofs.Common.{◌≡◌, ◌≢◌, ◌⊎◌, ℕ, ◌+◌, ◌<◌, List, [], ◌∷◌, ◌++◌, length, refl, sym, ap, subst, ◌∙◌, inl, inr, ⊎_elim, arith, append_assoc, length-append}
+use Rattle.std.proofs.lemmas.List.{append-nil}
 use Rattle.std.specs.List.Sorted.{IsStrictlySortedBy}
 use Rattle.zknow.specs.declared.fact.Fact.{Fact}
 use Rattle.zknow.specs.declared.loading.LoadError.{LoadError}
@@ -9,93 +8,112 @@ use Rattle.zknow.specs.declared.loading.LoadError.TheVariants.{NotKnowledge, Not
 use Rattle.zknow.specs.Encodings.{encoding}
 use Rattle.zknow.specs.Facts.{fact_cmp}
 use Rattle.zknow.specs.SavedFacts.{saved_names, saved_fact}
-use Rattle.zknow.specs.Saved.{Fits, IsSaved}
-use Rattle.zknow.specs.Loaded.{NoElement, IsSoundUpTo, IsNoFact, AreOddNames, IsOddFact, IsFault}
-use Rattle.zknow.proofs.OneElement.{element_some, one_element, same_rest}
+use Rattle.zknow.specs.Saved.{IsSaved}
+use Rattle.zknow.specs.Loaded.{BeginsWith, NoElement, IsSoundUpTo, IsNoFact, AreOddNames, IsOddFact, IsNotKnowledge, IsNotCanonical, IsFault}
+use Rattle.zknow.proofs.OneElement.{element_some, one_element}
+use Rattle.zknow.proofs.FactRuns.{bodies, GoesOn, IsStuck, names_same, files_part, no_further}
 
-abbrev bodies : List Fact → List ℕ
-bodies facts = flat_map (encoding saved_fact) facts
+-- no element stands in no octets
+nothing_next : (facts front : List Fact) (after : List ℕ) → GoesOn facts front [] after → ⊥
+nothing_next facts front after next =
+    omega (arith, element_some saved_fact next.fact (encoding saved_fact next.fact) next.fits, ap length next.follows, length-append (encoding saved_fact next.fact) (bodies next.more ++ after))
 
-abbrev AllFit : List Fact → Type 0
-AllFit facts = AllByRecursion (Fits saved_fact) facts
+-- ---- what stands where no fact may follow
 
-all_front : {X : Type 0} (P : X → Type 0) (xs ys : List X) → AllByRecursion P (xs ++ ys) → AllByRecursion P xs
-all_front P [] ys all = tt
-all_front P (x ∷ xs) ys all = (all.0, all_front P xs ys all.1)
+no_fact_stuck : (file : List ℕ) (at : ℕ) (o : IsNoFact file at) → IsStuck o.facts o.rest
+no_fact_stuck file at o f after cut fits sorted = o.none f (encoding saved_fact f) after (record { cut = cut; element = fits })
 
-sorted_front : (xs ys : List Fact) → IsStrictlySortedBy fact_cmp (xs ++ ys) → IsStrictlySortedBy fact_cmp xs
-unfolding IsStrictlySortedBy
-sorted_front [] ys sorted = tt
-sorted_front (x ∷ xs) ys sorted = (all_front _ xs ys sorted.0, sorted_front xs ys sorted.1)
+odd_fact_stuck : (file : List ℕ) (at : ℕ) (o : IsOddFact file at) → IsStuck o.facts o.rest
+odd_fact_stuck file at o f after cut fits sorted =
+    let one = one_element saved_fact o.fact f o.spelling (encoding saved_fact f) o.after after o.begins.element fits (sym o.begins.cut ∙ cut) in
+    ⊎_elim (λ differs. differs (one.1 ∙ ap (encoding saved_fact) (sym one.0)))
+    (λ no. no (subst (λ g. IsStrictlySortedBy fact_cmp (o.facts ++ g ∷ [])) (sym one.0) sorted)) o.odd
 
--- where the file of all facts is cut after that of the first ones, the next fact's element follows
-record Cut (facts front : List Fact) (rest : List ℕ) : Type 0 where
-  fact : Fact
-  more : List Fact
-  whole : facts ≡ front ++ fact ∷ more
-  fits : Fits saved_fact fact
-  follows : rest ≡ encoding saved_fact fact ++ bodies more
+module _ (file : List ℕ) where
+  -- ---- of one list of facts
 
-cut : (facts front : List Fact) (rest : List ℕ) → AllFit facts → AllFit front → bodies facts ≡ bodies front ++ rest → 0 < length rest → Cut facts front rest
-cut [] [] rest all first same more = absurd (omega (arith, ap length same))
-cut (x ∷ xs) [] rest all first same more = record { fact = x; more = xs; whole = refl; fits = all.0; follows = sym same }
-cut [] (f ∷ fs) rest all first same more = absurd (omega (arith, ap length same, length-append (encoding saved_fact f ++ bodies fs) rest, length-append (encoding saved_fact f) (bodies fs), element_some saved_fact f (encoding saved_fact f) first.0))
-cut (x ∷ xs) (f ∷ fs) rest all first same more =
-    let lined : encoding saved_fact x ++ bodies xs ≡ encoding saved_fact f ++ (bodies fs ++ rest) = same ∙ append_assoc (encoding saved_fact f) (bodies fs) rest in
-    let one = one_element saved_fact x f (encoding saved_fact x) (encoding saved_fact f) (bodies xs) (bodies fs ++ rest) all.0 first.0 lined in
-    let tails : bodies xs ≡ bodies fs ++ rest = same_rest saved_fact x f (encoding saved_fact x) (encoding saved_fact f) (bodies xs) (bodies fs ++ rest) all.0 first.0 lined in
-    let next = cut xs fs rest all.1 first.1 tails more in
-    record { fact = next.fact; more = next.more; whole = ap (λ y. y ∷ xs) one.0 ∙ ap (λ l. f ∷ l) next.whole; fits = next.fits; follows = next.follows }
+  pub saved_once : (names others : List (List ℕ)) (facts more : List Fact) → IsSaved names facts file → IsSaved others more file → (names ≡ others) × (facts ≡ more)
+  saved_once names others facts more is of_others = (
+    names_same names others facts more file file [] [] is of_others refl,
+    ⊎_elim (λ both. both.0) (⊎_elim (λ longer. absurd (nothing_next facts more [] longer)) (λ shorter. absurd (nothing_next more facts [] shorter)))
+        (files_part names others facts more file file [] [] is of_others refl),
+  )
 
--- one list of facts has these octets
-same_facts : (xs ys : List Fact) → AllFit xs → AllFit ys → bodies xs ≡ bodies ys → xs ≡ ys
-same_facts [] [] all of_ys same = refl
-same_facts [] (y ∷ ys) all of_ys same = absurd (omega (arith, ap length same, length-append (encoding saved_fact y) (bodies ys), element_some saved_fact y (encoding saved_fact y) of_ys.0))
-same_facts (x ∷ xs) [] all of_ys same = absurd (omega (arith, ap length same, length-append (encoding saved_fact x) (bodies xs), element_some saved_fact x (encoding saved_fact x) all.0))
-same_facts (x ∷ xs) (y ∷ ys) all of_ys same =
-    let one = one_element saved_fact x y (encoding saved_fact x) (encoding saved_fact y) (bodies xs) (bodies ys) all.0 of_ys.0 same in
-    let tails = same_rest saved_fact x y (encoding saved_fact x) (encoding saved_fact y) (bodies xs) (bodies ys) all.0 of_ys.0 same in
-    ap (λ z. z ∷ xs) one.0 ∙ ap (λ l. y ∷ l) (same_facts xs ys all.1 of_ys.1 tails)
+  -- ---- of the names
 
-module _ (names : List (List ℕ)) (facts : List Fact) (file : List ℕ) (is : IsSaved names facts file) where
-  pub saved_once : (other : List (List ℕ)) (others : List Fact) → IsSaved other others file → (others ≡ facts) × (other ≡ names)
-  saved_once other others of_others =
-      let lined : encoding saved_names other ++ bodies others ≡ encoding saved_names names ++ bodies facts = sym of_others.octets ∙ is.octets in
-      let one = one_element saved_names other names (encoding saved_names other) (encoding saved_names names) (bodies others) (bodies facts) of_others.names_fit is.names_fit lined in
-      let tails = same_rest saved_names other names (encoding saved_names other) (encoding saved_names names) (bodies others) (bodies facts) of_others.names_fit is.names_fit lined in
-      (same_facts others facts of_others.facts_fit is.facts_fit tails, one.0)
+  module _ (names : List (List ℕ)) (facts : List Fact) (front rest : List ℕ) (is : IsSaved names facts front) (cut : file ≡ front ++ rest) where
+    names_here : BeginsWith saved_names names file (encoding saved_names names) (bodies facts ++ rest)
+    names_here = record { cut = cut ∙ ap (λ l. l ++ rest) is.octets ∙ append_assoc (encoding saved_names names) (bodies facts) rest; element = is.names_fit }
 
-  after_front : (other : List (List ℕ)) (front : List Fact) (rest : List ℕ) → IsSoundUpTo file other front rest → Cut facts front rest
-  after_front other front rest sound =
-      let lined : encoding saved_names names ++ bodies facts ≡ encoding saved_names other ++ (bodies front ++ rest) = sym is.octets ∙ sound.cut ∙ ap (λ l. l ++ rest) sound.saved.octets ∙ append_assoc (encoding saved_names other) (bodies front) rest in
-      let tails = same_rest saved_names names other (encoding saved_names names) (encoding saved_names other) (bodies facts) (bodies front ++ rest) is.names_fit sound.saved.names_fit lined in
-      cut facts front rest is.facts_fit sound.saved.facts_fit tails sound.more
+    names_found : NoElement saved_names file → ⊥
+    names_found none = none names (encoding saved_names names) (bodies facts ++ rest) names_here
 
-  names_found : NoElement saved_names file → ⊥
-  names_found none = none names (encoding saved_names names) (bodies facts) (record { cut = is.octets; element = is.names_fit })
+    names_even : AreOddNames file → ⊥
+    names_even o =
+        let one = one_element saved_names o.names names o.spelling (encoding saved_names names) o.rest (bodies facts ++ rest) o.begins.element is.names_fit (sym o.begins.cut ∙ names_here.cut) in
+        o.odd (one.1 ∙ ap (encoding saved_names) (sym one.0))
 
-  names_even : AreOddNames file → ⊥
-  names_even o =
-      let one = one_element saved_names o.names names o.spelling (encoding saved_names names) o.rest (bodies facts) o.begins.element is.names_fit (sym o.begins.cut ∙ is.octets) in
-      o.odd (one.1 ∙ ap (encoding saved_names) (sym one.0))
+  -- ---- of the first fact at fault
 
-  fact_found : (at : ℕ) → IsNoFact file at → ⊥
-  fact_found at o =
-      let next = after_front o.names o.facts o.rest o.sound in
-      o.none next.fact (encoding saved_fact next.fact) (bodies next.more) (record { cut = next.follows; element = next.fits })
+  module _ (names others : List (List ℕ)) (facts more : List Fact) (r s : List ℕ) (sound : IsSoundUpTo file names facts r) (stuck : IsStuck facts r) where
+    one_place : IsSoundUpTo file others more s → IsStuck more s → (facts ≡ more) × (r ≡ s)
+    one_place sounds stucks = ⊎_elim (λ both. both)
+        (⊎_elim (λ longer. absurd (no_further facts more s r sound.saved.ordered stucks longer)) (λ shorter. absurd (no_further more facts r s sounds.saved.ordered stuck shorter)))
+        (files_part names others facts more sound.front sounds.front r s sound.saved sounds.saved (sym sound.cut ∙ sounds.cut))
 
-  fact_even : (at : ℕ) → IsOddFact file at → ⊥
-  fact_even at o =
-      let next = after_front o.names o.facts o.rest o.sound in
-      let one = one_element saved_fact o.fact next.fact o.spelling (encoding saved_fact next.fact) o.after (bodies next.more) o.begins.element next.fits (sym o.begins.cut ∙ next.follows) in
-      let whole : facts ≡ (o.facts ++ o.fact ∷ []) ++ next.more = next.whole ∙ ap (λ f. o.facts ++ f ∷ next.more) (sym one.0) ∙ sym (append_assoc o.facts (o.fact ∷ []) next.more) in
-      ⊎_elim (λ differs. differs (one.1 ∙ ap (encoding saved_fact) (sym one.0))) (λ no. no (sorted_front (o.facts ++ o.fact ∷ []) next.more (subst (IsStrictlySortedBy fact_cmp) whole is.ordered))) o.odd
+    none_saved : IsSaved others more file → ⊥
+    none_saved is = ⊎_elim (λ both. omega (arith, ap length both.1, sound.more))
+        (⊎_elim (λ longer. nothing_next facts more r longer) (λ shorter. no_further more facts r [] is.ordered stuck shorter))
+        (files_part names others facts more sound.front file r [] sound.saved is (sym sound.cut ∙ sym (append-nil file)))
 
-  pub no_fault : (e : LoadError) → IsFault file e → e ≡ Memory
-  no_fault Memory fault = refl
-  no_fault (NotKnowledge at) fault = absurd (⊎_elim (λ none. names_found none.1) (λ none. fact_found at none) fault)
-  no_fault (NotCanonical at) fault = absurd (⊎_elim (λ odd. names_even odd.1) (λ odd. fact_even at odd) fault)
+  -- ---- of any fault
 
-  pub exactly : (r : Result (List Fact × List (List ℕ)) LoadError) → MatchResult r (λ l. IsSaved l.1 l.0 file) (IsFault file) → MatchResult r (λ l. (l.0 ≡ facts) × (l.1 ≡ names)) (λ e. e ≡ Memory)
-  exactly (Ok l) h = saved_once l.1 l.0 h
-  exactly (Err e) h = no_fault e h
+  same_index : (a b : ℕ) (facts more : List Fact) → a ≡ length facts + 1 → b ≡ length more + 1 → facts ≡ more → a ≡ b
+  same_index a b facts more of_a of_b same = of_a ∙ ap (λ (l : List Fact). length l + 1) same ∙ sym of_b
+
+  both_unknown : (a b : ℕ) → IsNotKnowledge file a → IsNotKnowledge file b → a ≡ b
+  both_unknown a b (inl x) (inl y) = x.0 ∙ sym y.0
+  both_unknown a b (inl x) (inr y) = absurd (names_found y.names y.facts y.sound.front y.rest y.sound.saved y.sound.cut x.1)
+  both_unknown a b (inr x) (inl y) = absurd (names_found x.names x.facts x.sound.front x.rest x.sound.saved x.sound.cut y.1)
+  both_unknown a b (inr x) (inr y) = same_index a b x.facts y.facts x.place y.place
+      (one_place x.names y.names x.facts y.facts x.rest y.rest x.sound (no_fact_stuck file a x) y.sound (no_fact_stuck file b y)).0
+
+  both_odd : (a b : ℕ) → IsNotCanonical file a → IsNotCanonical file b → a ≡ b
+  both_odd a b (inl x) (inl y) = x.0 ∙ sym y.0
+  both_odd a b (inl x) (inr y) = absurd (names_even y.names y.facts y.sound.front y.rest y.sound.saved y.sound.cut x.1)
+  both_odd a b (inr x) (inl y) = absurd (names_even x.names x.facts x.sound.front x.rest x.sound.saved x.sound.cut y.1)
+  both_odd a b (inr x) (inr y) = same_index a b x.facts y.facts x.place y.place
+      (one_place x.names y.names x.facts y.facts x.rest y.rest x.sound (odd_fact_stuck file a x) y.sound (odd_fact_stuck file b y)).0
+
+  not_both : (a b : ℕ) → IsNotKnowledge file a → IsNotCanonical file b → ⊥
+  not_both a b (inl x) (inl y) = x.1 y.1.names y.1.spelling y.1.rest y.1.begins
+  not_both a b (inl x) (inr y) = names_found y.names y.facts y.sound.front y.rest y.sound.saved y.sound.cut x.1
+  not_both a b (inr x) (inl y) = names_even x.names x.facts x.sound.front x.rest x.sound.saved x.sound.cut y.1
+  not_both a b (inr x) (inr y) =
+      let same = (one_place x.names y.names x.facts y.facts x.rest y.rest x.sound (no_fact_stuck file a x) y.sound (odd_fact_stuck file b y)).1 in
+      x.none y.fact y.spelling y.after (subst (λ l. BeginsWith saved_fact y.fact l y.spelling y.after) (sym same) y.begins)
+
+  pub one_fault : (e f : LoadError) → e ≢ Memory → f ≢ Memory → IsFault file e → IsFault file f → e ≡ f
+  one_fault Memory f told also x y = absurd (told refl)
+  one_fault (NotKnowledge a) Memory told also x y = absurd (also refl)
+  one_fault (NotCanonical a) Memory told also x y = absurd (also refl)
+  one_fault (NotKnowledge a) (NotKnowledge b) told also x y = ap NotKnowledge (both_unknown a b x y)
+  one_fault (NotKnowledge a) (NotCanonical b) told also x y = absurd (not_both a b x y)
+  one_fault (NotCanonical a) (NotKnowledge b) told also x y = absurd (not_both b a y x)
+  one_fault (NotCanonical a) (NotCanonical b) told also x y = ap NotCanonical (both_odd a b x y)
+
+  -- ---- a saved file has none
+
+  module _ (names : List (List ℕ)) (facts : List Fact) (is : IsSaved names facts file) where
+    found : NoElement saved_names file → ⊥
+    found = names_found names facts file [] is (sym (append-nil file))
+
+    even : AreOddNames file → ⊥
+    even = names_even names facts file [] is (sym (append-nil file))
+
+    pub no_fault : (e : LoadError) → IsFault file e → e ≡ Memory
+    no_fault Memory fault = refl
+    no_fault (NotKnowledge at) (inl x) = absurd (found x.1)
+    no_fault (NotKnowledge at) (inr x) = absurd (none_saved x.names names x.facts facts x.rest [] x.sound (no_fact_stuck file at x) is)
+    no_fault (NotCanonical at) (inl x) = absurd (even x.1)
+    no_fault (NotCanonical at) (inr x) = absurd (none_saved x.names names x.facts facts x.rest [] x.sound (odd_fact_stuck file at x) is)

@@ -8,6 +8,7 @@ pub mod Table
 pub mod TableLaws
 pub mod Keys
 pub mod Facts
+pub mod FactLaws
 pub mod Naturals
 pub mod Limited
 pub mod SavedFacts
@@ -20,3 +21,4 @@ pub mod Tables
 pub mod Sections
 pub mod Known
 pub mod Listing
+pub mod Laws
