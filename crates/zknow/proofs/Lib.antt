@@ -21,6 +21,7 @@ pub mod TableKeys
 pub mod FactSpelled
 pub mod SavedParts
 pub mod OneElement
+pub mod FactRuns
 pub mod LoadExact
 pub mod LoadSteps
 pub mod FrontElements

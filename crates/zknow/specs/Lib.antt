@@ -21,3 +21,4 @@ pub mod Tables
 pub mod Sections
 pub mod Known
 pub mod Listing
+pub mod Laws

@@ -11,6 +11,7 @@ mod front;
 mod join;
 mod keys;
 mod knowledge;
+pub mod laws;
 mod list;
 mod list_keys;
 mod loading;
