@@ -2,11 +2,25 @@
 ghost use Rattle.std.specs.Prelude.{◌≡◌};
 ghost use Rattle.zber.specs.Elements.{Element};
 ghost use Rattle.zapdu.specs.declared.apdu.Apdu.{Apdu};
+ghost use Rattle.zapdu.specs.declared.diagnostic.DiagRec.{DiagRec};
+ghost use Rattle.zapdu.specs.declared.record.Record.{Record};
+ghost use Rattle.zapdu.specs.Diagnostics.{WritesDiag};
+ghost use Rattle.zapdu.specs.Records.{WritesRecord};
 ghost use Rattle.zapdu.specs.Writes.{Writes, OneRefusal};
 
 /// An element stands for at most one APDU.
 pub fn one_value()
     ensures { (v w : Apdu) (n : Element) → Writes v n → Writes w n → v ≡ w }
+{}
+
+/// An element stands for at most one record.
+pub fn one_record()
+    ensures { (v w : Record) (n : Element) → WritesRecord v n → WritesRecord w n → v ≡ w }
+{}
+
+/// An element stands for at most one diagnostic.
+pub fn one_diagnostic()
+    ensures { (v w : DiagRec) (n : Element) → WritesDiag v n → WritesDiag w n → v ≡ w }
 {}
 
 /// An element that stands for no APDU is refused in one way.

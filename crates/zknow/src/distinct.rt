@@ -13,7 +13,7 @@ use std::marker::Model;
 
 /// Values in order, each once.
 #[derive(Drop)]
-pub struct Distinct<T: Ranked> {
+pub(crate) struct Distinct<T: Ranked> {
     alloc: Global,
     items: Vec<T>,
 }
@@ -73,7 +73,7 @@ fn is_theirs_first<T: Ranked>(alloc: Global, merge: &Merge<'_, T>) -> Result<boo
 
 impl<T: Ranked> Distinct<T> {
     /// The values, in order.
-    pub fn values(&self) -> &[T]
+    pub(crate) fn values(&self) -> &[T]
         ensures values { result.now ≡ self.now }
         ensures distinct { AreDistinct T.order T.is_valid result.now }
     {

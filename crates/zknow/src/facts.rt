@@ -84,7 +84,7 @@ fn put_all_counts(
 fn put_failed(key: SetKey, mark: &Mark, out: &mut Vec<Fact>) -> Result<(), AllocError>
     ensures { OnOk result (out.new.items ≡ out.old.items ++ map (λ u. Failed key.target key.set) (marked mark.now)) }
 {
-    if mark.is_set() {
+    if mark.is_set {
         out.push(Fact::Failed {
             target: key.target,
             set: key.set,

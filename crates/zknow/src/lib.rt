@@ -24,13 +24,9 @@ mod saving;
 mod table;
 mod tables;
 
-pub use distinct::Distinct;
 pub use fact::{Fact, Known, Mode, Names};
-pub use join::{Join, Key};
-pub use keys::{Mark, SetKey};
+pub use join::Join;
 pub use knowledge::Knowledge;
 pub use list::print_list;
 pub use loading::{LoadError, load};
-pub use ranked::Ranked;
 pub use saving::{SaveError, save};
-pub use table::Table;

@@ -91,7 +91,7 @@ fn put_failed(
 ) -> Result<(), AllocError>
     ensures { OnOk result (out.new.items ≡ out.old.items ++ flat_map (λ u. line names.now key.now (codes " failed")) (marked mark.now)) }
 {
-    if mark.is_set() {
+    if mark.is_set {
         put_line(alloc, names, key, b" failed", out)?;
     }
     Ok(())

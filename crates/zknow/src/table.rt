@@ -14,7 +14,7 @@ use std::marker::Model;
 
 /// A table of joins: keys in order, and for each a value that holds an item.
 #[derive(Drop)]
-pub struct Table<K: Key, J: Join> {
+pub(crate) struct Table<K: Key, J: Join> {
     alloc: Global,
     entries: Vec<(K, J)>,
 }
@@ -47,7 +47,7 @@ fn place_of<K: Key, J>(entries: &[(K, J)], key: &K) -> Result<usize, usize>
 
 impl<K: Key, J: Join> Table<K, J> {
     /// A table with no keys. It takes no memory yet.
-    pub fn new(alloc: Global) -> Self
+    pub(crate) fn new(alloc: Global) -> Self
         ensures { (x : K × J.Item) → HasItem K.cmp J.holds result x → ⊥ }
     {
         Table {
@@ -57,7 +57,7 @@ impl<K: Key, J: Join> Table<K, J> {
     }
 
     /// The value at a key.
-    pub fn get(&self, key: &K) -> Option<&J>
+    pub(crate) fn get(&self, key: &K) -> Option<&J>
         ensures { option_copied result ≡ value_at K.cmp self.now key.now }
     {
         match place_of(&self.entries, key) {
@@ -67,7 +67,7 @@ impl<K: Key, J: Join> Table<K, J> {
     }
 
     /// The keys in order, each with its value.
-    pub fn entries(&self) -> &[(K, J)]
+    pub(crate) fn entries(&self) -> &[(K, J)]
         ensures entries { result.now ≡ self.now }
         ensures lawful { IsLawfulTable K.cmp J.holds J.is_lawful result.now }
     {
@@ -75,7 +75,7 @@ impl<K: Key, J: Join> Table<K, J> {
     }
 
     /// Adds an item at a key, as `add` does.
-    pub fn add_at(&mut self, key: K, item: &J::Item) -> Result<(), AllocError>
+    pub(crate) fn add_at(&mut self, key: K, item: &J::Item) -> Result<(), AllocError>
         requires { J.can_add item.now }
         ensures ok { OnOk result (IsUnion (HasItem K.cmp J.holds self.old) (AtKey key (λ x. x ≡ item.now)) (HasItem K.cmp J.holds self.new)) }
         ensures part { IsPartOfUnion (HasItem K.cmp J.holds self.old) (AtKey key (λ x. x ≡ item.now)) (HasItem K.cmp J.holds self.new) }
@@ -123,7 +123,12 @@ impl<K: Key, J: Join> Table<K, J> {
 
 impl<K: Key, L: Key, J: Join> Table<K, Table<L, J>> {
     /// Adds an item at a key of the table at a key, as `add` does.
-    pub fn add_within(&mut self, outer: K, inner: &L, item: &J::Item) -> Result<(), AllocError>
+    pub(crate) fn add_within(
+        &mut self,
+        outer: K,
+        inner: &L,
+        item: &J::Item,
+    ) -> Result<(), AllocError>
         requires { J.can_add item.now }
         ensures ok { OnOk result (IsUnion (HasItem K.cmp (HasItem L.cmp J.holds) self.old) (AtKey outer (AtKey inner.now (λ x. x ≡ item.now))) (HasItem K.cmp (HasItem L.cmp J.holds) self.new)) }
         ensures part { IsPartOfUnion (HasItem K.cmp (HasItem L.cmp J.holds) self.old) (AtKey outer (AtKey inner.now (λ x. x ≡ item.now))) (HasItem K.cmp (HasItem L.cmp J.holds) self.new) }
