@@ -1,7 +1,9 @@
 -- What `join` prints of two saved files.
-use Rattle.std.specs.Prelude.{◌≢◌, ◌⊎◌, ℕ, List, Option, Result, Ok, Err, Contains}
+use Rattle.std.specs.Prelude.{◌≡◌, ◌≢◌, ◌⊎◌, ℕ, Bool, true, false, if◌then◌else◌, List, Option, Result, Ok, Err, Contains}
+use Rattle.std.specs.List.{list_any}
 use Rattle.std.specs.Io.KnownBytes.{Keeps, Appends}
 use Rattle.zknow.specs.declared.fact.Fact.{Fact}
+use Rattle.zknow.specs.declared.fact.Fact.TheVariants as kinds
 use Rattle.zknow.specs.declared.fact.Mode.{Mode}
 use Rattle.zknow.specs.Facts.{AreFacts}
 use Rattle.zknow.specs.Join.{IsUnion}
@@ -10,6 +12,8 @@ use Rattle.zknow.specs.Saved.{IsSaved}
 use Rattle.zknow.specs.Loaded.{IsNotKnowledge, IsNotCanonical}
 use Rattle.zmeta.specs.declared.fault.Fault.{Fault}
 use Rattle.zmeta.specs.declared.fault.Fault.TheVariants.{Read, Write, NotKnowledge, NotCanonical, NamesDiffer, Memory}
+use Rattle.zmeta.specs.declared.fault.Status.{Status}
+use Rattle.zmeta.specs.declared.fault.Status.TheVariants as statuses
 
 -- the file is a saved one
 abbrev pub IsSavedFile : List ℕ → Type 0
@@ -53,9 +57,17 @@ LoadsBoth a b (Err (Read path)) = Unit {0}
 LoadsBoth a b (Err Memory) = Unit {0}
 LoadsBoth a b (Err _) = ⊥
 
+abbrev pub is_failed : Fact → Bool
+is_failed (kinds.Failed target set) = true
+is_failed _ = false
+
+-- the status of a command that knows these facts: a search or an association failed, or none
+unfoldable pub known_status : List Fact → Status
+known_status known = if list_any is_failed known then statuses.Failed else statuses.Done
+
 -- what an answer of `join` says of the files, and of what was written
-abbrev pub Joins : Mode → List ℕ → List ℕ → Option (List ℕ) → Option (List ℕ) → Result (Unit {0}) Fault → Type 0
-Joins mode a b old new (Ok _) = (names : List (List ℕ)) × (facts : List Fact) × AreJoined a b names facts × Appends old new (listing names mode facts)
+abbrev pub Joins : Mode → List ℕ → List ℕ → Option (List ℕ) → Option (List ℕ) → Result Status Fault → Type 0
+Joins mode a b old new (Ok status) = (names : List (List ℕ)) × (facts : List Fact) × AreJoined a b names facts × (status ≡ known_status facts) × Appends old new (listing names mode facts)
 Joins mode a b old new (Err (NotKnowledge at)) = (IsNotKnowledge a at ⊎ (IsSavedFile a × IsNotKnowledge b at)) × Keeps old new
 Joins mode a b old new (Err (NotCanonical at)) = (IsNotCanonical a at ⊎ (IsSavedFile a × IsNotCanonical b at)) × Keeps old new
 Joins mode a b old new (Err NamesDiffer) = DoNamesDiffer a b × Keeps old new

@@ -1,17 +1,21 @@
 //! The command `join`: what two saved files know together.
-ghost use Rattle.std.specs.Prelude.{◌≡◌, ◌≢◌, ◌↔◌, IsTrue, IfSome, Result};
-ghost use Rattle.zmeta.specs.Faults.{answer_status};
-ghost use Rattle.zmeta.specs.Join.{IsSavedFile, Loads, LoadsBoth, Joins};
+ghost use Rattle.std.specs.Prelude.{◌≡◌, ◌≢◌, ◌↔◌, IsTrue, IfSome, IfOk, Result};
+ghost use Rattle.std.specs.List.{list_any};
+ghost use Rattle.zmeta.specs.Faults.{end_status};
+ghost use Rattle.zmeta.specs.Join.{IsSavedFile, is_failed, known_status, Loads, LoadsBoth, Joins};
 ghost use Rattle.zmeta.specs.declared.fault.Fault.{Fault};
+ghost use Rattle.zmeta.specs.declared.fault.Status.{Status};
 
 use crate::fault::{Fault, Status};
 use crate::input::read_all;
-use std::alloc::Global;
+use std::alloc::{AllocError, Global};
 use std::io::{Read, Write};
-use zknow::{Knowledge, Mode, Names, load, print_list};
+use zknow::{Fact, Knowledge, Mode, Names, load, print_list};
 
 /// Prints the list of what two saved files know together, or tells on standard error why there is none: a file is
 /// refused, the first before the second is read, or the files have different names. Nothing is printed then.
+///
+/// The status is `Failed` where the list has a search or an association that failed.
 ///
 /// The paths are told where a file cannot be read.
 pub fn join<R: Read, W: Write, E: Write>(
@@ -23,17 +27,18 @@ pub fn join<R: Read, W: Write, E: Write>(
     output: &mut W,
     errors: &mut E,
 ) -> Status
-    ensures joined { IfSome (R.remaining first.old) (λ a. IfSome (R.remaining second.old) (λ b. (answer : Result (Unit {0}) Fault)
+    ensures joined { IfSome (R.remaining first.old) (λ a. IfSome (R.remaining second.old) (λ b. (answer : Result Status Fault)
         × Joins mode a b (W.contents output.old) (W.contents output.new) answer
-        × (result ≡ answer_status answer))) }
+        × (result ≡ end_status answer))) }
     ensures unread { IfSome (R.remaining first.old) (λ a. (IsSavedFile a → ⊥) → second.new ≡ second.old) }
 {
     match join_files(alloc, paths, first, second, mode, output) {
-        Ok(()) => Status::Done,
+        Ok(status) => status,
         Err(fault) => fault.report(errors),
     }
 }
 
+/// Prints the list, and answers the status.
 fn join_files<'a, R: Read, W: Write>(
     alloc: Global,
     paths: (&'a str, &'a str),
@@ -41,18 +46,49 @@ fn join_files<'a, R: Read, W: Write>(
     second: &mut R,
     mode: Mode,
     output: &mut W,
-) -> Result<(), Fault<'a>>
+) -> Result<Status, Fault<'a>>
     ensures joined { IfSome (R.remaining first.old) (λ a. IfSome (R.remaining second.old) (λ b.
         Joins mode a b (W.contents output.old) (W.contents output.new) result)) }
     ensures unread { IfSome (R.remaining first.old) (λ a. (IsSavedFile a → ⊥) → second.new ≡ second.old) }
 {
     let (knowledge, names) = load_both(alloc, paths, first, second)?;
+    let status = known_status(&knowledge)?;
     let mut text = Vec::new(alloc);
     print_list(alloc, &knowledge, &names, mode, &mut text)?;
     match output.write_all(text.as_slice()) {
-        Ok(()) => Ok(()),
+        Ok(()) => Ok(status),
         Err(_) => Err(Fault::Write("-")),
     }
+}
+
+/// The status of a command that knows this.
+#[tactic(auto, unfolding(crate::specs::Join::known_status))]
+fn known_status(knowledge: &Knowledge) -> Result<Status, AllocError>
+    ensures { IfOk result (λ status. status ≡ known_status knowledge.now) }
+{
+    let facts = knowledge.facts()?;
+    if has_failed(facts.as_slice()) {
+        Ok(Status::Failed)
+    } else {
+        Ok(Status::Done)
+    }
+}
+
+fn has_failed(facts: &[Fact]) -> bool
+    ensures { result ≡ list_any is_failed facts.now }
+{
+    for fact in facts {
+        if is_failed(fact) {
+            return true;
+        }
+    }
+    false
+}
+
+fn is_failed(fact: &Fact) -> bool
+    ensures { result ≡ is_failed fact.now }
+{
+    matches!(fact, Fact::Failed { .. })
 }
 
 /// What both files say together.
@@ -144,16 +180,21 @@ mod tests {
     fn prints_what_either_knows(rt: HostRuntime) {
         let both =
             b"target \"a\" set 1 count 4\ntarget \"a\" set 1 count 5\ntarget \"a\" set 2 failed\n".as_slice();
-        for (first, second, printed) in [
-            (COUNT, COUNT, b"target \"a\" set 1 count 4\n".as_slice()),
-            (COUNT, OTHERS, both),
-            (OTHERS, COUNT, both),
-            (NOTHING, NOTHING, b""),
+        for (first, second, printed, status) in [
+            (
+                COUNT,
+                COUNT,
+                b"target \"a\" set 1 count 4\n".as_slice(),
+                Status::Done,
+            ),
+            (COUNT, OTHERS, both, Status::Failed),
+            (OTHERS, COUNT, both, Status::Failed),
+            (NOTHING, NOTHING, b"", Status::Done),
         ] {
             let run = join_of(rt.alloc(), first, second);
             assert_eq!(rt; run.printed.as_slice(), printed, "{first:?} {second:?}");
             assert_eq!(rt; run.told.len(), 0, "{first:?} {second:?}");
-            assert_eq!(rt; run.status, Status::Done, "{first:?} {second:?}");
+            assert_eq!(rt; run.status, status, "{first:?} {second:?}");
         }
     }
 
