@@ -1,7 +1,7 @@
 -- What `join` prints of two saved files.
-use Rattle.std.specs.Prelude.{◌≡◌, ◌≢◌, ◌⊎◌, ℕ, Bool, true, false, if◌then◌else◌, List, Option, Result, Ok, Err, Contains}
+use Rattle.std.specs.Prelude.{◌≡◌, ◌≢◌, ◌⊎◌, ℕ, Bool, true, false, if◌then◌else◌, List, Option, Result, Ok, Err, MatchResult, IfErr, IfSome, Contains}
 use Rattle.std.specs.List.{list_any}
-use Rattle.std.specs.Io.KnownBytes.{Keeps, Appends}
+use Rattle.std.specs.Io.KnownBytes.{Keeps, Appends, IsAtEnd}
 use Rattle.zknow.specs.declared.fact.Fact.{Fact}
 use Rattle.zknow.specs.declared.fact.Fact.TheVariants as kinds
 use Rattle.zknow.specs.declared.fact.Mode.{Mode}
@@ -27,6 +27,24 @@ Loads file (Err (NotCanonical at)) = IsNotCanonical file at
 Loads file (Err (Read path)) = Unit {0}
 Loads file (Err Memory) = Unit {0}
 Loads file (Err _) = ⊥
+
+-- a fault of one file: it cannot be read, is no saved one, or memory ran out on it
+abbrev pub IsOfFile : List ℕ → Fault → Type 0
+IsOfFile path (Read told) = told.now ≡ path
+IsOfFile path (NotKnowledge at) = Unit {0}
+IsOfFile path (NotCanonical at) = Unit {0}
+IsOfFile path Memory = Unit {0}
+IsOfFile path _ = ⊥
+
+-- where a file is told to be unreadable, it is this one
+abbrev pub Tells : List ℕ → Fault → Type 0
+Tells path (Read told) = told.now ≡ path
+Tells path _ = Unit {0}
+
+-- The answer is a fault of the first file, and the second is left unread; or the first was read to its end and is a
+-- saved one, and where a file is told to be unreadable, that is the second.
+abbrev pub IsInTurn : {A : Type 0} → Type 0 → List ℕ → List ℕ → Option (List ℕ) → Option (List ℕ) → Result A Fault → Type 0
+IsInTurn unread one two old new answer = (MatchResult answer (λ _. ⊥) (IsOfFile one) × unread) ⊎ (IfSome old IsSavedFile × IsAtEnd new × IfErr answer (Tells two))
 
 -- the names of both files, and the facts of both together
 pub record AreJoined (a b : List ℕ) (names : List (List ℕ)) (facts : List Fact) : Type 0 where

@@ -1,8 +1,9 @@
 //! The command `join`: what two saved files know together.
-ghost use Rattle.std.specs.Prelude.{◌≡◌, ◌≢◌, ◌↔◌, IsTrue, IfSome, IfOk, Result};
+ghost use Rattle.std.specs.Prelude.{◌≡◌, ◌≢◌, ◌↔◌, IsTrue, IfSome, IfOk, IfErr, OnOk, Result};
+ghost use Rattle.std.specs.Io.KnownBytes.{IsAtEnd};
 ghost use Rattle.std.specs.List.{list_any};
 ghost use Rattle.zmeta.specs.Faults.{end_status};
-ghost use Rattle.zmeta.specs.Join.{IsSavedFile, is_failed, known_status, Loads, LoadsBoth, Joins};
+ghost use Rattle.zmeta.specs.Join.{is_failed, known_status, Loads, IsOfFile, IsInTurn, LoadsBoth, Joins};
 ghost use Rattle.zmeta.specs.declared.fault.Fault.{Fault};
 ghost use Rattle.zmeta.specs.declared.fault.Status.{Status};
 
@@ -27,10 +28,10 @@ pub fn join<R: Read, W: Write, E: Write>(
     output: &mut W,
     errors: &mut E,
 ) -> Status
-    ensures joined { IfSome (R.remaining first.old) (λ a. IfSome (R.remaining second.old) (λ b. (answer : Result Status Fault)
-        × Joins mode a b (W.contents output.old) (W.contents output.new) answer
-        × (result ≡ end_status answer))) }
-    ensures unread { IfSome (R.remaining first.old) (λ a. (IsSavedFile a → ⊥) → second.new ≡ second.old) }
+    ensures { (answer : Result Status Fault) × (result ≡ end_status answer)
+        × IfSome (R.remaining first.old) (λ a. IfSome (R.remaining second.old) (λ b.
+        Joins mode a b (W.contents output.old) (W.contents output.new) answer))
+        × IsInTurn (second.new ≡ second.old) paths.entry.0.now paths.entry.1.now (R.remaining first.old) (R.remaining first.new) answer }
 {
     match join_files(alloc, paths, first, second, mode, output) {
         Ok(status) => status,
@@ -49,7 +50,8 @@ fn join_files<'a, R: Read, W: Write>(
 ) -> Result<Status, Fault<'a>>
     ensures joined { IfSome (R.remaining first.old) (λ a. IfSome (R.remaining second.old) (λ b.
         Joins mode a b (W.contents output.old) (W.contents output.new) result)) }
-    ensures unread { IfSome (R.remaining first.old) (λ a. (IsSavedFile a → ⊥) → second.new ≡ second.old) }
+    ensures in_turn { IsInTurn (second.new ≡ second.old) paths.entry.0.now paths.entry.1.now
+        (R.remaining first.old) (R.remaining first.new) result }
 {
     let (knowledge, names) = load_both(alloc, paths, first, second)?;
     let status = known_status(&knowledge)?;
@@ -99,7 +101,8 @@ fn load_both<'a, R: Read>(
     second: &mut R,
 ) -> Result<(Knowledge, Names), Fault<'a>>
     ensures joined { IfSome (R.remaining first.old) (λ a. IfSome (R.remaining second.old) (λ b. LoadsBoth a b result)) }
-    ensures unread { IfSome (R.remaining first.old) (λ a. (IsSavedFile a → ⊥) → second.new ≡ second.old) }
+    ensures in_turn { IsInTurn (second.new ≡ second.old) paths.entry.0.now paths.entry.1.now
+        (R.remaining first.old) (R.remaining first.new) result }
 {
     let (mut knowledge, names) = load_file(alloc, paths.0, first)?;
     let (other, others) = load_file(alloc, paths.1, second)?;
@@ -117,7 +120,9 @@ fn load_file<'a, R: Read>(
     path: &'a str,
     reader: &mut R,
 ) -> Result<(Knowledge, Names), Fault<'a>>
-    ensures { IfSome (R.remaining reader.old) (λ file. Loads file result) }
+    ensures loaded { IfSome (R.remaining reader.old) (λ file. Loads file result) }
+    ensures end { OnOk result (IsAtEnd (R.remaining reader.new)) }
+    ensures fault { IfErr result (λ f. IsOfFile path.entry.now f) }
 {
     let octets = read_all(alloc, reader, path)?;
     Ok(load(alloc, octets.as_slice())?)
@@ -232,10 +237,15 @@ mod tests {
 
     #[test]
     fn refuses_the_first_file_before_it_reads_the_second(rt: HostRuntime) {
-        for (octets, fails_at, reads) in [
-            (b"\xa4".as_slice(), 0, 0),
-            (COUNT, 1, 0),
-            (COUNT, 0, 1),
+        for (octets, fails_at, reads, due) in [
+            (
+                b"\xa4".as_slice(),
+                0,
+                0,
+                b"zmeta: knowledge refused: NotKnowledge at 0\n".as_slice(),
+            ),
+            (COUNT, 1, 0, b"zmeta: cannot read one\n"),
+            (COUNT, 0, 1, b"zmeta: cannot read two\n"),
         ] {
             let mut first = Broken {
                 octets,
@@ -251,10 +261,7 @@ mod tests {
                 calls: 0,
                 fails_at: 0,
             };
-            let mut errors = Full {
-                calls: 0,
-                fails_at: 0,
-            };
+            let mut told = Vec::new(rt.alloc());
             let status = join(
                 rt.alloc(),
                 ("one", "two"),
@@ -262,9 +269,10 @@ mod tests {
                 &mut second,
                 Mode::Hex,
                 &mut output,
-                &mut errors,
+                &mut told,
             );
             assert_eq!(rt; status, Status::Refused, "{octets:?}");
+            assert_eq!(rt; told.as_slice(), due, "{octets:?}");
             assert_eq!(rt; second.calls, reads, "{octets:?}");
             assert_eq!(rt; output.calls, 0, "{octets:?}");
         }
