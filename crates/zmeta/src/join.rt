@@ -8,9 +8,11 @@ ghost use Rattle.zmeta.specs.declared.fault.Fault.{Fault};
 ghost use Rattle.zmeta.specs.declared.fault.Status.{Status};
 
 use crate::fault::{Fault, Status};
+use crate::files::NamedFile;
 use crate::input::read_all;
 use std::alloc::{AllocError, Global};
 use std::io::{Read, Write};
+use std::rt::Files;
 use zknow::{Fact, Knowledge, Mode, Names, load, print_list};
 
 /// Prints the list of what two saved files know together, or tells on standard error why there is none: a file is
@@ -37,6 +39,20 @@ pub fn join<R: Read, W: Write, E: Write>(
         Ok(status) => status,
         Err(fault) => fault.report(errors),
     }
+}
+
+/// The same of the files at two paths, which are opened when they are read.
+pub fn join_named<F: Files, W: Write, E: Write>(
+    alloc: Global,
+    files: &F,
+    paths: (&str, &str),
+    mode: Mode,
+    output: &mut W,
+    errors: &mut E,
+) -> Status {
+    let mut first = NamedFile::new(files, paths.0);
+    let mut second = NamedFile::new(files, paths.1);
+    join(alloc, paths, &mut first, &mut second, mode, output, errors)
 }
 
 /// Prints the list, and answers the status.
@@ -138,6 +154,8 @@ fn are_same(names: &Names, others: &Names) -> bool
 mod tests {
     use super::*;
     use crate::devices::{Broken, Full, Run};
+    use std::fs;
+    use std::test::Fail;
     use zknow::save;
 
     /// Names `a`, and set 1 of target 0 with 4 records.
@@ -145,6 +163,9 @@ mod tests {
     /// The same set with 5 records, and set 2, which failed.
     const OTHERS: &[u8] =
         b"\xa4\x03\x80\x01a\xa0\x09\x80\x01\x00\x81\x01\x01\x82\x01\x05\xa1\x06\x80\x01\x00\x81\x01\x02";
+    /// The same name, and a record at position 1 of the set.
+    const RECORD: &[u8] =
+        b"\xa4\x03\x80\x01a\xa2\x1e\x80\x01\x00\x81\x01\x01\x82\x01\x01\x30\x13\xa1\x11\xa1\x0f\x28\x0d\x06\x07\x2a\x86\x48\xce\x13\x05\x0a\x81\x02r1";
     /// No names, and nothing known.
     const NOTHING: &[u8] = b"\xa4\x00";
 
@@ -233,6 +254,50 @@ mod tests {
             assert_eq!(rt; run.printed.len(), 0, "{first:?} {second:?}");
             assert_eq!(rt; run.status, Status::Refused, "{first:?} {second:?}");
         }
+    }
+
+    #[test]
+    fn reads_files_by_their_names(rt: HostRuntime) -> Result<(), Fail> {
+        fs::write(&rt, "count", COUNT)?;
+        fs::write(&rt, "record", RECORD)?;
+        for (first, second, mode, output, errors) in [
+            (
+                "record",
+                "count",
+                Mode::Text,
+                "target \"a\" set 1 count 4\n1 \"a\" 1 rec 1.2.840.10003.5.10 - \"r1\"\n",
+                "",
+            ),
+            (
+                "record",
+                "record",
+                Mode::Hex,
+                "1 \"a\" 1 rec 1.2.840.10003.5.10 - 7231\n",
+                "",
+            ),
+            ("none", "other", Mode::Text, "", "zmeta: cannot read none\n"),
+            ("count", "none", Mode::Hex, "", "zmeta: cannot read none\n"),
+        ] {
+            let mut printed = Vec::new(rt.alloc());
+            let mut told = Vec::new(rt.alloc());
+            let status = join_named(
+                rt.alloc(),
+                &rt,
+                (first, second),
+                mode,
+                &mut printed,
+                &mut told,
+            );
+            let due = if errors.is_empty() {
+                Status::Done
+            } else {
+                Status::Refused
+            };
+            assert_eq!(rt; printed.as_slice(), output.as_bytes(), "{first} {second}");
+            assert_eq!(rt; told.as_slice(), errors.as_bytes(), "{first} {second}");
+            assert_eq!(rt; status, due, "{first} {second}");
+        }
+        Ok(())
     }
 
     #[test]

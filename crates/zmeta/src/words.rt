@@ -6,9 +6,10 @@ ghost use Rattle.clap.specs.declared.error.kind.ErrorKind.TheVariants.{OutOfMemo
 
 use crate::fault::{Fault, Status};
 use clap::error::ErrorKind;
-use clap::{Arg, ArgAction, Command, Error, value_parser};
+use clap::{Arg, ArgAction, ArgMatches, Command, Error, value_parser};
 use std::alloc::{AllocError, Global};
 use std::io::Write;
+use zknow::Mode;
 
 /// What the words ask for.
 #[derive(Clone, Copy, Debug, PartialEq, Eq)]
@@ -23,7 +24,7 @@ pub enum Words<'a> {
     Join {
         first: &'a str,
         second: &'a str,
-        hex: bool,
+        mode: Mode,
     },
 }
 
@@ -183,9 +184,18 @@ pub fn parse<'a>(alloc: Global, words: &'a [String]) -> Result<Words<'a>, Error>
         Some(("join", found)) => Ok(Words::Join {
             first: found.get_str("A").unwrap_or(""),
             second: found.get_str("B").unwrap_or(""),
-            hex: found.get_flag("hex"),
+            mode: mode_of(found),
         }),
         _ => Err(command.error(ErrorKind::InvalidSubcommand, "no such command")?),
+    }
+}
+
+/// How the option asks for records to be printed.
+fn mode_of(found: &ArgMatches<'_>) -> Mode {
+    if found.get_flag("hex") {
+        Mode::Hex
+    } else {
+        Mode::Text
     }
 }
 
@@ -263,7 +273,14 @@ mod tests {
         let due = Words::Join {
             first: "a",
             second: "b",
-            hex: true,
+            mode: Mode::Hex,
+        };
+        assert_eq!(rt; parse(rt.alloc(), words.as_slice())?, due);
+        let words = words_of(rt.alloc(), "zmeta join a b")?;
+        let due = Words::Join {
+            first: "a",
+            second: "b",
+            mode: Mode::Text,
         };
         assert_eq!(rt; parse(rt.alloc(), words.as_slice())?, due);
         Ok(())
