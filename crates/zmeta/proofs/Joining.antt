@@ -1,16 +1,18 @@
 -- What two files say together.
-use Rattle.std.proofs.Common.{◌≡◌, ℕ, Bool, false, List, Option, Some, None, Result, Err, IsTrue, refl, subst}
+use Rattle.std.proofs.Common.{◌≡◌, ℕ, Bool, false, List, [], ◌++◌, Option, Some, None, Result, Ok, Err, IsTrue, refl, ap, ◌∙◌, subst}
 use Rattle.std.specs.Prelude.{IfSome}
-use Rattle.std.specs.Io.KnownBytes.{Keeps}
+use Rattle.std.specs.Io.KnownBytes.{Keeps, Appends}
 use Rattle.zknow.specs.declared.fact.Fact.{Fact}
 use Rattle.zknow.specs.declared.fact.Mode.{Mode}
+use Rattle.zknow.specs.Listing.{listing}
 use Rattle.zknow.specs.Saved.{IsSaved}
 use Rattle.zknow.specs.declared.loading.LoadError.{LoadError}
 use Rattle.zknow.specs.declared.loading.LoadError.TheVariants as loads
 use Rattle.zknow.specs.Loaded.{IsFault}
 use Rattle.zmeta.specs.Faults.{of_load}
-use Rattle.zmeta.specs.Join.{Loads, DoNamesDiffer, LoadsBoth, Joins}
+use Rattle.zmeta.specs.Join.{Loads, AreJoined, DoNamesDiffer, LoadsBoth, known_status, Joins}
 use Rattle.zmeta.specs.declared.fault.Fault.{Fault}
+use Rattle.zmeta.specs.declared.fault.Status.{Status}
 use Rattle.zmeta.specs.declared.fault.Fault.TheVariants.{Read, NotKnowledge, NotCanonical, NamesDiffer, Memory}
 
 -- a file that is refused
@@ -44,7 +46,15 @@ told mode (Read path) old a b h = kept old
 told mode Memory old a b h = kept old
 told mode f old a b h = absurd h
 
-pub join_refused : (p q : Option (List ℕ)) (mode : Mode) (old : Option (List ℕ)) (g f : Fault) (r : Result (Unit {0}) Fault) → r ≡ Err f → f ≡ g → IfSome p (λ a. IfSome q (λ b. LoadsBoth a b (Err g))) → IfSome p (λ a. IfSome q (λ b. Joins mode a b old old r))
+pub join_refused : (p q : Option (List ℕ)) (mode : Mode) (old : Option (List ℕ)) (g f : Fault) (r : Result Status Fault) → r ≡ Err f → f ≡ g → IfSome p (λ a. IfSome q (λ b. LoadsBoth a b (Err g))) → IfSome p (λ a. IfSome q (λ b. Joins mode a b old old r))
 join_refused None q mode old g f r is of h = tt
 join_refused (Some a) None mode old g f r is of h = tt
 join_refused (Some a) (Some b) mode old g f r is of h = rw (is, of) (told mode g old a b h)
+
+-- the list is written of files that are joined
+pub join_done : (p q : Option (List ℕ)) (mode : Mode) (names : List (List ℕ)) (known : List Fact) (old new : Option (List ℕ)) (start text octets : List ℕ) (status : Status) → IfSome p (λ a. IfSome q (λ b. AreJoined a b names known)) → status ≡ known_status known
+    → start ≡ [] → text ≡ start ++ listing names mode known → octets ≡ text → Appends old new octets → IfSome p (λ a. IfSome q (λ b. Joins mode a b old new (Ok status)))
+join_done None q mode names known old new start text octets status joined is s t o w = tt
+join_done (Some a) None mode names known old new start text octets status joined is s t o w = tt
+join_done (Some a) (Some b) mode names known old new start text octets status joined is s t o w =
+    (names, known, joined, is, subst (Appends old new) (o ∙ t ∙ ap (λ z. z ++ listing names mode known) s) w)

@@ -109,3 +109,8 @@ status_of _ = statuses.Refused
 abbrev pub answer_status : Result (Unit {0}) Fault → Status
 answer_status (Ok _) = statuses.Done
 answer_status (Err f) = status_of f
+
+-- the status of a command that answers its own where no fault stopped it
+abbrev pub end_status : Result Status Fault → Status
+end_status (Ok status) = status
+end_status (Err f) = status_of f

@@ -1,7 +1,9 @@
 -- What `join` prints of two saved files.
-use Rattle.std.specs.Prelude.{◌≢◌, ◌⊎◌, ℕ, List, Option, Result, Ok, Err, Contains}
-use Rattle.std.specs.Io.KnownBytes.{Keeps, Appends}
+use Rattle.std.specs.Prelude.{◌≡◌, ◌≢◌, ◌⊎◌, ℕ, Bool, true, false, if◌then◌else◌, List, Option, Result, Ok, Err, MatchResult, IfErr, IfSome, Contains}
+use Rattle.std.specs.List.{list_any}
+use Rattle.std.specs.Io.KnownBytes.{Keeps, Appends, IsAtEnd}
 use Rattle.zknow.specs.declared.fact.Fact.{Fact}
+use Rattle.zknow.specs.declared.fact.Fact.TheVariants as kinds
 use Rattle.zknow.specs.declared.fact.Mode.{Mode}
 use Rattle.zknow.specs.Facts.{AreFacts}
 use Rattle.zknow.specs.Join.{IsUnion}
@@ -10,6 +12,8 @@ use Rattle.zknow.specs.Saved.{IsSaved}
 use Rattle.zknow.specs.Loaded.{IsNotKnowledge, IsNotCanonical}
 use Rattle.zmeta.specs.declared.fault.Fault.{Fault}
 use Rattle.zmeta.specs.declared.fault.Fault.TheVariants.{Read, Write, NotKnowledge, NotCanonical, NamesDiffer, Memory}
+use Rattle.zmeta.specs.declared.fault.Status.{Status}
+use Rattle.zmeta.specs.declared.fault.Status.TheVariants as statuses
 
 -- the file is a saved one
 abbrev pub IsSavedFile : List ℕ → Type 0
@@ -23,6 +27,24 @@ Loads file (Err (NotCanonical at)) = IsNotCanonical file at
 Loads file (Err (Read path)) = Unit {0}
 Loads file (Err Memory) = Unit {0}
 Loads file (Err _) = ⊥
+
+-- a fault of one file: it cannot be read, is no saved one, or memory ran out on it
+abbrev pub IsOfFile : List ℕ → Fault → Type 0
+IsOfFile path (Read told) = told.now ≡ path
+IsOfFile path (NotKnowledge at) = Unit {0}
+IsOfFile path (NotCanonical at) = Unit {0}
+IsOfFile path Memory = Unit {0}
+IsOfFile path _ = ⊥
+
+-- where a file is told to be unreadable, it is this one
+abbrev pub Tells : List ℕ → Fault → Type 0
+Tells path (Read told) = told.now ≡ path
+Tells path _ = Unit {0}
+
+-- The answer is a fault of the first file, and the second is left unread; or the first was read to its end and is a
+-- saved one, and where a file is told to be unreadable, that is the second.
+abbrev pub IsInTurn : {A : Type 0} → Type 0 → List ℕ → List ℕ → Option (List ℕ) → Option (List ℕ) → Result A Fault → Type 0
+IsInTurn unread one two old new answer = (MatchResult answer (λ _. ⊥) (IsOfFile one) × unread) ⊎ (IfSome old IsSavedFile × IsAtEnd new × IfErr answer (Tells two))
 
 -- the names of both files, and the facts of both together
 pub record AreJoined (a b : List ℕ) (names : List (List ℕ)) (facts : List Fact) : Type 0 where
@@ -53,9 +75,17 @@ LoadsBoth a b (Err (Read path)) = Unit {0}
 LoadsBoth a b (Err Memory) = Unit {0}
 LoadsBoth a b (Err _) = ⊥
 
+abbrev pub is_failed : Fact → Bool
+is_failed (kinds.Failed target set) = true
+is_failed _ = false
+
+-- the status of a command that knows these facts: a search or an association failed, or none
+unfoldable pub known_status : List Fact → Status
+known_status known = if list_any is_failed known then statuses.Failed else statuses.Done
+
 -- what an answer of `join` says of the files, and of what was written
-abbrev pub Joins : Mode → List ℕ → List ℕ → Option (List ℕ) → Option (List ℕ) → Result (Unit {0}) Fault → Type 0
-Joins mode a b old new (Ok _) = (names : List (List ℕ)) × (facts : List Fact) × AreJoined a b names facts × Appends old new (listing names mode facts)
+abbrev pub Joins : Mode → List ℕ → List ℕ → Option (List ℕ) → Option (List ℕ) → Result Status Fault → Type 0
+Joins mode a b old new (Ok status) = (names : List (List ℕ)) × (facts : List Fact) × AreJoined a b names facts × (status ≡ known_status facts) × Appends old new (listing names mode facts)
 Joins mode a b old new (Err (NotKnowledge at)) = (IsNotKnowledge a at ⊎ (IsSavedFile a × IsNotKnowledge b at)) × Keeps old new
 Joins mode a b old new (Err (NotCanonical at)) = (IsNotCanonical a at ⊎ (IsSavedFile a × IsNotCanonical b at)) × Keeps old new
 Joins mode a b old new (Err NamesDiffer) = DoNamesDiffer a b × Keeps old new

@@ -1,17 +1,24 @@
 //! The command `join`: what two saved files know together.
-ghost use Rattle.std.specs.Prelude.{◌≡◌, ◌≢◌, ◌↔◌, IsTrue, IfSome, Result};
-ghost use Rattle.zmeta.specs.Faults.{answer_status};
-ghost use Rattle.zmeta.specs.Join.{IsSavedFile, Loads, LoadsBoth, Joins};
+ghost use Rattle.std.specs.Prelude.{◌≡◌, ◌≢◌, ◌↔◌, IsTrue, IfSome, IfOk, IfErr, OnOk, Result};
+ghost use Rattle.std.specs.Io.KnownBytes.{IsAtEnd};
+ghost use Rattle.std.specs.List.{list_any};
+ghost use Rattle.zmeta.specs.Faults.{end_status};
+ghost use Rattle.zmeta.specs.Join.{is_failed, known_status, Loads, IsOfFile, IsInTurn, LoadsBoth, Joins};
 ghost use Rattle.zmeta.specs.declared.fault.Fault.{Fault};
+ghost use Rattle.zmeta.specs.declared.fault.Status.{Status};
 
 use crate::fault::{Fault, Status};
+use crate::files::NamedFile;
 use crate::input::read_all;
-use std::alloc::Global;
+use std::alloc::{AllocError, Global};
 use std::io::{Read, Write};
-use zknow::{Knowledge, Mode, Names, load, print_list};
+use std::rt::Files;
+use zknow::{Fact, Knowledge, Mode, Names, load, print_list};
 
 /// Prints the list of what two saved files know together, or tells on standard error why there is none: a file is
 /// refused, the first before the second is read, or the files have different names. Nothing is printed then.
+///
+/// The status is `Failed` where the list has a search or an association that failed.
 ///
 /// The paths are told where a file cannot be read.
 pub fn join<R: Read, W: Write, E: Write>(
@@ -23,17 +30,32 @@ pub fn join<R: Read, W: Write, E: Write>(
     output: &mut W,
     errors: &mut E,
 ) -> Status
-    ensures joined { IfSome (R.remaining first.old) (λ a. IfSome (R.remaining second.old) (λ b. (answer : Result (Unit {0}) Fault)
-        × Joins mode a b (W.contents output.old) (W.contents output.new) answer
-        × (result ≡ answer_status answer))) }
-    ensures unread { IfSome (R.remaining first.old) (λ a. (IsSavedFile a → ⊥) → second.new ≡ second.old) }
+    ensures { (answer : Result Status Fault) × (result ≡ end_status answer)
+        × IfSome (R.remaining first.old) (λ a. IfSome (R.remaining second.old) (λ b.
+        Joins mode a b (W.contents output.old) (W.contents output.new) answer))
+        × IsInTurn (second.new ≡ second.old) paths.entry.0.now paths.entry.1.now (R.remaining first.old) (R.remaining first.new) answer }
 {
     match join_files(alloc, paths, first, second, mode, output) {
-        Ok(()) => Status::Done,
+        Ok(status) => status,
         Err(fault) => fault.report(errors),
     }
 }
 
+/// The same of the files at two paths, which are opened when they are read.
+pub fn join_named<F: Files, W: Write, E: Write>(
+    alloc: Global,
+    files: &F,
+    paths: (&str, &str),
+    mode: Mode,
+    output: &mut W,
+    errors: &mut E,
+) -> Status {
+    let mut first = NamedFile::new(files, paths.0);
+    let mut second = NamedFile::new(files, paths.1);
+    join(alloc, paths, &mut first, &mut second, mode, output, errors)
+}
+
+/// Prints the list, and answers the status.
 fn join_files<'a, R: Read, W: Write>(
     alloc: Global,
     paths: (&'a str, &'a str),
@@ -41,18 +63,50 @@ fn join_files<'a, R: Read, W: Write>(
     second: &mut R,
     mode: Mode,
     output: &mut W,
-) -> Result<(), Fault<'a>>
+) -> Result<Status, Fault<'a>>
     ensures joined { IfSome (R.remaining first.old) (λ a. IfSome (R.remaining second.old) (λ b.
         Joins mode a b (W.contents output.old) (W.contents output.new) result)) }
-    ensures unread { IfSome (R.remaining first.old) (λ a. (IsSavedFile a → ⊥) → second.new ≡ second.old) }
+    ensures in_turn { IsInTurn (second.new ≡ second.old) paths.entry.0.now paths.entry.1.now
+        (R.remaining first.old) (R.remaining first.new) result }
 {
     let (knowledge, names) = load_both(alloc, paths, first, second)?;
+    let status = known_status(&knowledge)?;
     let mut text = Vec::new(alloc);
     print_list(alloc, &knowledge, &names, mode, &mut text)?;
     match output.write_all(text.as_slice()) {
-        Ok(()) => Ok(()),
+        Ok(()) => Ok(status),
         Err(_) => Err(Fault::Write("-")),
     }
+}
+
+/// The status of a command that knows this.
+#[tactic(auto, unfolding(crate::specs::Join::known_status))]
+fn known_status(knowledge: &Knowledge) -> Result<Status, AllocError>
+    ensures { IfOk result (λ status. status ≡ known_status knowledge.now) }
+{
+    let facts = knowledge.facts()?;
+    if has_failed(facts.as_slice()) {
+        Ok(Status::Failed)
+    } else {
+        Ok(Status::Done)
+    }
+}
+
+fn has_failed(facts: &[Fact]) -> bool
+    ensures { result ≡ list_any is_failed facts.now }
+{
+    for fact in facts {
+        if is_failed(fact) {
+            return true;
+        }
+    }
+    false
+}
+
+fn is_failed(fact: &Fact) -> bool
+    ensures { result ≡ is_failed fact.now }
+{
+    matches!(fact, Fact::Failed { .. })
 }
 
 /// What both files say together.
@@ -63,7 +117,8 @@ fn load_both<'a, R: Read>(
     second: &mut R,
 ) -> Result<(Knowledge, Names), Fault<'a>>
     ensures joined { IfSome (R.remaining first.old) (λ a. IfSome (R.remaining second.old) (λ b. LoadsBoth a b result)) }
-    ensures unread { IfSome (R.remaining first.old) (λ a. (IsSavedFile a → ⊥) → second.new ≡ second.old) }
+    ensures in_turn { IsInTurn (second.new ≡ second.old) paths.entry.0.now paths.entry.1.now
+        (R.remaining first.old) (R.remaining first.new) result }
 {
     let (mut knowledge, names) = load_file(alloc, paths.0, first)?;
     let (other, others) = load_file(alloc, paths.1, second)?;
@@ -81,7 +136,9 @@ fn load_file<'a, R: Read>(
     path: &'a str,
     reader: &mut R,
 ) -> Result<(Knowledge, Names), Fault<'a>>
-    ensures { IfSome (R.remaining reader.old) (λ file. Loads file result) }
+    ensures loaded { IfSome (R.remaining reader.old) (λ file. Loads file result) }
+    ensures end { OnOk result (IsAtEnd (R.remaining reader.new)) }
+    ensures fault { IfErr result (λ f. IsOfFile path.entry.now f) }
 {
     let octets = read_all(alloc, reader, path)?;
     Ok(load(alloc, octets.as_slice())?)
@@ -97,6 +154,8 @@ fn are_same(names: &Names, others: &Names) -> bool
 mod tests {
     use super::*;
     use crate::devices::{Broken, Full, Run};
+    use std::fs;
+    use std::test::Fail;
     use zknow::save;
 
     /// Names `a`, and set 1 of target 0 with 4 records.
@@ -104,6 +163,9 @@ mod tests {
     /// The same set with 5 records, and set 2, which failed.
     const OTHERS: &[u8] =
         b"\xa4\x03\x80\x01a\xa0\x09\x80\x01\x00\x81\x01\x01\x82\x01\x05\xa1\x06\x80\x01\x00\x81\x01\x02";
+    /// The same name, and a record at position 1 of the set.
+    const RECORD: &[u8] =
+        b"\xa4\x03\x80\x01a\xa2\x1e\x80\x01\x00\x81\x01\x01\x82\x01\x01\x30\x13\xa1\x11\xa1\x0f\x28\x0d\x06\x07\x2a\x86\x48\xce\x13\x05\x0a\x81\x02r1";
     /// No names, and nothing known.
     const NOTHING: &[u8] = b"\xa4\x00";
 
@@ -144,16 +206,21 @@ mod tests {
     fn prints_what_either_knows(rt: HostRuntime) {
         let both =
             b"target \"a\" set 1 count 4\ntarget \"a\" set 1 count 5\ntarget \"a\" set 2 failed\n".as_slice();
-        for (first, second, printed) in [
-            (COUNT, COUNT, b"target \"a\" set 1 count 4\n".as_slice()),
-            (COUNT, OTHERS, both),
-            (OTHERS, COUNT, both),
-            (NOTHING, NOTHING, b""),
+        for (first, second, printed, status) in [
+            (
+                COUNT,
+                COUNT,
+                b"target \"a\" set 1 count 4\n".as_slice(),
+                Status::Done,
+            ),
+            (COUNT, OTHERS, both, Status::Failed),
+            (OTHERS, COUNT, both, Status::Failed),
+            (NOTHING, NOTHING, b"", Status::Done),
         ] {
             let run = join_of(rt.alloc(), first, second);
             assert_eq!(rt; run.printed.as_slice(), printed, "{first:?} {second:?}");
             assert_eq!(rt; run.told.len(), 0, "{first:?} {second:?}");
-            assert_eq!(rt; run.status, Status::Done, "{first:?} {second:?}");
+            assert_eq!(rt; run.status, status, "{first:?} {second:?}");
         }
     }
 
@@ -190,11 +257,60 @@ mod tests {
     }
 
     #[test]
+    fn reads_files_by_their_names(rt: HostRuntime) -> Result<(), Fail> {
+        fs::write(&rt, "count", COUNT)?;
+        fs::write(&rt, "record", RECORD)?;
+        for (first, second, mode, output, errors) in [
+            (
+                "record",
+                "count",
+                Mode::Text,
+                "target \"a\" set 1 count 4\n1 \"a\" 1 rec 1.2.840.10003.5.10 - \"r1\"\n",
+                "",
+            ),
+            (
+                "record",
+                "record",
+                Mode::Hex,
+                "1 \"a\" 1 rec 1.2.840.10003.5.10 - 7231\n",
+                "",
+            ),
+            ("none", "other", Mode::Text, "", "zmeta: cannot read none\n"),
+            ("count", "none", Mode::Hex, "", "zmeta: cannot read none\n"),
+        ] {
+            let mut printed = Vec::new(rt.alloc());
+            let mut told = Vec::new(rt.alloc());
+            let status = join_named(
+                rt.alloc(),
+                &rt,
+                (first, second),
+                mode,
+                &mut printed,
+                &mut told,
+            );
+            let due = if errors.is_empty() {
+                Status::Done
+            } else {
+                Status::Refused
+            };
+            assert_eq!(rt; printed.as_slice(), output.as_bytes(), "{first} {second}");
+            assert_eq!(rt; told.as_slice(), errors.as_bytes(), "{first} {second}");
+            assert_eq!(rt; status, due, "{first} {second}");
+        }
+        Ok(())
+    }
+
+    #[test]
     fn refuses_the_first_file_before_it_reads_the_second(rt: HostRuntime) {
-        for (octets, fails_at, reads) in [
-            (b"\xa4".as_slice(), 0, 0),
-            (COUNT, 1, 0),
-            (COUNT, 0, 1),
+        for (octets, fails_at, reads, due) in [
+            (
+                b"\xa4".as_slice(),
+                0,
+                0,
+                b"zmeta: knowledge refused: NotKnowledge at 0\n".as_slice(),
+            ),
+            (COUNT, 1, 0, b"zmeta: cannot read one\n"),
+            (COUNT, 0, 1, b"zmeta: cannot read two\n"),
         ] {
             let mut first = Broken {
                 octets,
@@ -210,10 +326,7 @@ mod tests {
                 calls: 0,
                 fails_at: 0,
             };
-            let mut errors = Full {
-                calls: 0,
-                fails_at: 0,
-            };
+            let mut told = Vec::new(rt.alloc());
             let status = join(
                 rt.alloc(),
                 ("one", "two"),
@@ -221,9 +334,10 @@ mod tests {
                 &mut second,
                 Mode::Hex,
                 &mut output,
-                &mut errors,
+                &mut told,
             );
             assert_eq!(rt; status, Status::Refused, "{octets:?}");
+            assert_eq!(rt; told.as_slice(), due, "{octets:?}");
             assert_eq!(rt; second.calls, reads, "{octets:?}");
             assert_eq!(rt; output.calls, 0, "{octets:?}");
         }

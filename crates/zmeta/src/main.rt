@@ -18,12 +18,10 @@ mod show;
 mod words;
 
 use crate::fault::{Fault, Status};
-use crate::files::NamedFile;
 use crate::words::Words;
 use std::env;
 use std::io::ErrorKind;
 use std::process::ExitCode;
-use zknow::Mode;
 
 fn main(rt: HostRuntime) -> ExitCode {
     ExitCode::from(run(&rt).code())
@@ -63,12 +61,15 @@ fn call(rt: &HostRuntime, words: Words<'_>) -> Status {
     match words {
         Words::Show => show::show(rt.alloc(), &mut input, &mut output, &mut errors),
         Words::Pqf { text } => pqf::pqf(rt.alloc(), text, &mut output, &mut errors),
-        Words::Join { first, second, hex } => join::join(
+        Words::Join {
+            first,
+            second,
+            mode,
+        } => join::join_named(
             rt.alloc(),
+            rt,
             (first, second),
-            &mut NamedFile::new(rt, first),
-            &mut NamedFile::new(rt, second),
-            if hex { Mode::Hex } else { Mode::Text },
+            mode,
             &mut output,
             &mut errors,
         ),

@@ -66,6 +66,7 @@ fn put_element(alloc: Global, node: Node, lines: &mut Vec<u8>) -> Result<(), All
 mod tests {
     use crate::devices::query_run_of;
     use crate::fault::Status;
+    use std::test::Fail;
 
     #[test]
     fn prints_the_query_and_its_element(rt: HostRuntime) {
@@ -104,5 +105,25 @@ mod tests {
             assert_eq!(rt; run.printed.len(), 0, "{text}");
             assert_eq!(rt; run.status, Status::Refused, "{text}");
         }
+    }
+
+    #[test]
+    fn tells_the_word_that_stands_too_deep(rt: HostRuntime) -> Result<(), Fail> {
+        for (operators, told, status) in [
+            (31, b"".as_slice(), Status::Done),
+            (32, b"zmeta: TooDeep at 160\n", Status::Refused),
+        ] {
+            let mut text = String::new(rt.alloc());
+            for _ in 0..operators {
+                text.push_str("@and ")?;
+            }
+            for _ in 0..=operators {
+                text.push_str("x ")?;
+            }
+            let run = query_run_of(rt.alloc(), text.as_str());
+            assert_eq!(rt; run.told.as_slice(), told, "{operators}");
+            assert_eq!(rt; run.status, status, "{operators}");
+        }
+        Ok(())
     }
 }

@@ -6,9 +6,10 @@ ghost use Rattle.clap.specs.declared.error.kind.ErrorKind.TheVariants.{OutOfMemo
 
 use crate::fault::{Fault, Status};
 use clap::error::ErrorKind;
-use clap::{Arg, ArgAction, Command, Error, value_parser};
+use clap::{Arg, ArgAction, ArgMatches, Command, Error};
 use std::alloc::{AllocError, Global};
 use std::io::Write;
+use zknow::Mode;
 
 /// What the words ask for.
 #[derive(Clone, Copy, Debug, PartialEq, Eq)]
@@ -23,7 +24,7 @@ pub(crate) enum Words<'a> {
     Join {
         first: &'a str,
         second: &'a str,
-        hex: bool,
+        mode: Mode,
     },
 }
 
@@ -35,7 +36,6 @@ struct Form {
     example: &'static str,
     wants: &'static [Word],
     has_hex: bool,
-    has_save: bool,
 }
 
 /// A word that a command wants, under the name that help gives it.
@@ -43,8 +43,8 @@ struct Form {
 struct Word {
     id: &'static str,
     help: &'static str,
-    /// Whether it is a number, 0 to 1,000,000.
-    is_number: bool,
+    /// Whether it may begin with a hyphen and be no option.
+    has_hyphen: bool,
 }
 
 const ABOUT: &str = "Asks library catalogues over Z39.50, and shows what they answer";
@@ -64,7 +64,6 @@ prints
   close - 0",
     wants: &[],
     has_hex: false,
-    has_save: false,
 };
 
 const PQF: Form = Form {
@@ -80,16 +79,15 @@ prints first
     wants: &[Word {
         id: "TEXT",
         help: "The query in prefix notation",
-        is_number: false,
+        has_hyphen: true,
     }],
     has_hex: false,
-    has_save: false,
 };
 
 const JOIN: Form = Form {
     name: "join",
     about: "Puts together what two searches of the same catalogues brought",
-    example: "A and B are files that zmeta wrote with --save, of the same catalogues in the same order.
+    example: "A and B are saved files, of the same catalogues in the same order.
 Prints one list of all that either search brought. Where they brought different records for one
 place of a result set, both are shown there as a conflict.
 
@@ -102,30 +100,25 @@ prints lines as
         Word {
             id: "A",
             help: "A file of what one search brought",
-            is_number: false,
+            has_hyphen: false,
         },
         Word {
             id: "B",
             help: "A file of what the other search brought",
-            is_number: false,
+            has_hyphen: false,
         },
     ],
     has_hex: true,
-    has_save: false,
 };
 
 const FORMS: [Form; 3] = [SHOW, PQF, JOIN];
 
 fn argument(alloc: Global, word: &Word) -> Arg<'static> {
-    let arg = Arg::new(alloc, word.id)
+    Arg::new(alloc, word.id)
         .help(word.help)
         .required(true)
-        .action(ArgAction::Set);
-    if word.is_number {
-        arg.value_parser(value_parser!(u32).range(0..=1_000_000))
-    } else {
-        arg
-    }
+        .allow_hyphen_values(word.has_hyphen)
+        .action(ArgAction::Set)
 }
 
 fn hex_option(alloc: Global) -> Arg<'static> {
@@ -133,14 +126,6 @@ fn hex_option(alloc: Global) -> Arg<'static> {
         .long("hex")
         .help("Prints the octets of records in hexadecimal")
         .action(ArgAction::SetTrue)
-}
-
-fn save_option(alloc: Global) -> Arg<'static> {
-    Arg::new(alloc, "save")
-        .long("save")
-        .value_name("OUT")
-        .help("Also keeps what was learned in the file OUT")
-        .action(ArgAction::Set)
 }
 
 fn subcommand<'a>(alloc: Global, form: &Form) -> Result<Command<'a>, AllocError> {
@@ -153,18 +138,15 @@ fn subcommand<'a>(alloc: Global, form: &Form) -> Result<Command<'a>, AllocError>
     if form.has_hex {
         command = command.arg(hex_option(alloc))?;
     }
-    if form.has_save {
-        command = command.arg(save_option(alloc))?;
-    }
     Ok(command)
 }
 
-fn command<'a>(alloc: Global, forms: &[Form]) -> Result<Command<'a>, AllocError> {
+fn command<'a>(alloc: Global) -> Result<Command<'a>, AllocError> {
     let mut command = Command::new(alloc, "zmeta")
         .about(ABOUT)
         .after_help(ADVICE)
         .subcommand_required(true);
-    for form in forms {
+    for form in &FORMS {
         command = command.subcommand(subcommand(alloc, form)?)?;
     }
     Ok(command)
@@ -173,7 +155,7 @@ fn command<'a>(alloc: Global, forms: &[Form]) -> Result<Command<'a>, AllocError>
 /// What the words ask for, the first being the program's name. Else the text for words that are wrong or that ask for
 /// help; its kind is `OutOfMemory` where memory ran out.
 pub(crate) fn parse<'a>(alloc: Global, words: &'a [String]) -> Result<Words<'a>, Error> {
-    let mut command = command(alloc, &FORMS)?;
+    let mut command = command(alloc)?;
     let matches = command.try_get_matches_from_mut(words)?;
     match matches.subcommand() {
         Some(("show", _)) => Ok(Words::Show),
@@ -183,9 +165,18 @@ pub(crate) fn parse<'a>(alloc: Global, words: &'a [String]) -> Result<Words<'a>,
         Some(("join", found)) => Ok(Words::Join {
             first: found.get_str("A").unwrap_or(""),
             second: found.get_str("B").unwrap_or(""),
-            hex: found.get_flag("hex"),
+            mode: mode_of(found),
         }),
         _ => Err(command.error(ErrorKind::InvalidSubcommand, "no such command")?),
+    }
+}
+
+/// How the option asks for records to be printed.
+fn mode_of(found: &ArgMatches<'_>) -> Mode {
+    if found.get_flag("hex") {
+        Mode::Hex
+    } else {
+        Mode::Text
     }
 }
 
@@ -194,7 +185,7 @@ pub(crate) fn odd_words(alloc: Global) -> Result<Error, AllocError>
     ensures { IfOk result (λ e. kind_of e ≡ InvalidValue) }
 {
     let message = "invalid UTF-8 was detected in one or more arguments";
-    command(alloc, &FORMS)?.error(ErrorKind::InvalidValue, message)
+    command(alloc)?.error(ErrorKind::InvalidValue, message)
 }
 
 /// Prints the text of `parse` and answers the status: of wrong words on standard error, of help on standard output.
@@ -224,26 +215,6 @@ mod tests {
     use super::*;
     use std::test::Fail;
 
-    const RUN: Form = Form {
-        name: "run",
-        about: "Runs",
-        example: "Example",
-        wants: &[
-            Word {
-                id: "FILE",
-                help: "A file",
-                is_number: false,
-            },
-            Word {
-                id: "N",
-                help: "A number",
-                is_number: true,
-            },
-        ],
-        has_hex: true,
-        has_save: true,
-    };
-
     fn words_of(alloc: Global, line: &str) -> Result<Vec<String>, AllocError> {
         let mut words = Vec::new(alloc);
         for word in line.split(' ') {
@@ -259,11 +230,21 @@ mod tests {
         let words = words_of(rt.alloc(), "zmeta pqf dune")?;
         let due = Words::Pqf { text: "dune" };
         assert_eq!(rt; parse(rt.alloc(), words.as_slice())?, due);
+        let words = words_of(rt.alloc(), "zmeta pqf -5")?;
+        let due = Words::Pqf { text: "-5" };
+        assert_eq!(rt; parse(rt.alloc(), words.as_slice())?, due);
         let words = words_of(rt.alloc(), "zmeta join a b --hex")?;
         let due = Words::Join {
             first: "a",
             second: "b",
-            hex: true,
+            mode: Mode::Hex,
+        };
+        assert_eq!(rt; parse(rt.alloc(), words.as_slice())?, due);
+        let words = words_of(rt.alloc(), "zmeta join a b")?;
+        let due = Words::Join {
+            first: "a",
+            second: "b",
+            mode: Mode::Text,
         };
         assert_eq!(rt; parse(rt.alloc(), words.as_slice())?, due);
         Ok(())
@@ -278,6 +259,8 @@ mod tests {
             ("zmeta show --hex", 2),
             ("zmeta pqf", 2),
             ("zmeta pqf a b", 2),
+            ("zmeta pqf -h", 0),
+            ("zmeta join -a b", 2),
             ("zmeta join a", 2),
             ("zmeta join a b --save c", 2),
             ("zmeta --version", 2),
@@ -291,23 +274,6 @@ mod tests {
                 Err(error) => assert_eq!(rt; error.exit_code(), status, "{line}"),
             }
         }
-        Ok(())
-    }
-
-    #[test]
-    fn a_command_is_one_entry(rt: HostRuntime) -> Result<(), Fail> {
-        let words = words_of(rt.alloc(), "zmeta run w 7 --save s --hex")?;
-        let command = command(rt.alloc(), &[RUN])?;
-        let matches = command.try_get_matches_from(words.as_slice())?;
-        let Some((name, found)) = matches.subcommand() else {
-            assert!(rt; false, "no command");
-            return Ok(());
-        };
-        assert_eq!(rt; name, "run");
-        assert_eq!(rt; found.get_str("FILE"), Some("w"));
-        assert_eq!(rt; found.get_one::<u32>("N"), Some(7));
-        assert_eq!(rt; found.get_str("save"), Some("s"));
-        assert!(rt; found.get_flag("hex"));
         Ok(())
     }
 }

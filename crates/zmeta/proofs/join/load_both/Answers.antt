@@ -4,4 +4,4 @@ use Rattle.zmeta.proofs.join.load_both.Goals as goal
 pub returns-then-not-are_same-clause-joined : goal.returns-then-not-are_same-clause-joined
 returns-then-not-are_same-clause-joined g c =
     names_differ (g.R.Read.remaining c.args.first.now) (g.R.Read.remaining c.args.second.now) c.in_ok-knowledge.names c.in_ok-other.others c.in_ok-knowledge.knowledge c.in_ok-other.other c.are_same.result
-    c.in_ok-knowledge.ensures c.in_ok-other.ensures c.are_same.ensures.1 c.if-not-are_same.true
+    c.in_ok-knowledge.ensures.loaded c.in_ok-other.ensures.loaded c.are_same.ensures.1 c.if-not-are_same.true
