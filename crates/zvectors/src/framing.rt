@@ -162,6 +162,7 @@ const ACCEPTED: &str = "\
 finish next finish: true;nothing;true;
 bf300000000000000000000000000000000000 next next finish: elements 0;StrayEnd at 0;StrayEnd at 0;
 b9268204000000029801019901029b0100bc1530 finish next finish 13a111a10f280d06072a8648ce13050a81026869 next finish: false;nothing;Truncated at 20;elements 5;true;
+b9268204000000029801019901029b0100bc1530 - finish next - finish: false;nothing;Truncated at 20;
 ";
 
 fn is_accepted(alloc: Global, row: &str) -> Result<bool, Fail> {
