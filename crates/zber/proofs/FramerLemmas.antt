@@ -1,5 +1,5 @@
 -- What a framer has left once it has given out a message.
-use Rattle.std.proofs.Common.{◌≡◌, ℕ, ◌+◌, ◌-◌, Bool, List, ◌++◌, length, take, drop, Option, None, refl, sym, ap, ◌∙◌, take-append-drop, drop-drop, take_at, length-drop}
+use Rattle.std.proofs.Common.{◌≡◌, ℕ, ◌+◌, ◌-◌, Bool, List, ◌++◌, length, take, drop, Option, None, sym, ap, ◌∙◌, take-append-drop, drop-drop, take_at, length-drop}
 use Rattle.std.proofs.lemmas.List.{take_rest}
 use Rattle.zber.specs.declared.fault.FaultKind.{FaultKind}
 use Rattle.zber.specs.Elements.{Element}
