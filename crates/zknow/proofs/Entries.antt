@@ -1,20 +1,21 @@
 -- The entries of a table: one at its place, and one more in its gap.
-use Rattle.std.proofs.Common.{◌≡◌, ℕ, zero, suc, ◌<◌, List, [], ◌∷◌, length, get_or, set, Bool, true, false, cond, Some, None, ◌⊎◌, refl, sym, ap, subst, ◌∙◌, inl, inr, arith}
+use Rattle.std.proofs.Common.{◌≡◌, ℕ, zero, suc, ◌<◌, ◌≤◌, ⊎_elim, Result, Ok, Err, List, [], ◌∷◌, length, get_or, set, Bool, true, false, cond, Some, None, ◌⊎◌, refl, sym, ap, subst, ◌∙◌, inl, inr, arith}
 use Rattle.std.specs.declared.cmp.Ordering.{Ordering}
 use Rattle.std.specs.declared.cmp.Ordering.TheVariants.{Less, Equal, Greater}
 use Rattle.std.specs.Cmp.{IsTotalOrder, Equal-is}
-use Rattle.std.specs.Ordering.{is_eq, ordering_reverse}
+use Rattle.std.specs.Ordering.{is_eq, ordering_index, ordering_reverse}
 use Rattle.std.specs.List.{insert}
-use Rattle.std.specs.List.Sorted.{IsStrictlySortedBy}
+use Rattle.std.specs.List.Sorted.{IsBinarySearchResult, IsNonDecreasingBy, IsSearchInRange, IsStrictlySortedBy}
 use Rattle.std.specs.Map.{keys_of}
 use Rattle.std.specs.BTreeMap.{is_at}
 use Rattle.std.proofs.Math.Seq.{map-set_same}
+use Rattle.std.proofs.lemmas.Bool.{cases_lt}
 use Rattle.std.proofs.lemmas.Cmp.{tied_itself}
-use Rattle.std.proofs.lemmas.List.{get_or-map, get_or_default}
+use Rattle.std.proofs.lemmas.List.{get_or-map}
 use Rattle.std.proofs.lemmas.Map.Entries.{length-keys_of}
 use Rattle.std.proofs.lemmas.Map.Keys.{Less-from_sorted, sorted_tail}
 use Rattle.zknow.specs.Search.{IsGap}
-use Rattle.zknow.specs.Table.{value_at, IsEntry}
+use Rattle.zknow.specs.Table.{value_at, IsEntry, IsPlace}
 use Rattle.zknow.proofs.Searches.{Rises, rises_from}
 use Rattle.zknow.proofs.Distincts.{sorted_insert}
 
@@ -38,6 +39,18 @@ module _ {K : Type 0} (cmp : K → K → Ordering) (total : IsTotalOrder cmp) wh
   at_itself : (k : K) → is_at (cmp k) k ≡ true
   at_itself k = ap is_eq (tied_itself total k)
 
+-- what rises in steps does not fall
+rises_by : (a b : Ordering) → (b ≡ Less → a ≡ Less) → (a ≡ Greater → b ≡ Greater) → ordering_index a ≤ ordering_index b
+rises_by Less Less below above = omega arith
+rises_by Less Equal below above = omega arith
+rises_by Less Greater below above = omega arith
+rises_by Equal Less below above = let no = below refl in absurd cc
+rises_by Equal Equal below above = omega arith
+rises_by Equal Greater below above = omega arith
+rises_by Greater Less below above = let no = below refl in absurd cc
+rises_by Greater Equal below above = let no = above refl in absurd cc
+rises_by Greater Greater below above = omega arith
+
 module _ {K J : Type 0} (cmp : K → K → Ordering) (total : IsTotalOrder cmp) where
   keys_up : (t : List (K × J)) → IsStrictlySortedBy cmp (keys_of t) → (j k : ℕ) (d : K × J) → j < k → k < length t → cmp (get_or t j d).0 (get_or t k d).0 ≡ Less
   keys_up t sorted j k d lt within =
@@ -60,8 +73,19 @@ module _ {K J : Type 0} (cmp : K → K → Ordering) (total : IsTotalOrder cmp) 
   missing (e ∷ es) key zero gap = missing_at key e es _ refl (inr (gap.after 0 e (omega arith) (omega arith))) (missing es key zero (record { within = omega arith; before = λ k d lt. absurd (omega (arith, lt)); after = λ k d le lt. gap.after (suc k) d (omega arith) (omega (arith, lt)) }))
   missing (e ∷ es) key (suc i) gap = missing_at key e es _ refl (inl (gap.before 0 e (omega arith))) (missing es key i (record { within = omega (arith, gap.within); before = λ k d lt. gap.before (suc k) d (omega (arith, lt)); after = λ k d le lt. gap.after (suc k) d (omega (arith, le)) (omega (arith, lt)) }))
 
-  pub entry_at : (t : List (K × J)) (key : K) (i : ℕ) (e : K × J) → i < length t → e ≡ get_or t i e → e.0 ≡ key → IsEntry cmp t key i
-  entry_at t key i e lt is same = record { within = lt; is = λ d. ap (λ (p : K × J). p.0) (get_or_default t i d e lt ∙ sym is) ∙ same }
+  -- how the entries stand to the key does not fall along the table
+  never_falls : (t : List (K × J)) (key : K) → IsStrictlySortedBy cmp (keys_of t) → IsNonDecreasingBy (λ e. ordering_index (cmp e.0 key)) t
+  never_falls t key sorted i j d le lt = ⊎_elim
+      (λ earlier. rises_by (cmp (get_or t i d).0 key) (cmp (get_or t j d).0 key) ((entries_rise t key sorted).below i j d earlier lt) ((entries_rise t key sorted).above i j d earlier lt))
+      (λ later. let same : i ≡ j = omega (arith, le, later) in subst (λ (n : ℕ). ordering_index (cmp (get_or t i d).0 key) ≤ ordering_index (cmp (get_or t n d).0 key)) same (omega arith))
+      (cases_lt i j)
+
+  -- where a binary search ends
+  pub searched : (t : List (K × J)) (key : K) → ((a b : K) → cmp a b ≡ Equal → a ≡ b) → IsStrictlySortedBy cmp (keys_of t) → (r : Result ℕ ℕ) → IsSearchInRange r (length t) → IsBinarySearchResult (λ e. cmp e.0 key) t r → IsPlace cmp t key r
+  searched t key exact sorted (Ok at) within equal = record { within = within; is = λ d. exact (get_or t at d).0 key (equal d) }
+  searched t key exact sorted (Err at) within parted =
+      let ends = parted (never_falls t key sorted) in
+      record { within = within; before = λ k d lt. ends.0 k d (omega arith) lt; after = λ k d le lt. ends.1 k d le lt }
 
   -- the entry at its place
   pub found : (t : List (K × J)) (key : K) (i : ℕ) (d : K × J) → IsStrictlySortedBy cmp (keys_of t) → IsEntry cmp t key i → value_at cmp t key ≡ Some (get_or t i d).1

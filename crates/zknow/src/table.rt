@@ -32,17 +32,7 @@ fn place_of<K: Key, J>(entries: &[(K, J)], key: &K) -> Result<usize, usize>
     requires { IsStrictlySortedBy K.cmp (keys_of entries.now) }
     ensures { IsPlace K.cmp entries.now key.now result }
 {
-    let mut low = 0;
-    let mut high = entries.len();
-    while low < high {
-        let middle = low + (high - low) / 2;
-        match entries[middle].0.cmp(key) {
-            Ordering::Less => low = middle + 1,
-            Ordering::Equal => return Ok(middle),
-            Ordering::Greater => high = middle,
-        }
-    }
-    Err(low)
+    entries.binary_search_by_key(key, |entry| entry.0)
 }
 
 impl<K: Key, J: Join> Table<K, J> {
