@@ -7,3 +7,4 @@ pub mod WhatFits
 pub mod ExactPlaces
 pub mod NamedSets
 pub mod KeptSets
+pub mod KeptEntries
