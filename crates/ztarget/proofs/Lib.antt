@@ -7,3 +7,5 @@ pub mod WhatFits
 pub mod ExactPlaces
 pub mod NamedSets
 pub mod KeptSets
+pub mod KeptEntries
+pub mod Conditions

@@ -1,5 +1,6 @@
 pub mod Words
 pub mod Matching
+pub mod Asking
 pub mod Faults
 pub mod Searching
 pub mod Counting

@@ -8,6 +8,7 @@ ghost use Rattle.ztarget.specs.Counting.{places_in};
 ghost use Rattle.ztarget.specs.Replies.{found_by_query};
 ghost use Rattle.ztarget.specs.Receiving.{IsRefusal};
 
+use crate::condition::condition_of;
 use crate::database::Database;
 use crate::error::MatchError;
 use crate::fault::{Fault, match_fault};
@@ -19,7 +20,7 @@ use zapdu::{SearchQuery, SearchRequest};
 use zquery::Query;
 
 /// The places of the entries that match, counted through the databases named.
-#[tactic(auto, using(crate::proofs::Places::places_in_all, crate::proofs::FewEntries::few_searched))]
+#[tactic(auto, using(crate::proofs::FewEntries::few_searched))]
 fn found_places(
     alloc: Global,
     databases: &[Database],
@@ -30,7 +31,8 @@ fn found_places(
     ensures { IfOk result (λ places. places.items ≡ found_places databases.now names.now query.now.root) }
 {
     let searched = searched(alloc, databases, names)?;
-    places(alloc, &query.root, &searched)
+    let condition = condition_of(alloc, &query.root)?;
+    places(alloc, &condition, &searched)
 }
 
 /// The same, or the first fault of the query.
@@ -55,22 +57,21 @@ pub(crate) fn matching_places(
 }
 
 /// What is found for a type-1 query, in order.
-#[tactic(auto, using(crate::proofs::FewEntries::few_found))]
 fn result_set(
     alloc: Global,
     databases: &[Database],
     names: &[Bytes],
     query: &Query,
 ) -> Result<Vec<Hit>, AllocError>
-    requires { length (entries_in databases.now) < 2 ^ 32 }
-    ensures found { IfOk result (λ hits. hits.items ≡ result_set databases.now names.now query.now.root) }
-    ensures few { IfOk result (λ hits. length hits.items < 2 ^ 32) }
+    ensures { IfOk result (λ hits. hits.items ≡ result_set databases.now names.now query.now.root) }
 {
     let searched = searched(alloc, databases, names)?;
-    hits(alloc, &query.root, &searched)
+    let condition = condition_of(alloc, &query.root)?;
+    hits(alloc, &condition, &searched)
 }
 
 /// What a search finds, in order.
+#[tactic(auto, using(crate::proofs::FewEntries::few_found))]
 pub(crate) fn found(
     alloc: Global,
     databases: &[Database],

@@ -26,6 +26,7 @@ use crate::sets::ResultSets;
 use crate::settings::TargetSettings;
 use bytes::Bytes;
 use std::alloc::{AllocError, Global};
+use std::collections::VecDeque;
 use std::marker::Model;
 use zapdu::{Apdu, Close, InitRequest, PresentRequest, SearchRequest, SearchResponse};
 use zber::Duplicate;
@@ -40,7 +41,7 @@ pub struct Target {
     settings: TargetSettings,
     phase: Phase,
     sets: ResultSets,
-    pending: Vec<Apdu>,
+    pending: VecDeque<Apdu>,
 }
 
 impl Model for Target {
@@ -109,7 +110,7 @@ impl Target {
             settings,
             phase: Phase::Fresh,
             sets: ResultSets::new(alloc),
-            pending: Vec::new(alloc),
+            pending: VecDeque::new(alloc),
         })
     }
 
@@ -120,7 +121,7 @@ impl Target {
     {
         let settings = self.settings;
         let response = init_response(self.alloc, settings, request)?;
-        self.pending.push(Apdu::InitResponse(response))?;
+        self.pending.push_back(Apdu::InitResponse(response))?;
         self.phase = if is_accepted(settings, &request.protocol_version) {
             Phase::Open(terms(settings, request))
         } else {
@@ -135,7 +136,7 @@ impl Target {
         ensures err { OnErr result (self.new ≡ self.old) }
     {
         let reply = close_reply(self.alloc, close)?;
-        self.pending.push(Apdu::Close(reply))?;
+        self.pending.push_back(Apdu::Close(reply))?;
         self.phase = Phase::Ended;
         Ok(())
     }
@@ -153,11 +154,11 @@ impl Target {
         }) }
         ensures err { OnErr result (self.new ≡ self.old) }
     {
-        self.pending.push(Apdu::SearchResponse(response))?;
+        self.pending.push_back(Apdu::SearchResponse(response))?;
         match self.sets.put(name, set) {
             Ok(()) => Ok(()),
             Err(error) => {
-                let _ = self.pending.pop();
+                let _ = self.pending.pop_back();
                 Err(error)
             }
         }
@@ -169,7 +170,7 @@ impl Target {
         ensures err { OnErr result (self.new ≡ self.old) }
     {
         let response = search_failed(self.alloc, request, fault)?;
-        self.pending.push(Apdu::SearchResponse(response))?;
+        self.pending.push_back(Apdu::SearchResponse(response))?;
         Ok(())
     }
 
@@ -206,7 +207,7 @@ impl Target {
     {
         let found = self.sets.named(&request.result_set_id);
         let response = presented(self.alloc, terms.size, request, found)?;
-        self.pending.push(Apdu::PresentResponse(response))?;
+        self.pending.push_back(Apdu::PresentResponse(response))?;
         Ok(())
     }
 
@@ -246,8 +247,17 @@ impl Target {
         }
     }
 
-    /// Takes a request (Z39.50-2003, 3.2), and puts the reply that is owed to it last among the pending replies. A search
-    /// or a request for records that fails is answered too, by a diagnostic, and is no refusal.
+    /// Takes a request (Z39.50-2003, 3.2), and puts the reply that is owed to it last among the pending replies.
+    ///
+    /// The replies, each with its request's reference id (all of them: docs/FORMATS.md, "What the target answers"):
+    /// - to Init, whether the association is accepted, and what is in force (3.2.1.1);
+    /// - to a search, how many entries match, and the first records as far as its bounds ask for them and the size in force has
+    ///   room. The set is kept under its name. A search that fails is answered by one diagnostic, and leaves the older sets (3.2.2.1);
+    /// - to a request for records, those at its positions that have room, from the first on, or one diagnostic (3.2.3.1). In the
+    ///   place of a record stands diagnostic 238 where another syntax is asked for, and 17 where it is longer than the size;
+    /// - to a Close, a Close (3.2.11.1).
+    ///
+    /// So what fails by a diagnostic is answered, and is no refusal.
     ///
     /// Refusals, which leave all as it was: `NotRequest` for a response; `WrongState` before Init for anything but Init and
     /// Close, for a second Init, and for anything after a Close or after an Init that was refused; `Memory`.
@@ -302,7 +312,7 @@ impl Target {
         if k >= count || (is_close(&self.pending[k]) && count > 1) {
             return None;
         }
-        Some(self.pending.remove(k))
+        self.pending.remove(k)
     }
 
     /// Hands out pending reply `k`, the first being 0; the others stay in order. `None` where there is none, or where it is
