@@ -1,8 +1,8 @@
 -- Where a connection stands after one APDU more.
-use Rattle.std.proofs.Common.{◌≡◌, ℕ, Bool, true, false, cond, not, ◌==◌, nat_eq, List, [], ◌∷◌, ◌++◌, map, Option, None, Some, Result, Ok, Err, refl, sym, ap, ◌∙◌, true≢false}
+use Rattle.std.proofs.Common.{◌≡◌, ◌≢◌, ℕ, Bool, true, false, cond, not, ◌==◌, nat_eq, List, [], ◌∷◌, ◌++◌, map, Option, None, Some, Result, Ok, Err, refl, sym, ap, ◌∙◌, true≢false}
 use Rattle.std.proofs.Common.{arith}
 use Rattle.std.proofs.lemmas.Bool.Decides.{nat_tests}
-use Rattle.std.specs.List.{list_any, find, flat_map, AllByRecursion}
+use Rattle.std.specs.List.{list_any, find, AllByRecursion}
 use Rattle.indexmap.specs.IndexMap.{shift_remove_entry}
 use Rattle.zapdu.specs.declared.apdu.Apdu.{Apdu}
 use Rattle.zapdu.specs.declared.apdu.Apdu.TheVariants as apdus
@@ -23,12 +23,12 @@ use Rattle.zorigin.specs.declared.state.State.TheVariants as states
 use Rattle.zorigin.specs.declared.state.InForce.{InForce}
 use Rattle.zorigin.specs.declared.state.Searched.{Searched}
 use Rattle.zorigin.specs.Standings.{Standing, is_open, ready, nothing_in_force}
-use Rattle.std.specs.Prelude.{IfOk}
-use Rattle.zorigin.specs.Fitting.{fault_of}
+use Rattle.std.specs.Prelude.{IfOk, IfErr}
+use Rattle.zorigin.specs.Fitting.{fault_of, count_mismatch, bad_number, bad_search, bad_present}
 use Rattle.zorigin.specs.Facts.{IsShowable, HasShowable}
 use Rattle.zorigin.specs.Replies.{against, judged, answered, verdict, taken_as, named}
 use Rattle.zorigin.specs.Changes.{force_in, outcome_in, noted_if, noted, without, opened_at, settled_at}
-use Rattle.zorigin.specs.Log.{Got, Log, Past, past, asked, answers, is_answered, outstanding, is_init, opens, opening, is_init_call, is_close_call, force_by, force_after, state_by, closing_state, failed_or, state_from, state_of, outcome_by, search_in, with_outcome, searches_in, numbered, filed, op_of, standing, accept, after_verdict, After, Tells}
+use Rattle.zorigin.specs.Log.{Got, Log, Past, past, asked, answers, is_answered, outstanding, is_init, opens, opening, is_init_call, is_close_call, force_by, force_after, state_by, closing_state, failed_or, state_from, state_of, outcome_by, with_outcome, searches_in, numbered, filed, op_of, standing, accept, after_verdict, After, IsTaken, Tells}
 use Rattle.zorigin.proofs.Operations.{op_same, same_op, any_none, distinct_filter, removed, still_open, find_push_first, find_push_other, find_none}
 use Rattle.zorigin.proofs.Fittings.{fitting}
 use Rattle.zorigin.proofs.Searches.{Agrees, sets_with, agreed_with, each_noted, filed_noted}
@@ -256,3 +256,105 @@ shown settings log reply (Ok (taken.Rejected a)) t = showable (past settings log
 shown settings log reply (Ok (taken.Answered a)) t = showable (past settings log) reply a (proper settings log) (ap answer_in (sym (t tt)))
 shown settings log reply (Ok taken.Closed) t = tt
 shown settings log reply (Err r) t = tt
+
+-- ---- what a refusal leaves
+
+-- what is wrong with a reply is another reason than the state
+abbrev IsFault : Option Refused → Type 0
+IsFault (Some refused.WrongState) = ⊥
+IsFault _ = Unit {0}
+
+search_faults : (a b c : Bool) → IsFault (cond a (Some refused.CountMismatch) (cond b (Some refused.BadNumber) (cond c (Some refused.BadShape) None)))
+search_faults true b c = tt
+search_faults false true c = tt
+search_faults false false true = tt
+search_faults false false false = tt
+
+present_faults : (a b : Bool) → IsFault (cond a (Some refused.CountMismatch) (cond b (Some refused.BadShape) None))
+present_faults true b = tt
+present_faults false true = tt
+present_faults false false = tt
+
+faults : (w : What) (reply : Apdu) → IsFault (fault_of w reply)
+faults what.Init (apdus.InitRequest v) = tt
+faults what.Init (apdus.InitResponse v) = tt
+faults what.Init (apdus.SearchRequest v) = tt
+faults what.Init (apdus.SearchResponse v) = tt
+faults what.Init (apdus.PresentRequest v) = tt
+faults what.Init (apdus.PresentResponse v) = tt
+faults what.Init (apdus.Close v) = tt
+faults what.Search (apdus.InitRequest v) = tt
+faults what.Search (apdus.InitResponse v) = tt
+faults what.Search (apdus.SearchRequest v) = tt
+faults what.Search (apdus.SearchResponse v) = search_faults (count_mismatch v.records v.number_of_records_returned) (bad_number v) (bad_search v)
+faults what.Search (apdus.PresentRequest v) = tt
+faults what.Search (apdus.PresentResponse v) = tt
+faults what.Search (apdus.Close v) = tt
+faults (what.Present start n) (apdus.InitRequest v) = tt
+faults (what.Present start n) (apdus.InitResponse v) = tt
+faults (what.Present start n) (apdus.SearchRequest v) = tt
+faults (what.Present start n) (apdus.SearchResponse v) = tt
+faults (what.Present start n) (apdus.PresentRequest v) = tt
+faults (what.Present start n) (apdus.PresentResponse v) = present_faults (count_mismatch v.records v.number_of_records_returned) (bad_present n v)
+faults (what.Present start n) (apdus.Close v) = tt
+
+abbrev IsJudged : Result Taken Refused → Type 0
+IsJudged (Err refused.WrongState) = ⊥
+IsJudged _ = Unit {0}
+
+judged_so : (a : Answer) (f : Option Refused) → IsFault f → IsJudged (judged a f)
+judged_so a None h = tt
+judged_so a (Some refused.WrongState) h = absurd h
+judged_so a (Some _) h = tt
+
+against_so : (o : Option Asked) (reply : Apdu) → IsJudged (against o reply)
+against_so None reply = tt
+against_so (Some q) reply = judged_so (record { asked = q; reply = reply }) (fault_of q.what reply) (faults q.what reply)
+
+answered_so : (s : Standing) (reply : Apdu) → IsJudged (answered s reply)
+answered_so s (apdus.InitResponse v) = against_so (named s v.reference_id) (apdus.InitResponse v)
+answered_so s (apdus.SearchResponse v) = against_so (named s v.reference_id) (apdus.SearchResponse v)
+answered_so s (apdus.PresentResponse v) = against_so (named s v.reference_id) (apdus.PresentResponse v)
+answered_so s _ = tt
+
+never : (v : Result Taken Refused) → IsJudged v → v ≡ Err refused.WrongState → ⊥
+never (Ok x) h e = cc
+never (Err refused.WrongState) h e = h
+never (Err _) h e = cc
+
+-- WrongState is said just where no replies are taken
+unopened : (s : Standing) (reply : Apdu) → verdict s reply ≡ Err refused.WrongState → is_open s.state ≡ false
+unfolding verdict
+unopened s reply h =
+    elim (is_open s.state) as (λ b. cond b (answered s reply) (Err refused.WrongState) ≡ Err refused.WrongState → b ≡ false) [
+      | true ↦ λ e. absurd (never (answered s reply) (answered_so s reply) e)
+      | false ↦ λ e. refl
+    ] h
+
+abbrev reason_in : Result Taken Refused → Refused
+reason_in (Ok x) = refused.WrongState
+reason_in (Err reason) = reason
+
+opened : (s : Standing) (reply : Apdu) (reason : Refused) → verdict s reply ≡ Err reason → reason ≢ refused.WrongState → is_open s.state ≡ true
+unfolding verdict
+opened s reply reason h other =
+    elim (is_open s.state) as (λ b. cond b (answered s reply) (Err refused.WrongState) ≡ Err reason → b ≡ true) [
+      | true ↦ λ e. refl
+      | false ↦ λ e. absurd (other (sym (ap reason_in e)))
+    ] h
+
+pub failed_for : (s t : Standing) (reply : Apdu) (v : Result Taken Refused) → Tells (verdict s reply) v → (IsTaken v → t ≡ settled_at s v)
+    → IfErr v (λ reason. reason ≢ refused.WrongState → reason ≢ refused.Memory → t ≡ record s { state = states.Failed reason })
+failed_for s t reply (Ok x) tells left = tt
+failed_for s t reply (Err reason) tells left = λ other taken.
+    left taken ∙ ap (λ b. cond b (record s { state = states.Failed reason }) s) (opened s reply reason (sym (tells taken)) other)
+
+kept : (s t : Standing) (reply : Apdu) → Tells (verdict s reply) (Err refused.WrongState) → (IsTaken (Err refused.WrongState) → t ≡ settled_at s (Err refused.WrongState)) → t ≡ s
+kept s t reply tells left =
+    let taken : refused.WrongState ≢ refused.Memory = λ e. absurd (cc) in
+    left taken ∙ ap (λ b. cond b (record s { state = states.Failed refused.WrongState }) s) (unopened s reply (sym (tells taken)))
+
+pub kept_unopened : (s t : Standing) (reply : Apdu) (v : Result Taken Refused) → Tells (verdict s reply) v → (IsTaken v → t ≡ settled_at s v) → v ≡ Err refused.WrongState → t ≡ s
+kept_unopened s t reply (Ok x) tells left e = absurd (cc)
+kept_unopened s t reply (Err refused.WrongState) tells left e = kept s t reply tells left
+kept_unopened s t reply (Err _) tells left e = absurd (cc)

@@ -1,4 +1,5 @@
--- The table of calls: which are refused, row by row, and what one that is not refused comes to.
+-- The table of calls (Z39.50-2003, 3.2.1.1, 3.2.2.1, 3.2.3.1 and 3.2.11.1; concurrent operations: 3.5): which are refused,
+-- row by row, and what one that is not refused comes to.
 use Rattle.std.specs.Prelude.{◌≡◌, ℕ, ℤ, pos, int_lt, nat_eq, ◌==◌, ◌-◌, Bool, false, not, ◌||◌, ◌&&◌, if◌then◌else◌, List, [], ◌∷◌, length, slice_get, is_some, is_none, Option, Some, None, Result, Ok, Err}
 use Rattle.std.specs.List.{list_any}
 use Rattle.zapdu.specs.declared.apdu.Apdu.{Apdu}

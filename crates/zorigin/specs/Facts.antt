@@ -1,4 +1,4 @@
--- What a reply that answers an operation says of the target's result sets.
+-- What a reply that answers an operation says of the target's result sets (Z39.50-2003, 3.2.1.1, 3.2.2.1 and 3.2.3.1).
 use Rattle.std.specs.Prelude.{◌≡◌, ℕ, ℤ, pos, ◌+ℤ◌, ◌-ℤ◌, int_le, Bool, true, ◌&&◌, if◌then◌else◌, List, [], ◌∷◌, ◌++◌, map}
 use Rattle.std.specs.List.{enumerate_from}
 use Rattle.zapdu.specs.declared.apdu.Apdu.{Apdu}

@@ -1,4 +1,5 @@
--- What was done to one origin, as a list, and what it amounts to: the calls that were admitted and the replies that were accepted.
+-- What was done to one origin (Z39.50-2003, 3.2 and 3.4), as a list, and what it amounts to: the calls that were admitted and
+-- the replies that were accepted.
 use Rattle.std.specs.Prelude.{◌≡◌, ◌≢◌, ℕ, ◌==◌, Bool, true, false, not, if◌then◌else◌, List, [], ◌∷◌, ◌++◌, map, filter, Option, None, Some, Result, Ok, Err}
 use Rattle.std.specs.List.{list_any, find, flat_map}
 use Rattle.zapdu.specs.declared.apdu.Apdu.{Apdu}

@@ -1,4 +1,4 @@
--- The table of replies: which are refused, row by row, and what one that is accepted comes to.
+-- The table of replies (Z39.50-2003, 3.4): which are refused, row by row, and what one that is accepted comes to.
 use Rattle.std.specs.Prelude.{◌≡◌, ℕ, nat_eq, if◌then◌else◌, List, [], ◌∷◌, Option, Some, None, Result, Ok, Err}
 use Rattle.std.specs.Map.{lookup}
 use Rattle.zapdu.specs.declared.apdu.Apdu.{Apdu}

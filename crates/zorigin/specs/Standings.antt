@@ -1,4 +1,4 @@
--- What a log amounts to, as the tables ask it, and the calls.
+-- What a log amounts to, as the tables ask it, and the calls (Z39.50-2003, 3.2 and 3.4).
 use Rattle.std.specs.Prelude.{ℕ, ℤ, nat_eq, Bool, true, false, List, Option, Some}
 use Rattle.std.specs.Map.{lookup}
 use Rattle.zorigin.specs.declared.settings.Settings.{Settings}

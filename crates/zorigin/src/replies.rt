@@ -1,5 +1,5 @@
 //! Replies: which is accepted, and what it changes.
-ghost use Rattle.std.specs.Prelude.{◌≡◌, ◌==◌, ◌∷◌, Ok, Err, IfOk};
+ghost use Rattle.std.specs.Prelude.{◌≡◌, ◌≢◌, ◌==◌, ◌∷◌, Ok, Err, IfOk, IfErr};
 ghost use Rattle.zorigin.specs.declared.refusal.Refused.TheVariants.{Memory};
 ghost use Rattle.zorigin.specs.Standings.{is_open, ready};
 ghost use Rattle.zorigin.specs.Replies.{only_of, named, taken_by, taken_as, against, verdict, Judges, JudgesBy};
@@ -238,7 +238,8 @@ impl Origin {
 
     /// What `take` would answer. It changes nothing.
     pub fn peek(&self, reply: &Apdu) -> Result<Taken, Refused>
-        ensures { (settings : Settings) (log : Log) → After settings log self.now → Tells (verdict (standing (past settings log)) reply.now) result }
+        ensures answer { (settings : Settings) (log : Log) → After settings log self.now → Tells (verdict (standing (past settings log)) reply.now) result }
+        ensures showable { (settings : Settings) (log : Log) → After settings log self.now → IfOk result HasShowable }
     {
         self.verdict(reply)
     }
@@ -247,15 +248,17 @@ impl Origin {
     /// operation, or is absent where concurrent operations are not in force and one is outstanding, and where it fits
     /// what that operation asked for (Z39.50-2003, 3.4).
     ///
-    /// `Refused` says when it is refused, in its order. The origin has then failed; after `WrongState` and `Memory` it
-    /// is as it was.
+    /// `Refused` says when it is refused, in its order. The origin has then failed for that reason, and is else as it
+    /// was; after `WrongState` and `Memory` it is wholly as it was.
     pub fn take(&mut self, reply: &Apdu) -> Result<Taken, Refused>
         ensures answer { (settings : Settings) (log : Log) → After settings log self.old → Tells (verdict (standing (past settings log)) reply.now) result }
         ensures after { (settings : Settings) (log : Log) → After settings log self.old → IsTaken result → After settings (Got reply.now ∷ log) self.new }
         ensures showable { (settings : Settings) (log : Log) → After settings log self.old → IfOk result HasShowable }
+        ensures failed { IfErr result (λ reason. reason ≢ Refused.WrongState → reason ≢ Refused.Memory → self.new ≡ record self.old { state = State.Failed reason }) }
+        ensures wrong_state { result ≡ Err Refused.WrongState → self.new ≡ self.old }
         ensures memory { result ≡ Err Refused.Memory → self.new ≡ self.old }
     {
-        let taken = self.peek(reply);
+        let taken = self.verdict(reply);
         self.settle(&taken);
         taken
     }
