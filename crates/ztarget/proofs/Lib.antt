@@ -8,4 +8,4 @@ pub mod ExactPlaces
 pub mod NamedSets
 pub mod KeptSets
 pub mod KeptEntries
-pub mod Conditions
+pub mod Criteria

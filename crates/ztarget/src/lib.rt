@@ -1,7 +1,7 @@
 //! The other end of Z39.50, exact and in memory: databases, and a target that owes each request one stated reply.
 #![tactic(auto)]
 
-mod condition;
+mod criterion;
 mod database;
 mod decimal;
 mod diagnostic;

@@ -1,11 +1,11 @@
-//! Which entries meet a condition.
+//! Which entries meet a criterion.
 ghost use Rattle.std.specs.Prelude.{◌≡◌, IfOk};
 ghost use Rattle.std.specs.List.{list_any};
 ghost use Rattle.ztarget.specs.Matching.{is_word, stands_first, stands, has_phrase, is_used, field_has};
 ghost use Rattle.ztarget.specs.Asking.{meets};
 ghost use Rattle.ztarget.specs.Viewed.{asks};
 
-use crate::condition::{ANY, Condition};
+use crate::criterion::{ANY, Criterion};
 use crate::database::{Entry, Field};
 use crate::words::words;
 use bytes::Bytes;
@@ -104,12 +104,12 @@ fn any_has(
     Ok(false)
 }
 
-/// Whether the entry meets the condition.
-pub(crate) fn meets(alloc: Global, condition: &Condition, entry: &Entry) -> Result<bool, AllocError>
-    ensures { IfOk result (λ is_met. is_met ≡ meets (asks condition.now) entry.now) }
+/// Whether the entry meets the criterion.
+pub(crate) fn meets(alloc: Global, criterion: &Criterion, entry: &Entry) -> Result<bool, AllocError>
+    ensures { IfOk result (λ is_met. is_met ≡ meets (asks criterion.now) entry.now) }
 {
-    match condition {
-        Condition::Phrase {
+    match criterion {
+        Criterion::Phrase {
             used,
             truncated,
             asked,
@@ -120,12 +120,12 @@ pub(crate) fn meets(alloc: Global, condition: &Condition, entry: &Entry) -> Resu
             asked.as_slice(),
             entry.fields.as_slice(),
         ),
-        Condition::Never => Ok(false),
-        Condition::And(left, right) => Ok(
+        Criterion::Never => Ok(false),
+        Criterion::And(left, right) => Ok(
             meets(alloc, left, entry)? && meets(alloc, right, entry)?,
         ),
-        Condition::Or(left, right) => Ok(meets(alloc, left, entry)? || meets(alloc, right, entry)?),
-        Condition::Not(left, right) => Ok(
+        Criterion::Or(left, right) => Ok(meets(alloc, left, entry)? || meets(alloc, right, entry)?),
+        Criterion::Not(left, right) => Ok(
             meets(alloc, left, entry)? && !meets(alloc, right, entry)?,
         ),
     }

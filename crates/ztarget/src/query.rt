@@ -8,7 +8,7 @@ ghost use Rattle.ztarget.specs.Counting.{places_in};
 ghost use Rattle.ztarget.specs.Replies.{found_by_query};
 ghost use Rattle.ztarget.specs.Receiving.{IsRefusal};
 
-use crate::condition::condition_of;
+use crate::criterion::criterion_of;
 use crate::database::Database;
 use crate::error::MatchError;
 use crate::fault::{Fault, match_fault};
@@ -31,8 +31,8 @@ fn found_places(
     ensures { IfOk result (λ places. places.items ≡ found_places databases.now names.now query.now.root) }
 {
     let searched = searched(alloc, databases, names)?;
-    let condition = condition_of(alloc, &query.root)?;
-    places(alloc, &condition, &searched)
+    let criterion = criterion_of(alloc, &query.root)?;
+    places(alloc, &criterion, &searched)
 }
 
 /// The same, or the first fault of the query.
@@ -66,8 +66,8 @@ fn result_set(
     ensures { IfOk result (λ hits. hits.items ≡ result_set databases.now names.now query.now.root) }
 {
     let searched = searched(alloc, databases, names)?;
-    let condition = condition_of(alloc, &query.root)?;
-    hits(alloc, &condition, &searched)
+    let criterion = criterion_of(alloc, &query.root)?;
+    hits(alloc, &criterion, &searched)
 }
 
 /// What a search finds, in order.
