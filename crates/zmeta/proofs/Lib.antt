@@ -1,3 +1,4 @@
 pub mod OneShowing
 pub mod Showing
 pub mod Joining
+mod Querying

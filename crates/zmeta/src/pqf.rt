@@ -1,15 +1,18 @@
 //! The command `pqf`: a query in the prefix notation, as it is understood and as it goes out.
-ghost use Rattle.std.specs.Prelude.{◌≡◌, [], ◌∷◌, ◌++◌, OnOk, Result};
+ghost use Rattle.std.specs.Prelude.{◌≡◌, ℕ, List, [], ◌∷◌, ◌++◌, OnOk, IfOk, IfErr, Result};
 ghost use Rattle.zber.specs.Elements.{Element};
 ghost use Rattle.zmeta.specs.Faults.{answer_status};
-ghost use Rattle.zmeta.specs.Pqf.{element_text, query_lines, TellsQuery, PrintsQuery};
+ghost use Rattle.zquery.specs.Printing.{query_text};
+ghost use Rattle.zquery.specs.Type1.{WritesQuery};
+ghost use Rattle.zmeta.specs.Pqf.{IsQueryOf, element_text, query_lines, TellsQuery, PrintsQuery};
 ghost use Rattle.zmeta.specs.declared.fault.Fault.{Fault};
 
 use crate::fault::{Fault, Status};
 use std::alloc::{AllocError, Global};
 use std::io::Write;
 use zber::{Node, Tag};
-use zquery::{parse_pqf, print_pqf, to_node};
+use zquery::laws::{text_printable, text_spellable};
+use zquery::{BuildError, PrintError, Query, parse_pqf, print_pqf, to_node};
 
 /// Prints the query of a text in the prefix notation, and in hexadecimal the element `[21]` that a SearchRequest holds it
 /// in; or tells on standard error why the text is no query. Nothing is printed then.
@@ -41,12 +44,32 @@ fn put_query(alloc: Global, text: &[u8], lines: &mut Vec<u8>) -> Result<(), Faul
     ensures { TellsQuery text.now lines.old.items lines.new.items result }
 {
     let query = parse_pqf(alloc, text)?;
-    print_pqf(alloc, &query, lines)?;
+    put_text(alloc, &query, lines)?;
     lines.extend_from_slice(b"\n")?;
-    let node = to_node(alloc, &query)?;
+    let node = node_of(alloc, &query)?;
     put_element(alloc, node, lines)?;
     lines.extend_from_slice(b"\n")?;
     Ok(())
+}
+
+/// Appends a query that a text stands for, so that it can be printed.
+fn put_text(alloc: Global, query: &Query, lines: &mut Vec<u8>) -> Result<(), PrintError>
+    requires { (text : List ℕ) × IsQueryOf text query.now }
+    ensures ok { OnOk result (lines.new.items ≡ lines.old.items ++ query_text query.now) }
+    ensures memory { IfErr result (λ e. e ≡ PrintError.Memory) }
+{
+    text_printable();
+    print_pqf(alloc, query, lines)
+}
+
+/// The element of a query that a text stands for, so that there is one.
+fn node_of(alloc: Global, query: &Query) -> Result<Node, BuildError>
+    requires { (text : List ℕ) × IsQueryOf text query.now }
+    ensures written { IfOk result (WritesQuery query.now) }
+    ensures memory { IfErr result (λ e. e ≡ BuildError.Memory) }
+{
+    text_spellable();
+    to_node(alloc, query)
 }
 
 /// Appends the element `[21]` around an element.
