@@ -297,6 +297,8 @@ mod tests {
             assert_eq!(rt; told.as_slice(), errors.as_bytes(), "{first} {second}");
             assert_eq!(rt; status, due, "{first} {second}");
         }
+        fs::remove_file(&rt, "count")?;
+        fs::remove_file(&rt, "record")?;
         Ok(())
     }
 
