@@ -1,0 +1,56 @@
+-- Headers (X.690, 8.1.2 and 8.1.3), and what is wrong with them.
+use Rattle.std.specs.Prelude.{◌≡◌, ◌≢◌, ℕ, ◌+◌, ◌^◌, ◌<◌, ◌≤◌, ◌⊎◌, Bool, true, false, Option, Some, None, List, [], ◌∷◌, ◌++◌, length}
+use Rattle.zber.specs.declared.tag.Class.{Class}
+use Rattle.zber.specs.declared.fault.FaultKind.{FaultKind}
+use Rattle.zber.specs.declared.fault.FaultKind.TheVariants as kind
+use Rattle.zber.specs.declared.fault.Place.{Place}
+use Rattle.zber.specs.Names.{Name}
+use Rattle.zber.specs.Spelling.{groups_from, first, lead, Identifier, Length}
+
+-- groups that go on: each octet has the high bit
+abbrev pub GoOn : List ℕ → Type 0
+GoOn [] = Unit {0}
+GoOn (x ∷ xs) = (128 ≤ x) × (x < 256) × GoOn xs
+
+-- an idle front, or a number that stands in the low five bits
+abbrev pub BeginsBadly : List ℕ → Type 0
+BeginsBadly [] = ⊥
+BeginsBadly (x ∷ xs) = (x ≡ 128) ⊎ (x < 31)
+
+-- a whole header: of a definite length, or of the indefinite one
+pub data Header : Name → Bool → Option ℕ → List ℕ → Type 0 where
+  of_size : {n : Name} {c : Bool} {size : ℕ} {i l : List ℕ}
+      → Identifier n c i → Length size l → Header n c (Some size) (i ++ l)
+  of_mark : {n : Name} {i : List ℕ} → Identifier n true i → Header n true None (i ++ (128 ∷ []))
+
+-- the front of a header, with nothing wrong yet; 0 directly within an indefinite element may be half of its end
+pub data IsFront (marked : Bool) : List ℕ → Type 0 where
+  nothing : IsFront marked []
+  half_end : marked ≡ true → IsFront marked (0 ∷ [])
+  groups : (class : Class) (c : Bool) (xs : List ℕ)
+      → GoOn xs → first xs ≢ 128 → groups_from 0 xs < 2 ^ 32 → IsFront marked (lead class c 31 ∷ xs)
+  no_length : {n : Name} {c : Bool} {i : List ℕ} → Identifier n c i → IsFront marked i
+  short_length : {n : Name} {c : Bool} {i : List ℕ} (k : ℕ) (xs : List ℕ)
+      → Identifier n c i → k ≤ 8 → length xs < k → IsFront marked (i ++ ((128 + k) ∷ xs))
+
+-- the first fault of a header at the place, in the order in which they are tested
+pub data HeaderShows (p : Place) : List ℕ → FaultKind → Type 0 where
+  tag_form : (class : Class) (c : Bool) (xs : List ℕ)
+      → BeginsBadly xs → HeaderShows p (lead class c 31 ∷ xs) kind.TagForm
+  tag_too_large : (class : Class) (c : Bool) (x : ℕ) (fronts xs : List ℕ)
+      → GoOn fronts → first (fronts ++ x ∷ []) ≢ 128 → x < 256 → 2 ^ 32 ≤ groups_from 0 (fronts ++ x ∷ [])
+      → HeaderShows p (lead class c 31 ∷ (fronts ++ x ∷ xs)) kind.TagTooLarge
+  stray_end : {xs : List ℕ} → p.marked ≡ false → HeaderShows p (0 ∷ xs) kind.StrayEnd
+  half_stray_end : {x : ℕ} {xs : List ℕ} → p.marked ≡ true → x ≢ 0 → HeaderShows p (0 ∷ x ∷ xs) kind.StrayEnd
+  constructed_end : {xs : List ℕ} → HeaderShows p (32 ∷ xs) kind.StrayEnd
+  length_form : {n : Name} {c : Bool} {i : List ℕ} (x : ℕ) (xs : List ℕ)
+      → Identifier n c i → 136 < x → HeaderShows p (i ++ (x ∷ xs)) kind.LengthForm
+  indefinite_primitive : {n : Name} {i : List ℕ} (xs : List ℕ)
+      → Identifier n false i → HeaderShows p (i ++ (128 ∷ xs)) kind.IndefinitePrimitive
+  passes : {n : Name} {c : Bool} {size : ℕ} {h : List ℕ} (xs : List ℕ)
+      → Header n c (Some size) h → p.size < length h + size → HeaderShows p (h ++ xs) p.past
+  ends : {xs : List ℕ} → IsFront p.marked xs → length xs ≡ p.size → HeaderShows p xs p.past
+  too_deep : {n : Name} {size : ℕ} {h : List ℕ} (xs : List ℕ)
+      → Header n true (Some size) h → length h + size ≤ p.size → p.room ≡ 0 → HeaderShows p (h ++ xs) kind.TooDeep
+  too_deep_marked : {n : Name} {h : List ℕ} (xs : List ℕ)
+      → Header n true None h → p.room ≡ 0 → HeaderShows p (h ++ xs) kind.TooDeep

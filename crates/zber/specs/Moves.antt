@@ -1,0 +1,43 @@
+-- How a move ends, and what is found.
+use Rattle.std.specs.Prelude.{◌≡◌, ℕ, ◌+◌, ◌*◌, ◌-◌, ◌<◌, List, length}
+use Rattle.zber.specs.declared.scan.Scan.{Scan}
+use Rattle.zber.specs.declared.scan.Move.{Move}
+use Rattle.zber.specs.declared.scan.Move.TheVariants.{On, Lack, Fault}
+use Rattle.zber.specs.declared.scan.Reading.{Reading}
+use Rattle.zber.specs.declared.scan.Reading.TheVariants.{Front, Head, End, Whole}
+use Rattle.zber.specs.declared.scan.Found.{Found}
+use Rattle.zber.specs.declared.scan.Found.TheVariants.{Message, Front as FoundFront, Fault as FoundFault}
+use Rattle.zber.specs.Shown.{Shows}
+use Rattle.zber.specs.Unfinished.{IsUnfinished}
+use Rattle.zber.specs.Scans.{Holds, len_of}
+
+-- where a scan stands, and what is left to do
+abbrev pub pos : Scan → ℕ
+pos s = s.at + len_of s.reading
+
+abbrev pub load : Reading → ℕ
+load (Front front len) = 0
+load (Head n c size len) = 2
+load End = 2
+load Whole = 0
+
+abbrev pub weight : ℕ → Scan → ℕ
+weight n s = 3 * (n - pos s) + length s.opened.items + load s.reading
+
+-- it stands at a place, with so many contents octets before it
+pub record StandsAt (s : Scan) (at contents opened : ℕ) : Type 0 where
+  pub at_is : s.at ≡ at
+  pub len : len_of s.reading ≡ 0
+  pub light : load s.reading ≡ 0
+  pub contents_are : s.contents ≡ contents
+  pub open_are : length s.opened.items ≡ opened
+
+abbrev pub MoveIs : ℕ → List ℕ → Scan → Scan → Move → Type 0
+MoveIs limit xs old s On = Holds limit xs s × (weight (length xs) s < weight (length xs) old)
+MoveIs limit xs old s Lack = (s ≡ old) × IsUnfinished limit xs
+MoveIs limit xs old s (Fault k) = Shows limit xs k s.at
+
+abbrev pub FoundIs : ℕ → List ℕ → Scan → Found → Type 0
+FoundIs limit xs s Message = Holds limit xs s × (s.reading ≡ Whole)
+FoundIs limit xs s FoundFront = Holds limit xs s × IsUnfinished limit xs
+FoundIs limit xs s (FoundFault k) = Shows limit xs k s.at

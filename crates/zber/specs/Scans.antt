@@ -1,0 +1,156 @@
+-- A message as its octets come: what is told of its finished elements, and where its open ones stand.
+use Rattle.std.specs.Prelude.{◌≡◌, ℕ, zero, suc, ◌⊎◌, ◌+◌, ◌<◌, ◌≤◌, true, false, Option, Some, None, IfSome, List, [], ◌∷◌, ◌++◌, length, take, drop}
+use Rattle.zber.specs.declared.fault.Place.{Place}
+use Rattle.zber.specs.declared.fault.FaultKind.TheVariants as kind
+use Rattle.zber.specs.declared.scan.Finished.{Finished}
+use Rattle.zber.specs.declared.scan.Finished.TheVariants.{Prim, Cons}
+use Rattle.zber.specs.declared.scan.Window.{Window}
+use Rattle.zber.specs.declared.scan.Open.{Open}
+use Rattle.zber.specs.declared.scan.Reading.{Reading}
+use Rattle.zber.specs.declared.scan.Reading.TheVariants.{Front, Head, End, Whole}
+use Rattle.zber.specs.declared.scan.Scan.{Scan}
+use Rattle.zber.specs.Names.{Name}
+use Rattle.zber.specs.declared.front.Front.TheVariants.{Nothing}
+use Rattle.zber.specs.Elements.{Element, Forest, end, leaf, branch, forest, prim, cons}
+use Rattle.zber.specs.Spelling.{SpellsAll, IsMessage}
+use Rattle.zber.specs.Headers.{Header}
+use Rattle.zber.specs.Fronts.{FrontIs}
+use Rattle.zber.specs.Paths.{start, after, Opens}
+
+-- What is told of finished elements makes these of those: contents are a range of the octets, and children the elements
+-- behind so many.
+pub data Told (xs : List ℕ) : List Element → List Finished → List Element → Type 0 where
+  none : {es : List Element} → Told xs es [] es
+  prim_told : {n : _} {from size : ℕ} {es ds : List Element} {fs : List Finished}
+      → from + size ≤ length xs → Told xs (es ++ prim n (take size (drop from xs)) ∷ []) fs ds
+      → Told xs es (Prim n from size ∷ fs) ds
+  cons_told : {n : _} {behind : ℕ} {es ds : List Element} {fs : List Finished}
+      → behind ≤ length es → Told xs (take behind es ++ cons n (drop behind es) ∷ []) fs ds
+      → Told xs es (Cons n behind ∷ fs) ds
+
+-- how many octets are contents of primitive elements
+abbrev pub contents_in : Forest → ℕ
+contents_in end = 0
+contents_in (leaf n xs rest) = length xs + contents_in rest
+contents_in (branch n kids rest) = contents_in kids + contents_in rest
+
+-- the window that a place has, behind so many octets
+pub record WindowIs (w : Window) (at : ℕ) (p : Place) : Type 0 where
+  pub end_is : w.end ≡ at + p.size
+  pub past_is : w.past ≡ p.past
+  pub marked_is : w.marked ≡ p.marked
+
+-- Octets lead to a place, through the open elements; these elements are finished and stand in none that is.
+pub data Path (limit : ℕ) : List Open → List ℕ → List Element → Place → Type 0 where
+  top : Path limit [] [] [] (start limit)
+  inside : {o : Open} {os : List Open} {xs h ys : List ℕ} {es fs : List Element} {p q : Place}
+      → Path limit os xs es p → WindowIs o.outer (length xs) p → o.behind ≡ length es
+      → Opens p o.tag h q → SpellsAll q.room fs ys → length ys ≤ q.size
+      → Path limit (os ++ o ∷ []) (xs ++ (h ++ ys)) (es ++ fs) (after q (length ys))
+
+pub record Going (limit : ℕ) (xs : List ℕ) (s : Scan) (es : List Element) (p : Place) : Type 0 where
+  pub within : s.at ≤ length xs
+  pub path : Path limit s.opened.items (take s.at xs) es p
+  pub window : WindowIs s.window s.at p
+  pub told : Told (take s.at xs) [] s.finished.items es
+  pub count : s.count ≡ length es
+  pub contents : s.contents ≡ contents_in (forest es)
+
+-- so many octets stand behind the place
+abbrev pub len_of : Reading → ℕ
+len_of (Front front len) = len
+len_of (Head n c size len) = len
+len_of End = 2
+len_of Whole = 0
+
+-- these octets stand at the place
+abbrev pub ReadingIs : Place → List ℕ → Reading → Type 0
+ReadingIs p hs (Front front len) = (len ≡ length hs) × FrontIs p.marked front hs × (len ≤ p.size)
+ReadingIs p hs (Head n c size len) =
+    (len ≡ length hs)
+    × Header n c size hs
+    × (len ≤ p.size)
+    × IfSome size (λ z. len + z ≤ p.size)
+    × (c ≡ true → 0 < p.room)
+ReadingIs p hs End = (p.marked ≡ true) × (hs ≡ 0 ∷ 0 ∷ []) × (2 ≤ p.size)
+ReadingIs p hs Whole = ⊥
+
+pub record IsWhole (limit : ℕ) (xs : List ℕ) (s : Scan) (e : Element) : Type 0 where
+  pub within : s.at ≤ length xs
+  pub none_open : s.opened.items ≡ []
+  pub message : IsMessage limit e (take s.at xs)
+  pub told : Told (take s.at xs) [] s.finished.items (e ∷ [])
+  pub contents : s.contents ≡ contents_in (forest (e ∷ []))
+
+pub record IsGoing (limit : ℕ) (xs : List ℕ) (s : Scan) (r : Reading) : Type 0 where
+  pub es : List Element
+  pub place : Place
+  pub going : Going limit xs s es place
+  pub looked : s.at + len_of r ≤ length xs
+  pub reading : ReadingIs place (take (len_of r) (drop s.at xs)) r
+
+-- what stands behind an element that is finished, with so many others open
+abbrev pub behind_reading : ℕ → Reading
+behind_reading zero = Whole
+behind_reading (suc n) = Front Nothing 0
+
+-- the window inside an element that opens
+abbrev pub inner_window : Window → ℕ → Option ℕ → Window
+inner_window w at (Some size) = record { end = at + size; past = kind.Overrun; marked = false }
+inner_window w at None = record { end = w.end; past = w.past; marked = true }
+
+-- the same, but for room in the vectors
+pub record Same (s t : Scan) : Type 0 where
+  pub at : s.at ≡ t.at
+  pub window : s.window ≡ t.window
+  pub reading : s.reading ≡ t.reading
+  pub opened : s.opened.items ≡ t.opened.items
+  pub finished : s.finished.items ≡ t.finished.items
+  pub count : s.count ≡ t.count
+  pub contents : s.contents ≡ t.contents
+
+-- a whole header at the place, whose contents have come
+pub record IsPassed (limit : ℕ) (xs : List ℕ) (s : Scan) (n : Name) (len size : ℕ) : Type 0 where
+  pub es : List Element
+  pub place : Place
+  pub going : Going limit xs s es place
+  pub header : Header n false (Some size) (take len (drop s.at xs))
+  pub fits : len + size ≤ place.size
+  pub come : s.at + len + size ≤ length xs
+
+-- an element that opens at the place
+pub record IsEntered (limit : ℕ) (xs : List ℕ) (s : Scan) (n : Name) (size : Option ℕ) (len : ℕ) : Type 0 where
+  pub es : List Element
+  pub place : Place
+  pub going : Going limit xs s es place
+  pub header : Header n true size (take len (drop s.at xs))
+  pub fits : IfSome size (λ z. len + z ≤ place.size)
+  pub within : len ≤ place.size
+  pub room : 0 < place.room
+  pub come : s.at + len ≤ length xs
+
+-- an element ends at the place, with so many of these octets: where its window does, or by the mark
+abbrev pub EndsBySize : Place → ℕ → Type 0
+EndsBySize p len = (len ≡ 0) × (p.marked ≡ false) × (p.size ≡ 0)
+
+abbrev pub EndsByMark : Place → ℕ → List ℕ → Type 0
+EndsByMark p len ys = (len ≡ 2) × (p.marked ≡ true) × (2 ≤ p.size) × (take 2 ys ≡ 0 ∷ 0 ∷ [])
+
+-- the innermost open element ends here, with so many octets
+pub record IsClosed (limit : ℕ) (xs : List ℕ) (s : Scan) (len : ℕ) : Type 0 where
+  pub es : List Element
+  pub place : Place
+  pub going : Going limit xs s es place
+  pub some_open : 0 < length s.opened.items
+  pub come : s.at + len ≤ length xs
+  pub end_is : EndsBySize place len ⊎ EndsByMark place len (drop s.at xs)
+
+abbrev pub HoldsBy : ℕ → List ℕ → Scan → Reading → Type 0
+HoldsBy limit xs s (Front front len) = IsGoing limit xs s (Front front len)
+HoldsBy limit xs s (Head n c size len) = IsGoing limit xs s (Head n c size len)
+HoldsBy limit xs s End = IsGoing limit xs s End
+HoldsBy limit xs s Whole = (e : Element) × IsWhole limit xs s e
+
+-- the octets are looked at so far
+abbrev pub Holds : ℕ → List ℕ → Scan → Type 0
+Holds limit xs s = HoldsBy limit xs s s.reading

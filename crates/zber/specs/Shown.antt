@@ -1,0 +1,19 @@
+-- The fault that octets show.
+use Rattle.std.specs.Prelude.{◌≡◌, ◌≢◌, ℕ, ◌<◌, List, ◌++◌, length, take}
+use Rattle.zber.specs.declared.fault.FaultKind.{FaultKind}
+use Rattle.zber.specs.declared.fault.Place.{Place}
+use Rattle.zber.specs.Headers.{HeaderShows}
+use Rattle.zber.specs.Paths.{Reached, IsHere}
+
+-- The octets show the fault at the header that stands behind so many of them: a path leads there, and the header shows
+-- it by the octets up to the end of the innermost open element of definite length, else up to the limit.
+pub record Shows (limit : ℕ) (xs : List ℕ) (k : FaultKind) (at : ℕ) : Type 0 where
+  pub front : List ℕ
+  pub rest : List ℕ
+  pub place : Place
+  pub some : 0 < length xs
+  pub cut : xs ≡ front ++ rest
+  pub at_is : at ≡ length front
+  pub reached : Reached limit front place
+  pub here : at ≢ 0 → IsHere place
+  pub shown : HeaderShows place (take place.size rest) k

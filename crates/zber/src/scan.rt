@@ -1,0 +1,438 @@
+//! A message as its octets come: the elements that are open, and those that are finished.
+ghost use Rattle.std.specs.Prelude.{◌≡◌, ◌≢◌, ◌+◌, ◌-◌, ◌<◌, ◌≤◌, ◌^◌, ◌++◌, ◌∷◌, [], List, ℕ, Bool, true, false, length, take, drop, get_or, min, IfOk, IfErr, OnOk, OnErr, IfSome, Ok, Err, IsTrue, ◌↔◌};
+ghost use Rattle.zber.specs.Elements.{Element};
+ghost use Rattle.zber.specs.declared.fault.Place.{Place};
+ghost use Rattle.zber.specs.Headers.{Header, HeaderShows};
+ghost use Rattle.zber.specs.Fronts.{FrontIs};
+ghost use Rattle.zber.specs.declared.scan.Reading.TheVariants.{Head, Whole, Front as AtFront};
+ghost use Rattle.zber.specs.Counts.{Looked, IsQuiet, Counts, MoveCounts, FoundCounts};
+ghost use Rattle.zber.specs.Moves.{MoveIs, FoundIs, StandsAt, pos};
+ghost use Rattle.zber.specs.Scans.{Going, IsGoing, Holds, ReadingIs, behind_reading, inner_window, IsPassed, IsEntered, IsClosed, Same};
+
+use crate::fault::{FaultKind, Place};
+use crate::front::{Front, Step, advance};
+use crate::tag::Tag;
+use std::alloc::{AllocError, Global};
+
+/// An element that is finished, told behind those within it.
+#[derive(Clone, Copy)]
+pub(crate) enum Finished {
+    /// Its contents are so many octets, so far behind the first of the message.
+    Prim { tag: Tag, from: usize, size: usize },
+    /// It holds the elements that stand behind so many others.
+    Cons { tag: Tag, behind: usize },
+}
+
+/// Where elements may stand.
+#[derive(Clone, Copy)]
+pub(crate) struct Window {
+    /// Its end, so far behind the first octet of the message.
+    pub end: usize,
+    /// What it is to pass that end.
+    pub past: FaultKind,
+    /// Whether an element of indefinite length ends here by a mark.
+    pub marked: bool,
+}
+
+/// A constructed element that is open.
+#[derive(Clone, Copy)]
+pub(crate) struct Open {
+    pub tag: Tag,
+    /// The window that it stands in.
+    pub outer: Window,
+    /// How many elements stood there when it opened.
+    pub behind: usize,
+}
+
+/// What stands at the place that was reached.
+#[derive(Clone, Copy)]
+pub(crate) enum Reading {
+    /// The front of a header, so many octets.
+    Front {
+        front: Front,
+        len: usize,
+    },
+    /// A whole header of so many octets.
+    Head {
+        tag: Tag,
+        constructed: bool,
+        size: Option<usize>,
+        len: usize,
+    },
+    /// The end of an element of indefinite length.
+    End,
+    /// Nothing more: the message is whole.
+    Whole,
+}
+
+/// How one move ended.
+#[derive(Clone, Copy)]
+enum Move {
+    On,
+    Lack,
+    Fault(FaultKind),
+}
+
+/// What octets are, as far as they were looked at.
+#[derive(Clone, Copy)]
+pub(crate) enum Found {
+    Message,
+    Front,
+    Fault(FaultKind),
+}
+
+#[derive(Drop)]
+pub(crate) struct Scan {
+    /// How many octets stand before the header in hand.
+    pub at: usize,
+    pub window: Window,
+    pub reading: Reading,
+    pub opened: Vec<Open>,
+    pub finished: Vec<Finished>,
+    /// How many elements are finished, and within none that is finished.
+    pub count: usize,
+    /// How many of the octets are primitive contents.
+    pub contents: usize,
+}
+
+/// Looks at one octet.
+fn examine(octets: &[u8], at: usize, examined: &mut u64) -> u8
+    requires { at < length octets.now }
+    ensures octet { result ≡ get_or octets.now at 0 }
+    ensures counted { examined.new ≡ min (examined.old + 1) (2 ^ 64 - 1) }
+{
+    *examined = examined.saturating_add(1);
+    octets[at]
+}
+
+/// What the next octet of a header makes of it.
+fn look(front: Front, len: usize, place: Place, x: u8) -> Result<Reading, FaultKind>
+    requires { (xs : List ℕ) × FrontIs place.marked front xs × (len ≡ length xs) × (len < place.size) }
+    ensures goes { IfOk result (λ r. (xs : List ℕ)
+        → FrontIs place.marked front xs → len ≡ length xs → ReadingIs place (xs ++ x ∷ []) r) }
+    ensures fault { IfErr result (λ k. (xs rest : List ℕ)
+        → FrontIs place.marked front xs → len ≡ length xs → HeaderShows place ((xs ++ x ∷ []) ++ rest) k) }
+{
+    let len = len + 1;
+    match advance(front, place.marked, x) {
+        Step::On(front) => Ok(Reading::Front { front, len }),
+        Step::End => Ok(Reading::End),
+        Step::Whole {
+            tag,
+            constructed,
+            size,
+        } => {
+            if let Some(size) = size {
+                if size > place.size - len {
+                    return Err(place.past);
+                }
+            }
+            if constructed && place.room == 0 {
+                return Err(FaultKind::TooDeep);
+            }
+            Ok(Reading::Head {
+                tag,
+                constructed,
+                size,
+                len,
+            })
+        }
+        Step::Bad(kind) => Err(kind),
+    }
+}
+
+/// What stands behind an element that is finished, with so many others open.
+fn reading_behind(opened: usize) -> Reading
+    ensures { result ≡ behind_reading opened }
+{
+    if opened == 0 {
+        Reading::Whole
+    } else {
+        Reading::Front {
+            front: Front::Nothing,
+            len: 0,
+        }
+    }
+}
+
+/// Whether an element of definite length ends at a place.
+fn is_at_end(place: Place, len: usize, opened: usize) -> bool
+    ensures { IsTrue result ↔ ((len ≡ 0) × (place.marked ≡ false) × (place.size ≡ 0) × (0 < opened)) }
+{
+    len == 0 && !place.marked && place.size == 0 && opened > 0
+}
+
+/// The window inside an element that opens, behind its header.
+fn inner(outer: Window, at: usize, size: Option<usize>) -> Window
+    requires { IfSome size (λ z. at + z ≤ outer.end) }
+    ensures { result ≡ inner_window outer at size }
+{
+    match size {
+        Some(size) => Window {
+            end: at + size,
+            past: FaultKind::Overrun,
+            marked: false,
+        },
+        None => Window {
+            end: outer.end,
+            past: outer.past,
+            marked: true,
+        },
+    }
+}
+
+impl Scan {
+    pub fn new(alloc: Global, limit: u32) -> Scan
+        ensures holds { (xs : List ℕ) → Holds limit xs result }
+        ensures begins { (pos result ≡ 0) × (result.contents ≡ 0) }
+    {
+        Scan {
+            at: 0,
+            window: Window {
+                end: limit as usize,
+                past: FaultKind::TooLong,
+                marked: false,
+            },
+            reading: Reading::Front {
+                front: Front::Nothing,
+                len: 0,
+            },
+            opened: Vec::new(alloc),
+            finished: Vec::new(alloc),
+            count: 0,
+            contents: 0,
+        }
+    }
+
+    pub fn is_whole(&self) -> bool
+        ensures { IsTrue result ↔ (self.now.reading ≡ Whole) }
+    {
+        matches!(self.reading, Reading::Whole)
+    }
+
+    /// Begins at the next message.
+    pub fn restart(&mut self, limit: u32)
+        requires { self.old.opened.items ≡ [] }
+        ensures holds { (xs : List ℕ) → Holds limit xs self.new }
+        ensures begins { (pos self.new ≡ 0) × (self.new.contents ≡ 0) }
+    {
+        self.window = Window {
+            end: limit as usize,
+            past: FaultKind::TooLong,
+            marked: false,
+        };
+        self.at = 0;
+        self.reading = Reading::Front {
+            front: Front::Nothing,
+            len: 0,
+        };
+        self.finished.clear();
+        self.count = 0;
+        self.contents = 0;
+    }
+
+    fn place(&self) -> Place
+        requires end { self.now.at ≤ self.now.window.end }
+        requires few { length self.now.opened.items ≤ 64 }
+        ensures { (limit : ℕ) (xs : List ℕ) (es : List Element) (p : Place)
+            → Going limit xs self.now es p → result ≡ p }
+    {
+        Place {
+            size: self.window.end - self.at,
+            past: self.window.past,
+            marked: self.window.marked,
+            room: 64 - self.opened.len() as u32,
+        }
+    }
+
+    /// Finishes the innermost open element, whose end is so many octets.
+    fn close(&mut self, len: usize) -> Result<(), AllocError>
+        requires { (limit : ℕ) × (xs : List ℕ) × IsClosed limit xs self.old len × (length xs < 2 ^ 64) }
+        ensures ok { OnOk result ((limit : ℕ) (xs : List ℕ)
+            → IsClosed limit xs self.old len → Holds limit xs self.new) }
+        ensures stands { OnOk result
+            (StandsAt self.new (self.old.at + len) self.old.contents (length self.old.opened.items - 1)) }
+        ensures err { OnErr result (Same self.old self.new) }
+    {
+        self.finished.reserve(1)?;
+        let Some(open) = self.opened.pop() else {
+            unreachable!()
+        };
+        self.finished.push_reserved(Finished::Cons {
+            tag: open.tag,
+            behind: open.behind,
+        });
+        self.window = open.outer;
+        self.at += len;
+        self.count = open.behind + 1;
+        self.reading = reading_behind(self.opened.len());
+        Ok(())
+    }
+
+    /// Goes on behind the contents of a primitive element.
+    fn pass(&mut self, tag: Tag, len: usize, size: usize) -> Result<(), AllocError>
+        requires { (limit : ℕ) × (xs : List ℕ) × IsPassed limit xs self.old tag len size × (length xs < 2 ^ 64) }
+        ensures ok { OnOk result ((limit : ℕ) (xs : List ℕ)
+            → IsPassed limit xs self.old tag len size → Holds limit xs self.new) }
+        ensures stands { OnOk result
+            (StandsAt self.new (self.old.at + (len + size)) (self.old.contents + size) (length self.old.opened.items)) }
+        ensures err { OnErr result (Same self.old self.new) }
+    {
+        self.finished.push(Finished::Prim {
+            tag,
+            from: self.at + len,
+            size,
+        })?;
+        self.contents += size;
+        self.at += len + size;
+        self.count += 1;
+        self.reading = reading_behind(self.opened.len());
+        Ok(())
+    }
+
+    /// Goes on inside a constructed element.
+    fn enter(&mut self, tag: Tag, size: Option<usize>, len: usize) -> Result<(), AllocError>
+        requires { (limit : ℕ)
+            × (xs : List ℕ)
+            × IsEntered limit xs self.old tag size len
+            × (limit < 2 ^ 32)
+            × (length xs < 2 ^ 64) }
+        ensures ok { OnOk result ((limit : ℕ) (xs : List ℕ)
+            → IsEntered limit xs self.old tag size len → Holds limit xs self.new) }
+        ensures stands { OnOk result
+            (StandsAt self.new (self.old.at + len) self.old.contents (length self.old.opened.items + 1)) }
+        ensures err { OnErr result (Same self.old self.new) }
+    {
+        self.opened.push(Open {
+            tag,
+            outer: self.window,
+            behind: self.count,
+        })?;
+        self.at += len;
+        self.window = inner(self.window, self.at, size);
+        self.reading = Reading::Front {
+            front: Front::Nothing,
+            len: 0,
+        };
+        Ok(())
+    }
+
+    /// Goes on at a whole header.
+    fn go_head(
+        &mut self,
+        octets: &[u8],
+        tag: Tag,
+        constructed: bool,
+        size: Option<usize>,
+        len: usize,
+    ) -> Result<Move, AllocError>
+        requires going { (limit : ℕ)
+            × IsGoing limit octets.now self.old (Head tag constructed size len)
+            × (limit < 2 ^ 32) }
+        requires reads { self.old.reading ≡ Head tag constructed size len }
+        ensures ok { IfOk result (λ m. (limit : ℕ)
+            → IsGoing limit octets.now self.old (Head tag constructed size len)
+            → MoveIs limit octets.now self.old self.new m) }
+        ensures err { OnErr result (Same self.old self.new) }
+        ensures quiet { IfOk result (λ m. (Looked 0 self.old self.new) × IsQuiet m) }
+    {
+        if constructed {
+            self.enter(tag, size, len)?;
+            return Ok(Move::On);
+        }
+        let Some(size) = size else { unreachable!() };
+        if octets.len() - self.at - len < size {
+            return Ok(Move::Lack);
+        }
+        self.pass(tag, len, size)?;
+        Ok(Move::On)
+    }
+
+    /// Goes on in the front of a header.
+    fn go_front(
+        &mut self,
+        octets: &[u8],
+        examined: &mut u64,
+        front: Front,
+        len: usize,
+    ) -> Result<Move, AllocError>
+        requires going { (limit : ℕ) × IsGoing limit octets.now self.old (AtFront front len) × (limit < 2 ^ 32) }
+        requires reads { self.old.reading ≡ AtFront front len }
+        requires some { 0 < length octets.now }
+        ensures ok { IfOk result (λ m. (limit : ℕ)
+            → IsGoing limit octets.now self.old (AtFront front len) → MoveIs limit octets.now self.old self.new m) }
+        ensures err { OnErr result (Same self.old self.new) }
+        ensures counts { IfOk result
+            (λ m. MoveCounts (length octets.now) self.old self.new examined.old examined.new m) }
+        ensures idle { OnErr result (examined.new ≡ examined.old) }
+    {
+        let place = self.place();
+        if is_at_end(place, len, self.opened.len()) {
+            self.close(0)?;
+            return Ok(Move::On);
+        }
+        if len == place.size {
+            return Ok(Move::Fault(place.past));
+        }
+        if octets.len() - self.at == len {
+            return Ok(Move::Lack);
+        }
+        let x = examine(octets, self.at + len, examined);
+        match look(front, len, place, x) {
+            Ok(reading) => {
+                self.reading = reading;
+                Ok(Move::On)
+            }
+            Err(kind) => Ok(Move::Fault(kind)),
+        }
+    }
+
+    fn go(&mut self, octets: &[u8], examined: &mut u64) -> Result<Move, AllocError>
+        requires holds { (limit : ℕ) × Holds limit octets.now self.old × (limit < 2 ^ 32) }
+        requires some { 0 < length octets.now }
+        requires going { self.old.reading ≢ Whole }
+        ensures ok { IfOk result (λ m. (limit : ℕ)
+            → Holds limit octets.now self.old → MoveIs limit octets.now self.old self.new m) }
+        ensures err { OnErr result (Same self.old self.new) }
+        ensures counts { IfOk result
+            (λ m. MoveCounts (length octets.now) self.old self.new examined.old examined.new m) }
+        ensures idle { OnErr result (examined.new ≡ examined.old) }
+    {
+        let reading = self.reading;
+        match reading {
+            Reading::Whole => Ok(Move::Lack),
+            Reading::End => {
+                self.close(2)?;
+                Ok(Move::On)
+            }
+            Reading::Head {
+                tag,
+                constructed,
+                size,
+                len,
+            } => self.go_head(octets, tag, constructed, size, len),
+            Reading::Front { front, len } => self.go_front(octets, examined, front, len),
+        }
+    }
+
+    /// Looks at the octets that have come since, up to a message's end or a fault.
+    pub fn scan(&mut self, octets: &[u8], examined: &mut u64) -> Result<Found, AllocError>
+        requires holds { (limit : ℕ) × Holds limit octets.now self.old × (limit < 2 ^ 32) }
+        requires some { 0 < length octets.now }
+        ensures ok { IfOk result (λ f. (limit : ℕ)
+            → Holds limit octets.now self.old → FoundIs limit octets.now self.new f) }
+        ensures err { OnErr result ((limit : ℕ) → Holds limit octets.now self.old → Holds limit octets.now self.new) }
+        ensures counts { IfOk result
+            (λ f. FoundCounts (length octets.now) self.old self.new examined.old examined.new f) }
+        ensures stopped { OnErr result (Counts self.old self.new examined.old examined.new) }
+    {
+        while !self.is_whole() {
+            match self.go(octets, examined)? {
+                Move::On => {}
+                Move::Lack => return Ok(Found::Front),
+                Move::Fault(kind) => return Ok(Found::Fault(kind)),
+            }
+        }
+        Ok(Found::Message)
+    }
+}
