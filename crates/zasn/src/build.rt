@@ -1,5 +1,5 @@
 //! The elements of a production, built from left to right.
-ghost use Rattle.std.specs.Prelude.{◌≡◌, [], ◌∷◌, ◌++◌, Some};
+ghost use Rattle.std.specs.Prelude.{◌≡◌, [], ◌∷◌, ◌++◌, Some, OnErr};
 ghost use Rattle.zber.specs.Elements.{cons};
 ghost use Rattle.zber.specs.Productions.Building.{optional_put, required_put};
 ghost use Rattle.zber.specs.Productions.Place.{Place};
@@ -16,7 +16,7 @@ use std::alloc::Global;
 use std::marker::Model;
 use zber::{Node, Seq, Tag};
 
-/// The elements of a production that are built so far.
+/// The elements of a production that are built so far. A step that is refused adds none.
 #[derive(Drop)]
 pub struct PartsBuf {
     nodes: Vec<Node>,
@@ -47,7 +47,8 @@ impl PartsBuf {
 
     /// Adds an element.
     pub fn push(&mut self, node: Node) -> Result<(), BuildError>
-        ensures { Puts (Some (self.old ++ node ∷ [])) result self.new }
+        ensures puts { Puts (Some (self.old ++ node ∷ [])) result self.new }
+        ensures err { OnErr result (self.new ≡ self.old) }
     {
         self.nodes.push(node)?;
         Ok(())
@@ -60,7 +61,8 @@ impl PartsBuf {
         tag: Tag,
         value: &T,
     ) -> Result<(), BuildError>
-        ensures { Puts (required_put (T.place tag).spelt value.now self.old) result self.new }
+        ensures puts { Puts (required_put (T.place tag).spelt value.now self.old) result self.new }
+        ensures err { OnErr result (self.new ≡ self.old) }
     {
         let node = value.to_node(alloc, tag)?;
         self.push(node)
@@ -73,7 +75,8 @@ impl PartsBuf {
         tag: Tag,
         value: &Option<T>,
     ) -> Result<(), BuildError>
-        ensures { Puts (optional_put (T.place tag).spelt value.now self.old) result self.new }
+        ensures puts { Puts (optional_put (T.place tag).spelt value.now self.old) result self.new }
+        ensures err { OnErr result (self.new ≡ self.old) }
     {
         match value {
             None => Ok(()),
@@ -83,7 +86,8 @@ impl PartsBuf {
 
     /// Adds the element of a value with a tag of its own.
     pub fn required_tagged<T: Tagged>(&mut self, alloc: Global, value: &T) -> Result<(), BuildError>
-        ensures { Puts (required_put T.place.spelt value.now self.old) result self.new }
+        ensures puts { Puts (required_put T.place.spelt value.now self.old) result self.new }
+        ensures err { OnErr result (self.new ≡ self.old) }
     {
         let node = value.to_element(alloc)?;
         self.push(node)
@@ -95,7 +99,8 @@ impl PartsBuf {
         alloc: Global,
         value: &Option<T>,
     ) -> Result<(), BuildError>
-        ensures { Puts (optional_put T.place.spelt value.now self.old) result self.new }
+        ensures puts { Puts (optional_put T.place.spelt value.now self.old) result self.new }
+        ensures err { OnErr result (self.new ≡ self.old) }
     {
         match value {
             None => Ok(()),
@@ -111,7 +116,8 @@ impl PartsBuf {
         inner: Tag,
         value: &Option<T>,
     ) -> Result<(), BuildError>
-        ensures { Puts (optional_put (explicit outer (T.place inner)).spelt value.now self.old) result self.new }
+        ensures puts { Puts (optional_put (explicit outer (T.place inner)).spelt value.now self.old) result self.new }
+        ensures err { OnErr result (self.new ≡ self.old) }
     {
         match value {
             None => Ok(()),
@@ -129,7 +135,8 @@ impl PartsBuf {
         outer: Tag,
         value: &T,
     ) -> Result<(), BuildError>
-        ensures { Puts (required_put (explicit outer T.place).spelt value.now self.old) result self.new }
+        ensures puts { Puts (required_put (explicit outer T.place).spelt value.now self.old) result self.new }
+        ensures err { OnErr result (self.new ≡ self.old) }
     {
         let node = write_alone_tagged(alloc, value, outer)?;
         self.push(node)
@@ -142,7 +149,8 @@ impl PartsBuf {
         outer: Tag,
         value: &Option<T>,
     ) -> Result<(), BuildError>
-        ensures { Puts (optional_put (explicit outer T.place).spelt value.now self.old) result self.new }
+        ensures puts { Puts (optional_put (explicit outer T.place).spelt value.now self.old) result self.new }
+        ensures err { OnErr result (self.new ≡ self.old) }
     {
         match value {
             None => Ok(()),
@@ -158,7 +166,8 @@ impl PartsBuf {
         inner: Tag,
         texts: &Seq<Bytes>,
     ) -> Result<(), BuildError>
-        ensures { Puts (required_put (strings outer inner).spelt texts.now self.old) result self.new }
+        ensures puts { Puts (required_put (strings outer inner).spelt texts.now self.old) result self.new }
+        ensures err { OnErr result (self.new ≡ self.old) }
     {
         let node = write_texts(alloc, texts, outer, inner)?;
         self.push(node)
@@ -171,7 +180,8 @@ impl PartsBuf {
         tag: Tag,
         value: &Option<Node>,
     ) -> Result<(), BuildError>
-        ensures { Puts (optional_put (any tag).spelt value.now self.old) result self.new }
+        ensures puts { Puts (optional_put (any tag).spelt value.now self.old) result self.new }
+        ensures err { OnErr result (self.new ≡ self.old) }
     {
         match value {
             None => Ok(()),
@@ -189,7 +199,8 @@ impl PartsBuf {
         tag: Tag,
         value: &Option<Node>,
     ) -> Result<(), BuildError>
-        ensures { Puts (optional_put (kept tag []).spelt value.now self.old) result self.new }
+        ensures puts { Puts (optional_put (kept tag []).spelt value.now self.old) result self.new }
+        ensures err { OnErr result (self.new ≡ self.old) }
     {
         match value {
             None => Ok(()),

@@ -1,5 +1,5 @@
 //! The elements of a production, read from left to right.
-ghost use Rattle.std.specs.Prelude.{◌≡◌, [], ◌∷◌, true, false, length, IfSome, IfNone};
+ghost use Rattle.std.specs.Prelude.{◌≡◌, [], ◌∷◌, true, false, length, IfSome, IfNone, OnErr};
 ghost use Rattle.zber.specs.Productions.Reading.{optional_at, required_at, ended_at};
 ghost use Rattle.zber.specs.Productions.Place.{Place};
 ghost use Rattle.zber.specs.Productions.Table.{Elements};
@@ -17,7 +17,8 @@ use std::alloc::Global;
 use std::marker::Model;
 use zber::{Node, Seq, Tag};
 
-/// The elements of a production that are not yet read. Where reading one fails, they stand at the element that failed.
+/// The elements of a production that are not yet read. A step that is refused leaves them as they were, so that the
+/// first of them is the one that failed.
 #[derive(Drop)]
 pub struct Parts<'a> {
     left: &'a [Node],
@@ -64,7 +65,8 @@ impl<'a> Parts<'a> {
 
     /// The value of the next element, where it has the tag.
     pub fn optional<T: Contents>(&mut self, alloc: Global, tag: Tag) -> Result<Option<T>, PartError>
-        ensures { Takes (optional_at (tag ∷ []) (T.place tag).meaning self.old) result self.new }
+        ensures takes { Takes (optional_at (tag ∷ []) (T.place tag).meaning self.old) result self.new }
+        ensures err { OnErr result (self.new ≡ self.old) }
     {
         let Some((first, others)) = self.next_with(tag) else {
             return Ok(None);
@@ -76,14 +78,16 @@ impl<'a> Parts<'a> {
 
     /// The value of the next element, which has the tag.
     pub fn required<T: Contents>(&mut self, alloc: Global, tag: Tag) -> Result<T, PartError>
-        ensures { Takes (required_at (tag ∷ []) (T.place tag).meaning self.old) result self.new }
+        ensures takes { Takes (required_at (tag ∷ []) (T.place tag).meaning self.old) result self.new }
+        ensures err { OnErr result (self.new ≡ self.old) }
     {
         self.optional(alloc, tag)?.ok_or(PartError::Misfit)
     }
 
     /// The value of the next element, where it has one of the value's tags.
     pub fn optional_tagged<T: Tagged>(&mut self, alloc: Global) -> Result<Option<T>, PartError>
-        ensures { Takes (optional_at T.place.tags T.place.meaning self.old) result self.new }
+        ensures takes { Takes (optional_at T.place.tags T.place.meaning self.old) result self.new }
+        ensures err { OnErr result (self.new ≡ self.old) }
     {
         match self.left {
             [] => Ok(None),
@@ -100,7 +104,8 @@ impl<'a> Parts<'a> {
 
     /// The value of the next element, which has one of the value's tags.
     pub fn required_tagged<T: Tagged>(&mut self, alloc: Global) -> Result<T, PartError>
-        ensures { Takes (required_at T.place.tags T.place.meaning self.old) result self.new }
+        ensures takes { Takes (required_at T.place.tags T.place.meaning self.old) result self.new }
+        ensures err { OnErr result (self.new ≡ self.old) }
     {
         self.optional_tagged(alloc)?.ok_or(PartError::Misfit)
     }
@@ -112,7 +117,9 @@ impl<'a> Parts<'a> {
         outer: Tag,
         inner: Tag,
     ) -> Result<Option<T>, PartError>
-        ensures { Takes (optional_at (outer ∷ []) (sequence_of (alone_at (inner ∷ []) (T.place inner).meaning)) self.old) result self.new }
+        ensures takes { Takes (optional_at (outer ∷ [])
+            (sequence_of (alone_at (inner ∷ []) (T.place inner).meaning)) self.old) result self.new }
+        ensures err { OnErr result (self.new ≡ self.old) }
     {
         let Some((first, others)) = self.next_with(outer) else {
             return Ok(None);
@@ -128,7 +135,9 @@ impl<'a> Parts<'a> {
         alloc: Global,
         outer: Tag,
     ) -> Result<T, PartError>
-        ensures { Takes (required_at (outer ∷ []) (sequence_of (alone_at T.place.tags T.place.meaning)) self.old) result self.new }
+        ensures takes { Takes (required_at (outer ∷ [])
+            (sequence_of (alone_at T.place.tags T.place.meaning)) self.old) result self.new }
+        ensures err { OnErr result (self.new ≡ self.old) }
     {
         self.optional_explicit_tagged(alloc, outer)?
             .ok_or(PartError::Misfit)
@@ -140,7 +149,8 @@ impl<'a> Parts<'a> {
         alloc: Global,
         outer: Tag,
     ) -> Result<Option<T>, PartError>
-        ensures { Takes (optional_at (outer ∷ []) (sequence_of (alone T.place).at) self.old) result self.new }
+        ensures takes { Takes (optional_at (outer ∷ []) (sequence_of (alone T.place).at) self.old) result self.new }
+        ensures err { OnErr result (self.new ≡ self.old) }
     {
         let Some((first, others)) = self.next_with(outer) else {
             return Ok(None);
@@ -157,7 +167,8 @@ impl<'a> Parts<'a> {
         outer: Tag,
         inner: Tag,
     ) -> Result<Seq<Bytes>, PartError>
-        ensures { Takes (required_at (outer ∷ []) (list_of (text_under inner)) self.old) result self.new }
+        ensures takes { Takes (required_at (outer ∷ []) (list_of (text_under inner)) self.old) result self.new }
+        ensures err { OnErr result (self.new ≡ self.old) }
     {
         let Some((first, others)) = self.next_with(outer) else {
             return Err(PartError::Misfit);
@@ -169,7 +180,8 @@ impl<'a> Parts<'a> {
 
     /// The one element within the next, whichever it is, where the next has the tag (explicit tagging of ANY).
     pub fn optional_any(&mut self, alloc: Global, tag: Tag) -> Result<Option<Node>, PartError>
-        ensures { Takes (optional_at (tag ∷ []) (sequence_of any_at) self.old) result self.new }
+        ensures takes { Takes (optional_at (tag ∷ []) (sequence_of any_at) self.old) result self.new }
+        ensures err { OnErr result (self.new ≡ self.old) }
     {
         let Some((first, others)) = self.next_with(tag) else {
             return Ok(None);
@@ -181,7 +193,8 @@ impl<'a> Parts<'a> {
 
     /// The next element as it stands, of either form, where it has the tag.
     pub fn optional_kept(&mut self, alloc: Global, tag: Tag) -> Result<Option<Node>, PartError>
-        ensures { Takes (optional_at (tag ∷ []) (kept tag []).meaning self.old) result self.new }
+        ensures takes { Takes (optional_at (tag ∷ []) (kept tag []).meaning self.old) result self.new }
+        ensures err { OnErr result (self.new ≡ self.old) }
     {
         let Some((first, others)) = self.next_with(tag) else {
             return Ok(None);
