@@ -5,6 +5,7 @@ pub mod Heights
 pub mod InForceKept
 pub mod InForceLemmas
 pub mod Leading
+pub mod Levels
 pub mod NumberLemmas
 pub mod OneAnswers
 pub mod OneLexing

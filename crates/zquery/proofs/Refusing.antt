@@ -17,7 +17,7 @@ use Rattle.zquery.specs.Values.{numbers_of, has_equals, kind_of, value_of}
 use Rattle.zquery.specs.InForce.{in_force}
 use Rattle.zquery.specs.Grammar.{One, Placed, on, placed, tokens_in, Bare, InAttrSet, whole_placed}
 use Rattle.zquery.specs.Table.{Place, Operand, SetOrNumbers, Numbers, Kind, Name, OwnSet, unless_deep, next_if, operand, stepped, after, walk, opening, fault, refusal, below_limit, error_at}
-use Rattle.zquery.specs.Fronts.{Shallow, IsFront, IsAtToken, IsAtEnd, IsFirstFault}
+use Rattle.zquery.specs.Fronts.{Shallow, any_level, IsFront, IsAtToken, IsAtEnd, IsFirstFault}
 use Rattle.zquery.proofs.Filling.{begin, fills-whole, whole-passes, front-walks}
 use Rattle.zquery.proofs.Completing.{Readable, NumbersThen, FillsPlace, FillsAll, single, all-back, unless-ok, next-ok, after-ok}
 
@@ -124,20 +124,20 @@ walks-front deep z ts left h =
     from-tokens deep ts r.0 l.0 r.1 r.2 r.3
 
 -- where the table finds a fault
-record Faulty (deep : ℕ → Bool) (ts : List Token) (ps : List Place) (e : PqfError) : Type 0 where
-  before : List Token
-  token : Token
-  rest : List Token
-  left : List Place
-  whole : ts ≡ before ++ token ∷ rest
-  passes : walk deep before ps ≡ Ok left
-  fails : walk deep (before ++ token ∷ []) ps ≡ Err e
-  at : e.at ≡ token.at
+pub record Faulty (deep : ℕ → Bool) (ts : List Token) (ps : List Place) (e : PqfError) : Type 0 where
+  pub before : List Token
+  pub token : Token
+  pub rest : List Token
+  pub left : List Place
+  pub whole : ts ≡ before ++ token ∷ rest
+  pub passes : walk deep before ps ≡ Ok left
+  pub fails : walk deep (before ++ token ∷ []) ps ≡ Err e
+  pub at : e.at ≡ token.at
 
-err-same : (e f : PqfError) (r : Result (List Place) PqfError) → r ≡ Err e → r ≡ Err f → e ≡ f
+pub err-same : (e f : PqfError) (r : Result (List Place) PqfError) → r ≡ Err e → r ≡ Err f → e ≡ f
 err-same e f r g h = cc
 
-faulty : (deep : ℕ → Bool) (ts : List Token) (ps : List Place) (e : PqfError) → walk deep ts ps ≡ Err e → Faulty deep ts ps e
+pub faulty : (deep : ℕ → Bool) (ts : List Token) (ps : List Place) (e : PqfError) → walk deep ts ps ≡ Err e → Faulty deep ts ps e
 faulty deep [] ps e h = absurd (Prim.cc h)
 faulty deep (t ∷ ts) [] e h =
     record { before = []; token = t; rest = ts; left = []; whole = refl; passes = refl; fails = h; at = ap (λ (f : PqfError). f.at) (sym (err-same (error_at t kind.Trailing) e (Err (error_at t kind.Trailing)) refl h)) }
@@ -170,20 +170,19 @@ faulty deep (t ∷ ts) (P ∷ Ps) e h =
     ] in
     stepping (stepped deep P t) refl h
 
-begin-same : (before : List Token) (t : Token) (rest : List Token) → begin (before ++ t ∷ rest) ≡ begin (before ++ t ∷ [])
+pub begin-same : (before : List Token) (t : Token) (rest : List Token) → begin (before ++ t ∷ rest) ≡ begin (before ++ t ∷ [])
 begin-same [] t rest = refl
 begin-same (u ∷ us) t rest = refl
 
-begin-front : (deep : ℕ → Bool) (before : List Token) (t : Token) (rest : List Token) (left : List Place) → walk deep before (begin (before ++ t ∷ rest)) ≡ Ok left → (left : List Place) × (walk deep before (begin before) ≡ Ok left)
+pub begin-front : (deep : ℕ → Bool) (before : List Token) (t : Token) (rest : List Token) (left : List Place) → walk deep before (begin (before ++ t ∷ rest)) ≡ Ok left → (left : List Place) × (walk deep before (begin before) ≡ Ok left)
 begin-front deep [] t rest left h = (Operand GeneralTerm 1 ∷ [], refl)
 begin-front deep (u ∷ us) t rest left h = (left, h)
 
-both-ways : (r : Result (List Place) PqfError) (x : List Place) (e : PqfError) → r ≡ Ok x → r ≡ Err e → ⊥
+pub both-ways : (r : Result (List Place) PqfError) (x : List Place) (e : PqfError) → r ≡ Ok x → r ≡ Err e → ⊥
 both-ways r x e g h = cc
 
-pub at-token : (ts : List Token) (e : PqfError) → walk below_limit ts (begin ts) ≡ Err e → IsAtToken ts e
-at-token ts e h =
-    let f = faulty below_limit ts (begin ts) e h in
+abbrev pub at-faulty : (ts : List Token) (e : PqfError) → Faulty below_limit ts (begin ts) e → IsAtToken ts e
+at-faulty ts e f =
     let b = begin-front below_limit f.before f.token f.rest f.left (ap (λ (z : List Token). walk below_limit f.before (begin z)) (sym f.whole) ∙ f.passes) in
     record {
       before = f.before;
@@ -198,11 +197,11 @@ at-token ts e h =
       at = f.at;
     }
 
--- a level is no concern where none is too deep
-abbrev none_deep : ℕ → Bool
-none_deep n = false
+pub at-token : (ts : List Token) (e : PqfError) → walk below_limit ts (begin ts) ≡ Err e → IsAtToken ts e
+at-token ts e h = at-faulty ts e (faulty below_limit ts (begin ts) e h)
 
-relaxed-word : (deep : ℕ → Bool) (k : TermKind) (n : ℕ) (text : List ℕ) (w : Word) (next : List Place) → operand deep k n text w ≡ Ok next → operand none_deep k n text w ≡ Ok next
+-- what passes below a limit passes on any level
+relaxed-word : (deep : ℕ → Bool) (k : TermKind) (n : ℕ) (text : List ℕ) (w : Word) (next : List Place) → operand deep k n text w ≡ Ok next → operand any_level k n text w ≡ Ok next
 relaxed-word deep k n text Attribute next h = h
 relaxed-word deep k n text TypeOfTerm next h = h
 relaxed-word deep k n text (Op o) next h = ap (λ (x : List Place). Ok x) (unless-ok (deep n) (Operand k (n + 1) ∷ Operand k (n + 1) ∷ []) next h).1
@@ -213,7 +212,7 @@ relaxed-word deep k n text Plain next h =
 relaxed-word deep k n text Unknown next h = h
 relaxed-word deep k n text AttrSet next h = h
 
-relaxed-step : (deep : ℕ → Bool) (P : Place) (t : Token) (next : List Place) → stepped deep P t ≡ Ok next → stepped none_deep P t ≡ Ok next
+pub relaxed-step : (deep : ℕ → Bool) (P : Place) (t : Token) (next : List Place) → stepped deep P t ≡ Ok next → stepped any_level P t ≡ Ok next
 relaxed-step deep (Operand k n) t next h = relaxed-word deep k n t.text (word t) next h
 relaxed-step deep (SetOrNumbers k n) t next h = h
 relaxed-step deep (Numbers k n) t next h = h
@@ -221,14 +220,14 @@ relaxed-step deep (Kind n) t next h = h
 relaxed-step deep Name t next h = h
 relaxed-step deep OwnSet t next h = h
 
-relaxed : (deep : ℕ → Bool) (ts : List Token) (ps left : List Place) → walk deep ts ps ≡ Ok left → walk none_deep ts ps ≡ Ok left
+pub relaxed : (deep : ℕ → Bool) (ts : List Token) (ps left : List Place) → walk deep ts ps ≡ Ok left → walk any_level ts ps ≡ Ok left
 relaxed deep [] ps left h = h
 relaxed deep (t ∷ ts) [] left h = absurd (Prim.cc h)
 relaxed deep (t ∷ ts) (P ∷ Ps) left h =
     let step = after-ok t (stepped deep P t) (λ next. walk deep ts (next ++ Ps)) left h in
-    ap (λ (r : Result (List Place) PqfErrorKind). after t r (λ next. walk none_deep ts (next ++ Ps))) (relaxed-step deep P t step.0 step.1) ∙ relaxed deep ts (step.0 ++ Ps) left step.2
+    ap (λ (r : Result (List Place) PqfErrorKind). after t r (λ next. walk any_level ts (next ++ Ps))) (relaxed-step deep P t step.0 step.1) ∙ relaxed deep ts (step.0 ++ Ps) left step.2
 
-all-shallow : (xs : List Placed) → Shallow none_deep xs
+all-shallow : (xs : List Placed) → Shallow any_level xs
 all-shallow [] = tt
 all-shallow (x ∷ xs) = (refl, all-shallow xs)
 
@@ -240,9 +239,9 @@ at-end len ts p ps e h f = record {
   continued = walks-front below_limit refl ts (p ∷ ps) h;
   unfinished = λ q i.
       let w = i.whole in
-      let whole : walk none_deep (tokens_in (whole_placed w)) (begin (tokens_in (whole_placed w))) ≡ Ok [] =
-      whole-passes none_deep (whole_placed w) (begin (tokens_in (whole_placed w))) (fills-whole none_deep w q.attr_set q.root i.reads) (all-shallow (whole_placed w)) in
-      two-ok (walk none_deep ts (begin ts)) p ps (ap (λ (z : List Token). walk none_deep z (begin z)) (sym i.tokens) ∙ whole) (relaxed below_limit ts (begin ts) (p ∷ ps) h);
+      let whole : walk any_level (tokens_in (whole_placed w)) (begin (tokens_in (whole_placed w))) ≡ Ok [] =
+      whole-passes any_level (whole_placed w) (begin (tokens_in (whole_placed w))) (fills-whole any_level w q.attr_set q.root i.reads) (all-shallow (whole_placed w)) in
+      two-ok (walk any_level ts (begin ts)) p ps (ap (λ (z : List Token). walk any_level z (begin z)) (sym i.tokens) ∙ whole) (relaxed below_limit ts (begin ts) (p ∷ ps) h);
   is = cc;
 }
 

@@ -34,6 +34,15 @@ pub record IsAtToken (ts : List Token) (e : PqfError) : Type 0 where
   pub broken : IsFront below_limit (before ++ token ∷ []) → ⊥
   pub at : e.at ≡ token.at
 
+-- no level is too deep
+abbrev pub any_level : ℕ → Bool
+any_level n = false
+
+-- the fault is at a token with which the tokens go on to the front of some query, but for its level
+pub record IsBelowLevels (ts : List Token) (e : PqfError) : Type 0 where
+  pub first : IsAtToken ts e
+  pub goes_on : IsFront any_level (first.before ++ first.token ∷ [])
+
 -- the fault is at the end of a text of this length, a front that is no query
 pub record IsAtEnd (len : ℕ) (ts : List Token) (e : PqfError) : Type 0 where
   pub continued : IsFront below_limit ts

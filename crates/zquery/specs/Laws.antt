@@ -5,12 +5,13 @@ use Rattle.zber.specs.Elements.{Element}
 use Rattle.zber.specs.Oids.{IsOid}
 use Rattle.zquery.specs.declared.token.Token.{Token}
 use Rattle.zquery.specs.declared.error.PqfError.{PqfError}
+use Rattle.zquery.specs.declared.error.PqfErrorKind.TheVariants as kind
 use Rattle.zquery.specs.Sets.{bib1, is_bib1, set_of}
 use Rattle.zquery.specs.Trees.{RpnQuery, height}
 use Rattle.zquery.specs.Tokens.{AreTokens, IsOpenAt}
 use Rattle.zquery.specs.Grammar.{IsQuery}
 use Rattle.zquery.specs.Table.{refusal}
-use Rattle.zquery.specs.Fronts.{IsFirstFault}
+use Rattle.zquery.specs.Fronts.{IsFirstFault, IsBelowLevels}
 use Rattle.zquery.specs.Texts.{IsText, IsFault}
 use Rattle.zquery.specs.Lawful.{IsLawful}
 use Rattle.zquery.specs.Printing.{printable, query_text}
@@ -37,6 +38,11 @@ NoneRefused = (len : ℕ) (ts : List Token) (q : RpnQuery) → IsQuery ts q → 
 -- a refusal is where the tokens stop being the front of a query
 abbrev pub FirstFault : Type 0
 FirstFault = (len : ℕ) (ts : List Token) (e : PqfError) → refusal len ts ≡ Some e → IsFirstFault len ts e
+
+-- a refusal is for too many levels exactly where only the level of its token is in the way
+abbrev pub TooDeepAlone : Type 0
+TooDeepAlone = (len : ℕ) (ts : List Token) (e : PqfError) → refusal len ts ≡ Some e
+    → (e.kind ≡ kind.TooDeep) ↔ IsBelowLevels ts e
 
 -- a text is that of one query, or has one fault, and a text of a query of height 32 at most has none
 pub record OneAnswer : Type 0 where

@@ -1,5 +1,6 @@
 pub mod AnyQueries
 pub mod Coding
+pub mod Errors
 pub mod Faults
 pub mod Fronts
 pub mod Grammar

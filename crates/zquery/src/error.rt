@@ -1,6 +1,7 @@
 // Why a text is no query, and why a query has no text.
 ghost use Rattle.std.specs.Prelude.{◌≡◌};
 ghost use Rattle.zquery.specs.declared.error.PqfErrorKind.TheVariants as kind;
+ghost use Rattle.zquery.specs.Errors.{kind_word};
 
 use std::alloc::{AllocError, AllocFailed};
 use thiserror::Error;
@@ -41,6 +42,27 @@ pub enum PqfErrorKind {
     /// No memory was found.
     #[error("Memory")]
     Memory,
+}
+
+impl PqfErrorKind {
+    /// The name of the variant, as in `OpenQuote`.
+    pub fn word(self) -> &'static str
+        ensures { result.now ≡ kind_word self }
+    {
+        match self {
+            PqfErrorKind::OpenQuote => "OpenQuote",
+            PqfErrorKind::Empty => "Empty",
+            PqfErrorKind::UnknownWord => "UnknownWord",
+            PqfErrorKind::MissingOperand => "MissingOperand",
+            PqfErrorKind::BadAttribute => "BadAttribute",
+            PqfErrorKind::UnknownSet => "UnknownSet",
+            PqfErrorKind::BadTermType => "BadTermType",
+            PqfErrorKind::BadNumber => "BadNumber",
+            PqfErrorKind::TooDeep => "TooDeep",
+            PqfErrorKind::Trailing => "Trailing",
+            PqfErrorKind::Memory => "Memory",
+        }
+    }
 }
 
 /// Why a text is refused, and where: the octet at which the token at fault begins, the text's

@@ -1,0 +1,5 @@
+use Rattle.zquery.proofs.Levels.{too-deep-alone}
+use Rattle.zquery.proofs.laws.too_deep_alone.Goals as goal
+
+pub returns : goal.returns
+returns c = too-deep-alone
