@@ -9,6 +9,7 @@ pub mod InitResponses
 pub mod PresentRequests
 pub mod PresentResponses
 pub mod Ranges
+pub mod ReadingBack
 pub mod RecordCompositions
 pub mod Records
 pub mod SearchDetails

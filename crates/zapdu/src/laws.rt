@@ -5,6 +5,7 @@ ghost use Rattle.zapdu.specs.declared.apdu.Apdu.{Apdu};
 ghost use Rattle.zapdu.specs.declared.diagnostic.DiagRec.{DiagRec};
 ghost use Rattle.zapdu.specs.declared.record.Record.{Record};
 ghost use Rattle.zapdu.specs.Diagnostics.{WritesDiag};
+ghost use Rattle.zapdu.specs.ReadingBack.{ApduReadBack, DiagReadBack, RecordReadBack};
 ghost use Rattle.zapdu.specs.Records.{WritesRecord};
 ghost use Rattle.zapdu.specs.Writes.{Writes, OneRefusal};
 
@@ -26,4 +27,19 @@ pub fn one_diagnostic()
 /// An element that stands for no APDU is refused in one way.
 pub fn one_refusal()
     ensures { OneRefusal }
+{}
+
+/// Reading the element that was built of an APDU gives it back.
+pub fn apdu_read_back()
+    ensures { ApduReadBack }
+{}
+
+/// Reading the element that was built of a record gives it back.
+pub fn record_read_back()
+    ensures { RecordReadBack }
+{}
+
+/// Reading the element that was built of a diagnostic gives it back.
+pub fn diagnostic_read_back()
+    ensures { DiagReadBack }
 {}

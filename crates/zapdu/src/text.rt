@@ -1,5 +1,6 @@
 //! The printed texts of octets, diagnostics and records.
-ghost use Rattle.std.specs.Prelude.{◌≡◌, ◌++◌, OnOk, OnErr, Option, MatchOption, Some, None};
+ghost use Rattle.std.specs.Prelude.{◌≡◌, ◌≤◌, ◌<◌, ◌∷◌, [], ◌++◌, length, take, IsTrue, IfOk, OnOk, OnErr, Option, MatchOption, Some, None};
+ghost use Rattle.std.specs.List.{flat_map};
 ghost use Rattle.std.specs.Fmt.{signed_decimal};
 ghost use Rattle.hex.specs.Hex.{encode_lower};
 ghost use Rattle.zber.specs.Canonical.{canonical};
@@ -14,8 +15,9 @@ use std::alloc::{AllocError, Global};
 use zasn::{BuildError, Tagged};
 use zber::{Node, Oid};
 
+/// The octet behind a backslash, as two hexadecimal digits behind `\x`, or as it is.
 #[tactic(auto, unfolding(crate::specs::Text::shown))]
-fn put_octet(alloc: Global, octet: u8, out: &mut Vec<u8>) -> Result<(), AllocError>
+fn put_octet(octet: u8, out: &mut Vec<u8>) -> Result<(), AllocError>
     ensures { OnOk result (out.new.items ≡ out.old.items ++ shown octet) }
 {
     if octet == b'"' || octet == b'\\' {
@@ -23,8 +25,14 @@ fn put_octet(alloc: Global, octet: u8, out: &mut Vec<u8>) -> Result<(), AllocErr
     } else if 32 <= octet && octet <= 126 {
         out.extend_from_slice(&[octet])
     } else {
-        out.extend_from_slice(b"\\x")?;
-        put_hex(alloc, &[octet], out)
+        let mut digits = [0; 2];
+        match hex::encode_to_slice([octet], &mut digits) {
+            Ok(()) => {
+                out.extend_from_slice(b"\\x")?;
+                out.extend_from_slice(&digits)
+            }
+            Err(_) => unreachable!(),
+        }
     }
 }
 
@@ -35,26 +43,60 @@ fn put_hex(alloc: Global, octets: &[u8], out: &mut Vec<u8>) -> Result<(), AllocE
     out.extend_from_slice(text.as_bytes())
 }
 
-fn put_quoted(alloc: Global, octets: &[u8], out: &mut Vec<u8>) -> Result<(), AllocError>
+/// Whether the octet stands in quotes as it is.
+#[tactic(auto, unfolding(crate::specs::Text::shown))]
+fn is_plain(octet: u8) -> bool
+    ensures { IsTrue result → shown octet ≡ octet ∷ [] }
+{
+    32 <= octet && octet <= 126 && octet != b'"' && octet != b'\\'
+}
+
+/// How many octets stand in quotes as they are before the first that does not.
+fn plain_front(octets: &[u8]) -> usize
+    ensures within { result ≤ length octets.now }
+    ensures plain { flat_map shown (take result octets.now) ≡ take result octets.now }
+{
+    for (index, octet) in octets.iter().enumerate() {
+        if !is_plain(*octet) {
+            return index;
+        }
+    }
+    octets.len()
+}
+
+/// Appends the octets up to the first that does not stand as it is, and that one, and returns the rest.
+fn put_run<'a>(octets: &'a [u8], out: &mut Vec<u8>) -> Result<&'a [u8], AllocError>
+    ensures whole { IfOk result (λ rest. out.new.items ++ flat_map shown rest.now ≡ out.old.items ++ flat_map shown octets.now) }
+    ensures shorter { IfOk result (λ rest. 0 < length octets.now → length rest.now < length octets.now) }
+{
+    let (plain, others) = octets.split_at(plain_front(octets));
+    out.extend_from_slice(plain)?;
+    match others {
+        [] => Ok(others),
+        [octet, rest @ ..] => {
+            put_octet(*octet, out)?;
+            Ok(rest)
+        }
+    }
+}
+
+fn put_quoted(octets: &[u8], out: &mut Vec<u8>) -> Result<(), AllocError>
     ensures { OnOk result (out.new.items ≡ out.old.items ++ quoted octets.now) }
 {
     out.extend_from_slice(b"\"")?;
-    for octet in octets {
-        put_octet(alloc, *octet, out)?;
+    let mut rest = octets;
+    while !rest.is_empty() {
+        rest = put_run(rest, out)?;
     }
     out.extend_from_slice(b"\"")
 }
 
-fn put_quoted_or_dash(
-    alloc: Global,
-    text: &Option<Bytes>,
-    out: &mut Vec<u8>,
-) -> Result<(), AllocError>
+fn put_quoted_or_dash(text: &Option<Bytes>, out: &mut Vec<u8>) -> Result<(), AllocError>
     ensures { OnOk result (out.new.items ≡ out.old.items ++ quoted_or_dash text.now) }
 {
     match text {
         None => out.extend_from_slice(b"-"),
-        Some(text) => put_quoted(alloc, text.as_slice(), out),
+        Some(text) => put_quoted(text.as_slice(), out),
     }
 }
 
@@ -101,8 +143,8 @@ fn put_default(alloc: Global, diag: &DefaultDiag, out: &mut Vec<u8>) -> Result<(
     put_number(alloc, diag.condition, out)?;
     out.extend_from_slice(b" ")?;
     match &diag.info {
-        Info::V2(text) => put_quoted(alloc, text.as_slice(), out),
-        Info::V3(text) => put_quoted(alloc, text.as_slice(), out),
+        Info::V2(text) => put_quoted(text.as_slice(), out),
+        Info::V3(text) => put_quoted(text.as_slice(), out),
     }
 }
 
@@ -138,7 +180,7 @@ fn put_octets(alloc: Global, hex: bool, octets: &[u8], out: &mut Vec<u8>) -> Res
     if hex {
         put_hex(alloc, octets, out)
     } else {
-        put_quoted(alloc, octets, out)
+        put_quoted(octets, out)
     }
 }
 
@@ -157,7 +199,7 @@ fn put_retrieval(
             out.extend_from_slice(b"rec ")?;
             put_oid(alloc, oid, out)?;
             out.extend_from_slice(b" ")?;
-            put_quoted_or_dash(alloc, &value.name, out)?;
+            put_quoted_or_dash(&value.name, out)?;
             out.extend_from_slice(b" ")?;
             put_octets(alloc, hex, octets.as_slice(), out)
         }
@@ -172,7 +214,7 @@ fn put_record(alloc: Global, value: &Record, hex: bool, out: &mut Vec<u8>) -> Re
         RecordBody::Retrieval(external) => put_retrieval(alloc, value, external, hex, out),
         RecordBody::Surrogate(diag) => {
             out.extend_from_slice(b"diag ")?;
-            put_quoted_or_dash(alloc, &value.name, out)?;
+            put_quoted_or_dash(&value.name, out)?;
             out.extend_from_slice(b" ")?;
             put_diag(alloc, diag, out)
         }
@@ -187,7 +229,7 @@ pub fn quote(alloc: Global, octets: &[u8], out: &mut Vec<u8>) -> Result<(), Allo
     ensures err { OnErr result (out.new.items ≡ out.old.items) }
 {
     let mut text = Vec::new(alloc);
-    put_quoted(alloc, octets, &mut text)?;
+    put_quoted(octets, &mut text)?;
     out.extend_from_slice(&text)
 }
 

@@ -1,0 +1,32 @@
+-- What was built is read back.
+use Rattle.std.specs.Prelude.{◌≡◌, ◌⊎◌, Option, Some, None, Result, Ok, Err}
+use Rattle.zber.specs.Elements.{Element}
+use Rattle.zapdu.specs.declared.apdu.Apdu.{Apdu}
+use Rattle.zapdu.specs.declared.apdu.ApduError.{ApduError}
+use Rattle.zapdu.specs.declared.apdu.ApduError.TheVariants as errors
+use Rattle.zapdu.specs.declared.diagnostic.DiagRec.{DiagRec}
+use Rattle.zapdu.specs.declared.record.Record.{Record}
+use Rattle.zapdu.specs.Diagnostics.{WritesDiag, diag_spelt}
+use Rattle.zapdu.specs.Records.{WritesRecord, record_spelt}
+use Rattle.zapdu.specs.Writes.{Decodes, apdu_spelt}
+
+-- what decoding answers of the element that was built of an APDU: that APDU, memory aside
+abbrev pub ApduReadBack : Type 0
+ApduReadBack = (v : Apdu) (n : Element) (r : Result Apdu ApduError)
+    → apdu_spelt v ≡ Some n → Decodes n r → (r ≡ Ok v) ⊎ (r ≡ Err errors.Memory)
+
+-- the record that the element stands for, or none where it stands for none
+abbrev pub IsRecordOf : Element → Option Record → Type 0
+IsRecordOf n (Some v) = WritesRecord v n
+IsRecordOf n None = (v : Record) → WritesRecord v n → ⊥
+
+abbrev pub RecordReadBack : Type 0
+RecordReadBack = (v : Record) (n : Element) (o : Option Record) → record_spelt v ≡ Some n → IsRecordOf n o → o ≡ Some v
+
+-- the same of diagnostics
+abbrev pub IsDiagOf : Element → Option DiagRec → Type 0
+IsDiagOf n (Some v) = WritesDiag v n
+IsDiagOf n None = (v : DiagRec) → WritesDiag v n → ⊥
+
+abbrev pub DiagReadBack : Type 0
+DiagReadBack = (v : DiagRec) (n : Element) (o : Option DiagRec) → diag_spelt v ≡ Some n → IsDiagOf n o → o ≡ Some v
