@@ -1,5 +1,4 @@
 pub mod Join
-pub mod Merge
 pub mod Encodings
 pub mod Search
 pub mod Distinct
@@ -22,3 +21,5 @@ pub mod Sections
 pub mod Known
 pub mod Listing
 pub mod Laws
+pub mod ListLaws
+pub mod FactRefs

@@ -2,9 +2,11 @@
 #![tactic(auto)]
 
 mod distinct;
+mod encoded_diag;
 mod encoding;
 mod fact;
 mod fact_order;
+mod fact_ref;
 mod facts;
 mod fits;
 mod front;
@@ -15,7 +17,6 @@ pub mod laws;
 mod list;
 mod list_keys;
 mod loading;
-mod merge;
 mod natural;
 mod ranked;
 mod saved_fact;

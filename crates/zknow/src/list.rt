@@ -11,6 +11,7 @@ ghost use Rattle.zknow.specs.Sections.{facts_of, counts_of, failed_of, diags_of,
 ghost use Rattle.zknow.specs.Tables.{AreLawful, KnowsLawfully};
 
 use crate::distinct::Distinct;
+use crate::encoded_diag::EncodedDiag;
 use crate::fact::{Known, Mode, Names};
 use crate::keys::{Mark, RowKey, SetKey};
 use crate::knowledge::Knowledge;
@@ -97,23 +98,37 @@ fn put_failed(
     Ok(())
 }
 
+/// Appends the line of a diagnostic.
+fn put_diag(
+    alloc: Global,
+    names: &Names,
+    key: &SetKey,
+    place: &i64,
+    diag: &DiagRec,
+    out: &mut Vec<u8>,
+) -> Result<(), AllocError>
+    ensures { OnOk result (out.new.items ≡ out.old.items ++ line names.now key.now (codes " diag " ++ signed_decimal place.now ++ codes " " ++ diag_text diag.now)) }
+{
+    let mut tail = Vec::new(alloc);
+    tail.extend_from_slice(b" diag ")?;
+    put_number(alloc, *place, &mut tail)?;
+    tail.extend_from_slice(b" ")?;
+    print_diag(alloc, diag, &mut tail)?;
+    put_line(alloc, names, key, &tail, out)
+}
+
 fn put_diags(
     alloc: Global,
     names: &Names,
     key: &SetKey,
     place: &i64,
-    diags: &[DiagRec],
+    diags: &[EncodedDiag],
     out: &mut Vec<u8>,
 ) -> Result<(), AllocError>
     ensures { OnOk result (out.new.items ≡ out.old.items ++ flat_map (λ d. line names.now key.now (codes " diag " ++ signed_decimal place.now ++ codes " " ++ diag_text d)) diags.now) }
 {
     for diag in diags {
-        let mut tail = Vec::new(alloc);
-        tail.extend_from_slice(b" diag ")?;
-        put_number(alloc, *place, &mut tail)?;
-        tail.extend_from_slice(b" ")?;
-        print_diag(alloc, diag, &mut tail)?;
-        put_line(alloc, names, key, &tail, out)?;
+        put_diag(alloc, names, key, place, diag.diag(), out)?;
     }
     Ok(())
 }
@@ -122,12 +137,12 @@ fn put_all_diags(
     alloc: Global,
     names: &Names,
     key: &SetKey,
-    diags: &Table<i64, Distinct<DiagRec>>,
+    diags: &Table<i64, Distinct<EncodedDiag>>,
     out: &mut Vec<u8>,
 ) -> Result<(), AllocError>
     ensures { OnOk result (out.new.items ≡ out.old.items ++ flat_map (λ x. line names.now key.now (codes " diag " ++ signed_decimal x.0 ++ codes " " ++ diag_text x.1)) (numbered diags.now)) }
 {
-    for (place, diags) in diags.entries() {
+    for (place, diags) in diags.iter() {
         put_diags(alloc, names, key, place, diags.values(), out)?;
     }
     Ok(())

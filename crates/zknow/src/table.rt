@@ -1,38 +1,28 @@
 //! A table of joins.
-ghost use Rattle.std.specs.Prelude.{◌≡◌, List, OnOk};
-ghost use Rattle.std.specs.List.Sorted.{IsStrictlySortedBy};
-ghost use Rattle.std.specs.Map.{keys_of};
+ghost use Rattle.std.specs.Prelude.{◌≡◌, ◌↔◌, IsTrue, List, [], OnOk};
 ghost use Rattle.std.specs.Option.{option_copied};
 ghost use Rattle.zknow.specs.Join.{IsUnion, IsPartOfUnion};
-ghost use Rattle.zknow.specs.Table.{AtKey, HasItem, IsLawfulTable, IsPlace, value_at};
+ghost use Rattle.zknow.specs.Table.{AtKey, HasItem, IsLawfulTable, value_at};
 
 use crate::join::{Join, Key};
-use crate::merge::Merge;
 use std::alloc::{AllocError, Global};
-use std::cmp::Ordering;
+use std::collections::BTreeMap;
+use std::collections::btree_map::Iter;
 use std::marker::Model;
 
 /// A table of joins: keys in order, and for each a value that holds an item.
 #[derive(Drop)]
 pub(crate) struct Table<K: Key, J: Join> {
     alloc: Global,
-    entries: Vec<(K, J)>,
+    map: BTreeMap<K, J, Global>,
 }
 
 impl<K: Key, J: Join> Model for Table<K, J> {
     ghost Value = { List (K × J) };
 
-    ghost view = { λ t. t.entries.items };
+    ghost view = { λ t. t.map.entries };
 
-    ghost invariant = { λ t. IsLawfulTable K.cmp J.holds J.is_lawful t.entries.items };
-}
-
-/// Where the key stands, or else where it would go.
-fn place_of<K: Key, J>(entries: &[(K, J)], key: &K) -> Result<usize, usize>
-    requires { IsStrictlySortedBy K.cmp (keys_of entries.now) }
-    ensures { IsPlace K.cmp entries.now key.now result }
-{
-    entries.binary_search_by_key(key, |entry| entry.0)
+    ghost invariant = { λ t. IsLawfulTable K.cmp J.holds J.is_lawful t.map.entries };
 }
 
 impl<K: Key, J: Join> Table<K, J> {
@@ -42,26 +32,35 @@ impl<K: Key, J: Join> Table<K, J> {
     {
         Table {
             alloc,
-            entries: Vec::new(alloc),
+            map: BTreeMap::new(alloc),
         }
+    }
+
+    /// What it takes memory from.
+    pub(crate) fn allocator(&self) -> Global {
+        self.alloc
     }
 
     /// The value at a key.
     pub(crate) fn get(&self, key: &K) -> Option<&J>
         ensures { option_copied result ≡ value_at K.cmp self.now key.now }
     {
-        match place_of(&self.entries, key) {
-            Ok(at) => Some(&self.entries[at].1),
-            Err(_) => None,
-        }
+        self.map.get(key)
+    }
+
+    /// Whether there are no keys.
+    pub(crate) fn is_empty(&self) -> bool
+        ensures { IsTrue result ↔ (self.now ≡ []) }
+    {
+        self.map.is_empty()
     }
 
     /// The keys in order, each with its value.
-    pub(crate) fn entries(&self) -> &[(K, J)]
-        ensures entries { result.now ≡ self.now }
-        ensures lawful { IsLawfulTable K.cmp J.holds J.is_lawful result.now }
+    pub(crate) fn iter(&self) -> Iter<'_, K, J>
+        ensures entries { result ≡ self.now }
+        ensures lawful { IsLawfulTable K.cmp J.holds J.is_lawful result }
     {
-        &self.entries
+        self.map.iter()
     }
 
     /// Adds an item at a key, as `add` does.
@@ -70,21 +69,16 @@ impl<K: Key, J: Join> Table<K, J> {
         ensures ok { OnOk result (IsUnion (HasItem K.cmp J.holds self.old) (AtKey key (λ x. x ≡ item.now)) (HasItem K.cmp J.holds self.new)) }
         ensures part { IsPartOfUnion (HasItem K.cmp J.holds self.old) (AtKey key (λ x. x ≡ item.now)) (HasItem K.cmp J.holds self.new) }
     {
-        match place_of(&self.entries, &key) {
-            Ok(at) => {
-                let entry = &mut self.entries[at];
-                let added = entry.1.add(item);
-                entry.1.lawful();
-                added
-            }
-            Err(at) => {
-                let mut fresh = J::empty(self.alloc);
-                fresh.add(item)?;
-                fresh.lawful();
-                self.entries.insert(at, (key, fresh))?;
-                Ok(())
-            }
+        if let Some(value) = self.map.get_mut(&key) {
+            let added = value.add(item);
+            value.lawful();
+            return added;
         }
+        let mut fresh = J::empty(self.alloc);
+        fresh.add(item)?;
+        fresh.lawful();
+        self.map.insert(key, fresh)?;
+        Ok(())
     }
 
     /// Joins a value that holds an item into the value at a key.
@@ -93,21 +87,16 @@ impl<K: Key, J: Join> Table<K, J> {
         ensures ok { OnOk result (IsUnion (HasItem K.cmp J.holds self.old) (AtKey key (J.holds other.now)) (HasItem K.cmp J.holds self.new)) }
         ensures part { IsPartOfUnion (HasItem K.cmp J.holds self.old) (AtKey key (J.holds other.now)) (HasItem K.cmp J.holds self.new) }
     {
-        match place_of(&self.entries, &key) {
-            Ok(at) => {
-                let entry = &mut self.entries[at];
-                let absorbed = entry.1.absorb(other);
-                entry.1.lawful();
-                absorbed
-            }
-            Err(at) => {
-                let mut fresh = J::empty(self.alloc);
-                fresh.absorb(other)?;
-                fresh.lawful();
-                self.entries.insert(at, (key, fresh))?;
-                Ok(())
-            }
+        if let Some(value) = self.map.get_mut(&key) {
+            let absorbed = value.absorb(other);
+            value.lawful();
+            return absorbed;
         }
+        let mut fresh = J::empty(self.alloc);
+        fresh.absorb(other)?;
+        fresh.lawful();
+        self.map.insert(key, fresh)?;
+        Ok(())
     }
 }
 
@@ -123,29 +112,16 @@ impl<K: Key, L: Key, J: Join> Table<K, Table<L, J>> {
         ensures ok { OnOk result (IsUnion (HasItem K.cmp (HasItem L.cmp J.holds) self.old) (AtKey outer (AtKey inner.now (λ x. x ≡ item.now))) (HasItem K.cmp (HasItem L.cmp J.holds) self.new)) }
         ensures part { IsPartOfUnion (HasItem K.cmp (HasItem L.cmp J.holds) self.old) (AtKey outer (AtKey inner.now (λ x. x ≡ item.now))) (HasItem K.cmp (HasItem L.cmp J.holds) self.new) }
     {
-        match place_of(&self.entries, &outer) {
-            Ok(at) => {
-                let entry = &mut self.entries[at];
-                let added = entry.1.add_at(*inner, item);
-                entry.1.lawful();
-                added
-            }
-            Err(at) => {
-                let mut fresh = Table::new(self.alloc);
-                fresh.add_at(*inner, item)?;
-                fresh.lawful();
-                self.entries.insert(at, (outer, fresh))?;
-                Ok(())
-            }
+        if let Some(table) = self.map.get_mut(&outer) {
+            let added = table.add_at(*inner, item);
+            table.lawful();
+            return added;
         }
-    }
-}
-
-/// Whether both lists go on, and the second with a lower key.
-fn is_theirs_first<K: Key, J>(merge: &Merge<'_, (K, J)>) -> bool {
-    match (merge.mine, merge.theirs) {
-        ([mine, ..], [theirs, ..]) => theirs.0.cmp(&mine.0) == Ordering::Less,
-        _ => false,
+        let mut fresh = Table::new(self.alloc);
+        fresh.add_at(*inner, item)?;
+        fresh.lawful();
+        self.map.insert(outer, fresh)?;
+        Ok(())
     }
 }
 
@@ -171,25 +147,15 @@ impl<K: Key, J: Join> Join for Table<K, J> {
         self.add_at(item.0, &item.1)
     }
 
-    // Joined in a table of its own, in order, so that each entry is added at the end, and a refusal leaves the old table.
+    // Each value of the other goes where it belongs: it costs what the other holds, and a search for each of its keys.
     fn absorb(&mut self, other: &Self) -> Result<(), AllocError> {
-        let mut joined = Table::new(self.alloc);
-        let mut merge = Merge {
-            mine: self.entries(),
-            theirs: other.entries(),
-        };
-        loop {
-            let theirs_first = is_theirs_first(&merge);
-            let Some(entry) = merge.take(theirs_first) else {
-                break;
-            };
-            joined.absorb_at(entry.0, &entry.1)?;
+        for (key, value) in other.iter() {
+            self.absorb_at(*key, value)?;
         }
-        *self = joined;
         Ok(())
     }
 
     fn lawful(&self) {
-        let _ = &self.entries;
+        let _ = &self.map;
     }
 }

@@ -1,6 +1,0 @@
-use Rattle.std.specs.List.Sorted.{IsStrictlySortedBy}
-use Rattle.zknow.proofs.table.Table.new.Goals as goal
-
-pub invariant_of-result : goal.invariant_of-result
-unfolding IsStrictlySortedBy
-invariant_of-result g c = rw c.new.ensures.items (record { ordered = tt; values = λ k j is. absurd (cc); some = λ k j is. absurd (cc) })
