@@ -30,11 +30,11 @@ use Rattle.zorigin.proofs.Fittings.{fitting, fits_none}
 
 -- ---- members
 
-abbrev IsIn : {X : Type 0} → X → List X → Type 0
+abbrev pub IsIn : {X : Type 0} → X → List X → Type 0
 IsIn x [] = ⊥
 IsIn x (y ∷ ys) = (x ≡ y) ⊎ IsIn x ys
 
-contained : {X : Type 0} (x : X) (xs : List X) → IsIn x xs → Contains xs x
+pub contained : {X : Type 0} (x : X) (xs : List X) → IsIn x xs → Contains xs x
 contained x [] h = absurd h
 contained x (y ∷ ys) (inl e) = (0, (let at : 0 < length (y ∷ ys) = omega arith in at), sym e)
 contained x (y ∷ ys) (inr i) =
@@ -42,7 +42,7 @@ contained x (y ∷ ys) (inr i) =
     let at : suc more.0 < length (y ∷ ys) = omega (arith, more.1) in
     (suc more.0, at, more.2)
 
-among : {X : Type 0} (x : X) (xs : List X) → Contains xs x → IsIn x xs
+pub among : {X : Type 0} (x : X) (xs : List X) → Contains xs x → IsIn x xs
 among {X} x xs h = by xs h.0 h.1 h.2
   where
     by : (ys : List X) (k : ℕ) → k < length ys → slice_index_or ys k x ≡ x → IsIn x ys
@@ -50,7 +50,7 @@ among {X} x xs h = by xs h.0 h.1 h.2
     by (y ∷ ys) zero h e = inl (sym e)
     by (y ∷ ys) (suc k) h e = inr (by ys k (omega arith) e)
 
-in_push : {X : Type 0} (x y : X) (xs : List X) → IsIn x (xs ++ y ∷ []) → IsIn x xs ⊎ (x ≡ y)
+pub in_push : {X : Type 0} (x y : X) (xs : List X) → IsIn x (xs ++ y ∷ []) → IsIn x xs ⊎ (x ≡ y)
 in_push x y [] (inl e) = inr e
 in_push x y [] (inr f) = absurd f
 in_push x y (z ∷ xs) (inl e) = inl (inl e)
@@ -161,7 +161,7 @@ in_verdict p (Ok (taken.Answered b)) a i = elim (in_push a b p.accepted i) [ inl
 in_verdict p (Ok taken.Closed) a i = inl i
 in_verdict p (Err r) a i = inl (elim (is_open (state_of p)) as (λ b. IsIn a (cond b (record p { fault = Some r }) p).accepted → IsIn a p.accepted) [ true ↦ λ j. j | false ↦ λ j. j ] i)
 
-same_call : (p : Past) (c : Call) (r : Option CallRefused) → (admit_unless p c r).accepted ≡ p.accepted
+pub same_call : (p : Past) (c : Call) (r : Option CallRefused) → (admit_unless p c r).accepted ≡ p.accepted
 same_call p c None = refl
 same_call p c (Some r) = refl
 
@@ -184,7 +184,7 @@ verdict_in p (Ok (taken.Answered b)) a h = let e : b ≡ a = cc in subst (λ x. 
 verdict_in p (Ok taken.Closed) a h = absurd (cc)
 verdict_in p (Err r) a h = absurd (cc)
 
-stays : (p : Past) (v : Result Taken Refused) (a : Answer) → IsIn a p.accepted → IsIn a (after_verdict p v).accepted
+pub stays : (p : Past) (v : Result Taken Refused) (a : Answer) → IsIn a p.accepted → IsIn a (after_verdict p v).accepted
 stays p (Ok (taken.Opened b)) a i = in_front a b p.accepted i
 stays p (Ok (taken.Rejected b)) a i = in_front a b p.accepted i
 stays p (Ok (taken.Answered b)) a i = in_front a b p.accepted i

@@ -10,3 +10,5 @@ pub mod Fittings
 pub mod Accepting
 pub mod KnownFacts
 pub mod SpelledRecords
+pub mod Askable
+pub mod Orderly

@@ -85,7 +85,8 @@ is_past last (Some searched) = past_outcome last searched.outcome
 
 abbrev pub out_of_range : Standing → Call → Bool
 out_of_range s (Search op set ask) = search_beyond set ask
-out_of_range s (Present op set start n) = not (are_positions start n) || is_past (last_position start n) (search_of s.searches set)
+out_of_range s (Present op set start n) =
+    not (are_positions start n) || is_past (last_position start n) (search_of s.searches set)
 out_of_range s _ = false
 
 -- an operation is outstanding, and no second one may be: concurrency is not in force, or it is a search that would replace a set

@@ -1,6 +1,6 @@
 -- How a call that is admitted, and an APDU that is taken, change where a connection stands (Z39.50-2003, 3.2 and 3.4). These
 -- definitions serve private functions: public clauses speak of logs (Log.antt, which takes from here what one call or reply says).
-use Rattle.std.specs.Prelude.{ℕ, nat_eq, ◌==◌, Bool, true, false, slice_index_or, if◌then◌else◌, List, Option, Some, None, Result, Ok, Err}
+use Rattle.std.specs.Prelude.{◌≡◌, ◌≢◌, ℕ, nat_eq, ◌==◌, Bool, true, false, slice_index_or, if◌then◌else◌, List, Option, Some, None, Result, Ok, Err}
 use Rattle.std.specs.Map.{set_value}
 use Rattle.indexmap.specs.IndexMap.{insert_entry, shift_remove_entry}
 use Rattle.indexmap.specs.IndexSet.{insert_key}
@@ -14,6 +14,7 @@ use Rattle.zorigin.specs.declared.answer.Taken.{Taken}
 use Rattle.zorigin.specs.declared.answer.Taken.TheVariants as taken
 use Rattle.zorigin.specs.declared.refusal.CallRefused.{CallRefused}
 use Rattle.zorigin.specs.declared.refusal.Refused.{Refused}
+use Rattle.zorigin.specs.declared.refusal.Refused.TheVariants as refused
 use Rattle.zorigin.specs.declared.state.State.TheVariants as states
 use Rattle.zorigin.specs.declared.state.InForce.{InForce}
 use Rattle.zorigin.specs.declared.state.Outcome.{Outcome}
@@ -36,11 +37,16 @@ unanswered op set ask = record { op = op; set = set; syntax = ask.syntax; elemen
 -- ---- calls
 
 abbrev pub with_asked : Standing → Asked → Standing
-with_asked s asked = record s { used = insert_key nat_eq s.used asked.op; outstanding = insert_entry nat_eq s.outstanding asked.op asked }
+with_asked s asked = record s {
+  used = insert_key nat_eq s.used asked.op;
+  outstanding = insert_entry nat_eq s.outstanding asked.op asked;
+}
 
 abbrev pub admitted_at : Standing → Call → Standing
 admitted_at s Init = record (with_asked s init_asked) { state = states.Initialising }
-admitted_at s (Search op set ask) = record (with_asked s (search_asked op set)) { searches = insert_entry nat_eq s.searches set (unanswered op set ask) }
+admitted_at s (Search op set ask) = record (with_asked s (search_asked op set)) {
+  searches = insert_entry nat_eq s.searches set (unanswered op set ask);
+}
 admitted_at s (Present op set start n) = with_asked s (record { op = op; set = set; what = what.Present start n })
 admitted_at s Close = record s { state = states.Closing }
 
@@ -66,7 +72,8 @@ force_in v = record {
 
 -- what came of a search, by its answer
 abbrev pub outcome_in : Apdu → Option Outcome
-outcome_in (apdus.SearchResponse v) = if v.search_status then Some (outcomes.Found v.result_count) else Some outcomes.Failed
+outcome_in (apdus.SearchResponse v) =
+    if v.search_status then Some (outcomes.Found v.result_count) else Some outcomes.Failed
 outcome_in _ = None
 
 abbrev pub noted_if : Bool → Option Outcome → Searched → Searched
@@ -75,7 +82,8 @@ noted_if false outcome searched = searched
 
 abbrev pub noted_at : Asked → Option Outcome → List (ℕ × Searched) → Option Searched → List (ℕ × Searched)
 noted_at asked outcome searches None = searches
-noted_at asked outcome searches (Some searched) = set_value (nat_eq asked.set) searches (noted_if (searched.op == asked.op) outcome searched)
+noted_at asked outcome searches (Some searched) =
+    set_value (nat_eq asked.set) searches (noted_if (searched.op == asked.op) outcome searched)
 
 -- the searches once the operation was answered: that of its set has the outcome, where it is the operation
 abbrev pub noted : Asked → Option Outcome → List (ℕ × Searched) → List (ℕ × Searched)
@@ -93,6 +101,13 @@ opened_at s _ = s
 abbrev pub settled_at : Standing → Result Taken Refused → Standing
 settled_at s (Ok (taken.Opened answer)) = opened_at (without s answer.asked.op) answer.reply
 settled_at s (Ok (taken.Rejected answer)) = record (without s answer.asked.op) { state = states.Closed }
-settled_at s (Ok (taken.Answered answer)) = record (without s answer.asked.op) { searches = noted answer.asked (outcome_in answer.reply) s.searches }
+settled_at s (Ok (taken.Answered answer)) = record (without s answer.asked.op) {
+  searches = noted answer.asked (outcome_in answer.reply) s.searches;
+}
 settled_at s (Ok taken.Closed) = record s { state = states.Closed }
 settled_at s (Err reason) = if is_open s.state then record s { state = states.Failed reason } else s
+
+-- it failed for this reason, and is else as it was; but not where the state or want of memory is the reason
+abbrev pub FailsFor : Standing → Standing → Refused → Type 0
+FailsFor old new reason =
+    reason ≢ refused.WrongState → reason ≢ refused.Memory → new ≡ record old { state = states.Failed reason }

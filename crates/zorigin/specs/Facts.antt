@@ -1,6 +1,6 @@
 -- What a reply that answers an operation says of the target's result sets (Z39.50-2003, 3.2.1.1, 3.2.2.1 and 3.2.3.1).
 use Rattle.std.specs.Prelude.{◌≡◌, ℕ, ℤ, pos, ◌+ℤ◌, ◌-ℤ◌, int_le, Bool, true, ◌&&◌, if◌then◌else◌, List, [], ◌∷◌, ◌++◌, map}
-use Rattle.std.specs.List.{enumerate_from}
+use Rattle.std.specs.List.{AllByRecursion, enumerate_from}
 use Rattle.zapdu.specs.declared.apdu.Apdu.{Apdu}
 use Rattle.zapdu.specs.declared.apdu.Apdu.TheVariants as apdus
 use Rattle.zapdu.specs.declared.record.Record.{Record}
@@ -12,6 +12,7 @@ use Rattle.zknow.specs.declared.fact.Fact.{Fact}
 use Rattle.zknow.specs.declared.fact.Fact.TheVariants.{Count, Failed, Seen, Diag}
 use Rattle.zorigin.specs.declared.answer.What.{What}
 use Rattle.zorigin.specs.declared.answer.What.TheVariants as what
+use Rattle.zorigin.specs.declared.answer.Asked.{Asked}
 use Rattle.zorigin.specs.declared.answer.Answer.{Answer}
 use Rattle.zorigin.specs.declared.answer.Taken.{Taken}
 use Rattle.zorigin.specs.declared.answer.Taken.TheVariants as taken
@@ -19,7 +20,8 @@ use Rattle.zorigin.specs.Fitting.{Fits, records_in, diagnostics_in}
 
 -- record j stands at the j-th position from the first
 abbrev pub seen_from : ℕ → ℕ → ℤ → List Record → List Fact
-seen_from target set first records = map (λ (e : ℕ × Record). Seen target set (first +ℤ pos e.0) e.1) (enumerate_from 0 records)
+seen_from target set first records =
+    map (λ (e : ℕ × Record). Seen target set (first +ℤ pos e.0) e.1) (enumerate_from 0 records)
 
 -- a diagnostic of the search has place 0, one of a Present the first position that was asked
 abbrev pub told_at : ℕ → ℕ → ℤ → List DiagRec → List Fact
@@ -33,7 +35,8 @@ init_facts target v = if v.result then [] else Failed target 0 ∷ []
 
 abbrev pub search_facts : ℕ → ℕ → SearchResponse → List Fact
 search_facts target set v =
-    (count_or_failed target set v.search_status v.result_count ∷ []) ++ seen_from target set (pos 1) (records_in v.records)
+    (count_or_failed target set v.search_status v.result_count ∷ [])
+    ++ seen_from target set (pos 1) (records_in v.records)
     ++ told_at target set (pos 0) (diagnostics_in v.records)
 
 abbrev pub present_facts : ℕ → ℕ → ℤ → PresentResponse → List Fact
@@ -65,12 +68,20 @@ pub record IsShowable (answer : Answer) : Type 0 where
   pub fits : Fits answer.asked.what answer.reply
   pub positions : asks_positions answer.asked.what ≡ true
 
+-- the answer has this reply, and is such
+abbrev pub IsShown : Apdu → Answer → Type 0
+IsShown reply answer = (answer.reply ≡ reply) × IsShowable answer
+
 -- the answer in it, if it has one, is
-abbrev pub HasShowable : Taken → Type 0
-HasShowable (taken.Opened answer) = IsShowable answer
-HasShowable (taken.Rejected answer) = IsShowable answer
-HasShowable (taken.Answered answer) = IsShowable answer
-HasShowable taken.Closed = Unit {0}
+abbrev pub HasShowable : Apdu → Taken → Type 0
+HasShowable reply (taken.Opened answer) = IsShown reply answer
+HasShowable reply (taken.Rejected answer) = IsShown reply answer
+HasShowable reply (taken.Answered answer) = IsShown reply answer
+HasShowable reply taken.Closed = Unit {0}
+
+-- the positions that outstanding operations ask for are some
+abbrev pub AskPositions : List (ℕ × Asked) → Type 0
+AskPositions outstanding = AllByRecursion (λ (e : ℕ × Asked). asks_positions e.1.what ≡ true) outstanding
 
 -- the records of a response of either kind
 abbrev pub records_of : Apdu → List Record

@@ -1,3 +1,4 @@
+pub mod Refusal
 pub mod References
 pub mod Fitting
 pub mod Facts
@@ -8,3 +9,4 @@ pub mod Replies
 pub mod Changes
 pub mod Log
 pub mod Accepts
+pub mod Laws

@@ -9,6 +9,7 @@ use Rattle.zorigin.specs.declared.answer.What.{What}
 use Rattle.zorigin.specs.declared.answer.What.TheVariants as what
 use Rattle.zorigin.specs.declared.answer.Asked.{Asked}
 use Rattle.zorigin.specs.declared.answer.Answer.{Answer}
+use Rattle.zorigin.specs.declared.answer.Sent.{Sent}
 use Rattle.zorigin.specs.declared.answer.Taken.{Taken}
 use Rattle.zorigin.specs.declared.answer.Taken.TheVariants as taken
 use Rattle.zorigin.specs.declared.refusal.CallRefused.{CallRefused}
@@ -22,7 +23,7 @@ use Rattle.zorigin.specs.declared.state.Searched.{Searched}
 use Rattle.zorigin.specs.declared.state.Outcome.{Outcome}
 use Rattle.zorigin.specs.Standings.{Call, Init, Search, Present, Close, Standing, is_open, nothing_in_force, ready}
 use Rattle.zorigin.specs.Sending.{request_of}
-use Rattle.zorigin.specs.Calls.{refusal}
+use Rattle.zorigin.specs.Calls.{refusal, call_answer}
 use Rattle.zorigin.specs.Replies.{verdict}
 use Rattle.zorigin.specs.Changes.{init_asked, search_asked, unanswered, force_in, outcome_in}
 
@@ -112,7 +113,8 @@ opened_state begun (Some answer) = state_by answer.reply
 
 -- Closing where Close was admitted, unless the association was rejected
 abbrev pub closing_state : Bool → State → State
-closing_state closing (states.Ready v3 concurrent named) = if closing then states.Closing else states.Ready v3 concurrent named
+closing_state closing (states.Ready v3 concurrent named) =
+    if closing then states.Closing else states.Ready v3 concurrent named
 closing_state closing other = other
 
 -- Failed where there was a fault
@@ -121,11 +123,13 @@ failed_or other None = other
 failed_or other (Some reason) = states.Failed reason
 
 abbrev pub state_from : Option Refused → Bool → Bool → Bool → Option Answer → State
-state_from fault closed closing begun answer = failed_or (if closed then states.Closed else closing_state closing (opened_state begun answer)) fault
+state_from fault closed closing begun answer =
+    failed_or (if closed then states.Closed else closing_state closing (opened_state begun answer)) fault
 
 -- of several states that hold the last named stands
 abbrev pub state_of : Past → State
-state_of p = state_from p.fault p.closed (list_any is_close_call p.admitted) (list_any is_init_call p.admitted) (opening p)
+state_of p =
+    state_from p.fault p.closed (list_any is_close_call p.admitted) (list_any is_init_call p.admitted) (opening p)
 
 -- ---- the searches
 
@@ -172,7 +176,10 @@ request_list None = []
 request_list (Some apdu) = apdu ∷ []
 
 abbrev pub admit : Past → Call → Past
-admit p call = record p { admitted = p.admitted ++ call ∷ []; sent = p.sent ++ request_list (request_of (standing p) call) }
+admit p call = record p {
+  admitted = p.admitted ++ call ∷ [];
+  sent = p.sent ++ request_list (request_of (standing p) call);
+}
 
 abbrev pub admit_unless : Past → Call → Option CallRefused → Past
 admit_unless p call None = admit p call
@@ -217,3 +224,27 @@ IsTaken (Err reason) = reason ≢ refused.Memory
 
 abbrev pub Tells : Result Taken Refused → Result Taken Refused → Type 0
 Tells given answer = IsTaken answer → answer ≡ given
+
+-- ---- what holds for each log that can have left the origin
+
+abbrev pub AnswersCall : Standing → Call → Result Sent CallRefused → Type 0
+AnswersCall origin call answer =
+    (settings : Settings) (log : Log) → After settings log origin
+    → Answers (call_answer (standing (past settings log)) call) answer
+
+abbrev pub LeavesCall : Standing → Call → Result Sent CallRefused → Standing → Type 0
+LeavesCall old call answer new =
+    (settings : Settings) (log : Log) → After settings log old → IsCalled answer → After settings (Made call ∷ log) new
+
+abbrev pub TellsReply : Standing → Apdu → Result Taken Refused → Type 0
+TellsReply origin reply answer =
+    (settings : Settings) (log : Log) → After settings log origin
+    → Tells (verdict (standing (past settings log)) reply) answer
+
+abbrev pub LeavesReply : Standing → Apdu → Result Taken Refused → Standing → Type 0
+LeavesReply old reply answer new =
+    (settings : Settings) (log : Log) → After settings log old → IsTaken answer → After settings (Got reply ∷ log) new
+
+abbrev pub IsState : Standing → State → Type 0
+IsState origin state =
+    (settings : Settings) (log : Log) → After settings log origin → state ≡ state_of (past settings log)

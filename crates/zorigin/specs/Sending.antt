@@ -1,9 +1,10 @@
 -- The APDU that is sent for a call (Z39.50-2003, 3.2.1.1, 3.2.2.1, 3.2.3.1, 3.2.11.1), and which can be sent at all.
-use Rattle.std.specs.Prelude.{◌≡◌, ℕ, ℤ, pos, nat_lt, Bool, true, false, ◌||◌, if◌then◌else◌, List, [], ◌∷◌, length, Option, Some, None, Result, Ok, Err, codes}
+use Rattle.std.specs.Prelude.{◌≡◌, ℕ, ℤ, pos, nat_lt, Bool, true, false, ◌||◌, if◌then◌else◌, List, [], ◌∷◌, ◌++◌, length, Option, Some, None, Result, Ok, Err, codes}
 use Rattle.std.specs.Option.{option_map}
 use Rattle.std.specs.Fmt.{decimal}
 use Rattle.zber.specs.Elements.{Element, height}
 use Rattle.zber.specs.Canonical.{canonical}
+use Rattle.zber.specs.Spelling.{Begins}
 use Rattle.zapdu.specs.declared.apdu.Apdu.{Apdu}
 use Rattle.zapdu.specs.declared.apdu.Apdu.TheVariants as apdus
 use Rattle.zapdu.specs.declared.element_set_names.ElementSetNames.{ElementSetNames}
@@ -11,7 +12,7 @@ use Rattle.zapdu.specs.declared.element_set_names.ElementSetNames.TheVariants.{G
 use Rattle.zapdu.specs.declared.record_composition.RecordComposition.{RecordComposition}
 use Rattle.zapdu.specs.declared.record_composition.RecordComposition.TheVariants.{Simple}
 use Rattle.zapdu.specs.declared.search_query.SearchQuery.TheVariants.{Rpn}
-use Rattle.zapdu.specs.Writes.{apdu_spelt}
+use Rattle.zapdu.specs.Writes.{Writes, apdu_spelt}
 use Rattle.zorigin.specs.declared.settings.Settings.{Settings}
 use Rattle.zorigin.specs.declared.settings.Ask.{Ask}
 use Rattle.zorigin.specs.declared.state.Searched.{Searched}
@@ -27,7 +28,9 @@ versions = true ∷ true ∷ true ∷ []
 
 -- search 0, present 1, concurrentOperations 13, namedResultSets 14
 abbrev pub options : List Bool
-options = true ∷ true ∷ false ∷ false ∷ false ∷ false ∷ false ∷ false ∷ false ∷ false ∷ false ∷ false ∷ false ∷ true ∷ true ∷ []
+options =
+    true ∷ true ∷ false ∷ false ∷ false ∷ false ∷ false ∷ false ∷ false ∷ false ∷ false ∷ false ∷ false
+    ∷ true ∷ true ∷ []
 
 abbrev pub init_request : Settings → Apdu
 init_request settings = apdus.InitRequest (record {
@@ -142,3 +145,16 @@ Sends apdu (Ok sent) = (is_unsendable apdu ≡ false) × (sent ≡ sent_of apdu)
 Sends apdu (Err refused.Unsendable) = is_unsendable apdu ≡ true
 Sends apdu (Err refused.Memory) = Unit {0}
 Sends apdu (Err _) = ⊥
+
+-- ---- what is sent is read back
+
+-- whatever follows, the octets begin with the element, within the limit of a message
+abbrev pub IsFramed : Element → List ℕ → Type 0
+IsFramed n octets = (more : List ℕ) → Begins 2097152 (octets ++ more) n more
+
+-- the octets begin, whatever follows, with the one element that is made of the APDU, and it stands for the APDU
+pub record IsReadBack (sent : Sent) : Type 0 where
+  pub element : Element
+  pub made : apdu_spelt sent.apdu ≡ Some element
+  pub stands : Writes sent.apdu element
+  pub framed : IsFramed element sent.octets

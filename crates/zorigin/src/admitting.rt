@@ -1,9 +1,10 @@
 //! What a call that is admitted changes.
-ghost use Rattle.std.specs.Prelude.{◌≡◌, nat_eq, IfErr, OnOk, OnErr};
+ghost use Rattle.std.specs.Prelude.{◌≡◌, true, nat_eq, IfErr, OnOk, OnErr};
 ghost use Rattle.indexmap.specs.IndexMap.{insert_entry};
 ghost use Rattle.indexmap.specs.IndexSet.{insert_key};
 ghost use Rattle.zorigin.specs.Standings.{Init, Search, Present};
 ghost use Rattle.zorigin.specs.Changes.{admitted_at};
+ghost use Rattle.zorigin.specs.Facts.{are_positions};
 
 use crate::answer::{Asked, What};
 use crate::origin::Origin;
@@ -21,7 +22,8 @@ fn admit(
 ) -> Result<(), CallRefused>
     ensures memory { IfErr result (λ e. e ≡ CallRefused.Memory) }
     ensures used { OnOk result (used.new.keys ≡ insert_key nat_eq used.old.keys asked.op) }
-    ensures outstanding { OnOk result (outstanding.new.entries ≡ insert_entry nat_eq outstanding.old.entries asked.op asked) }
+    ensures outstanding { OnOk result
+        (outstanding.new.entries ≡ insert_entry nat_eq outstanding.old.entries asked.op asked) }
     ensures err { OnErr result ((used.new.keys ≡ used.old.keys) × (outstanding.new.entries ≡ outstanding.old.entries)) }
 {
     used.reserve(1)?;
@@ -76,6 +78,7 @@ impl Origin {
         start: i64,
         n: i64,
     ) -> Result<(), CallRefused>
+        requires { are_positions start n ≡ true }
         ensures memory { IfErr result (λ e. e ≡ CallRefused.Memory) }
         ensures ok { OnOk result (self.new ≡ admitted_at self.old (Present op set start n)) }
         ensures err { OnErr result (self.new ≡ self.old) }

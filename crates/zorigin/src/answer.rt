@@ -57,6 +57,7 @@ pub enum Taken {
 pub struct Sent {
     /// The request.
     pub apdu: Apdu,
-    /// Its canonical encoding.
+    /// Its canonical encoding: a framer of messages of at most 2,097,152 octets gives its element back, whatever
+    /// follows.
     pub octets: Bytes,
 }

@@ -1,10 +1,10 @@
 //! Calls: the request that one sends, or why it is refused.
-ghost use Rattle.std.specs.Prelude.{◌≡◌, ◌∷◌, OnErr};
-ghost use Rattle.zorigin.specs.declared.settings.Settings.{Settings};
+ghost use Rattle.std.specs.Prelude.{◌≡◌, IfOk, OnErr};
 ghost use Rattle.zorigin.specs.Standings.{Init, Search, Present, Close};
 ghost use Rattle.zorigin.specs.Calls.{call_answer, SendsFor};
 ghost use Rattle.zorigin.specs.Changes.{called_at};
-ghost use Rattle.zorigin.specs.Log.{Log, Made, past, standing, After, Answers, IsCalled};
+ghost use Rattle.zorigin.specs.Log.{Answers, AnswersCall, LeavesCall, IsCalled};
+ghost use Rattle.zorigin.specs.Sending.{IsReadBack};
 
 use crate::answer::Sent;
 use crate::origin::Origin;
@@ -17,21 +17,24 @@ use crate::state::State;
 
 impl Origin {
     fn init_sent(&self) -> Result<Sent, CallRefused>
-        ensures { SendsFor self.now Init result }
+        ensures exact { SendsFor self.now Init result }
+        ensures framed { IfOk result IsReadBack }
     {
         let apdu = init_request(self.alloc, &self.settings)?;
         send(self.alloc, apdu)
     }
 
     fn search_sent(&self, op: u32, set: u32, ask: &Ask) -> Result<Sent, CallRefused>
-        ensures { SendsFor self.now (Search op set ask.now) result }
+        ensures exact { SendsFor self.now (Search op set ask.now) result }
+        ensures framed { IfOk result IsReadBack }
     {
         let apdu = search_request(self.alloc, self.force.named, op, set, ask)?;
         send(self.alloc, apdu)
     }
 
     fn present_sent(&self, op: u32, set: u32, start: i64, n: i64) -> Result<Sent, CallRefused>
-        ensures { SendsFor self.now (Present op set start n) result }
+        ensures exact { SendsFor self.now (Present op set start n) result }
+        ensures framed { IfOk result IsReadBack }
     {
         let Some(searched) = search_of(&self.searches, set) else {
             return Err(CallRefused::SetUnknown);
@@ -43,6 +46,7 @@ impl Origin {
     fn make_init(&mut self) -> Result<Sent, CallRefused>
         ensures answer { Answers (call_answer self.old Init) result }
         ensures after { IsCalled result → self.new ≡ called_at self.old Init }
+        ensures framed { IfOk result IsReadBack }
         ensures err { OnErr result (self.new ≡ self.old) }
     {
         if let Some(reason) = self.init_refusal() {
@@ -56,6 +60,7 @@ impl Origin {
     fn make_search(&mut self, op: u32, set: u32, ask: &Ask) -> Result<Sent, CallRefused>
         ensures answer { Answers (call_answer self.old (Search op set ask.now)) result }
         ensures after { IsCalled result → self.new ≡ called_at self.old (Search op set ask.now) }
+        ensures framed { IfOk result IsReadBack }
         ensures err { OnErr result (self.new ≡ self.old) }
     {
         if let Some(reason) = self.search_refusal(op, set, ask) {
@@ -69,6 +74,7 @@ impl Origin {
     fn make_present(&mut self, op: u32, set: u32, start: i64, n: i64) -> Result<Sent, CallRefused>
         ensures answer { Answers (call_answer self.old (Present op set start n)) result }
         ensures after { IsCalled result → self.new ≡ called_at self.old (Present op set start n) }
+        ensures framed { IfOk result IsReadBack }
         ensures err { OnErr result (self.new ≡ self.old) }
     {
         if let Some(reason) = self.present_refusal(op, set, start, n) {
@@ -82,6 +88,7 @@ impl Origin {
     fn make_close(&mut self) -> Result<Sent, CallRefused>
         ensures answer { Answers (call_answer self.old Close) result }
         ensures after { IsCalled result → self.new ≡ called_at self.old Close }
+        ensures framed { IfOk result IsReadBack }
         ensures err { OnErr result (self.new ≡ self.old) }
     {
         if !is_ready(self.state) {
@@ -98,8 +105,9 @@ impl Origin {
     /// Refused as `WrongState` elsewhere than in Fresh; as `Unsendable` where the name is too long; as `Memory`. The
     /// origin is then as it was.
     pub fn init(&mut self) -> Result<Sent, CallRefused>
-        ensures answer { (settings : Settings) (log : Log) → After settings log self.old → Answers (call_answer (standing (past settings log)) Init) result }
-        ensures after { (settings : Settings) (log : Log) → After settings log self.old → IsCalled result → After settings (Made Init ∷ log) self.new }
+        ensures answer { AnswersCall self.old Init result }
+        ensures after { LeavesCall self.old Init result self.new }
+        ensures framed { IfOk result IsReadBack }
         ensures err { OnErr result (self.new ≡ self.old) }
     {
         self.make_init()
@@ -111,8 +119,9 @@ impl Origin {
     ///
     /// `CallRefused` says when it is refused, in its order; the origin is then as it was.
     pub fn search(&mut self, op: u32, set: u32, ask: &Ask) -> Result<Sent, CallRefused>
-        ensures answer { (settings : Settings) (log : Log) → After settings log self.old → Answers (call_answer (standing (past settings log)) (Search op set ask.now)) result }
-        ensures after { (settings : Settings) (log : Log) → After settings log self.old → IsCalled result → After settings (Made (Search op set ask.now) ∷ log) self.new }
+        ensures answer { AnswersCall self.old (Search op set ask.now) result }
+        ensures after { LeavesCall self.old (Search op set ask.now) result self.new }
+        ensures framed { IfOk result IsReadBack }
         ensures err { OnErr result (self.new ≡ self.old) }
     {
         self.make_search(op, set, ask)
@@ -123,8 +132,9 @@ impl Origin {
     ///
     /// `CallRefused` says when it is refused, in its order; the origin is then as it was.
     pub fn present(&mut self, op: u32, set: u32, start: i64, n: i64) -> Result<Sent, CallRefused>
-        ensures answer { (settings : Settings) (log : Log) → After settings log self.old → Answers (call_answer (standing (past settings log)) (Present op set start n)) result }
-        ensures after { (settings : Settings) (log : Log) → After settings log self.old → IsCalled result → After settings (Made (Present op set start n) ∷ log) self.new }
+        ensures answer { AnswersCall self.old (Present op set start n) result }
+        ensures after { LeavesCall self.old (Present op set start n) result self.new }
+        ensures framed { IfOk result IsReadBack }
         ensures err { OnErr result (self.new ≡ self.old) }
     {
         self.make_present(op, set, start, n)
@@ -135,8 +145,9 @@ impl Origin {
     ///
     /// Refused as `WrongState` elsewhere than in Ready, and as `Memory`; the origin is then as it was.
     pub fn close(&mut self) -> Result<Sent, CallRefused>
-        ensures answer { (settings : Settings) (log : Log) → After settings log self.old → Answers (call_answer (standing (past settings log)) Close) result }
-        ensures after { (settings : Settings) (log : Log) → After settings log self.old → IsCalled result → After settings (Made Close ∷ log) self.new }
+        ensures answer { AnswersCall self.old Close result }
+        ensures after { LeavesCall self.old Close result self.new }
+        ensures framed { IfOk result IsReadBack }
         ensures err { OnErr result (self.new ≡ self.old) }
     {
         self.make_close()

@@ -1,7 +1,6 @@
 //! An origin: what it keeps, and where it stands.
-ghost use Rattle.std.specs.Prelude.{◌≡◌, []};
-ghost use Rattle.zorigin.specs.declared.settings.Settings.{Settings};
-ghost use Rattle.zorigin.specs.Log.{Log, After, past, state_of};
+ghost use Rattle.std.specs.Prelude.{[]};
+ghost use Rattle.zorigin.specs.Log.{After, IsState};
 
 use crate::answer::Asked;
 use crate::settings::Settings;
@@ -31,10 +30,20 @@ pub struct Origin {
 
 impl Model for Origin {
     ghost use Rattle.zorigin.specs.Standings.{Standing};
+    ghost use Rattle.zorigin.specs.Facts.{AskPositions};
 
     ghost Value = { Standing };
 
-    ghost view = { λ o. record { settings = o.settings; state = o.state; force = o.force; used = o.used.keys; searches = o.searches.entries; outstanding = o.outstanding.entries } };
+    ghost view = { λ o. record {
+      settings = o.settings;
+      state = o.state;
+      force = o.force;
+      used = o.used.keys;
+      searches = o.searches.entries;
+      outstanding = o.outstanding.entries;
+    } };
+
+    ghost invariant = { λ o. AskPositions o.outstanding.entries };
 }
 
 impl Origin {
@@ -61,7 +70,7 @@ impl Origin {
 
     /// Its state. It takes no memory.
     pub fn state(&self) -> State
-        ensures { (settings : Settings) (log : Log) → After settings log self.now → result ≡ state_of (past settings log) }
+        ensures { IsState self.now result }
     {
         self.state
     }

@@ -1,4 +1,6 @@
 //! Why a call or a reply is refused.
+ghost use Rattle.std.specs.Prelude.{◌≡◌};
+ghost use Rattle.zorigin.specs.Refusal.{call_word, reply_word};
 
 use std::alloc::{AllocError, AllocFailed};
 use thiserror::Error;
@@ -27,8 +29,8 @@ pub enum CallRefused {
     /// Named result sets are not in force, and a later search was admitted.
     #[error("the set was replaced")]
     SetReplaced,
-    /// A search of set 0, with a negative bound, or with a large bound not above the small one. A Present whose start or
-    /// number is below 1, or that asks for a position past the count or past 2,147,483,647.
+    /// A search of set 0, with a negative bound, or with a large bound not above the small one. A Present whose start
+    /// or number is below 1, or that asks for a position past the count or past 2,147,483,647.
     #[error("out of range")]
     OutOfRange,
     /// An operation is outstanding, and either concurrent operations are not in force, or the call is a search, named
@@ -53,8 +55,8 @@ pub enum Refused {
     /// A request, or a reply of another kind than its operation.
     #[error("not the kind of reply")]
     WrongKind,
-    /// The reference id is not four octets that name an outstanding operation, or it is absent and concurrent operations
-    /// are in force or not exactly one operation is outstanding.
+    /// The reference id is not four octets that name an outstanding operation, or it is absent and concurrent
+    /// operations are in force or not exactly one operation is outstanding.
     #[error("the reference id names no outstanding operation")]
     UnknownReference,
     /// No diagnostics came, and numberOfRecordsReturned is not the number of records.
@@ -63,13 +65,51 @@ pub enum Refused {
     /// resultCount is negative.
     #[error("a negative number")]
     BadNumber,
-    /// More records than resultCount or than asked, a fragment of a record, or a Present's answer with neither a record nor
-    /// a diagnostic.
+    /// More records than resultCount or than asked, a fragment of a record, or a Present's answer with neither a record
+    /// nor a diagnostic.
     #[error("not the records that were asked for")]
     BadShape,
     /// No memory was found; the origin is as it was.
     #[error("out of memory")]
     Memory,
+}
+
+impl CallRefused {
+    /// Its name, as it is written here, in ASCII letters. It takes no memory.
+    pub fn word(&self) -> &'static str
+        ensures { result.now ≡ call_word self.now }
+    {
+        match self {
+            CallRefused::WrongState => "WrongState",
+            CallRefused::NotOffered => "NotOffered",
+            CallRefused::OpUsed => "OpUsed",
+            CallRefused::SetUsed => "SetUsed",
+            CallRefused::SetUnknown => "SetUnknown",
+            CallRefused::SetNotReady => "SetNotReady",
+            CallRefused::SetReplaced => "SetReplaced",
+            CallRefused::OutOfRange => "OutOfRange",
+            CallRefused::Busy => "Busy",
+            CallRefused::Unsendable => "Unsendable",
+            CallRefused::Memory => "Memory",
+        }
+    }
+}
+
+impl Refused {
+    /// Its name, as it is written here, in ASCII letters. It takes no memory.
+    pub fn word(&self) -> &'static str
+        ensures { result.now ≡ reply_word self.now }
+    {
+        match self {
+            Refused::WrongState => "WrongState",
+            Refused::WrongKind => "WrongKind",
+            Refused::UnknownReference => "UnknownReference",
+            Refused::CountMismatch => "CountMismatch",
+            Refused::BadNumber => "BadNumber",
+            Refused::BadShape => "BadShape",
+            Refused::Memory => "Memory",
+        }
+    }
 }
 
 impl From<AllocError> for CallRefused {

@@ -1,12 +1,11 @@
 //! Replies: which is accepted, and what it changes.
-ghost use Rattle.std.specs.Prelude.{◌≡◌, ◌≢◌, ◌==◌, ◌∷◌, Ok, Err, IfOk, IfErr};
+ghost use Rattle.std.specs.Prelude.{◌≡◌, ◌==◌, Ok, Err, IfOk, IfErr};
 ghost use Rattle.zorigin.specs.declared.refusal.Refused.TheVariants.{Memory};
 ghost use Rattle.zorigin.specs.Standings.{is_open, ready};
 ghost use Rattle.zorigin.specs.Replies.{only_of, named, taken_by, taken_as, against, verdict, Judges, JudgesBy};
-ghost use Rattle.zorigin.specs.Changes.{force_in, outcome_in, noted_if, noted, without, opened_at, settled_at};
-ghost use Rattle.zorigin.specs.declared.settings.Settings.{Settings};
+ghost use Rattle.zorigin.specs.Changes.{force_in, outcome_in, noted_if, noted, without, opened_at, settled_at, FailsFor};
 ghost use Rattle.zorigin.specs.Facts.{HasShowable};
-ghost use Rattle.zorigin.specs.Log.{Log, Got, past, standing, After, IsTaken, Tells};
+ghost use Rattle.zorigin.specs.Log.{IsTaken, Tells, TellsReply, LeavesReply};
 
 use crate::answer::{Answer, Asked, Taken};
 use crate::fitting::fault_of;
@@ -168,7 +167,8 @@ impl Origin {
     }
 
     fn verdict(&self, reply: &Apdu) -> Result<Taken, Refused>
-        ensures { Tells (verdict self.now reply.now) result }
+        ensures answer { Tells (verdict self.now reply.now) result }
+        ensures showable { IfOk result (HasShowable reply.now) }
     {
         match self.judged(reply) {
             Ok(None) => Ok(Taken::Closed),
@@ -236,25 +236,26 @@ impl Origin {
         }
     }
 
-    /// What `take` would answer. It changes nothing.
+    /// What `take` would answer, with a copy of the APDU as the answer's reply. It changes nothing.
     pub fn peek(&self, reply: &Apdu) -> Result<Taken, Refused>
-        ensures answer { (settings : Settings) (log : Log) → After settings log self.now → Tells (verdict (standing (past settings log)) reply.now) result }
-        ensures showable { (settings : Settings) (log : Log) → After settings log self.now → IfOk result HasShowable }
+        ensures answer { TellsReply self.now reply.now result }
+        ensures showable { IfOk result (HasShowable reply.now) }
     {
         self.verdict(reply)
     }
 
     /// Takes an APDU that came from the target: a reply is accepted where its reference id names an outstanding
     /// operation, or is absent where concurrent operations are not in force and one is outstanding, and where it fits
-    /// what that operation asked for (Z39.50-2003, 3.4).
+    /// what that operation asked for (Z39.50-2003, 3.4). The answer's reply is a copy of the APDU, and `facts_of` takes
+    /// the answer.
     ///
     /// `Refused` says when it is refused, in its order. The origin has then failed for that reason, and is else as it
     /// was; after `WrongState` and `Memory` it is wholly as it was.
     pub fn take(&mut self, reply: &Apdu) -> Result<Taken, Refused>
-        ensures answer { (settings : Settings) (log : Log) → After settings log self.old → Tells (verdict (standing (past settings log)) reply.now) result }
-        ensures after { (settings : Settings) (log : Log) → After settings log self.old → IsTaken result → After settings (Got reply.now ∷ log) self.new }
-        ensures showable { (settings : Settings) (log : Log) → After settings log self.old → IfOk result HasShowable }
-        ensures failed { IfErr result (λ reason. reason ≢ Refused.WrongState → reason ≢ Refused.Memory → self.new ≡ record self.old { state = State.Failed reason }) }
+        ensures answer { TellsReply self.old reply.now result }
+        ensures after { LeavesReply self.old reply.now result self.new }
+        ensures showable { IfOk result (HasShowable reply.now) }
+        ensures failed { IfErr result (FailsFor self.old self.new) }
         ensures wrong_state { result ≡ Err Refused.WrongState → self.new ≡ self.old }
         ensures memory { result ≡ Err Refused.Memory → self.new ≡ self.old }
     {

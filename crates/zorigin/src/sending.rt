@@ -1,5 +1,6 @@
 //! APDUs and their octets.
-ghost use Rattle.zorigin.specs.Sending.{Encodes, Sends};
+ghost use Rattle.std.specs.Prelude.{IfOk};
+ghost use Rattle.zorigin.specs.Sending.{Encodes, Sends, IsFramed, IsReadBack};
 
 use crate::answer::Sent;
 use crate::refusal::CallRefused;
@@ -13,7 +14,8 @@ const LIMIT: u32 = 2_097_152;
 
 /// The octets of an element.
 fn encoded(alloc: Global, node: &Node) -> Result<Bytes, CallRefused>
-    ensures { Encodes node.now result }
+    ensures exact { Encodes node.now result }
+    ensures framed { IfOk result (IsFramed node.now) }
 {
     let mut octets = Vec::new(alloc);
     match node.encode(alloc, LIMIT, &mut octets) {
@@ -23,11 +25,12 @@ fn encoded(alloc: Global, node: &Node) -> Result<Bytes, CallRefused>
     }
 }
 
-/// The APDU with its canonical octets. `Unsendable` where it has no spelling, more than 64 constructed elements within one
-/// another or more octets than the limit; `Memory`.
+/// The APDU with its canonical octets. `Unsendable` where it has no spelling, more than 64 constructed elements within
+/// one another or more octets than the limit; `Memory`.
 #[tactic(auto, unfolding(crate::specs::Sending::is_unsendable, crate::specs::Sending::encoding_of))]
 pub(crate) fn send(alloc: Global, apdu: Apdu) -> Result<Sent, CallRefused>
-    ensures { Sends apdu result }
+    ensures exact { Sends apdu result }
+    ensures framed { IfOk result IsReadBack }
 {
     match to_node(alloc, &apdu) {
         Ok(node) => {

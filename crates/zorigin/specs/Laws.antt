@@ -1,0 +1,50 @@
+-- What each log keeps, and what an admitted call comes to (Z39.50-2003, 3.2 and 3.4).
+use Rattle.std.specs.Prelude.{◌≡◌, ℕ, nat_eq, true, map, Some, Ok, Contains}
+use Rattle.std.specs.List.{IsDistinct}
+use Rattle.zapdu.specs.declared.apdu.Apdu.{Apdu}
+use Rattle.zapdu.specs.declared.apdu.Apdu.TheVariants as apdus
+use Rattle.zorigin.specs.declared.answer.What.TheVariants as what
+use Rattle.zorigin.specs.declared.answer.Asked.{Asked}
+use Rattle.zorigin.specs.declared.answer.Answer.{Answer}
+use Rattle.zorigin.specs.declared.state.Searched.{Searched}
+use Rattle.zorigin.specs.Standings.{Call, Close, Standing}
+use Rattle.zorigin.specs.Facts.{asks_positions}
+use Rattle.zorigin.specs.Sending.{request_of, sent_of}
+use Rattle.zorigin.specs.Calls.{call_answer}
+use Rattle.zorigin.specs.Log.{Past, asked, op_of, searches_in}
+
+abbrev pub set_of : Searched → ℕ
+set_of searched = searched.set
+
+abbrev pub answered_op : Answer → ℕ
+answered_op answer = answer.asked.op
+
+-- a response to Init that accepts the association
+abbrev pub Accepts : Apdu → Type 0
+Accepts (apdus.InitResponse v) = v.result ≡ true
+Accepts _ = ⊥
+
+-- the association was accepted
+pub record IsOpened (p : Past) : Type 0 where
+  pub answer : Answer
+  pub accepted : Contains p.accepted answer
+  pub init : answer.asked.what ≡ what.Init
+  pub accepts : Accepts answer.reply
+
+pub record IsOrderly (p : Past) : Type 0 where
+  -- no two operations have one number, and no two searches one set
+  pub operations : IsDistinct nat_eq (map op_of (asked p))
+  pub sets : IsDistinct nat_eq (map set_of (searches_in p))
+  -- an accepted reply is to an operation that was admitted, and no two are to one
+  pub known : (answer : Answer) → Contains p.accepted answer → Contains (asked p) answer.asked
+  pub once : IsDistinct nat_eq (map answered_op p.accepted)
+  -- positions that were asked for are some
+  pub positions : (q : Asked) → Contains (asked p) q → asks_positions q.what ≡ true
+  -- Close was called only once the association was accepted
+  pub closing : Contains p.admitted Close → IsOpened p
+
+-- the call has a request, and is answered with it
+pub record IsSent (s : Standing) (call : Call) : Type 0 where
+  pub request : Apdu
+  pub made : request_of s call ≡ Some request
+  pub answer : call_answer s call ≡ Ok (sent_of request)
