@@ -9,3 +9,13 @@ pub mod NamedSets
 pub mod KeptSets
 pub mod KeptEntries
 pub mod Criteria
+pub mod Indexes
+pub mod Members
+pub mod Walks
+pub mod Truncations
+pub mod Built
+pub mod Shifted
+pub mod KeptAt
+pub mod OnceNamed
+pub mod Lookups
+pub mod Merges

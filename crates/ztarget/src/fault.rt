@@ -7,8 +7,8 @@ ghost use Rattle.zquery.specs.Trees.{OfTerm};
 ghost use Rattle.zquery.specs.Viewed.{seen};
 ghost use Rattle.ztarget.specs.Faults.{fault, first_of, is_unknown, is_among, number_fault, row_of, value_fault, set_fault, attr_fault, attrs_fault, term_fault, tree_fault, query_fault, is_known, names_fault, match_fault};
 
-use crate::database::Database;
 use crate::decimal::{decimal, dotted};
+use crate::indexed::Indexed;
 use bytes::Bytes;
 use std::alloc::{AllocError, Global};
 use std::marker::Model;
@@ -204,16 +204,16 @@ pub(crate) fn query_fault(alloc: Global, query: &Query) -> Result<Option<Fault>,
     }
 }
 
-fn is_known(databases: &[Database], name: &Bytes) -> bool
+fn is_known(databases: &[Indexed], name: &Bytes) -> bool
     ensures { result ≡ is_known databases.now name.now }
 {
     databases
         .iter()
-        .any(|database| database.name.as_slice() == name.as_slice())
+        .any(|database| database.name().as_slice() == name.as_slice())
 }
 
 /// The first of the names that no database has.
-fn unknown<'a>(databases: &[Database], names: &'a [Bytes]) -> Option<&'a Bytes>
+fn unknown<'a>(databases: &[Indexed], names: &'a [Bytes]) -> Option<&'a Bytes>
     ensures { option_map (λ name. name.now) result ≡ find (is_unknown databases.now) names.now }
 {
     names.iter().find(|name| !is_known(databases, name))
@@ -221,7 +221,7 @@ fn unknown<'a>(databases: &[Database], names: &'a [Bytes]) -> Option<&'a Bytes>
 
 /// The fault of names of databases: there is none, or one that no database has.
 pub(crate) fn names_fault(
-    databases: &[Database],
+    databases: &[Indexed],
     names: &[Bytes],
 ) -> Result<Option<Fault>, AllocError>
     ensures { IfOk result (λ f. f ≡ names_fault databases.now names.now) }
@@ -244,7 +244,7 @@ pub(crate) fn names_fault(
 /// The first fault of a type-1 query for databases: that of their names, then that of the query.
 pub(crate) fn match_fault(
     alloc: Global,
-    databases: &[Database],
+    databases: &[Indexed],
     names: &[Bytes],
     query: &Query,
 ) -> Result<Option<Fault>, AllocError>

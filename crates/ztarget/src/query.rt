@@ -9,10 +9,10 @@ ghost use Rattle.ztarget.specs.Replies.{found_by_query};
 ghost use Rattle.ztarget.specs.Receiving.{IsRefusal};
 
 use crate::criterion::criterion_of;
-use crate::database::Database;
 use crate::error::MatchError;
 use crate::fault::{Fault, match_fault};
 use crate::found::{Hit, hits, places};
+use crate::indexed::Indexed;
 use crate::searched::searched;
 use bytes::Bytes;
 use std::alloc::{AllocError, Global};
@@ -23,7 +23,7 @@ use zquery::Query;
 #[tactic(auto, using(crate::proofs::FewEntries::few_searched))]
 fn found_places(
     alloc: Global,
-    databases: &[Database],
+    databases: &[Indexed],
     names: &[Bytes],
     query: &Query,
 ) -> Result<Vec<u32>, AllocError>
@@ -38,7 +38,7 @@ fn found_places(
 /// The same, or the first fault of the query.
 pub(crate) fn matching_places(
     alloc: Global,
-    databases: &[Database],
+    databases: &[Indexed],
     names: &[Bytes],
     query: &Query,
 ) -> Result<Vec<u32>, MatchError>
@@ -57,12 +57,14 @@ pub(crate) fn matching_places(
 }
 
 /// What is found for a type-1 query, in order.
+#[tactic(auto, using(crate::proofs::FewEntries::few_searched))]
 fn result_set(
     alloc: Global,
-    databases: &[Database],
+    databases: &[Indexed],
     names: &[Bytes],
     query: &Query,
 ) -> Result<Vec<Hit>, AllocError>
+    requires { length (entries_in databases.now) < 2 ^ 32 }
     ensures { IfOk result (λ hits. hits.items ≡ result_set databases.now names.now query.now.root) }
 {
     let searched = searched(alloc, databases, names)?;
@@ -74,7 +76,7 @@ fn result_set(
 #[tactic(auto, using(crate::proofs::FewEntries::few_found))]
 pub(crate) fn found(
     alloc: Global,
-    databases: &[Database],
+    databases: &[Indexed],
     request: &SearchRequest,
 ) -> Result<Vec<Hit>, AllocError>
     requires { length (entries_in databases.now) < 2 ^ 32 }

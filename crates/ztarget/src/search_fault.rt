@@ -5,8 +5,8 @@ ghost use Rattle.ztarget.specs.Responding.{name_fault, kept_fault, search_fault}
 ghost use Rattle.ztarget.specs.Standing.{set_named};
 ghost use Rattle.ztarget.specs.Viewed.{terms_of};
 
-use crate::database::Database;
 use crate::fault::{Fault, match_fault};
+use crate::indexed::Indexed;
 use crate::phase::Terms;
 use crate::sets::ResultSets;
 use bytes::Bytes;
@@ -43,7 +43,7 @@ fn kept_fault(sets: &ResultSets, replaces: bool, name: &Bytes) -> Result<Option<
 /// The first fault of a search with a type-1 query.
 fn type_1_fault(
     alloc: Global,
-    databases: &[Database],
+    databases: &[Indexed],
     sets: &ResultSets,
     terms: Terms,
     request: &SearchRequest,
@@ -64,7 +64,7 @@ fn type_1_fault(
 /// The first fault of a search.
 pub(crate) fn search_fault(
     alloc: Global,
-    databases: &[Database],
+    databases: &[Indexed],
     sets: &ResultSets,
     terms: Terms,
     request: &SearchRequest,

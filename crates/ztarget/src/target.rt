@@ -15,6 +15,7 @@ ghost use Rattle.ztarget.specs.Viewed.{terms_of};
 use crate::database::Database;
 use crate::error::{MatchError, TargetError};
 use crate::fault::Fault;
+use crate::indexed::{Indexed, with_indexes};
 use crate::init::{init_response, is_accepted, terms};
 use crate::phase::{Phase, Terms};
 use crate::present::presented;
@@ -37,7 +38,7 @@ use zquery::Query;
 #[derive(Drop)]
 pub struct Target {
     alloc: Global,
-    databases: Vec<Database>,
+    databases: Vec<Indexed>,
     settings: TargetSettings,
     phase: Phase,
     sets: ResultSets,
@@ -106,7 +107,7 @@ impl Target {
     {
         Ok(Target {
             alloc,
-            databases,
+            databases: with_indexes(alloc, databases)?,
             settings,
             phase: Phase::Fresh,
             sets: ResultSets::new(alloc),

@@ -1,0 +1,78 @@
+-- An index of entries: each word with the places where it stands, in order of entries, fields and words.
+use Rattle.std.specs.Prelude.{◌≡◌, ℕ, ℤ, ◌+◌, List, [], ◌∷◌, ◌++◌, Bool, false, not, ◌&&◌, nat_eq, filter, Option, Some, None, if◌then◌else◌, unwrap_or, slice_get}
+use Rattle.std.specs.BTreeMap.{is_at}
+use Rattle.std.specs.Cmp.Lexicographic.{slice_cmp}
+use Rattle.std.specs.List.{flat_map, starts_with}
+use Rattle.std.specs.Map.{lookup}
+use Rattle.std.specs.Ordering.{nat_cmp}
+use Rattle.std.specs.Str.{bytes_eq}
+use Rattle.ztarget.specs.declared.database.Entry.{Entry}
+use Rattle.ztarget.specs.declared.database.Field.{Field}
+use Rattle.ztarget.specs.declared.index.Place.{Place}
+use Rattle.ztarget.specs.Matching.{is_used}
+use Rattle.ztarget.specs.Words.{words}
+
+abbrev pub place : ℕ → ℕ → ℕ → Place
+place entry field word = record { entry = entry; field = field; word = word }
+
+-- the words of a text, each with its place, where the first has this number
+abbrev pub word_places : ℕ → ℕ → ℕ → List (List ℕ) → List (List ℕ × Place)
+word_places e f k [] = []
+word_places e f k (w ∷ ws) = (w, place e f k) ∷ word_places e f (k + 1) ws
+
+abbrev pub field_places : ℕ → ℕ → List Field → List (List ℕ × Place)
+field_places e f [] = []
+field_places e f (x ∷ xs) = word_places e f 0 (words x.text) ++ field_places e (f + 1) xs
+
+abbrev pub entry_places : ℕ → List Entry → List (List ℕ × Place)
+entry_places e [] = []
+entry_places e (x ∷ xs) = field_places e 0 x.fields ++ entry_places (e + 1) xs
+
+-- the places of the words that pass, among words with their places
+abbrev pub picked : (List ℕ → Bool) → List (List ℕ × Place) → List Place
+picked p [] = []
+picked p (o ∷ os) = if p o.0 then o.1 ∷ picked p os else picked p os
+
+-- those of one word
+abbrev pub at_word : List ℕ → List (List ℕ × Place) → List Place
+at_word w os = picked (bytes_eq w) os
+
+-- what an index has for a word
+abbrev pub standing : List (List ℕ × List Place) → List ℕ → List Place
+standing index w = unwrap_or (lookup (is_at (slice_cmp nat_cmp w)) index) []
+
+-- each word has exactly its places, in order
+abbrev pub IsIndexOf : List Entry → List (List ℕ × List Place) → Type 0
+IsIndexOf entries index = (w : List ℕ) → standing index w ≡ at_word w (entry_places 0 entries)
+
+-- the words of an index that begin with this one
+abbrev pub begun : List ℕ → List (List ℕ × List Place) → List (List ℕ × List Place)
+begun w index = filter (λ e. starts_with nat_eq e.0 w) index
+
+-- the places of words, one word after the other
+abbrev pub places_of : List (List ℕ × List Place) → List Place
+places_of index = flat_map (λ e. e.1) index
+
+-- the field of a place
+abbrev pub field_in : Option Entry → ℕ → Option Field
+field_in None k = None
+field_in (Some e) k = slice_get e.fields k
+
+abbrev pub is_used_field : ℤ → Option Field → Bool
+is_used_field used None = false
+is_used_field used (Some f) = is_used used f
+
+-- searches with this Use look at the place
+abbrev pub looks_at : ℤ → List Entry → Place → Bool
+looks_at used entries p = is_used_field used (field_in (slice_get entries p.entry) p.field)
+
+abbrev pub is_last : Option ℕ → ℕ → Bool
+is_last None n = false
+is_last (Some m) n = nat_eq m n
+
+-- the entries of the places that pass, each once
+abbrev pub entries_at : (Place → Bool) → Option ℕ → List Place → List ℕ
+entries_at passes last [] = []
+entries_at passes last (p ∷ ps) =
+    if not (is_last last p.entry) && passes p then p.entry ∷ entries_at passes (Some p.entry) ps else
+    entries_at passes last ps

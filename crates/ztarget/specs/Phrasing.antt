@@ -1,0 +1,64 @@
+-- Where words stand one after the other, looked up word by word: each place at which a phrase begins, in order of
+-- entries, fields and words.
+use Rattle.std.specs.Prelude.{ℕ, ℤ, ◌+◌, List, [], ◌∷◌, ◌++◌, Bool, nat_eq, if◌then◌else◌}
+use Rattle.std.specs.declared.cmp.Ordering.{Ordering}
+use Rattle.std.specs.List.{starts_with}
+use Rattle.std.specs.Ordering.{nat_cmp, ordering_then, match_ordering}
+use Rattle.ztarget.specs.declared.database.Entry.{Entry}
+use Rattle.ztarget.specs.declared.database.Field.{Field}
+use Rattle.ztarget.specs.declared.index.Place.{Place}
+use Rattle.ztarget.specs.Asking.{HasPhrase, meets}
+use Rattle.ztarget.specs.Indexing.{place}
+use Rattle.ztarget.specs.Matching.{stands_first}
+use Rattle.ztarget.specs.Searching.{places_from}
+use Rattle.ztarget.specs.Words.{words}
+
+-- the places of a field from which on its words pass, where the first word has this number
+abbrev pub word_begins : (List (List ℕ) → Bool) → ℕ → ℕ → ℕ → List (List ℕ) → List Place
+word_begins q e f k [] = []
+word_begins q e f k (v ∷ vs) =
+    if q (v ∷ vs) then place e f k ∷ word_begins q e f (k + 1) vs else
+    word_begins q e f (k + 1) vs
+
+abbrev pub field_begins : (List (List ℕ) → Bool) → ℕ → ℕ → List Field → List Place
+field_begins q e f [] = []
+field_begins q e f (x ∷ xs) = word_begins q e f 0 (words x.text) ++ field_begins q e (f + 1) xs
+
+abbrev pub entry_begins : (List (List ℕ) → Bool) → ℕ → List Entry → List Place
+entry_begins q e [] = []
+entry_begins q e (x ∷ xs) = field_begins q e 0 x.fields ++ entry_begins q (e + 1) xs
+
+-- where the words asked for stand one after the other, from their first on
+abbrev pub phrase_places : Bool → List (List ℕ) → List Entry → List Place
+phrase_places truncated asked entries = entry_begins (stands_first truncated asked) 0 entries
+
+-- the entries that have them, in order
+abbrev pub with_phrase : ℤ → Bool → List (List ℕ) → List Entry → List ℕ
+with_phrase used truncated asked entries = places_from (meets (HasPhrase used truncated asked)) 0 entries
+
+-- by entry, then field, then word
+abbrev pub place_cmp : Place → Place → Ordering
+place_cmp p q =
+    ordering_then (nat_cmp p.entry q.entry)
+    (ordering_then (nat_cmp p.field q.field) (nat_cmp p.word q.word))
+
+abbrev pub next_place : Place → Place
+next_place p = place p.entry p.field (p.word + 1)
+
+-- p, where the word behind it stands among those of the other list; what is left of the one is walked by `rest`
+abbrev pub goes_on : Place → (List Place → List Place) → List Place → List Place
+goes_on p rest [] = []
+goes_on p rest (q ∷ qs) =
+    match_ordering (place_cmp q (next_place p))
+    (goes_on p rest qs)
+    (p ∷ rest (q ∷ qs))
+    (rest (q ∷ qs))
+
+-- the places of the one list, in order, behind which a word stands that is in the other
+abbrev pub preceding : List Place → List Place → List Place
+preceding [] qs = []
+preceding (p ∷ ps) qs = goes_on p (preceding ps) qs
+
+-- the words that begin with this one
+abbrev pub is_begun_by : List ℕ → List ℕ → Bool
+is_begun_by w v = starts_with nat_eq v w

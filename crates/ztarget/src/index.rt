@@ -1,0 +1,222 @@
+//! An index of a database: each word, and where it stands.
+ghost use Rattle.std.specs.Prelude.{◌≡◌, ◌+◌, ◌++◌, ◌∷◌, [], ◌<◌, ◌^◌, List, ℕ, length, IfOk, OnOk, None, false, unwrap_or};
+ghost use Rattle.std.specs.List.Sorted.{IsStrictlySortedBy};
+ghost use Rattle.std.specs.Map.{keys_of};
+ghost use Rattle.std.specs.Cmp.Lexicographic.{slice_cmp};
+ghost use Rattle.std.specs.Ordering.{nat_cmp};
+ghost use Rattle.ztarget.specs.Words.{words};
+ghost use Rattle.ztarget.specs.Indexing.{place, word_places, field_places, entry_places, at_word, standing, IsIndexOf};
+ghost use Rattle.ztarget.specs.Indexing.{looks_at, is_last, entries_at, begun, places_of};
+
+use crate::database::{Entry, Field};
+use crate::matching::is_used;
+use crate::words::words;
+use bytes::Bytes;
+use std::alloc::{AllocError, Global};
+use std::collections::BTreeMap;
+use std::marker::Model;
+
+/// Where a word stands: its entry, the field in that and the word in this, each counted from 0.
+#[derive(Clone, Copy, Debug, PartialEq, Eq, PartialOrd, Ord)]
+pub(crate) struct Place {
+    pub(crate) entry: u32,
+    pub(crate) field: usize,
+    pub(crate) word: usize,
+}
+
+/// The places of a word, in order.
+#[derive(Drop)]
+pub(crate) struct Places {
+    items: Vec<Place>,
+}
+
+impl Model for Places {
+    ghost use Rattle.std.specs.Prelude.{List};
+    ghost use Rattle.ztarget.specs.declared.index.Place.{Place};
+
+    ghost Value = { List Place };
+
+    ghost view = { λ p. p.items.items };
+}
+
+/// Each word of a database's fields, with its places.
+#[derive(Drop)]
+pub(crate) struct Index {
+    alloc: Global,
+    words: BTreeMap<Bytes, Places, Global>,
+}
+
+impl Model for Index {
+    ghost use Rattle.std.specs.Prelude.{List, ℕ};
+    ghost use Rattle.ztarget.specs.declared.index.Place.{Place};
+
+    ghost Value = { List (List ℕ × List Place) };
+
+    ghost view = { λ i. i.words.entries };
+}
+
+impl Places {
+    /// No place. It takes no memory yet.
+    fn new(alloc: Global) -> Places
+        ensures { result ≡ [] }
+    {
+        Places {
+            items: Vec::new(alloc),
+        }
+    }
+
+    fn push(&mut self, place: Place) -> Result<(), AllocError>
+        ensures { OnOk result (self.new ≡ self.old ++ place ∷ []) }
+    {
+        self.items.push(place)?;
+        Ok(())
+    }
+
+    fn as_slice(&self) -> &[Place]
+        ensures { result.now ≡ self.now }
+    {
+        &self.items
+    }
+}
+
+impl Index {
+    /// No word. It takes no memory yet.
+    fn new(alloc: Global) -> Index
+        ensures { result ≡ [] }
+    {
+        Index {
+            alloc,
+            words: BTreeMap::new(alloc),
+        }
+    }
+
+    /// Adds a place of a word, behind those that the word has.
+    fn put(&mut self, word: &Bytes, place: Place) -> Result<(), AllocError>
+        ensures { OnOk result ((w : List ℕ) → standing self.new w ≡ standing self.old w ++ at_word w ((word.now, place) ∷ [])) }
+    {
+        if let Some(places) = self.words.get_mut(word) {
+            return places.push(place);
+        }
+        let mut places = Places::new(self.alloc);
+        places.push(place)?;
+        let copy = word.clone()?;
+        self.words.insert(copy, places)?;
+        Ok(())
+    }
+
+    /// The places of a word, in order.
+    pub(crate) fn places(&self, word: &Bytes) -> &[Place]
+        ensures { result.now ≡ standing self.now word.now }
+    {
+        match self.words.get(word) {
+            Some(places) => places.as_slice(),
+            None => &[],
+        }
+    }
+
+    /// The places of the words that begin with this one, word by word.
+    pub(crate) fn beginning(&self, alloc: Global, word: &Bytes) -> Result<Vec<Place>, AllocError>
+        ensures places { IfOk result (λ found. found.items ≡ places_of (begun word.now self.now)) }
+        ensures in_order { IsStrictlySortedBy (slice_cmp nat_cmp) (keys_of self.now) }
+    {
+        let mut found = Vec::new(alloc);
+        let range = self.words.range(word..);
+        for (key, places) in range {
+            if !key.as_slice().starts_with(word.as_slice()) {
+                break;
+            }
+            found.extend_from_slice(places.as_slice())?;
+        }
+        Ok(found)
+    }
+}
+
+/// Adds the words of a field.
+fn put_words(index: &mut Index, entry: u32, field: usize, words: &[Bytes]) -> Result<(), AllocError>
+    ensures { OnOk result ((w : List ℕ) → standing index.new w ≡ standing index.old w ++ at_word w (word_places entry field 0 words.now)) }
+{
+    let mut word = 0;
+    let mut left = words;
+    while let [next, others @ ..] = left {
+        index.put(next, Place { entry, field, word })?;
+        word += 1;
+        left = others;
+    }
+    Ok(())
+}
+
+/// Adds the words of an entry's fields.
+fn put_fields(
+    alloc: Global,
+    index: &mut Index,
+    entry: u32,
+    fields: &[Field],
+) -> Result<(), AllocError>
+    ensures { OnOk result ((w : List ℕ) → standing index.new w ≡ standing index.old w ++ at_word w (field_places entry 0 fields.now)) }
+{
+    let mut number = 0;
+    for field in fields {
+        let words = words(alloc, field.text.as_slice())?;
+        put_words(index, entry, number, &words)?;
+        number += 1;
+    }
+    Ok(())
+}
+
+/// The index of entries.
+pub(crate) fn index_of(alloc: Global, entries: &[Entry]) -> Result<Index, AllocError>
+    requires { length entries.now < 2 ^ 32 }
+    ensures { IfOk result (IsIndexOf entries.now) }
+{
+    let mut index = Index::new(alloc);
+    let mut number = 0;
+    for entry in entries {
+        put_fields(alloc, &mut index, number, entry.fields.as_slice())?;
+        number += 1;
+    }
+    Ok(index)
+}
+
+/// Whether searches with this Use look at the place.
+fn looks_at(used: i64, entries: &[Entry], place: Place) -> bool
+    ensures { result ≡ looks_at used entries.now place }
+{
+    match entries.get(place.entry as usize) {
+        None => false,
+        Some(entry) => match entry.fields.as_slice().get(place.field) {
+            None => false,
+            Some(field) => is_used(used, field),
+        },
+    }
+}
+
+fn is_last(last: Option<u32>, entry: u32) -> bool
+    ensures { result ≡ is_last last entry }
+{
+    match last {
+        None => false,
+        Some(last) => last == entry,
+    }
+}
+
+/// The entries of the places that searches with this Use look at, each once.
+pub(crate) fn entries_at(
+    alloc: Global,
+    used: i64,
+    entries: &[Entry],
+    places: &[Place],
+) -> Result<Vec<u32>, AllocError>
+    ensures { IfOk result (λ found. found.items ≡ entries_at (looks_at used entries.now) None places.now) }
+{
+    let mut found = Vec::new(alloc);
+    let mut last = None;
+    let mut left = places;
+    while let [place, others @ ..] = left {
+        if !is_last(last, place.entry) && looks_at(used, entries, *place) {
+            found.push(place.entry)?;
+            last = Some(place.entry);
+        }
+        left = others;
+    }
+    Ok(found)
+}

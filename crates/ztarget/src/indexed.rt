@@ -1,0 +1,108 @@
+//! A database with its index.
+ghost use Rattle.std.specs.Prelude.{◌≡◌, ◌<◌, ◌^◌, length, IfOk};
+ghost use Rattle.ztarget.specs.Asking.{meets};
+ghost use Rattle.ztarget.specs.Searching.{entries_in, places_from};
+ghost use Rattle.ztarget.specs.Viewed.{asks};
+
+use crate::criterion::Criterion;
+use crate::database::{Database, Entry};
+use crate::index::{Index, index_of};
+use crate::merging::{IN_BOTH, IN_EITHER, IN_FIRST_ALONE, merged};
+use crate::phrase::with_phrase;
+use bytes::Bytes;
+use std::alloc::{AllocError, Global};
+use std::marker::Model;
+
+/// A database with its index. Contracts see the database.
+#[derive(Drop)]
+pub(crate) struct Indexed {
+    database: Database,
+    index: Index,
+}
+
+impl Model for Indexed {
+    ghost use Rattle.ztarget.specs.declared.database.Database.{Database};
+    ghost use Rattle.ztarget.specs.Indexing.{IsIndexOf};
+
+    ghost Value = { Database };
+
+    ghost view = { λ i. i.database };
+
+    ghost invariant = { λ i. IsIndexOf i.database.entries i.index };
+}
+
+impl Indexed {
+    pub(crate) fn new(alloc: Global, database: Database) -> Result<Indexed, AllocError>
+        requires { length database.entries < 2 ^ 32 }
+        ensures { IfOk result (λ indexed. indexed ≡ database) }
+    {
+        let index = index_of(alloc, database.entries.as_slice())?;
+        Ok(Indexed { database, index })
+    }
+
+    pub(crate) fn name(&self) -> &Bytes
+        ensures { result.now ≡ self.now.name }
+    {
+        &self.database.name
+    }
+
+    pub(crate) fn entries(&self) -> &[Entry]
+        ensures { result.now ≡ self.now.entries }
+    {
+        self.database.entries.as_slice()
+    }
+
+    /// The places of the entries that meet the criterion, in order.
+    #[tactic(auto, using(crate::proofs::Merges::both_places, crate::proofs::Merges::either_places, crate::proofs::Merges::without_places))]
+    pub(crate) fn found(&self, alloc: Global, criterion: &Criterion) -> Result<Vec<u32>, AllocError>
+        requires { length self.now.entries < 2 ^ 32 }
+        ensures { IfOk result (λ places. places.items ≡ places_from (meets (asks criterion.now)) 0 self.now.entries) }
+    {
+        let entries = self.entries();
+        match criterion {
+            Criterion::Phrase {
+                used,
+                truncated,
+                asked,
+            } => with_phrase(
+                alloc,
+                &self.index,
+                entries,
+                *used,
+                *truncated,
+                asked.as_slice(),
+            ),
+            Criterion::Never => Ok(Vec::new(alloc)),
+            Criterion::And(left, right) => {
+                let left = self.found(alloc, left)?;
+                let right = self.found(alloc, right)?;
+                merged(alloc, IN_BOTH, &left, &right)
+            }
+            Criterion::Or(left, right) => {
+                let left = self.found(alloc, left)?;
+                let right = self.found(alloc, right)?;
+                merged(alloc, IN_EITHER, &left, &right)
+            }
+            Criterion::Not(left, right) => {
+                let left = self.found(alloc, left)?;
+                let right = self.found(alloc, right)?;
+                merged(alloc, IN_FIRST_ALONE, &left, &right)
+            }
+        }
+    }
+}
+
+/// The databases, each with its index.
+pub(crate) fn with_indexes(
+    alloc: Global,
+    databases: Vec<Database>,
+) -> Result<Vec<Indexed>, AllocError>
+    requires { length (entries_in databases.items) < 2 ^ 32 }
+    ensures { IfOk result (λ indexed. indexed.items ≡ databases.items) }
+{
+    let mut all = Vec::new(alloc);
+    for database in databases {
+        all.push(Indexed::new(alloc, database)?)?;
+    }
+    Ok(all)
+}

@@ -1,0 +1,154 @@
+//! Phrases: which entries have words one after the other in a field, looked up word by word.
+ghost use Rattle.std.specs.Prelude.{◌≡◌, ◌+◌, ◌<◌, [], ◌∷◌, true, length, IfOk};
+ghost use Rattle.std.specs.Ordering.{nat_cmp};
+ghost use Rattle.ztarget.specs.Indexing.{IsIndexOf};
+ghost use Rattle.ztarget.specs.Phrasing.{phrase_places, with_phrase, place_cmp, next_place, preceding};
+
+use crate::database::Entry;
+use crate::index::{Index, Place, entries_at};
+use bytes::Bytes;
+use std::alloc::{AllocError, Global};
+use std::cmp::Ordering;
+
+/// How a number stands to the one behind another.
+fn compared_with_next(later: usize, number: usize) -> Ordering
+    ensures { result ≡ nat_cmp later (number + 1) }
+{
+    if later <= number {
+        Ordering::Less
+    } else if later - number == 1 {
+        Ordering::Equal
+    } else {
+        Ordering::Greater
+    }
+}
+
+/// How a place stands to the one behind another.
+fn compared(later: Place, place: Place) -> Ordering
+    ensures { result ≡ place_cmp later (next_place place) }
+{
+    later
+        .entry
+        .cmp(&place.entry)
+        .then(later.field.cmp(&place.field))
+        .then(compared_with_next(later.word, place.word))
+}
+
+/// The places of the one list behind which a word stands that is in the other. Both are walked together.
+fn preceding(alloc: Global, places: &[Place], later: &[Place]) -> Result<Vec<Place>, AllocError>
+    ensures { IfOk result (λ found. found.items ≡ preceding places.now later.now) }
+{
+    let mut found = Vec::new(alloc);
+    let mut left = places;
+    let mut right = later;
+    while let [place, behind @ ..] = left {
+        let [next, others @ ..] = right else {
+            return Ok(found);
+        };
+        match compared(*next, *place) {
+            Ordering::Less => right = others,
+            Ordering::Equal => {
+                found.push(*place)?;
+                left = behind;
+            }
+            Ordering::Greater => left = behind,
+        }
+    }
+    Ok(found)
+}
+
+/// Where words stand that begin with this one, in order.
+fn truncated_places(
+    alloc: Global,
+    index: &Index,
+    entries: &[Entry],
+    word: &Bytes,
+) -> Result<Vec<Place>, AllocError>
+    requires { IsIndexOf entries.now index.now }
+    ensures { IfOk result (λ found. found.items ≡ phrase_places true (word.now ∷ []) entries.now) }
+{
+    let mut found = index.beginning(alloc, word)?;
+    found.sort_unstable();
+    found.dedup();
+    Ok(found)
+}
+
+/// Where the last word of a phrase stands.
+fn last_places(
+    alloc: Global,
+    index: &Index,
+    entries: &[Entry],
+    truncated: bool,
+    word: &Bytes,
+) -> Result<Vec<Place>, AllocError>
+    requires { IsIndexOf entries.now index.now }
+    ensures { IfOk result (λ found. found.items ≡ phrase_places truncated (word.now ∷ []) entries.now) }
+{
+    if truncated {
+        return truncated_places(alloc, index, entries, word);
+    }
+    let mut found = Vec::new(alloc);
+    found.extend_from_slice(index.places(word))?;
+    Ok(found)
+}
+
+/// Where a phrase begins: from its last word on, the places of each word before those found are kept.
+fn phrase_places(
+    alloc: Global,
+    index: &Index,
+    entries: &[Entry],
+    truncated: bool,
+    asked: &[Bytes],
+) -> Result<Vec<Place>, AllocError>
+    requires index { IsIndexOf entries.now index.now }
+    requires some { 0 < length asked.now }
+    ensures { IfOk result (λ found. found.items ≡ phrase_places truncated asked.now entries.now) }
+{
+    let last = asked.len() - 1;
+    let mut found = last_places(alloc, index, entries, truncated, &asked[last])?;
+    for i in (0..last).rev() {
+        found = preceding(alloc, index.places(&asked[i]), &found)?;
+    }
+    Ok(found)
+}
+
+/// The entries that have the words, of which there are some.
+fn with_words(
+    alloc: Global,
+    index: &Index,
+    entries: &[Entry],
+    used: i64,
+    truncated: bool,
+    asked: &[Bytes],
+) -> Result<Vec<u32>, AllocError>
+    requires index { IsIndexOf entries.now index.now }
+    requires some { 0 < length asked.now }
+    ensures { IfOk result (λ found. found.items ≡ with_phrase used truncated asked.now entries.now) }
+{
+    match asked {
+        [word] if !truncated => entries_at(alloc, used, entries, index.places(word)),
+        _ => {
+            let places = phrase_places(alloc, index, entries, truncated, asked)?;
+            entries_at(alloc, used, entries, &places)
+        }
+    }
+}
+
+/// The entries that have the words one after the other in a field of the Use, in order. With truncation the last may be
+/// the beginning of a word.
+pub(crate) fn with_phrase(
+    alloc: Global,
+    index: &Index,
+    entries: &[Entry],
+    used: i64,
+    truncated: bool,
+    asked: &[Bytes],
+) -> Result<Vec<u32>, AllocError>
+    requires { IsIndexOf entries.now index.now }
+    ensures { IfOk result (λ found. found.items ≡ with_phrase used truncated asked.now entries.now) }
+{
+    match asked {
+        [] => Ok(Vec::new(alloc)),
+        _ => with_words(alloc, index, entries, used, truncated, asked),
+    }
+}
