@@ -1,16 +1,18 @@
 -- What two files say together.
-use Rattle.std.proofs.Common.{◌≡◌, ℕ, Bool, false, List, [], ◌++◌, Option, Some, None, Result, Ok, Err, IsTrue, refl, ap, ◌∙◌, subst}
-use Rattle.std.specs.Prelude.{IfSome}
+use Rattle.std.proofs.Common.{◌≡◌, ℕ, Bool, false, List, [], ◌++◌, Option, Some, None, Result, Ok, Err, IsTrue, refl, ap, sym, ◌∙◌, subst}
+use Rattle.std.specs.Prelude.{IfSome, Contains}
 use Rattle.std.specs.Io.KnownBytes.{Keeps, Appends}
 use Rattle.zknow.specs.declared.fact.Fact.{Fact}
 use Rattle.zknow.specs.declared.fact.Mode.{Mode}
+use Rattle.zknow.specs.Facts.{AreFacts}
+use Rattle.zknow.specs.Join.{IsUnion}
 use Rattle.zknow.specs.Listing.{listing}
 use Rattle.zknow.specs.Saved.{IsSaved}
 use Rattle.zknow.specs.declared.loading.LoadError.{LoadError}
 use Rattle.zknow.specs.declared.loading.LoadError.TheVariants as loads
 use Rattle.zknow.specs.Loaded.{IsFault}
 use Rattle.zmeta.specs.Faults.{of_load}
-use Rattle.zmeta.specs.Join.{Loads, AreJoined, DoNamesDiffer, LoadsBoth, known_status, Joins}
+use Rattle.zmeta.specs.Join.{Loads, AreJoined, DoNamesDiffer, LoadsBoth, IsKnownStatus, Joins}
 use Rattle.zmeta.specs.declared.fault.Fault.{Fault}
 use Rattle.zmeta.specs.declared.fault.Status.{Status}
 use Rattle.zmeta.specs.declared.fault.Fault.TheVariants.{Read, NotKnowledge, NotCanonical, NamesDiffer, Memory}
@@ -33,6 +35,14 @@ names_differ (Some a) None names others mine theirs same first second test is = 
 names_differ (Some a) (Some b) names others mine theirs same first second test is =
     record { names = names; others = others; mine = mine; theirs = theirs; first = first; second = second; differ = λ e. let passed = test e in absurd cc }
 
+-- two saved files of the same names
+pub both_joined : (p q : Option (List ℕ)) (names others : List (List ℕ)) (mine theirs facts : List Fact) → IfSome p (λ a. IsSaved names mine a) → IfSome q (λ b. IsSaved others theirs b) → names ≡ others
+    → AreFacts facts → IsUnion (Contains mine) (Contains theirs) (Contains facts) → IfSome p (λ a. IfSome q (λ b. AreJoined a b names facts))
+both_joined None q names others mine theirs facts first second same ordered union = tt
+both_joined (Some a) None names others mine theirs facts first second same ordered union = tt
+both_joined (Some a) (Some b) names others mine theirs facts first second same ordered union =
+    record { mine = mine; theirs = theirs; first = first; second = subst (λ z. IsSaved z theirs b) (sym same) second; ordered = ordered; union = union }
+
 kept : (o : Option (List ℕ)) → Keeps o o
 kept None = tt
 kept (Some xs) = refl
@@ -52,7 +62,7 @@ join_refused (Some a) None mode old g f r is of h = tt
 join_refused (Some a) (Some b) mode old g f r is of h = rw (is, of) (told mode g old a b h)
 
 -- the list is written of files that are joined
-pub join_done : (p q : Option (List ℕ)) (mode : Mode) (names : List (List ℕ)) (known : List Fact) (old new : Option (List ℕ)) (start text octets : List ℕ) (status : Status) → IfSome p (λ a. IfSome q (λ b. AreJoined a b names known)) → status ≡ known_status known
+pub join_done : (p q : Option (List ℕ)) (mode : Mode) (names : List (List ℕ)) (known : List Fact) (old new : Option (List ℕ)) (start text octets : List ℕ) (status : Status) → IfSome p (λ a. IfSome q (λ b. AreJoined a b names known)) → IsKnownStatus known status
     → start ≡ [] → text ≡ start ++ listing names mode known → octets ≡ text → Appends old new octets → IfSome p (λ a. IfSome q (λ b. Joins mode a b old new (Ok status)))
 join_done None q mode names known old new start text octets status joined is s t o w = tt
 join_done (Some a) None mode names known old new start text octets status joined is s t o w = tt

@@ -2,3 +2,4 @@ pub mod OneShowing
 pub mod Showing
 pub mod Joining
 mod Querying
+pub mod Reading

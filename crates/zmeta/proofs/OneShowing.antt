@@ -4,7 +4,7 @@ use Rattle.zber.specs.declared.fault.FaultKind.{FaultKind}
 use Rattle.zber.specs.declared.fault.FaultKind.TheVariants as kinds
 use Rattle.zber.specs.Elements.{Element}
 use Rattle.zber.specs.Spelling.{Begins}
-use Rattle.zber.specs.Stopping.{Shows}
+use Rattle.zber.specs.Shown.{Shows}
 use Rattle.zber.specs.Unfinished.{IsUnfinished}
 use Rattle.zber.specs.Laws.{OneAnswer}
 use Rattle.zapdu.specs.declared.apdu.Apdu.{Apdu}
@@ -61,7 +61,7 @@ halted l xs text end stops (no_apdu {rest = r} {e = e} b n) = absurd (stops e r 
 halted l xs text end stops (malformed {rest = r} {e = e} b n m) = absurd (stops e r b)
 
 no_fault : (xs : List ℕ) (k : FaultKind) (at : ℕ) → xs ≡ [] → Shows limit xs k at → ⊥
-no_fault xs k at q f = absurd (omega (arith, f.3, ap length q))
+no_fault xs k at q f = absurd (omega (arith, f.some, ap length q))
 
 none : (xs : List ℕ) → xs ≡ [] → 0 < length xs → ⊥
 none xs q m = absurd (omega (arith, ap length q))

@@ -7,7 +7,7 @@ use Rattle.zber.specs.declared.fault.FrameError.TheVariants as frames
 use Rattle.zber.specs.Names.{Name}
 use Rattle.zber.specs.Elements.{Element}
 use Rattle.zber.specs.Spelling.{Identifier, low, high, Spells, primitive, definite, indefinite, Begins}
-use Rattle.zber.specs.Stopping.{Shows}
+use Rattle.zber.specs.Shown.{Shows}
 use Rattle.zber.specs.Stream.{Stream, Answers, finished}
 use Rattle.zber.specs.Unfinished.{IsUnfinished}
 use Rattle.zapdu.specs.declared.apdu.Apdu.{Apdu}

@@ -1,8 +1,7 @@
 -- The texts and the statuses of faults.
 use Rattle.std.specs.Prelude.{ℕ, List, ◌++◌, Result, Ok, Err, codes}
 use Rattle.std.specs.Fmt.{decimal}
-use Rattle.zber.specs.declared.fault.FaultKind.{FaultKind}
-use Rattle.zber.specs.declared.fault.FaultKind.TheVariants as kinds
+use Rattle.zber.specs.Faults.{kind_word as fault_word}
 use Rattle.zber.specs.declared.fault.FrameError.{FrameError}
 use Rattle.zber.specs.declared.fault.FrameError.TheVariants as frames
 use Rattle.zapdu.specs.declared.apdu.ApduError.{ApduError}
@@ -10,6 +9,7 @@ use Rattle.zapdu.specs.declared.apdu.ApduError.TheVariants as apdus
 use Rattle.zasn.specs.declared.error.BuildError.{BuildError}
 use Rattle.zasn.specs.declared.error.BuildError.TheVariants as builds
 use Rattle.zquery.specs.declared.error.PqfError.{PqfError}
+use Rattle.zquery.specs.Errors.{kind_word as query_word}
 use Rattle.zquery.specs.declared.error.PqfErrorKind.{PqfErrorKind}
 use Rattle.zquery.specs.declared.error.PqfErrorKind.TheVariants as queries
 use Rattle.zquery.specs.declared.print.PrintError.{PrintError}
@@ -29,30 +29,6 @@ code_of statuses.Failed = 1
 code_of statuses.Words = 2
 code_of statuses.Refused = 3
 code_of statuses.Memory = 4
-
-abbrev pub fault_word : FaultKind → List ℕ
-fault_word kinds.TagForm = codes "TagForm"
-fault_word kinds.TagTooLarge = codes "TagTooLarge"
-fault_word kinds.StrayEnd = codes "StrayEnd"
-fault_word kinds.LengthForm = codes "LengthForm"
-fault_word kinds.IndefinitePrimitive = codes "IndefinitePrimitive"
-fault_word kinds.Overrun = codes "Overrun"
-fault_word kinds.TooLong = codes "TooLong"
-fault_word kinds.TooDeep = codes "TooDeep"
-fault_word kinds.Truncated = codes "Truncated"
-
-abbrev pub query_word : PqfErrorKind → List ℕ
-query_word queries.OpenQuote = codes "OpenQuote"
-query_word queries.Empty = codes "Empty"
-query_word queries.UnknownWord = codes "UnknownWord"
-query_word queries.MissingOperand = codes "MissingOperand"
-query_word queries.BadAttribute = codes "BadAttribute"
-query_word queries.UnknownSet = codes "UnknownSet"
-query_word queries.BadTermType = codes "BadTermType"
-query_word queries.BadNumber = codes "BadNumber"
-query_word queries.TooDeep = codes "TooDeep"
-query_word queries.Trailing = codes "Trailing"
-query_word queries.Memory = codes "Memory"
 
 -- what is told of a fault on standard error
 abbrev pub fault_text : Fault → List ℕ

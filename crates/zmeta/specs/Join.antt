@@ -1,12 +1,11 @@
 -- What `join` prints of two saved files.
-use Rattle.std.specs.Prelude.{◌≡◌, ◌≢◌, ◌⊎◌, ℕ, Bool, true, false, if◌then◌else◌, List, Option, Result, Ok, Err, MatchResult, IfErr, IfSome, Contains}
-use Rattle.std.specs.List.{list_any}
+use Rattle.std.specs.Prelude.{◌≡◌, ◌≢◌, ◌⊎◌, ℕ, List, Option, Result, Ok, Err, MatchResult, IfErr, IfSome, Contains}
 use Rattle.std.specs.Io.KnownBytes.{Keeps, Appends, IsAtEnd}
 use Rattle.zknow.specs.declared.fact.Fact.{Fact}
-use Rattle.zknow.specs.declared.fact.Fact.TheVariants as kinds
 use Rattle.zknow.specs.declared.fact.Mode.{Mode}
 use Rattle.zknow.specs.Facts.{AreFacts}
 use Rattle.zknow.specs.Join.{IsUnion}
+use Rattle.zknow.specs.Known.{HasFailed}
 use Rattle.zknow.specs.Listing.{listing}
 use Rattle.zknow.specs.Saved.{IsSaved}
 use Rattle.zknow.specs.Loaded.{IsNotKnowledge, IsNotCanonical}
@@ -75,17 +74,15 @@ LoadsBoth a b (Err (Read path)) = Unit {0}
 LoadsBoth a b (Err Memory) = Unit {0}
 LoadsBoth a b (Err _) = ⊥
 
-abbrev pub is_failed : Fact → Bool
-is_failed (kinds.Failed target set) = true
-is_failed _ = false
-
--- the status of a command that knows these facts: a search or an association failed, or none
-unfoldable pub known_status : List Fact → Status
-known_status known = if list_any is_failed known then statuses.Failed else statuses.Done
+-- the status of a command that knows these facts: whether a search or an association failed
+abbrev pub IsKnownStatus : List Fact → Status → Type 0
+IsKnownStatus known statuses.Failed = HasFailed known
+IsKnownStatus known statuses.Done = HasFailed known → ⊥
+IsKnownStatus known _ = ⊥
 
 -- what an answer of `join` says of the files, and of what was written
 abbrev pub Joins : Mode → List ℕ → List ℕ → Option (List ℕ) → Option (List ℕ) → Result Status Fault → Type 0
-Joins mode a b old new (Ok status) = (names : List (List ℕ)) × (facts : List Fact) × AreJoined a b names facts × (status ≡ known_status facts) × Appends old new (listing names mode facts)
+Joins mode a b old new (Ok status) = (names : List (List ℕ)) × (facts : List Fact) × AreJoined a b names facts × IsKnownStatus facts status × Appends old new (listing names mode facts)
 Joins mode a b old new (Err (NotKnowledge at)) = (IsNotKnowledge a at ⊎ (IsSavedFile a × IsNotKnowledge b at)) × Keeps old new
 Joins mode a b old new (Err (NotCanonical at)) = (IsNotCanonical a at ⊎ (IsSavedFile a × IsNotCanonical b at)) × Keeps old new
 Joins mode a b old new (Err NamesDiffer) = DoNamesDiffer a b × Keeps old new

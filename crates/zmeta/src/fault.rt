@@ -1,6 +1,6 @@
 //! Why a command stopped, and the status that it ends with.
 ghost use Rattle.std.specs.Prelude.{◌≡◌, Some};
-ghost use Rattle.zmeta.specs.Faults.{code_of, status_of, fault_text, fault_word, query_word, of_frame, of_apdu, of_query, of_print, of_build, of_load};
+ghost use Rattle.zmeta.specs.Faults.{code_of, status_of, fault_text, of_frame, of_apdu, of_query, of_print, of_build, of_load};
 ghost use Rattle.zmeta.specs.Fields.{apdu_word};
 ghost use Rattle.zmeta.specs.declared.fault.Fault.TheVariants.{Memory};
 
@@ -72,42 +72,6 @@ pub enum Fault<'a> {
     Memory,
 }
 
-/// The word of a fault of the prefix notation.
-fn query_word(kind: PqfErrorKind) -> &'static str
-    ensures { result.now ≡ query_word kind }
-{
-    match kind {
-        PqfErrorKind::OpenQuote => "OpenQuote",
-        PqfErrorKind::Empty => "Empty",
-        PqfErrorKind::UnknownWord => "UnknownWord",
-        PqfErrorKind::MissingOperand => "MissingOperand",
-        PqfErrorKind::BadAttribute => "BadAttribute",
-        PqfErrorKind::UnknownSet => "UnknownSet",
-        PqfErrorKind::BadTermType => "BadTermType",
-        PqfErrorKind::BadNumber => "BadNumber",
-        PqfErrorKind::TooDeep => "TooDeep",
-        PqfErrorKind::Trailing => "Trailing",
-        PqfErrorKind::Memory => "Memory",
-    }
-}
-
-/// The word of a framing fault.
-fn fault_word(kind: FaultKind) -> &'static str
-    ensures { result.now ≡ fault_word kind }
-{
-    match kind {
-        FaultKind::TagForm => "TagForm",
-        FaultKind::TagTooLarge => "TagTooLarge",
-        FaultKind::StrayEnd => "StrayEnd",
-        FaultKind::LengthForm => "LengthForm",
-        FaultKind::IndefinitePrimitive => "IndefinitePrimitive",
-        FaultKind::Overrun => "Overrun",
-        FaultKind::TooLong => "TooLong",
-        FaultKind::TooDeep => "TooDeep",
-        FaultKind::Truncated => "Truncated",
-    }
-}
-
 impl fmt::Display for Fault<'_> {
     ghost output = { λ x. Some (fault_text x) };
 
@@ -117,7 +81,7 @@ impl fmt::Display for Fault<'_> {
             Fault::Write(path) => write!(f, "cannot write {path}"),
             Fault::Hex => write!(f, "hex refused"),
             Fault::Frame { kind, at } => {
-                let word = fault_word(*kind);
+                let word = kind.word();
                 write!(f, "{word} at {at}")
             }
             Fault::NotApdu => write!(f, "not an APDU"),
@@ -126,7 +90,7 @@ impl fmt::Display for Fault<'_> {
                 write!(f, "{word} malformed at {at}")
             }
             Fault::Query { kind, at } => {
-                let word = query_word(*kind);
+                let word = kind.word();
                 write!(f, "{word} at {at}")
             }
             Fault::NotPrintable => write!(f, "not printable"),

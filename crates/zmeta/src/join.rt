@@ -1,19 +1,18 @@
 //! The command `join`: what two saved files know together.
 ghost use Rattle.std.specs.Prelude.{◌≡◌, ◌≢◌, ◌↔◌, IsTrue, IfSome, IfOk, IfErr, OnOk, Result};
 ghost use Rattle.std.specs.Io.KnownBytes.{IsAtEnd};
-ghost use Rattle.std.specs.List.{list_any};
 ghost use Rattle.zmeta.specs.Faults.{end_status};
-ghost use Rattle.zmeta.specs.Join.{is_failed, known_status, Loads, IsOfFile, IsInTurn, LoadsBoth, Joins};
+ghost use Rattle.zmeta.specs.Join.{IsKnownStatus, Loads, IsOfFile, IsInTurn, LoadsBoth, Joins};
 ghost use Rattle.zmeta.specs.declared.fault.Fault.{Fault};
 ghost use Rattle.zmeta.specs.declared.fault.Status.{Status};
 
 use crate::fault::{Fault, Status};
 use crate::files::NamedFile;
 use crate::input::read_all;
-use std::alloc::{AllocError, Global};
+use std::alloc::Global;
 use std::io::{Read, Write};
 use std::rt::Files;
-use zknow::{Fact, Knowledge, Mode, Names, load, print_list};
+use zknow::{Knowledge, Mode, Names, load, print_list};
 
 /// Prints the list of what two saved files know together, or tells on standard error why there is none: a file is
 /// refused, the first before the second is read, or the files have different names. Nothing is printed then.
@@ -70,7 +69,7 @@ fn join_files<'a, R: Read, W: Write>(
         (R.remaining first.old) (R.remaining first.new) result }
 {
     let (knowledge, names) = load_both(alloc, paths, first, second)?;
-    let status = known_status(&knowledge)?;
+    let status = known_status(&knowledge);
     let mut text = Vec::new(alloc);
     print_list(alloc, &knowledge, &names, mode, &mut text)?;
     match output.write_all(text.as_slice()) {
@@ -80,33 +79,14 @@ fn join_files<'a, R: Read, W: Write>(
 }
 
 /// The status of a command that knows this.
-#[tactic(auto, unfolding(crate::specs::Join::known_status))]
-fn known_status(knowledge: &Knowledge) -> Result<Status, AllocError>
-    ensures { IfOk result (λ status. status ≡ known_status knowledge.now) }
+fn known_status(knowledge: &Knowledge) -> Status
+    ensures { IsKnownStatus knowledge.now result }
 {
-    let facts = knowledge.facts()?;
-    if has_failed(facts.as_slice()) {
-        Ok(Status::Failed)
+    if knowledge.has_failed() {
+        Status::Failed
     } else {
-        Ok(Status::Done)
+        Status::Done
     }
-}
-
-fn has_failed(facts: &[Fact]) -> bool
-    ensures { result ≡ list_any is_failed facts.now }
-{
-    for fact in facts {
-        if is_failed(fact) {
-            return true;
-        }
-    }
-    false
-}
-
-fn is_failed(fact: &Fact) -> bool
-    ensures { result ≡ is_failed fact.now }
-{
-    matches!(fact, Fact::Failed { .. })
 }
 
 /// What both files say together.

@@ -91,9 +91,9 @@ fn show_octets(alloc: Global, octets: &[u8], text: &mut Vec<u8>) -> Result<(), F
 
 /// Appends the lines of the next message. `false` where no message is whole and no fault is shown.
 fn show_next(alloc: Global, framer: &mut Framer, text: &mut Vec<u8>) -> Result<bool, Fault<'static>>
-    requires limited { framer.old.limit ≡ limit }
-    requires sound { framer.old.fault ≡ None }
-    ensures { ShowsNext framer.old framer.new text.old.items text.new.items result }
+    requires limited { framer.old.stream.limit ≡ limit }
+    requires sound { framer.old.stream.fault ≡ None }
+    ensures { ShowsNext framer.old.stream framer.new.stream text.old.items text.new.items result }
 {
     let Some(message) = framer.next()? else {
         return Ok(false);

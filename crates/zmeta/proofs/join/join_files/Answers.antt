@@ -10,5 +10,5 @@ returns-in_err-knowledge-clause-joined g c =
 pub returns-in-Ok-clause-joined : goal.returns-in-Ok-clause-joined
 returns-in-Ok-clause-joined g c =
     join_done (g.R.Read.remaining c.args.first.now) (g.R.Read.remaining c.args.second.now) c.args.mode c.in_ok-knowledge.names c.in_ok-knowledge.knowledge (g.W.Write.contents c.args.output.now) (g.W.Write.contents c.write_all.new.self)
-    c.new-text.result.items c.print_list.new.out.items c.as_slice.result.now c.in_ok-status.status
-    c.in_ok-knowledge.ensures.joined c.in_ok-status.ensures c.new-text.ensures.items c.in_ok-print_list.ensures.ok c.as_slice.ensures.value c.in-Ok.ensures.bytes
+    c.new-text.result.items c.print_list.new.out.items c.as_slice.result.now c.known_status-status.result
+    c.in_ok-knowledge.ensures.joined c.known_status-status.ensures c.new-text.ensures.items c.in_ok-print_list.ensures.ok c.as_slice.ensures.value c.in-Ok.ensures.bytes

@@ -6,10 +6,10 @@ use Rattle.zmeta.proofs.show.show_octets.Given as goal
 
 abbrev pub invariant-loop-framer : goal.invariant-loop-framer
 invariant-loop-framer l = record {
-  limited : l.framer.limit ≡ limit;
-  sound : l.framer.fault ≡ None;
-  so_far : HasShown l.octets l.framer.octets l.initial.text.items l.text.items;
+  limited : l.framer.stream.limit ≡ limit;
+  sound : l.framer.stream.fault ≡ None;
+  so_far : HasShown l.octets l.framer.stream.octets l.initial.text.items l.text.items;
 }
 
 abbrev pub decreases-loop-framer : goal.decreases-loop-framer
-decreases-loop-framer l = length l.framer.octets
+decreases-loop-framer l = length l.framer.stream.octets
