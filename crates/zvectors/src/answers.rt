@@ -1,7 +1,4 @@
 // The facts of replies that an origin accepts (Z39.50-2003, 3.2.1.1, 3.2.2.1 and 3.2.3.1).
-ghost use Rattle.zorigin.specs.declared.settings.Settings.{Settings};
-ghost use Rattle.zorigin.specs.Log.{Log, After};
-
 use crate::sessions::{apdu, ask};
 use bytes::Bytes;
 use std::alloc::Global;
@@ -12,9 +9,7 @@ use zknow::Fact;
 use zorigin::{Ask, Origin, Settings, Taken, facts_of};
 
 // The facts of the reply, for target 7.
-fn told(alloc: Global, origin: &mut Origin, reply: &Apdu) -> Result<Vec<Fact>, Fail>
-    requires { (settings : Settings) × ((log : Log) × After settings log origin.old) }
-{
+fn told(alloc: Global, origin: &mut Origin, reply: &Apdu) -> Result<Vec<Fact>, Fail> {
     match origin.take(reply) {
         Ok(Taken::Rejected(answer)) => Ok(facts_of(alloc, 7, &answer)?),
         Ok(Taken::Answered(answer)) => Ok(facts_of(alloc, 7, &answer)?),

@@ -3,7 +3,7 @@
 use crate::encodings::{PRESENT_RESPONSE, PRESENT_RESPONSE_INDEFINITE};
 use crate::plain::{apdu_copy, apdu_node, apdu_of};
 use crate::printed::put_apdu;
-use crate::rows::{element, encoding, message, octets, pair};
+use crate::rows::{each_row, element, encoding, message, octets, pair};
 use std::alloc::{AllocError, Global};
 use std::process::Abort;
 use std::test::Fail;
@@ -11,7 +11,7 @@ use zapdu::{Apdu, PresentResponse, Record, Records, print_record};
 use zber::{Body, Node};
 
 // Canonical encodings, and the fields.
-const APDUS: &str =
+pub(crate) const APDUS: &str =
     r#"b421820400000000830205e0840301c006850310000086031000009f6f057a6d657461 initRequest #00000000 111 110000000000011 1048576 1048576 - - "zmeta" - - -
 b51c820400000000830205e0840301c006850310000086031000008c01ff initResponse #00000000 111 110000000000011 1048576 1048576 true - - - - -
 b6418204000000018d01008e01018f01009001ff910131b2049f690164b524a12206072a8648ce130301a017bf6614bf2c0a30089f7801019f7901049f2d0464756e65 searchRequest #00000001 0 1 0 true "1" names "d" - - - query @attr 1=4 "dune" - -
@@ -91,10 +91,7 @@ fn is_read(alloc: Global, row: &str) -> Result<bool, Fail> {
 
 #[test]
 fn each_apdu_is_read_and_written(rt: HostRuntime) -> Result<(), Fail> {
-    for row in APDUS.lines() {
-        assert!(rt; is_read(rt.alloc(), row)?, "{row}");
-    }
-    Ok(())
+    each_row(&rt, APDUS, &is_read)
 }
 
 fn put_lines(alloc: Global, records: &[Record], out: &mut Vec<u8>) -> Result<(), AllocError> {
@@ -183,10 +180,7 @@ fn is_respelled(alloc: Global, row: &str) -> Result<bool, Fail> {
 
 #[test]
 fn lengths_are_made_indefinite(rt: HostRuntime) -> Result<(), Fail> {
-    for row in LENGTHS.lines() {
-        assert!(rt; is_respelled(rt.alloc(), row)?, "{row}");
-    }
-    Ok(())
+    each_row(&rt, LENGTHS, &is_respelled)
 }
 
 fn is_read_indefinite(alloc: Global, row: &str) -> Result<bool, Fail> {
@@ -197,8 +191,5 @@ fn is_read_indefinite(alloc: Global, row: &str) -> Result<bool, Fail> {
 
 #[test]
 fn indefinite_lengths_say_the_same(rt: HostRuntime) -> Result<(), Fail> {
-    for row in APDUS.lines() {
-        assert!(rt; is_read_indefinite(rt.alloc(), row)?, "{row}");
-    }
-    Ok(())
+    each_row(&rt, APDUS, &is_read_indefinite)
 }

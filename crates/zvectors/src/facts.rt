@@ -110,7 +110,8 @@ fn about(alloc: Global, kind: &str, target: u32, set: u32, rest: &str) -> Result
     }
 }
 
-fn fact(alloc: Global, row: &str) -> Result<Fact, Fail>
+/// The fact of a row.
+pub(crate) fn fact(alloc: Global, row: &str) -> Result<Fact, Fail>
     ensures { IfOk result IsFact }
 {
     let (kind, rest) = pair(row)?;
@@ -177,6 +178,18 @@ fn list(alloc: Global, knowledge: &Knowledge, text: &str, mode: Mode) -> Result<
     Ok(out)
 }
 
+/// Whether these octets are the printed list.
+pub(crate) fn has_list(
+    alloc: Global,
+    knowledge: &Knowledge,
+    names: &str,
+    mode: Mode,
+    due: &[u8],
+) -> Result<bool, Fail> {
+    let list = list(alloc, knowledge, names, mode)?;
+    Ok(list.as_slice() == due)
+}
+
 /// Whether this is the printed list.
 pub(crate) fn is_listed(
     alloc: Global,
@@ -185,8 +198,7 @@ pub(crate) fn is_listed(
     mode: Mode,
     due: &str,
 ) -> Result<bool, Fail> {
-    let list = list(alloc, knowledge, names, mode)?;
-    Ok(list.as_slice() == due.as_bytes())
+    has_list(alloc, knowledge, names, mode, due.as_bytes())
 }
 
 fn put_record_node(alloc: Global, record: &Record, out: &mut Vec<u8>) -> Result<(), Fail> {

@@ -1,6 +1,6 @@
 // Messages and faults of a stream of octets, worked out from X.690, 8.1.
-use crate::encodings::{PRESENT_RESPONSE, PRESENT_RESPONSE_INDEFINITE};
-use crate::rows::{LIMIT, element, encoding, octets, pair};
+use crate::encodings::PRESENT_RESPONSE;
+use crate::rows::{LIMIT, each_row, element, encoding, octets, pair};
 use std::alloc::{AllocError, Global};
 use std::process::Abort;
 use std::test::Fail;
@@ -50,7 +50,7 @@ fn play(alloc: Global, framer: &mut Framer, script: &str, trace: &mut String) ->
 }
 
 // What a framer of this limit answers in a script.
-fn answers(alloc: Global, limit: u32, script: &str) -> Result<String, Fail> {
+pub(crate) fn answers(alloc: Global, limit: u32, script: &str) -> Result<String, Fail> {
     let mut trace = String::new(alloc);
     let mut framer = Framer::new(alloc, limit);
     play(alloc, &mut framer, script, &mut trace)?;
@@ -58,7 +58,7 @@ fn answers(alloc: Global, limit: u32, script: &str) -> Result<String, Fail> {
 }
 
 // What octets show, with the fault decided by the very last of them.
-const FAULTS: &str = "\
+pub(crate) const FAULTS: &str = "\
 1f80 TagForm at 0
 1f1e TagForm at 0
 1f00 TagForm at 0
@@ -142,10 +142,7 @@ fn is_fault(alloc: Global, row: &str) -> Result<bool, Fail> {
 
 #[test]
 fn faults_come_with_the_octets_that_decide_them(rt: HostRuntime) -> Result<(), Fail> {
-    for row in FAULTS.lines() {
-        assert!(rt; is_fault(rt.alloc(), row)?, "{row}");
-    }
-    Ok(())
+    each_row(&rt, FAULTS, &is_fault)
 }
 
 // Scripts and answers: headers at the borders of what is lawful; what is left before, in and after a message.
@@ -172,71 +169,41 @@ fn is_accepted(alloc: Global, row: &str) -> Result<bool, Fail> {
 
 #[test]
 fn lawful_octets_are_messages(rt: HostRuntime) -> Result<(), Fail> {
-    for row in ACCEPTED.lines() {
-        assert!(rt; is_accepted(rt.alloc(), row)?, "{row}");
-    }
-    Ok(())
-}
-
-// What the PresentResponse shows that is cut at a place of its digits.
-fn cut(alloc: Global, at: usize) -> Result<String, Fail> {
-    let (first, second) = PRESENT_RESPONSE.split_at_checked(at).ok_or("no place")?;
-    let script = format!(in alloc; "{first} next {second} next next")?;
-    answers(alloc, LIMIT, script.as_str())
-}
-
-#[test]
-fn any_cutting_gives_the_same_message(rt: HostRuntime) -> Result<(), Fail> {
-    for at in 0..40 {
-        let trace = cut(rt.alloc(), 2 * at)?;
-        assert!(rt; trace.as_str() == "nothing;elements 5;nothing;", "{at}");
-    }
-    assert!(rt; cut(rt.alloc(), 80)?.as_str() == "elements 5;nothing;nothing;");
-    Ok(())
-}
-
-#[test]
-fn octet_by_octet_a_message_comes_once(rt: HostRuntime) -> Result<(), Fail> {
-    let octets = octets(rt.alloc(), PRESENT_RESPONSE_INDEFINITE)?;
-    let trace = by_octet(rt.alloc(), octets.as_slice())?;
-    let before = "nothing;".repeat(rt.alloc(), 45)?;
-    let due = format!(in rt.alloc(); "{before}elements 5;nothing;nothing;")?;
-    assert!(rt; trace == due, "{trace}");
-    Ok(())
+    each_row(&rt, ACCEPTED, &is_accepted)
 }
 
 // What so many constructed elements of indefinite length within one another show, octets within them, and so many ends.
 fn nested(alloc: Global, opens: usize, within: &str, ends: usize) -> Result<String, Fail> {
     let opens = "3080".repeat(alloc, opens)?;
     let ends = "0000".repeat(alloc, ends)?;
-    let script = format!(in alloc; "{opens}{within}{ends} next")?;
+    let script = format!(in alloc; "{opens} {within} {ends} next")?;
     answers(alloc, LIMIT, script.as_str())
+}
+
+// How many elements begin, what stands within them, how many end, and what is next.
+const NESTED: &str = "\
+64 - 64 elements 1;
+65 - 0 TooDeep at 128;
+# A primitive element within 64 open ones is read.
+64 0500 64 elements 1;
+";
+
+fn is_nested(alloc: Global, row: &str) -> Result<bool, Fail> {
+    let (opens, rest) = pair(row)?;
+    let (within, rest) = pair(rest)?;
+    let (ends, due) = pair(rest)?;
+    let trace = nested(
+        alloc,
+        opens.parse::<usize>()?,
+        within,
+        ends.parse::<usize>()?,
+    )?;
+    Ok(trace.as_str() == due)
 }
 
 #[test]
 fn sixty_four_levels_are_read(rt: HostRuntime) -> Result<(), Fail> {
-    let alloc = rt.alloc();
-    assert!(rt; nested(alloc, 64, "", 64)?.as_str() == "elements 1;");
-    assert!(rt; nested(alloc, 65, "", 0)?.as_str() == "TooDeep at 128;");
-    // A primitive element within 64 open ones is read.
-    assert!(rt; nested(alloc, 64, "0500", 64)?.as_str() == "elements 1;");
-    Ok(())
-}
-
-fn feed_longest(alloc: Global, framer: &mut Framer) -> Result<(), AllocError> {
-    let contents = vec![in alloc; 0u8; 2_097_147]?;
-    framer.feed(&contents)
-}
-
-#[test]
-fn the_longest_message_is_read(rt: HostRuntime) -> Result<(), Fail> {
-    let mut trace = String::new(rt.alloc());
-    let mut framer = Framer::new(rt.alloc(), LIMIT);
-    framer.feed(&[0x04, 0x83, 0x1f, 0xff, 0xfb])?;
-    feed_longest(rt.alloc(), &mut framer)?;
-    play(rt.alloc(), &mut framer, "next finish", &mut trace)?;
-    assert!(rt; trace.as_str() == "primitive 2097147;true;");
-    Ok(())
+    each_row(&rt, NESTED, &is_nested)
 }
 
 // One octet more of an indefinite length passes the limit where the octets reach it.

@@ -1,5 +1,5 @@
 // Canonical encodings of elements made by hand, worked out from X.690, 8.1.
-use crate::rows::{LIMIT, digits, pair};
+use crate::rows::{LIMIT, digits, each_row, encoding, pair};
 use bytes::Bytes;
 use std::alloc::{AllocError, Global};
 use std::process::Abort;
@@ -28,13 +28,20 @@ fn close(alloc: Global) -> Result<Node, AllocError> {
     Ok(Node::cons(Tag::context(48), nodes))
 }
 
+// Limits, and what a Close is encoded as under them.
+const LIMITS: &str = "\
+8 aabf30059f81530100
+7 TooLong aa
+";
+
+fn is_close(alloc: Global, row: &str) -> Result<bool, Fail> {
+    let (limit, due) = pair(row)?;
+    Ok(is_encoded(alloc, &close(alloc)?, limit.parse::<u32>()?, due)?)
+}
+
 #[test]
 fn a_close_is_encoded_up_to_its_length(rt: HostRuntime) -> Result<(), Fail> {
-    let alloc = rt.alloc();
-    let node = close(alloc)?;
-    assert!(rt; is_encoded(alloc, &node, 8, "aabf30059f81530100")?);
-    assert!(rt; is_encoded(alloc, &node, 7, "TooLong aa")?);
-    Ok(())
+    each_row(&rt, LIMITS, &is_close)
 }
 
 // So many constructed elements within one another, and an empty primitive one in the innermost.
@@ -64,27 +71,33 @@ fn is_read_again(alloc: Global, node: &Node) -> Result<bool, Fail> {
 
 #[test]
 fn sixty_four_levels_are_encoded(rt: HostRuntime) -> Result<(), Fail> {
-    let alloc = rt.alloc();
-    let node = nested(alloc, 64)?;
-    assert!(rt; is_read_again(alloc, &node)?);
-    assert!(rt; is_encoded(alloc, &node, 7, "TooLong aa")?);
+    assert!(rt; is_read_again(rt.alloc(), &nested(rt.alloc(), 64)?)?);
     Ok(())
 }
 
+// Levels, limits, and refusals.
+const LEVELS: &str = "\
+64 7 TooLong aa
+65 1000 TooDeep aa
+65 7 TooDeep aa
+";
+
+fn is_refused(alloc: Global, row: &str) -> Result<bool, Fail> {
+    let (levels, rest) = pair(row)?;
+    let (limit, due) = pair(rest)?;
+    let node = nested(alloc, levels.parse::<u32>()?)?;
+    Ok(is_encoded(alloc, &node, limit.parse::<u32>()?, due)?)
+}
+
 #[test]
-fn more_levels_are_refused(rt: HostRuntime) -> Result<(), Fail> {
-    let alloc = rt.alloc();
-    let node = nested(alloc, 65)?;
-    assert!(rt; is_encoded(alloc, &node, 1000, "TooDeep aa")?);
-    assert!(rt; is_encoded(alloc, &node, 7, "TooDeep aa")?);
-    Ok(())
+fn more_levels_or_octets_are_refused(rt: HostRuntime) -> Result<(), Fail> {
+    each_row(&rt, LEVELS, &is_refused)
 }
 
 #[test]
 fn any_number_of_levels_has_a_canonical_encoding(rt: HostRuntime) -> Result<(), Fail> {
-    let mut octets = Vec::new(rt.alloc());
-    nested(rt.alloc(), 200)?.canonical(rt.alloc(), &mut octets)?;
-    assert!(rt; octets.as_slice().starts_with(&[0x30, 0x82, 0x02]));
+    let digits = encoding(rt.alloc(), &nested(rt.alloc(), 200)?)?;
+    assert!(rt; digits.as_str().starts_with("308202"));
     Ok(())
 }
 
@@ -140,8 +153,5 @@ fn is_header(alloc: Global, row: &str) -> Result<bool, Fail> {
 
 #[test]
 fn headers_are_the_shortest(rt: HostRuntime) -> Result<(), Fail> {
-    for row in HEADERS.lines() {
-        assert!(rt; is_header(rt.alloc(), row)?, "{row}");
-    }
-    Ok(())
+    each_row(&rt, HEADERS, &is_header)
 }

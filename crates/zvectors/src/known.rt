@@ -1,5 +1,7 @@
 // What is known: facts in every order, twice, absorbed and copied; two values at one place; the printed list.
-use crate::facts::{add, copied, has_facts, is_at, is_count, is_listed, known, nothing};
+use crate::facts::{add, copied, has_facts, has_list, is_at, is_count, is_listed, known, nothing};
+use crate::reference::{list, note};
+use crate::rows::{each_row, halves, pair, unescaped};
 use std::alloc::{AllocError, Global};
 use std::process::Abort;
 use std::test::Fail;
@@ -58,7 +60,7 @@ fn add_at(
     }
 }
 
-fn add_in_order(
+pub(crate) fn add_in_order(
     alloc: Global,
     knowledge: &mut Knowledge,
     rows: &[&str],
@@ -70,10 +72,19 @@ fn add_in_order(
     Ok(())
 }
 
+// Whether the reference has the list.
+fn is_noted(alloc: Global, rows: &[&str], places: &[usize], due: &str) -> Result<bool, Fail> {
+    let mut facts = Vec::new(alloc);
+    for place in places {
+        note(alloc, &mut facts, rows.get(*place).ok_or("no row")?)?;
+    }
+    Ok(list(alloc, &["a"], facts.as_slice())?.as_slice() == due.as_bytes())
+}
+
 fn is_list_of(alloc: Global, rows: &[&str], places: &[usize], due: &str) -> Result<bool, Fail> {
     let mut knowledge = nothing(alloc)?;
     add_in_order(alloc, &mut knowledge, rows, places)?;
-    is_listed(alloc, &knowledge, "a", Mode::Text, due)
+    Ok(is_listed(alloc, &knowledge, "a", Mode::Text, due)? && is_noted(alloc, rows, places, due)?)
 }
 
 // Whether rows have the list in the order of this number.
@@ -98,15 +109,6 @@ fn orders_of(alloc: Global, first: &str, second: &str, due: &str) -> Result<usiz
     let text = format!(in alloc; "{SEARCH}\n{first}\n{second}")?;
     let rows: Vec<&str> = text.as_str().lines().collect(alloc)?;
     orders(alloc, rows.as_slice(), 5040, due)
-}
-
-#[test]
-fn the_orders_of_three_rows_differ(rt: HostRuntime) -> Result<(), Fail> {
-    let alloc = rt.alloc();
-    assert!(rt; order(alloc, 3, 0)?.as_slice() == [0, 1, 2].as_slice());
-    assert!(rt; order(alloc, 3, 1)?.as_slice() == [1, 0, 2].as_slice());
-    assert!(rt; order(alloc, 3, 5)?.as_slice() == [2, 1, 0].as_slice());
-    Ok(())
 }
 
 #[test]
@@ -172,84 +174,68 @@ fn joined_either_way_the_list_is_the_same(rt: HostRuntime) -> Result<(), Fail> {
     Ok(())
 }
 
-// All facts, in fact order.
-const FACTS: &str =
-    " count 0 1 4 seen 0 1 1 3013a111a10f280d06072a8648ce13050a81027231 seen 0 1 2 3013a111a10f280d06072a8648ce13050a81027232 seen 0 1 3 3013a111a10f280d06072a8648ce13050a81027233 seen 0 1 4 3013a111a10f280d06072a8648ce13050a81027234";
+// Rows of facts with a semicolon behind each, a question, and its answer.
+const ANSWERS: &str = "\
+# Nothing is known at first.
+ => at 1 =>  nothing
+ => count 0 1 =>  nothing
+ => facts - =>\x20
+ => list a =>\x20
+# Two spellings of one record are one.
+seen 0 1 1 hi;seen 0 1 1 ~hi; => at 1 =>  one 3013a111a10f280d06072a8648ce13050a81026869
+seen 0 1 1 hi;seen 0 1 1 ~hi; => at 2 =>  nothing
+seen 0 1 1 hi;seen 0 1 1 ~hi; => list a => 1 \"a\" 1 rec 1.2.840.10003.5.10 - \"hi\"%0a
+# Records and counts in conflict stand in order.
+seen 0 1 1 x2;seen 0 1 1 r2;seen 0 1 1 ~x2; => at 1 =>  conflict 3013a111a10f280d06072a8648ce13050a81027232 3013a111a10f280d06072a8648ce13050a81027832
+count 0 1 5;count 0 1 4;count 0 1 5;count 1 1 0; => count 0 1 =>  conflict 4 5
+count 0 1 5;count 0 1 4;count 0 1 5;count 1 1 0; => count 1 1 =>  one 0
+count 0 1 5;count 0 1 4;count 0 1 5;count 1 1 0; => count 0 2 =>  nothing
+count 0 1 5;count 0 1 4;count 0 1 5;count 1 1 0; => list a b => target \"a\" set 1 count 4%0atarget \"a\" set 1 count 5%0atarget \"b\" set 1 count 0%0a
+# Facts stand in order, and once.
+seen 0 1 4 r4;seen 0 1 2 r2;count 0 1 4;seen 0 1 3 r3;seen 0 1 2 ~r2;seen 0 1 1 r1;seen 0 1 4 r4;count 0 1 4; => facts - =>  count 0 1 4 seen 0 1 1 3013a111a10f280d06072a8648ce13050a81027231 seen 0 1 2 3013a111a10f280d06072a8648ce13050a81027232 seen 0 1 3 3013a111a10f280d06072a8648ce13050a81027233 seen 0 1 4 3013a111a10f280d06072a8648ce13050a81027234
+";
 
-// Rows of those facts, some of them twice.
-const ROWS: &str =
-    "seen 0 1 4 r4\nseen 0 1 2 r2\ncount 0 1 4\nseen 0 1 3 r3\nseen 0 1 2 ~r2\nseen 0 1 1 r1\nseen 0 1 4 r4\ncount 0 1 4";
-
-#[test]
-fn facts_stand_in_order_and_once(rt: HostRuntime) -> Result<(), Fail> {
-    let knowledge = known(rt.alloc(), ROWS)?;
-    assert!(rt; has_facts(rt.alloc(), &knowledge, FACTS)?);
-    Ok(())
-}
-
-#[test]
-fn nothing_is_known_at_first(rt: HostRuntime) -> Result<(), Fail> {
-    let empty = nothing(rt.alloc())?;
-    assert!(rt; is_at(rt.alloc(), &empty, 1, " nothing")?);
-    assert!(rt; is_count(rt.alloc(), &empty, 0, 1, " nothing")?);
-    assert!(rt; has_facts(rt.alloc(), &empty, "")?);
-    assert!(rt; is_listed(rt.alloc(), &empty, "a", Mode::Text, "")?);
-    Ok(())
-}
-
-#[test]
-fn two_spellings_of_one_record_are_one(rt: HostRuntime) -> Result<(), Fail> {
-    let knowledge = known(rt.alloc(), "seen 0 1 1 hi\nseen 0 1 1 ~hi")?;
-    assert!(rt;
-        is_at(
-            rt.alloc(),
-            &knowledge,
-            1,
-            " one 3013a111a10f280d06072a8648ce13050a81026869"
-        )?
-    );
-    assert!(rt; is_at(rt.alloc(), &knowledge, 2, " nothing")?);
-    assert!(rt;
-        is_listed(
-            rt.alloc(),
-            &knowledge,
-            "a",
+fn is_answer(
+    alloc: Global,
+    knowledge: &Knowledge,
+    question: &str,
+    due: &str,
+) -> Result<bool, Fail> {
+    let (word, rest) = pair(question)?;
+    match word {
+        "at" => is_at(alloc, knowledge, rest.parse::<i64>()?, due),
+        "count" => {
+            let (target, set) = pair(rest)?;
+            is_count(
+                alloc,
+                knowledge,
+                target.parse::<u32>()?,
+                set.parse::<u32>()?,
+                due,
+            )
+        }
+        "facts" => has_facts(alloc, knowledge, due),
+        _ => has_list(
+            alloc,
+            knowledge,
+            rest,
             Mode::Text,
-            "1 \"a\" 1 rec 1.2.840.10003.5.10 - \"hi\"\n"
-        )?
-    );
-    Ok(())
+            unescaped(alloc, due)?.as_slice(),
+        ),
+    }
 }
 
-const BOTH: &str =
-    " conflict 3013a111a10f280d06072a8648ce13050a81027232 3013a111a10f280d06072a8648ce13050a81027832";
-
-#[test]
-fn records_in_conflict_stand_in_order(rt: HostRuntime) -> Result<(), Fail> {
-    let knowledge = known(rt.alloc(), "seen 0 1 1 x2\nseen 0 1 1 r2\nseen 0 1 1 ~x2")?;
-    assert!(rt; is_at(rt.alloc(), &knowledge, 1, BOTH)?);
-    Ok(())
+fn is_answered(alloc: Global, row: &str) -> Result<bool, Fail> {
+    let (facts, rest) = halves(row)?;
+    let (question, due) = halves(rest)?;
+    let rows = facts.replace(alloc, ";", "\n")?;
+    let knowledge = known(alloc, rows.as_str())?;
+    is_answer(alloc, &knowledge, question, due)
 }
 
 #[test]
-fn counts_in_conflict_stand_in_order(rt: HostRuntime) -> Result<(), Fail> {
-    let knowledge = known(
-        rt.alloc(),
-        "count 0 1 5\ncount 0 1 4\ncount 0 1 5\ncount 1 1 0",
-    )?;
-    assert!(rt; is_count(rt.alloc(), &knowledge, 0, 1, " conflict 4 5")?);
-    assert!(rt; is_count(rt.alloc(), &knowledge, 1, 1, " one 0")?);
-    assert!(rt; is_count(rt.alloc(), &knowledge, 0, 2, " nothing")?);
-    assert!(rt;
-        is_listed(
-            rt.alloc(),
-            &knowledge,
-            "a b",
-            Mode::Text,
-            "target \"a\" set 1 count 4\ntarget \"a\" set 1 count 5\ntarget \"b\" set 1 count 0\n"
-        )?
-    );
-    Ok(())
+fn questions_are_answered_as_told(rt: HostRuntime) -> Result<(), Fail> {
+    each_row(&rt, ANSWERS, &is_answered)
 }
 
 // Facts of several targets and sets in no order: each kind of fact, of record and of diagnostic.
@@ -300,18 +286,22 @@ seen 0 1 3 3016800164a111a10f280d06072a8648ce13050a8102225c
 seen 0 1 1 3013a111a10f280d06072a8648ce13050a81020aff
 ";
 
+// Whether facts have the list.
+fn are_listed(alloc: Global, rows: &str, names: &str, mode: Mode, due: &str) -> Result<bool, Fail> {
+    let knowledge = known(alloc, rows)?;
+    is_listed(alloc, &knowledge, names, mode, due)
+}
+
 #[test]
 fn each_kind_of_fact_has_its_line(rt: HostRuntime) -> Result<(), Fail> {
-    let knowledge = known(rt.alloc(), MIXED)?;
-    assert!(rt; is_listed(rt.alloc(), &knowledge, "a b%22%5c", Mode::Text, LINES)?);
+    assert!(rt; are_listed(rt.alloc(), MIXED, "a b%22%5c", Mode::Text, LINES)?);
     Ok(())
 }
 
 #[test]
 fn octets_are_quoted_or_in_hexadecimal(rt: HostRuntime) -> Result<(), Fail> {
-    let knowledge = known(rt.alloc(), OCTETS)?;
-    assert!(rt; is_listed(rt.alloc(), &knowledge, "a", Mode::Text, QUOTED)?);
-    assert!(rt; is_listed(rt.alloc(), &knowledge, "a", Mode::Hex, DIGITS)?);
+    assert!(rt; are_listed(rt.alloc(), OCTETS, "a", Mode::Text, QUOTED)?);
+    assert!(rt; are_listed(rt.alloc(), OCTETS, "a", Mode::Hex, DIGITS)?);
     Ok(())
 }
 
@@ -319,9 +309,13 @@ fn octets_are_quoted_or_in_hexadecimal(rt: HostRuntime) -> Result<(), Fail> {
 const SORTED: &str =
     " count 0 1 7 count 0 2 3 failed 0 1 failed 2 0 seen 0 1 1 3013a111a10f280d06072a8648ce13050a81020aff seen 0 1 2 300ca10aa1082806020105810161 seen 0 1 3 3016800164a111a10f280d06072a8648ce13050a8102225c seen 0 2 1 301a800164a115a213301106072a8648ce130401020200ee1b02225c seen 1 1 1 3005a103830161 seen 2 1 3 3014800164a10fa10d280b06072a8648ce13050a8100 diag 0 1 0 28048102686a diag 0 1 0 301006072a8648ce13040102010e1a026869 diag 0 1 4 301006072a8648ce13040102010d1b026869 diag 1 1 0 300e06072a8648ce13040102010d1a00";
 
+fn are_facts(alloc: Global, rows: &str, due: &str) -> Result<bool, Fail> {
+    let knowledge = known(alloc, rows)?;
+    has_facts(alloc, &knowledge, due)
+}
+
 #[test]
 fn facts_of_all_kinds_stand_in_order(rt: HostRuntime) -> Result<(), Fail> {
-    let knowledge = known(rt.alloc(), MIXED)?;
-    assert!(rt; has_facts(rt.alloc(), &knowledge, SORTED)?);
+    assert!(rt; are_facts(rt.alloc(), MIXED, SORTED)?);
     Ok(())
 }

@@ -5,6 +5,10 @@
 mod answers;
 #[cfg(test)]
 mod apdus;
+#[cfg(test)]
+mod damaged;
+#[cfg(test)]
+mod dice;
 pub mod encodings;
 #[cfg(test)]
 mod facts;
@@ -25,11 +29,15 @@ mod notation;
 #[cfg(test)]
 mod perturbed;
 #[cfg(test)]
+mod pieces;
+#[cfg(test)]
 mod plain;
 #[cfg(test)]
 mod printed;
 #[cfg(test)]
 mod queries;
+#[cfg(test)]
+mod reference;
 #[cfg(test)]
 mod rows;
 #[cfg(test)]
@@ -38,6 +46,8 @@ mod saved;
 mod servers;
 #[cfg(test)]
 mod sessions;
+#[cfg(test)]
+mod shuffled;
 #[cfg(test)]
 mod structures;
 #[cfg(test)]

@@ -1,6 +1,6 @@
 // Elements that are no APDUs, and where they misfit, worked out from Z39.50-2003, 4.1.
 use crate::plain::apdu_refusal;
-use crate::rows::{element, pair};
+use crate::rows::{each_row, element, pair};
 use std::alloc::Global;
 use std::process::Abort;
 use std::test::Fail;
@@ -59,10 +59,5 @@ fn is_refused(alloc: Global, row: &str) -> Result<bool, Fail> {
 
 #[test]
 fn what_misfits_is_refused_at_its_place(rt: HostRuntime) -> Result<(), Fail> {
-    for row in REFUSED.lines() {
-        if !row.starts_with('#') {
-            assert!(rt; is_refused(rt.alloc(), row)?, "{row}");
-        }
-    }
-    Ok(())
+    each_row(&rt, REFUSED, &is_refused)
 }

@@ -1,7 +1,7 @@
 // Texts of the prefix notation, their tokens, and queries that no text stands for.
 use crate::plain::{boxed, parse, print, query_copy};
 use crate::queries::{is_printed, refusal};
-use crate::rows::{halves, unescaped};
+use crate::rows::{each_row, halves, unescaped};
 use bytes::Bytes;
 use std::alloc::{AllocError, Global};
 use std::process::Abort;
@@ -59,14 +59,12 @@ fn is_row(alloc: Global, row: &str) -> Result<bool, Fail> {
 
 #[test]
 fn texts_are_printed(rt: HostRuntime) -> Result<(), Fail> {
-    for row in PRINTED.lines() {
-        assert!(rt; is_row(rt.alloc(), row)?, "{row}");
-    }
-    Ok(())
+    each_row(&rt, PRINTED, &is_row)
 }
 
 // Refusals, and texts that are refused.
-const REFUSED: &str = r#"OpenQuote at 0 => "
+const REFUSED: &str = r#"Empty at 0 => 
+OpenQuote at 0 => "
 OpenQuote at 5 => @foo "x
 OpenQuote at 5 => "a"b "c
 OpenQuote at 4 => a"b "
@@ -180,11 +178,7 @@ fn is_refusal(alloc: Global, row: &str) -> Result<bool, Fail> {
 
 #[test]
 fn texts_are_refused_at_their_faults(rt: HostRuntime) -> Result<(), Fail> {
-    for row in REFUSED.lines() {
-        assert!(rt; is_refusal(rt.alloc(), row)?, "{row}");
-    }
-    assert!(rt; refusal(rt.alloc(), b"")?.as_str() == "Empty at 0");
-    Ok(())
+    each_row(&rt, REFUSED, &is_refusal)
 }
 
 // Tokens with their places, each on a line, quoted ones in quotes.

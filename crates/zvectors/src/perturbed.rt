@@ -1,6 +1,6 @@
 // APDUs of which one element is changed, and where each is refused, worked out from Z39.50-2003, 4.1.
 use crate::plain::{apdu_of, apdu_refusal};
-use crate::rows::{element, pair};
+use crate::rows::{each_row, element, pair};
 use bytes::Bytes;
 use std::alloc::{AllocError, Global};
 use std::process::Abort;
@@ -185,8 +185,5 @@ fn is_row(alloc: Global, row: &str) -> Result<bool, Fail> {
 
 #[test]
 fn each_change_is_found_at_its_place(rt: HostRuntime) -> Result<(), Fail> {
-    for row in ROWS.lines() {
-        assert!(rt; is_row(rt.alloc(), row)?, "{row}");
-    }
-    Ok(())
+    each_row(&rt, ROWS, &is_row)
 }

@@ -1,6 +1,6 @@
 // Queries in the prefix notation and in octets, worked out from Z39.50-2003, 4.1, and X.690.
 use crate::plain::{parse, parse_refusal, print, query_node, query_of};
-use crate::rows::{element, encoding, halves, unescaped};
+use crate::rows::{each_row, element, encoding, halves, unescaped};
 use std::alloc::{AllocError, Global};
 use std::process::Abort;
 use std::test::Fail;
@@ -133,10 +133,7 @@ fn is_query(alloc: Global, row: &str) -> Result<bool, Fail> {
 
 #[test]
 fn texts_are_queries_and_queries_octets(rt: HostRuntime) -> Result<(), Fail> {
-    for row in READ.lines() {
-        assert!(rt; is_query(rt.alloc(), row)?, "{row}");
-    }
-    Ok(())
+    each_row(&rt, READ, &is_query)
 }
 
 // A text so many times, and then another one.
@@ -226,8 +223,5 @@ fn is_last(alloc: Global, row: &str) -> Result<bool, Fail> {
 
 #[test]
 fn other_faults_on_the_33rd_level(rt: HostRuntime) -> Result<(), Fail> {
-    for row in LAST.lines() {
-        assert!(rt; is_last(rt.alloc(), row)?, "{row}");
-    }
-    Ok(())
+    each_row(&rt, LAST, &is_last)
 }

@@ -1,10 +1,27 @@
 //! What the tables of vectors share: a table is a text with a row on each line, and octets stand in it as hexadecimal digits.
 use std::alloc::{AllocError, Global};
+use std::process::Abort;
 use std::test::Fail;
 use zber::{Framer, Node};
 
 /// The longest message that is read.
 pub(crate) const LIMIT: u32 = 2_097_152;
+
+/// Asserts that each row of a table holds; a row that begins with `#` says what those below it are.
+pub(crate) fn each_row<F: Fn(Global, &str) -> Result<bool, Fail>>(
+    rt: &(impl Abort + AllocGlobal),
+    rows: &str,
+    holds: &F,
+) -> Result<(), Fail>
+    requires { F.IsAlwaysCallable holds.now }
+{
+    for row in rows.lines() {
+        if !row.starts_with('#') {
+            assert!(rt; holds(rt.alloc(), row)?, "{row}");
+        }
+    }
+    Ok(())
+}
 
 /// The two parts of a row, which its first space divides.
 pub(crate) fn pair(row: &str) -> Result<(&str, &str), Fail> {

@@ -1,6 +1,6 @@
 // Saved files, worked out by hand and by a reader of another kind: what is read and written alike, and what is refused.
 use crate::facts::known;
-use crate::rows::{digits, octets, pair};
+use crate::rows::{digits, each_row, octets, pair};
 use std::alloc::{AllocError, Global};
 use std::process::Abort;
 use std::test::Fail;
@@ -33,12 +33,13 @@ fn again(alloc: Global, file: &str) -> Result<String, Fail> {
     Ok(digits(alloc, file.as_slice())?)
 }
 
+fn is_file(alloc: Global, row: &str) -> Result<bool, Fail> {
+    Ok(again(alloc, row)?.as_str() == row)
+}
+
 #[test]
 fn files_are_read_and_written_alike(rt: HostRuntime) -> Result<(), Fail> {
-    for row in FILES.lines() {
-        assert!(rt; again(rt.alloc(), row)?.as_str() == row, "{row}");
-    }
-    Ok(())
+    each_row(&rt, FILES, &is_file)
 }
 
 // Places and files: nothing at all; an end mark; half a header; another element; a fact in the place of names; a name
@@ -85,26 +86,26 @@ fn refusal(alloc: Global, file: &str) -> Result<Option<LoadError>, Fail> {
     Ok(load(alloc, octets(alloc, file)?.as_slice()).err())
 }
 
+fn is_no_knowledge(alloc: Global, row: &str) -> Result<bool, Fail> {
+    let (at, file) = pair(row)?;
+    let at = at.parse::<usize>()?;
+    Ok(refusal(alloc, file)? == Some(LoadError::NotKnowledge { at }))
+}
+
 #[test]
 fn what_is_no_knowledge_is_refused(rt: HostRuntime) -> Result<(), Fail> {
-    for row in NOT_KNOWLEDGE.lines() {
-        let (at, file) = pair(row)?;
-        let at = at.parse::<usize>()?;
-        let due = Some(LoadError::NotKnowledge { at });
-        assert!(rt; refusal(rt.alloc(), file)? == due, "{row}");
-    }
-    Ok(())
+    each_row(&rt, NOT_KNOWLEDGE, &is_no_knowledge)
+}
+
+fn is_not_canonical(alloc: Global, row: &str) -> Result<bool, Fail> {
+    let (at, file) = pair(row)?;
+    let at = at.parse::<usize>()?;
+    Ok(refusal(alloc, file)? == Some(LoadError::NotCanonical { at }))
 }
 
 #[test]
 fn what_is_not_canonical_is_refused(rt: HostRuntime) -> Result<(), Fail> {
-    for row in NOT_CANONICAL.lines() {
-        let (at, file) = pair(row)?;
-        let at = at.parse::<usize>()?;
-        let due = Some(LoadError::NotCanonical { at });
-        assert!(rt; refusal(rt.alloc(), file)? == due, "{row}");
-    }
-    Ok(())
+    each_row(&rt, NOT_CANONICAL, &is_not_canonical)
 }
 
 // A file with two names and a fact of each kind.

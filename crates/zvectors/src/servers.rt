@@ -1,6 +1,6 @@
 // APDUs as servers send them, worked out from Z39.50-2003, 4.1, and X.690.
 use crate::apdus::is_line;
-use crate::rows::{octets, pair};
+use crate::rows::{each_row, octets, pair};
 use std::alloc::Global;
 use std::process::Abort;
 use std::test::Fail;
@@ -35,10 +35,5 @@ fn is_read(alloc: Global, row: &str) -> Result<bool, Fail> {
 
 #[test]
 fn what_servers_send_is_read(rt: HostRuntime) -> Result<(), Fail> {
-    for row in SENT.lines() {
-        if !row.starts_with('#') {
-            assert!(rt; is_read(rt.alloc(), row)?, "{row}");
-        }
-    }
-    Ok(())
+    each_row(&rt, SENT, &is_read)
 }

@@ -2,7 +2,7 @@
 use crate::notation::{complex, has_no_text, near, other};
 use crate::plain::{boxed, is_query, query_copy, query_node, query_of};
 use crate::queries::{is_printed, unwrapped};
-use crate::rows::{element, encoding, pair};
+use crate::rows::{each_row, element, encoding, pair};
 use bytes::Bytes;
 use std::alloc::{AllocError, Global};
 use std::process::Abort;
@@ -110,27 +110,17 @@ fn is_kept(alloc: Global, row: &str) -> Result<bool, Fail> {
 
 #[test]
 fn queries_without_a_text_are_written_back(rt: HostRuntime) -> Result<(), Fail> {
-    for row in KEPT.lines() {
-        if !row.starts_with('#') {
-            assert!(rt; is_kept(rt.alloc(), row)?, "{row}");
-        }
-    }
-    Ok(())
+    each_row(&rt, KEPT, &is_kept)
 }
 
-fn is_one(alloc: Global, row: &str) -> Result<bool, Fail> {
+fn is_none(alloc: Global, row: &str) -> Result<bool, Fail> {
     let node = element(alloc, row)?;
-    Ok(is_query(alloc, &node)?)
+    Ok(!is_query(alloc, &node)?)
 }
 
 #[test]
 fn other_elements_are_no_queries(rt: HostRuntime) -> Result<(), Fail> {
-    for row in OTHERS.lines() {
-        if !row.starts_with('#') {
-            assert!(rt; !is_one(rt.alloc(), row)?, "{row}");
-        }
-    }
-    Ok(())
+    each_row(&rt, OTHERS, &is_none)
 }
 
 // Lengths that are indefinite, or not the shortest.
@@ -232,8 +222,5 @@ fn has_marks(alloc: Global, row: &str) -> Result<bool, Fail> {
 
 #[test]
 fn opaque_parts_have_the_tags_of_their_places(rt: HostRuntime) -> Result<(), Fail> {
-    for row in OPAQUE.lines() {
-        assert!(rt; has_marks(rt.alloc(), row)?, "{row}");
-    }
-    Ok(())
+    each_row(&rt, OPAQUE, &has_marks)
 }

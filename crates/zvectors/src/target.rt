@@ -1,5 +1,6 @@
 // Targets over databases that rows of text tell, and their calls without contracts.
 mod associations;
+mod definition;
 mod faults;
 mod matching;
 mod presents;

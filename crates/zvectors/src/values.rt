@@ -1,5 +1,5 @@
 // Values in contents octets, worked out from X.690, 8.2, 8.3, 8.6 to 8.8 and 8.19.
-use crate::rows::{digits, octets, pair};
+use crate::rows::{digits, each_row, octets, pair};
 use bytes::Bytes;
 use std::alloc::{AllocError, Global};
 use std::process::Abort;
@@ -211,18 +211,12 @@ fn is_read(alloc: Global, row: &str) -> Result<bool, Fail> {
 
 #[test]
 fn values_are_read(rt: HostRuntime) -> Result<(), Fail> {
-    for row in VALUES.lines() {
-        assert!(rt; is_read(rt.alloc(), row)?, "{row}");
-    }
-    Ok(())
+    each_row(&rt, VALUES, &is_read)
 }
 
 #[test]
 fn other_contents_are_read_or_refused(rt: HostRuntime) -> Result<(), Fail> {
-    for row in READ.lines() {
-        assert!(rt; is_read(rt.alloc(), row)?, "{row}");
-    }
-    Ok(())
+    each_row(&rt, READ, &is_read)
 }
 
 // The bits that digits say, through a slice and a copy.
@@ -287,23 +281,22 @@ fn is_written(alloc: Global, row: &str) -> Result<bool, Fail> {
 
 #[test]
 fn values_are_written(rt: HostRuntime) -> Result<(), Fail> {
-    for row in VALUES.lines() {
-        assert!(rt; is_written(rt.alloc(), row)?, "{row}");
-    }
-    Ok(())
+    each_row(&rt, VALUES, &is_written)
 }
 
-fn first_bits(alloc: Global, digits: &str) -> Result<String, Fail> {
-    let node = held(alloc, digits)?;
-    let bits = node.as_bits(alloc)?;
-    Ok(bit_digits(alloc, &bits, 20)?)
+// Contents, and the first 20 bits that they say.
+const FIRST: &str = "\
+01c006 11000000000001100000
+04ff 11110000000000000000
+";
+
+fn are_first(alloc: Global, row: &str) -> Result<bool, Fail> {
+    let (digits, due) = pair(row)?;
+    let bits = held(alloc, digits)?.as_bits(alloc)?;
+    Ok(bit_digits(alloc, &bits, 20)?.as_str() == due)
 }
 
 #[test]
 fn bits_past_the_end_are_not_set(rt: HostRuntime) -> Result<(), Fail> {
-    let alloc = rt.alloc();
-    assert!(rt; first_bits(alloc, "01c006")?.as_str() == "11000000000001100000");
-    assert!(rt; first_bits(alloc, "04ff")?.as_str() == "11110000000000000000");
-    assert!(rt; !bits_of(alloc, "11111111")?.bit(usize::MAX));
-    Ok(())
+    each_row(&rt, FIRST, &are_first)
 }

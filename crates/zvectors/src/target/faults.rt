@@ -1,5 +1,5 @@
 // The first fault of a query (Z39.50-2003, Appendix 3 ATR and 4 ERR).
-use crate::rows::{halves, pair};
+use crate::rows::{each_row, halves, pair};
 use crate::target::matches;
 use crate::target::matching::{names, query, target_of_rows};
 use bytes::Bytes;
@@ -77,20 +77,17 @@ fn fault(
     told(alloc, matches(target, names, query))
 }
 
-fn is_fault(alloc: Global, target: &Target, row: &str) -> Result<bool, Fail> {
+fn is_fault(alloc: Global, row: &str) -> Result<bool, Fail> {
     let (row, due) = halves(row)?;
     let (text, named) = row.split_once(" | ").ok_or("no names")?;
     let query = query(alloc, text)?;
     let names = names(alloc, if named == "-" { "" } else { named })?;
-    let fault = fault(alloc, target, names.as_slice(), &query)?;
+    let target = target_of_rows(alloc, "r | 4 dune", "r | 4 dune")?;
+    let fault = fault(alloc, &target, names.as_slice(), &query)?;
     Ok(fault.as_str().trim_end() == due)
 }
 
 #[test]
 fn the_first_fault_is_answered(rt: HostRuntime) -> Result<(), Fail> {
-    let target = target_of_rows(rt.alloc(), "r | 4 dune", "r | 4 dune")?;
-    for row in FAULTS.lines() {
-        assert!(rt; is_fault(rt.alloc(), &target, row)?, "{row}");
-    }
-    Ok(())
+    each_row(&rt, FAULTS, &is_fault)
 }

@@ -1,6 +1,6 @@
 // Which entries queries match.
 use crate::plain::{boxed, parse};
-use crate::rows::{halves, unescaped};
+use crate::rows::{each_row, halves, unescaped};
 use crate::target::{database, matches, target_of};
 use bytes::Bytes;
 use std::alloc::Global;
@@ -162,20 +162,16 @@ fn is_matched(alloc: Global, row: &str) -> Result<bool, Fail> {
 
 #[test]
 fn words_are_matched_as_told(rt: HostRuntime) -> Result<(), Fail> {
-    for row in MATCHED.lines() {
-        if !row.starts_with('#') {
-            assert!(rt; is_matched(rt.alloc(), row)?, "{row}");
-        }
-    }
-    Ok(())
+    each_row(&rt, MATCHED, &is_matched)
 }
 
-fn are_placed(alloc: Global, target: &Target, row: &str) -> Result<bool, Fail> {
+fn are_placed(alloc: Global, row: &str) -> Result<bool, Fail> {
     let (row, due) = halves(row)?;
     let (text, named) = row.split_once(" | ").ok_or("no names")?;
     let names = names(alloc, named)?;
     let query = query(alloc, text)?;
-    let places = matches(target, names.as_slice(), &query)?;
+    let target = target_of_rows(alloc, "r | 4 one\nr | 4 two", "r | 4 one")?;
+    let places = matches(&target, names.as_slice(), &query)?;
     let mut told = Vec::new(alloc);
     for place in due.split_whitespace() {
         told.push(place.parse::<u32>()?)?;
@@ -185,11 +181,7 @@ fn are_placed(alloc: Global, target: &Target, row: &str) -> Result<bool, Fail> {
 
 #[test]
 fn places_are_counted_through_the_databases_named(rt: HostRuntime) -> Result<(), Fail> {
-    let target = target_of_rows(rt.alloc(), "r | 4 one\nr | 4 two", "r | 4 one")?;
-    for row in PLACED.lines() {
-        assert!(rt; are_placed(rt.alloc(), &target, row)?, "{row}");
-    }
-    Ok(())
+    each_row(&rt, PLACED, &are_placed)
 }
 
 // Attributes `TYPE=VALUE ..`, of which two may have one type.
@@ -232,32 +224,31 @@ dun | 5=1 5=100 => false
 dun | 5=100 1=4 5=1 => true
 ";
 
-fn is_repeated(alloc: Global, target: &Target, row: &str) -> Result<bool, Fail> {
+fn is_repeated(alloc: Global, row: &str) -> Result<bool, Fail> {
     let (row, due) = halves(row)?;
     let (word, attributes) = row.split_once(" | ").ok_or("no attributes")?;
     let query = attributed(alloc, attributes, word)?;
-    let count = count(alloc, target, &query)?;
+    let target = target_of_rows(alloc, "r | 4 dune | 1003 herbert", "")?;
+    let count = count(alloc, &target, &query)?;
     Ok((if count == 1 { "true" } else { "false" }) == due)
 }
 
 #[test]
 fn the_last_of_several_attributes_counts(rt: HostRuntime) -> Result<(), Fail> {
-    let target = target_of_rows(rt.alloc(), "r | 4 dune | 1003 herbert", "")?;
-    for row in REPEATED.lines() {
-        assert!(rt; is_repeated(rt.alloc(), &target, row)?, "{row}");
-    }
-    Ok(())
+    each_row(&rt, REPEATED, &is_repeated)
+}
+
+// How many of so many entries are found.
+fn found_of(alloc: Global, entries: usize, text: &str) -> Result<usize, Fail> {
+    let row = "r | 4 the quick brown fox jumps over the lazy dog | 1003 dune\n";
+    let rows = row.repeat(alloc, entries)?;
+    let target = target_of_rows(alloc, rows.as_str(), "")?;
+    let query = query(alloc, text)?;
+    count(alloc, &target, &query)
 }
 
 #[test]
 fn ten_thousand_entries_are_searched(rt: HostRuntime) -> Result<(), Fail> {
-    let alloc = rt.alloc();
-    let mut rows = String::new(alloc);
-    for _ in 0..10_000 {
-        rows.push_str("r | 4 the quick brown fox jumps over the lazy dog | 1003 dune\n")?;
-    }
-    let target = target_of_rows(alloc, rows.as_str(), "")?;
-    let query = query(alloc, "@and \"lazy dog\" @not dune zebra")?;
-    assert_eq!(rt; count(alloc, &target, &query)?, 10_000);
+    assert!(rt; found_of(rt.alloc(), 10_000, "@and \"lazy dog\" @not dune zebra")? == 10_000);
     Ok(())
 }
