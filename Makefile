@@ -7,3 +7,4 @@ show:
 
 test:
 	rt ci
+	python3 refused-memory/check.py

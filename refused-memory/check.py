@@ -1,0 +1,76 @@
+#!/usr/bin/env python3
+"""Refuses each allocation of the program's runs, and of a test's, in turn, and looks at what they answer then.
+
+A run has to end with status 4 and `out of memory`, or as it does with ample memory. A test has to tell that it wants memory while it
+makes itself ready, and from then on to pass: what it tests asks again where memory was refused, and has to answer the same.
+
+    python3 refused-memory/check.py       (in the repository, once the program and the vectors are built)
+"""
+
+import os
+import subprocess
+import sys
+import tempfile
+
+ROOT = os.path.dirname(os.path.dirname(os.path.abspath(__file__)))
+ZMETA = os.path.join(ROOT, "crates/zmeta/out/zmeta")
+VECTORS = os.path.join(ROOT, "crates/zvectors/out/zvectors_tests")
+
+RUNS = [
+    (["show"], "examples/present-response.hex"),
+    (["pqf", "@attr 1=4 @and dune @attr 1=1003 herbert"], None),
+    (["join", "examples/monday.saved", "examples/tuesday.saved"], None),
+]
+TESTS = ["pieces::a_session_goes_on_where_memory_was_refused"]
+WANTS = ("error: AllocError", "error: Memory", "error: OutOfMemory")
+
+
+def run(room, words, file, number):
+    """Runs a program with one allocation refused (none where the number is 0): its status, both outputs, and its allocations."""
+    count = os.path.join(room, "count")
+    surroundings = dict(os.environ, LD_PRELOAD=os.path.join(room, "refuse.so"), REFUSE=str(number), COUNT=count)
+    with open(os.path.join(ROOT, file) if file else os.devnull, "rb") as given:
+        ran = subprocess.run(words, stdin=given, capture_output=True, env=surroundings, cwd=ROOT, timeout=60)
+    with open(count) as it:
+        return (ran.returncode, ran.stdout, ran.stderr), int(it.read())
+
+
+def look_at_run(room, words, file):
+    ample, count = run(room, [ZMETA, *words], file, 0)
+    for number in range(1, count + 1):
+        answer, _ = run(room, [ZMETA, *words], file, number)
+        if answer != ample and (answer[0] != 4 or not answer[2].endswith(b"out of memory\n")):
+            return f"zmeta {' '.join(words)}: allocation {number} of {count} refused: {answer}"
+    print(f"zmeta {' '.join(words)}: each of {count} allocations refused")
+    return None
+
+
+def look_at_test(room, name):
+    ample, count = run(room, [VECTORS, name], None, 0)
+    if ample[0]:
+        return f"{name}: fails with ample memory: {ample}"
+    passed = 0
+    for number in range(1, count + 1):
+        answer, _ = run(room, [VECTORS, name], None, number)
+        wants = answer[2].decode(errors="replace").startswith(WANTS)
+        if answer[0] and (passed or not wants):
+            return f"{name}: allocation {number} of {count} refused: {answer}"
+        passed += not answer[0]
+    print(f"{name}: each of {count} allocations refused, {passed} of them in what it tests")
+    return None if passed else f"{name}: tests nothing that takes memory"
+
+
+def main():
+    failed = 0
+    with tempfile.TemporaryDirectory() as room:
+        source = os.path.join(ROOT, "refused-memory/refuse.c")
+        subprocess.run(["cc", "-O2", "-shared", "-fPIC", "-o", os.path.join(room, "refuse.so"), source, "-ldl"], check=True)
+        for fault in [look_at_run(room, *it) for it in RUNS] + [look_at_test(room, it) for it in TESTS]:
+            if fault:
+                print(fault)
+                failed += 1
+    return 1 if failed else 0
+
+
+if __name__ == "__main__":
+    sys.exit(main())
