@@ -66,7 +66,8 @@ fn plain_front(octets: &[u8]) -> usize
 
 /// Appends the octets up to the first that does not stand as it is, and that one, and returns the rest.
 fn put_run<'a>(octets: &'a [u8], out: &mut Vec<u8>) -> Result<&'a [u8], AllocError>
-    ensures whole { IfOk result (λ rest. out.new.items ++ flat_map shown rest.now ≡ out.old.items ++ flat_map shown octets.now) }
+    ensures whole { IfOk result (λ rest.
+        out.new.items ++ flat_map shown rest.now ≡ out.old.items ++ flat_map shown octets.now) }
     ensures shorter { IfOk result (λ rest. 0 < length octets.now → length rest.now < length octets.now) }
 {
     let (plain, others) = octets.split_at(plain_front(octets));
