@@ -72,23 +72,25 @@ def each(measured, command_of, path):
 
 def tell_instructions(folder, ours, theirs):
     print("| Instructions an octet | decode | libyaz | `zmeta show` |\n|---|---|---|---|")
-    for name in ("marc", "grs1"):
-        path = f"{folder}/{name}.ber"
+    for name in ("marc", "grs1", "close"):
+        path, digits = f"{folder}/{name}.ber", f"{folder}/{name}.hex"
         size = os.path.getsize(path)
         mine = each(instructions, lambda n: [ours, str(n), str(size)], path) / size
         other = each(instructions, lambda n: [theirs, path, str(n)], path) / size
-        shown = instructions([ZMETA, "show"], f"{folder}/{name}.hex") / size if os.path.exists(ZMETA) else float("nan")
-        print(f"| {name} | {mine:.1f} | {other:.1f} | {shown:.1f} |")
+        can_show = os.path.exists(ZMETA) and os.path.exists(digits)
+        shown = f"{instructions([ZMETA, 'show'], digits) / size:.1f}" if can_show else ""
+        print(f"| {name} | {mine:.1f} | {other:.1f} | {shown} |", flush=True)
 
 
 def tell_times(folder, ours, theirs):
+    print(f"\nThe machine's load of the last minute is {os.getloadavg()[0]:.1f} on {os.cpu_count()} processors.")
     print("\n| Milliseconds | in one piece | by 4,096 octets | by 64 octets | libyaz |\n|---|---|---|---|---|")
     for name in ("marc", "grs1", "close"):
         path = f"{folder}/{name}.ber"
         pieces = (os.path.getsize(path), 4096, 64)
         mine = [each(milliseconds, lambda n: [ours, str(n), str(it)], path) for it in pieces]
         other = each(milliseconds, lambda n: [theirs, path, str(n)], path)
-        print(f"| {name} | " + " | ".join(f"{it:.2f}" for it in [*mine, other]) + " |")
+        print(f"| {name} | " + " | ".join(f"{it:.2f}" for it in [*mine, other]) + " |", flush=True)
 
 
 def tell_allocations(folder, ours):

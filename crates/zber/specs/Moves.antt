@@ -1,5 +1,5 @@
 -- How a move ends, and what is found.
-use Rattle.std.specs.Prelude.{◌≡◌, ℕ, ◌+◌, ◌*◌, ◌-◌, ◌<◌, List, length}
+use Rattle.std.specs.Prelude.{◌≡◌, ℕ, ◌+◌, ◌*◌, ◌-◌, ◌<◌, ◌≤◌, List, length}
 use Rattle.zber.specs.declared.scan.Scan.{Scan}
 use Rattle.zber.specs.declared.scan.Move.{Move}
 use Rattle.zber.specs.declared.scan.Move.TheVariants.{On, Lack, Fault}
@@ -31,6 +31,11 @@ pub record StandsAt (s : Scan) (at contents opened : ℕ) : Type 0 where
   pub light : load s.reading ≡ 0
   pub contents_are : s.contents ≡ contents
   pub open_are : length s.opened.items ≡ opened
+
+-- it is further on, or where it was
+pub record WentOn (limit : ℕ) (xs : List ℕ) (old s : Scan) : Type 0 where
+  pub holds : Holds limit xs s
+  pub no_heavier : weight (length xs) s ≤ weight (length xs) old
 
 abbrev pub MoveIs : ℕ → List ℕ → Scan → Scan → Move → Type 0
 MoveIs limit xs old s On = Holds limit xs s × (weight (length xs) s < weight (length xs) old)

@@ -168,6 +168,7 @@ fn size_octet(tag: Tag, constructed: bool, left: usize, size: usize, x: u8) -> S
 }
 
 /// What the next octet makes of the front of a header.
+#[inline(always)]
 pub(crate) fn advance(front: Front, marked: bool, x: u8) -> Step
     requires { (xs : List ℕ) × FrontIs marked front xs }
     ensures { (xs : List ℕ) → FrontIs marked front xs → StepIs marked (xs ++ x ∷ []) result }

@@ -5,8 +5,9 @@ ghost use Rattle.zber.specs.declared.fault.Place.{Place};
 ghost use Rattle.zber.specs.Headers.{Header, HeaderShows};
 ghost use Rattle.zber.specs.Fronts.{FrontIs};
 ghost use Rattle.zber.specs.declared.scan.Reading.TheVariants.{Head, Whole, Front as AtFront};
-ghost use Rattle.zber.specs.Counts.{Looked, IsQuiet, Counts, MoveCounts, FoundCounts};
-ghost use Rattle.zber.specs.Moves.{MoveIs, FoundIs, StandsAt, pos};
+ghost use Rattle.zber.specs.Shown.{Shows};
+ghost use Rattle.zber.specs.Counts.{Looked, IsQuiet, Counts, CountsAtFault, MoveCounts, FoundCounts};
+ghost use Rattle.zber.specs.Moves.{MoveIs, FoundIs, WentOn, StandsAt, pos};
 ghost use Rattle.zber.specs.Scans.{Going, IsGoing, Holds, ReadingIs, behind_reading, inner_window, IsPassed, IsEntered, IsClosed, Same};
 
 use crate::fault::{FaultKind, Place};
@@ -106,6 +107,7 @@ fn examine(octets: &[u8], at: usize, examined: &mut u64) -> u8
 }
 
 /// What the next octet of a header makes of it.
+#[inline(always)]
 fn look(front: Front, len: usize, place: Place, x: u8) -> Result<Reading, FaultKind>
     requires { (xs : List ℕ) × FrontIs place.marked front xs × (len ≡ length xs) × (len < place.size) }
     ensures goes { IfOk result (λ r. (xs : List ℕ)
@@ -348,6 +350,38 @@ impl Scan {
         Ok(Move::On)
     }
 
+    /// Looks at the first octet of a length, where that stands next and has come.
+    fn look_on(&mut self, octets: &[u8], examined: &mut u64) -> Result<(), FaultKind>
+        requires holds { (limit : ℕ) × Holds limit octets.now self.old × (limit < 2 ^ 32) }
+        ensures ok { OnOk result ((limit : ℕ) → Holds limit octets.now self.old
+            → WentOn limit octets.now self.old self.new) }
+        ensures fault { IfErr result (λ k. (limit : ℕ) → Holds limit octets.now self.old
+            → Shows limit octets.now k self.new.at) }
+        ensures counts { OnOk result (Counts self.old self.new examined.old examined.new) }
+        ensures at_fault { OnErr result
+            (CountsAtFault (length octets.now) self.old examined.old examined.new) }
+    {
+        let reading = self.reading;
+        let Reading::Front { front, len } = reading else {
+            return Ok(());
+        };
+        let Front::NoLength { .. } = front else {
+            return Ok(());
+        };
+        let place = self.place();
+        if len == place.size || octets.len() - self.at == len {
+            return Ok(());
+        }
+        let x = examine(octets, self.at + len, examined);
+        match look(front, len, place, x) {
+            Ok(reading) => {
+                self.reading = reading;
+                Ok(())
+            }
+            Err(kind) => Err(kind),
+        }
+    }
+
     /// Goes on in the front of a header.
     fn go_front(
         &mut self,
@@ -381,7 +415,10 @@ impl Scan {
         match look(front, len, place, x) {
             Ok(reading) => {
                 self.reading = reading;
-                Ok(Move::On)
+                match self.look_on(octets, examined) {
+                    Ok(()) => Ok(Move::On),
+                    Err(kind) => Ok(Move::Fault(kind)),
+                }
             }
             Err(kind) => Ok(Move::Fault(kind)),
         }
