@@ -1,3 +1,4 @@
+pub mod Apdus
 pub mod Closes
 pub mod Deliveries
 pub mod Diagnostics

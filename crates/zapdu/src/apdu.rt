@@ -1,4 +1,6 @@
 //! An APDU of any kind.
+ghost use Rattle.std.specs.Prelude.{◌≡◌};
+ghost use Rattle.zapdu.specs.Apdus.{kind_word, error_word};
 
 use crate::close::Close;
 use crate::init_request::InitRequest;
@@ -47,6 +49,23 @@ pub enum Kind {
     Close,
 }
 
+impl Kind {
+    /// Its name in the PDU choice of the standard (Z39.50-2003, 4.1), as `presentResponse`. It takes no memory.
+    pub fn word(self) -> &'static str
+        ensures { result.now ≡ kind_word self }
+    {
+        match self {
+            Kind::InitRequest => "initRequest",
+            Kind::InitResponse => "initResponse",
+            Kind::SearchRequest => "searchRequest",
+            Kind::SearchResponse => "searchResponse",
+            Kind::PresentRequest => "presentRequest",
+            Kind::PresentResponse => "presentResponse",
+            Kind::Close => "close",
+        }
+    }
+}
+
 /// Why an element is no APDU.
 #[derive(Clone, Copy, Debug, PartialEq, Eq, Error)]
 pub enum ApduError {
@@ -60,4 +79,17 @@ pub enum ApduError {
     /// No memory was found.
     #[error("out of memory")]
     Memory,
+}
+
+impl ApduError {
+    /// The name of the variant, as in `NotApdu`. It takes no memory.
+    pub fn word(self) -> &'static str
+        ensures { result.now ≡ error_word self }
+    {
+        match self {
+            ApduError::NotApdu => "NotApdu",
+            ApduError::Malformed { .. } => "Malformed",
+            ApduError::Memory => "Memory",
+        }
+    }
 }

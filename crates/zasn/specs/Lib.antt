@@ -1,2 +1,3 @@
 pub mod Answers
+pub mod Errors
 pub mod Places

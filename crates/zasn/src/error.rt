@@ -1,6 +1,7 @@
 //! Why elements were not read, or not built.
 ghost use Rattle.std.specs.Prelude.{◌≡◌};
 ghost use Rattle.zasn.specs.Answers.{part_error_of};
+ghost use Rattle.zasn.specs.Errors.{part_word, build_word};
 
 use std::alloc::{AllocError, AllocFailed};
 use thiserror::Error;
@@ -15,6 +16,18 @@ pub enum PartError {
     /// No memory was found.
     #[error("out of memory")]
     Memory,
+}
+
+impl PartError {
+    /// The name of the variant, as in `Misfit`. It takes no memory.
+    pub fn word(self) -> &'static str
+        ensures { result.now ≡ part_word self }
+    {
+        match self {
+            PartError::Misfit => "Misfit",
+            PartError::Memory => "Memory",
+        }
+    }
 }
 
 impl From<AllocError> for PartError {
@@ -62,6 +75,18 @@ pub enum BuildError {
     /// No memory was found.
     #[error("out of memory")]
     Memory,
+}
+
+impl BuildError {
+    /// The name of the variant, as in `NotSpellable`. It takes no memory.
+    pub fn word(self) -> &'static str
+        ensures { result.now ≡ build_word self }
+    {
+        match self {
+            BuildError::NotSpellable => "NotSpellable",
+            BuildError::Memory => "Memory",
+        }
+    }
 }
 
 impl From<AllocError> for BuildError {
