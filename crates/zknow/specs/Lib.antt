@@ -23,3 +23,4 @@ pub mod Listing
 pub mod Laws
 pub mod ListLaws
 pub mod FactRefs
+pub mod Refusals

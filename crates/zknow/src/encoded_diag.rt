@@ -80,6 +80,8 @@ impl Duplicate for EncodedDiag {
 
 /// By the canonical encoding.
 impl Ranked for EncodedDiag {
+    type Key = ();
+
     ghost use Rattle.std.specs.Prelude.{⊤};
     ghost use Rattle.zapdu.specs.Diagnostics.{diag_rec};
     ghost use Rattle.zknow.specs.Encodings.{encoding_cmp, encoding_total};
@@ -88,9 +90,20 @@ impl Ranked for EncodedDiag {
 
     ghost is_valid = { λ _. ⊤ };
 
+    ghost is_key = { λ _ _. ⊤ };
+
     ghost total = { encoding_total diag_rec };
 
-    fn compare(&self, _alloc: Global, other: &EncodedDiag) -> Result<Ordering, AllocError> {
+    fn key(&self, _alloc: Global) -> Result<(), AllocError> {
+        Ok(())
+    }
+
+    fn compare(
+        &self,
+        _alloc: Global,
+        other: &EncodedDiag,
+        _key: &(),
+    ) -> Result<Ordering, AllocError> {
         Ok(self.entry.octets.cmp(&other.entry.octets))
     }
 }
