@@ -19,3 +19,6 @@ pub mod KeptAt
 pub mod OnceNamed
 pub mod Lookups
 pub mod Merges
+pub mod Levels
+pub mod ReplyElements
+pub mod Sendable

@@ -7,6 +7,7 @@ mod decimal;
 mod diagnostic;
 mod error;
 mod fault;
+mod fits;
 mod found;
 mod index;
 mod indexed;

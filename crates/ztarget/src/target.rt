@@ -1,5 +1,6 @@
 //! The target.
-ghost use Rattle.std.specs.Prelude.{◌≡◌, ◌<◌, ◌^◌, [], ◌∷◌, ◌++◌, List, None, length, IfOk, IfErr, OnOk, OnErr};
+ghost use Rattle.std.specs.Prelude.{◌≡◌, ◌<◌, ◌^◌, [], ◌∷◌, ◌++◌, List, None, length, IfOk, IfErr, IfSome, OnOk, OnErr};
+ghost use Rattle.std.specs.List.{All};
 ghost use Rattle.zapdu.specs.declared.apdu.Apdu.{Apdu};
 ghost use Rattle.zapdu.specs.declared.apdu.Apdu.TheVariants as apdus;
 ghost use Rattle.ztarget.specs.Faults.{match_fault};
@@ -9,7 +10,8 @@ ghost use Rattle.ztarget.specs.Responding.{search_failed};
 ghost use Rattle.ztarget.specs.Standing.{Open, put_set};
 ghost use Rattle.ztarget.specs.declared.database.Database.{Database};
 ghost use Rattle.ztarget.specs.declared.settings.TargetSettings.{TargetSettings};
-ghost use Rattle.ztarget.specs.Receiving.{new_target, answered, Receives, After, Answers, is_close, with_released, Releases, IsRefusal};
+ghost use Rattle.ztarget.specs.Receiving.{new_target, answered, Receives, After, Answers, is_close, with_released, Releases, TakesOut, IsRefusal};
+ghost use Rattle.ztarget.specs.Levels.{HasElement};
 ghost use Rattle.ztarget.specs.Viewed.{terms_of};
 
 use crate::database::Database;
@@ -59,15 +61,19 @@ impl Model for Target {
 
     ghost use Rattle.ztarget.specs.Searching.{entries_in};
     ghost use Rattle.ztarget.specs.Viewed.{state_of};
+    ghost use Rattle.std.specs.List.{All};
+    ghost use Rattle.ztarget.specs.Levels.{HasElement};
 
     ghost view = { λ t. record { databases = t.databases.items; settings = t.settings; standing = record { state = state_of t.phase; sets = t.sets }; pending = t.pending.items } };
 
-    ghost invariant = { λ t. length (entries_in t.databases.items) < 2 ^ 32 };
+    ghost invariant = { λ t. (length (entries_in t.databases.items) < 2 ^ 32) × All HasElement t.pending.items };
 }
 
 /// The answer to a Close: reason 0, finished, and the same reference id.
+#[tactic(auto, using(crate::proofs::ReplyElements::close_element))]
 fn close_reply(alloc: Global, close: &Close) -> Result<Close, AllocError>
-    ensures { IfOk result (λ reply. reply ≡ close_reply close.now) }
+    ensures value { IfOk result (λ reply. reply ≡ close_reply close.now) }
+    ensures element { IfOk result (λ reply. HasElement (apdus.Close reply)) }
 {
     Ok(Close {
         reference_id: close.reference_id.duplicate(alloc)?,
@@ -86,6 +92,17 @@ fn is_close(apdu: &Apdu) -> bool
         Apdu::Close(_) => true,
         _ => false,
     }
+}
+
+/// Takes reply `k` out of the pending ones, where it may go.
+fn take_out(pending: &mut VecDeque<Apdu>, k: usize) -> Option<Apdu>
+    ensures { TakesOut pending.old.items k result pending.new.items }
+{
+    let count = pending.len();
+    if k >= count || (is_close(&pending[k]) && count > 1) {
+        return None;
+    }
+    pending.remove(k)
 }
 
 impl Target {
@@ -149,6 +166,7 @@ impl Target {
         name: Bytes,
         set: ResultSet,
     ) -> Result<(), AllocError>
+        requires { HasElement (apdus.SearchResponse response) }
         ensures ok { OnOk result (self.new ≡ record self.old {
           standing = record { state = self.old.standing.state; sets = put_set self.old.standing.sets (record { name = name; found = set }) };
           pending = self.old.pending ++ apdus.SearchResponse response ∷ [];
@@ -248,24 +266,9 @@ impl Target {
         }
     }
 
-    /// Takes a request (Z39.50-2003, 3.2), and puts the reply that is owed to it last among the pending replies.
-    ///
-    /// The replies, each with its request's reference id (all of them: docs/FORMATS.md, "What the target answers"):
-    /// - to Init, whether the association is accepted, and what is in force (3.2.1.1);
-    /// - to a search, how many entries match, and the first records as far as its bounds ask for them and the size in force has
-    ///   room. The set is kept under its name. A search that fails is answered by one diagnostic, and leaves the older sets (3.2.2.1);
-    /// - to a request for records, those at its positions that have room, from the first on, or one diagnostic (3.2.3.1). In the
-    ///   place of a record stands diagnostic 238 where another syntax is asked for, and 17 where it is longer than the size;
-    /// - to a Close, a Close (3.2.11.1).
-    ///
-    /// So what fails by a diagnostic is answered, and is no refusal.
-    ///
-    /// Refusals, which leave all as it was: `NotRequest` for a response; `WrongState` before Init for anything but Init and
-    /// Close, for a second Init, and for anything after a Close or after an Init that was refused; `Memory`.
-    #[tactic(auto, using(crate::proofs::Histories::answers_of))]
-    pub fn receive(&mut self, apdu: &Apdu) -> Result<(), TargetError>
-        ensures receives { Receives self.old apdu.now result self.new }
-        ensures answers { (databases : List Database) (settings : TargetSettings) (received released : List Apdu) → After databases settings received released self.old → Answers databases settings received released apdu.now result self.old self.new }
+    /// Takes a request, and puts the reply that is owed to it last.
+    fn take_in(&mut self, apdu: &Apdu) -> Result<(), TargetError>
+        ensures { Receives self.old apdu.now result self.new }
     {
         match apdu {
             Apdu::InitRequest(request) => self.receive_init(request),
@@ -276,6 +279,39 @@ impl Target {
                 Err(TargetError::NotRequest)
             }
         }
+    }
+
+    /// Does nothing: it tells that each pending reply has an element.
+    fn replies_have_elements(&self)
+        ensures { All HasElement self.now.pending }
+    {
+        let _ = &self.pending;
+    }
+
+    /// Takes a request (Z39.50-2003, 3.2), and puts the reply that is owed to it last among the pending replies.
+    ///
+    /// The replies, each with its request's reference id (all of them: docs/FORMATS.md, "What the target answers"):
+    /// - to Init, whether the association is accepted, and what is in force (3.2.1.1);
+    /// - to a search, how many entries match, and the first records as far as its bounds ask for them and the size in force has
+    ///   room. The set is kept under its name. A search that fails is answered by one diagnostic, and leaves the older sets (3.2.2.1);
+    /// - to a request for records, those at its positions that have room, from the first on, or one diagnostic (3.2.3.1). In the
+    ///   place of a record stands diagnostic 238 where another syntax is asked for, and 17 where it is longer than the size;
+    /// - to a Close, a Close (3.2.11.1).
+    ///
+    /// So what fails by a diagnostic is answered, and is no refusal. Each pending reply has an element, in which no more
+    /// than 64 constructed elements stand within one another: encoding it is refused for its length and for memory alone.
+    ///
+    /// Refusals, which leave all as it was: `NotRequest` for a response; `WrongState` before Init for anything but Init and
+    /// Close, for a second Init, and for anything after a Close or after an Init that was refused; `Memory`.
+    #[tactic(auto, using(crate::proofs::Histories::answers_of))]
+    pub fn receive(&mut self, apdu: &Apdu) -> Result<(), TargetError>
+        ensures receives { Receives self.old apdu.now result self.new }
+        ensures answers { (databases : List Database) (settings : TargetSettings) (received released : List Apdu) → After databases settings received released self.old → Answers databases settings received released apdu.now result self.old self.new }
+        ensures elements { All HasElement self.new.pending }
+    {
+        let received = self.take_in(apdu);
+        self.replies_have_elements();
+        received
     }
 
     /// The places of the entries that match the query (Z39.50-2003, 3.7), counted from 0 through the databases named: in
@@ -300,29 +336,29 @@ impl Target {
 
     /// How many replies are pending: those owed and not yet handed out. It takes no memory.
     pub fn pending(&self) -> usize
-        ensures { result ≡ length self.now.pending }
+        ensures count { result ≡ length self.now.pending }
+        ensures elements { All HasElement self.now.pending }
     {
         self.pending.len()
     }
 
     /// Takes pending reply `k` out, where it may go.
-    fn take_out(&mut self, k: usize) -> Option<Apdu>
-        ensures { Releases self.old k result self.new }
+    fn take(&mut self, k: usize) -> Option<Apdu>
+        ensures releases { Releases self.old k result self.new }
+        ensures element { IfSome result HasElement }
     {
-        let count = self.pending.len();
-        if k >= count || (is_close(&self.pending[k]) && count > 1) {
-            return None;
-        }
-        self.pending.remove(k)
+        take_out(&mut self.pending, k)
     }
 
     /// Hands out pending reply `k`, the first being 0; the others stay in order. `None` where there is none, or where it is
-    /// a Close and others are pending (Z39.50-2003, 3.2.11.1). It takes no memory.
+    /// a Close and others are pending (Z39.50-2003, 3.2.11.1). It takes no memory. What is handed out has an element of at
+    /// most 64 levels, as each pending reply has.
     #[tactic(auto, using(crate::proofs::Histories::release_of))]
     pub fn release(&mut self, k: usize) -> Option<Apdu>
         ensures releases { Releases self.old k result self.new }
         ensures after { (databases : List Database) (settings : TargetSettings) (received released : List Apdu) → After databases settings received released self.old → After databases settings received (with_released released result) self.new }
+        ensures element { IfSome result HasElement }
     {
-        self.take_out(k)
+        self.take(k)
     }
 }
