@@ -1,0 +1,10 @@
+pub mod Unions
+pub mod Streams
+pub mod Calling
+pub mod Stopping
+pub mod Taking
+pub mod Meetings
+pub mod Pools
+pub mod Orders
+pub mod Steps
+pub mod Rows

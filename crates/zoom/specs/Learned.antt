@@ -1,0 +1,33 @@
+-- What a reply that was read can add to what is known.
+use Rattle.std.specs.Prelude.{ℕ, List, Contains}
+use Rattle.zber.specs.Elements.{Element}
+use Rattle.zapdu.specs.declared.apdu.Apdu.{Apdu}
+use Rattle.zapdu.specs.Writes.{Writes}
+use Rattle.zknow.specs.declared.fact.Fact.{Fact}
+use Rattle.zknow.specs.Join.{IsUnion, IsPartOfUnion}
+use Rattle.zorigin.specs.declared.answer.Answer.{Answer}
+use Rattle.zorigin.specs.declared.answer.Taken.{Taken}
+use Rattle.zorigin.specs.Facts.{IsShowable, HasShowable}
+
+-- the reply was read from an element, and its facts can be told
+pub record IsTellable (answer : Answer) : Type 0 where
+  pub element : Element
+  pub written : Writes answer.reply element
+  pub showable : IsShowable answer
+
+pub record HasTellable (taken : Taken) : Type 0 where
+  pub element : Element
+  pub reply : Apdu
+  pub written : Writes reply element
+  pub showable : HasShowable reply taken
+
+-- it was read from an element
+abbrev pub IsRead : Apdu → Type 0
+IsRead reply = (e : Element) × Writes reply e
+
+-- all these facts were added to what was known; or a part of them
+abbrev pub AddsAll : List Fact → List Fact → List Fact → Type 0
+AddsAll old facts new = IsUnion (Contains old) (Contains facts) (Contains new)
+
+abbrev pub AddsPart : List Fact → List Fact → List Fact → Type 0
+AddsPart old facts new = IsPartOfUnion (Contains old) (Contains facts) (Contains new)

@@ -1,0 +1,13 @@
+pub mod CallsOf
+pub mod States
+pub mod Reasons
+pub mod Coming
+pub mod Heard
+pub mod Links
+pub mod Leaving
+pub mod Learned
+pub mod Steps
+pub mod History
+pub mod Befalling
+pub mod Laws
+pub mod Conflicts

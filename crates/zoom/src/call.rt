@@ -1,0 +1,49 @@
+//! Calls.
+ghost use Rattle.std.specs.Prelude.{◌≡◌, OnErr};
+ghost use Rattle.zorigin.specs.Log.{AnswersCall, LeavesCall};
+ghost use Rattle.zoom.specs.CallsOf.{call_of};
+
+use zorigin::{Ask, CallRefused, Origin, Sent};
+
+/// A call on one connection.
+#[derive(Drop)]
+pub enum Call {
+    /// Asks for the association (Z39.50-2003, 3.2.1.1). Its operation has number 0.
+    Init,
+    /// Searches (Z39.50-2003, 3.2.2.1).
+    Search {
+        /// The operation's number.
+        op: u32,
+        /// The number of the result set that it makes, not 0.
+        set: u32,
+        /// What is asked for.
+        ask: Ask,
+    },
+    /// Asks for records of a set (Z39.50-2003, 3.2.3.1).
+    Present {
+        /// The operation's number.
+        op: u32,
+        /// The result set's number.
+        set: u32,
+        /// The first position, from 1 on.
+        start: i64,
+        /// How many records, from 1 on.
+        n: i64,
+    },
+    /// Ends the association (Z39.50-2003, 3.2.11.1).
+    Close,
+}
+
+/// Calls the origin.
+pub(crate) fn sent_for(origin: &mut Origin, call: &Call) -> Result<Sent, CallRefused>
+    ensures answer { AnswersCall origin.old (call_of call.now) result }
+    ensures after { LeavesCall origin.old (call_of call.now) result origin.new }
+    ensures err { OnErr result (origin.new ≡ origin.old) }
+{
+    match call {
+        Call::Init => origin.init(),
+        Call::Search { op, set, ask } => origin.search(*op, *set, ask),
+        Call::Present { op, set, start, n } => origin.present(*op, *set, *start, *n),
+        Call::Close => origin.close(),
+    }
+}
