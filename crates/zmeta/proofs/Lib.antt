@@ -2,4 +2,5 @@ pub mod OneShowing
 pub mod Showing
 pub mod Joining
 mod Querying
+pub mod DeviceSteps
 pub mod Reading

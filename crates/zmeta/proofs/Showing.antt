@@ -1,5 +1,5 @@
 -- What has been shown so far, and how it goes on or ends.
-use Rattle.std.proofs.Common.{◌≡◌, ℕ, ◌<◌, inl, inr, List, [], ◌∷◌, ◌++◌, length, Bool, true, false, Option, Some, None, Result, Ok, Err, IsErrAnd, IfSome, refl, ap, sym, ◌∙◌, subst, append_assoc, append-nil, arith, length-append}
+use Rattle.std.proofs.Common.{◌≡◌, ℕ, ◌<◌, inl, inr, List, [], ◌∷◌, ◌++◌, length, Bool, true, false, Option, Some, None, Result, Ok, Err, MatchResult, IsErrAnd, IfSome, refl, ap, sym, ◌∙◌, subst, append_assoc, append-nil, arith, length-append}
 use Rattle.zber.specs.declared.fault.FaultKind.{FaultKind}
 use Rattle.zber.specs.declared.fault.FaultKind.TheVariants as kinds
 use Rattle.zber.specs.declared.fault.FrameError.{FrameError}
@@ -14,12 +14,12 @@ use Rattle.zapdu.specs.declared.apdu.Apdu.{Apdu}
 use Rattle.zapdu.specs.declared.apdu.ApduError.{ApduError}
 use Rattle.zapdu.specs.declared.apdu.ApduError.TheVariants as apdus
 use Rattle.zapdu.specs.Writes.{Writes, Decodes}
-use Rattle.std.specs.Io.KnownBytes.{Appends}
 use Rattle.zmeta.specs.Digits.{octets_of}
 use Rattle.zmeta.specs.Faults.{of_frame, of_apdu}
 use Rattle.zmeta.specs.Lines.{apdu_text}
 use Rattle.zmeta.specs.Show.{limit, Shown, nothing_left, apdu, fault, unfinished, no_apdu, malformed, ShowsDigits, ShowsText}
-use Rattle.zmeta.specs.Steps.{ShowsNext, ShowsOctets, PrintsLines}
+use Rattle.zmeta.specs.Steps.{ShowsNext, ShowsOctets, PutsLines, PrintsLines}
+use Rattle.zmeta.specs.Devices.{Device, Gains, Stops, FailsPut, IsOfStream}
 use Rattle.zmeta.specs.declared.fault.Fault.{Fault}
 use Rattle.zmeta.specs.declared.fault.Fault.TheVariants.{Read, Write, Hex, Frame, Memory}
 
@@ -130,11 +130,12 @@ whole_end xs old now new s t b c p h m f q =
     let none = subst (λ z. ShowsNext s t now new (Ok z)) f m in
     shown_end xs old now new s t h none (Ok tt) (finish_ok s.limit s.octets c (q ∙ ap finished (asked_is s t p none.2)))
 
--- octets end at no fault of a device or of digits
+-- octets end at no fault of a stream, of digits or of memory
 abbrev IsEnd : Result (Unit {0}) Fault → Type 0
 IsEnd (Err (Read path)) = ⊥
 IsEnd (Err (Write path)) = ⊥
 IsEnd (Err Hex) = ⊥
+IsEnd (Err Memory) = ⊥
 IsEnd _ = Unit {0}
 
 is_end : {xs text : List ℕ} {end : Result (Unit {0}) Fault} → Shown xs text end → IsEnd end
@@ -145,21 +146,61 @@ is_end (unfinished m u) = tt
 is_end (no_apdu b n) = tt
 is_end (malformed b w m) = tt
 
-digits_shown : (digits xs lines : List ℕ) (old new : Option (List ℕ)) (end : Result (Unit {0}) Fault) → octets_of digits ≡ Ok xs → (text : List ℕ) × Shown xs text end × (lines ≡ [] ++ text) → Appends old new lines → ShowsDigits digits old new end
-digits_shown digits xs lines old new end q s a = (xs, s.0, q, s.1, subst (Appends old new) s.2 a)
+-- the lines of all that is shown
+abbrev AreLines : List ℕ → List ℕ → Result (Unit {0}) Fault → Type 0
+AreLines xs lines answer = (text : List ℕ) × Shown xs text answer × (lines ≡ [] ++ text)
 
-text_shown : (digits xs lines : List ℕ) (old new : Option (List ℕ)) (answer end : Result (Unit {0}) Fault) → octets_of digits ≡ Ok xs → ShowsOctets xs [] lines answer → PrintsLines lines answer old new end → ShowsText digits old new end
-text_shown digits xs lines old new answer (Err (Write path)) q s p = tt
-text_shown digits xs lines old new answer (Err Memory) q s p = p.1
-text_shown digits xs lines old new answer (Err (Read path)) q s p = absurd (is_end (let t = subst (ShowsOctets xs [] lines) (sym p.0) s in t.1))
-text_shown digits xs lines old new answer (Err Hex) q s p = absurd (is_end (let t = subst (ShowsOctets xs [] lines) (sym p.0) s in t.1))
-text_shown digits xs lines old new answer end q s p = digits_shown digits xs lines old new end q (subst (ShowsOctets xs [] lines) (sym p.0) s) p.1
+all_shown : (digits xs lines : List ℕ) (old new : Device) (answer : Result (Unit {0}) Fault) → octets_of digits ≡ Ok xs → AreLines xs lines answer → Gains old new lines → ShowsDigits digits old new answer
+all_shown digits xs lines old new answer q s g = (xs, s.0, q, s.1, subst (Gains old new) s.2 g)
+
+answered : (digits xs lines : List ℕ) (old new : Device) (answer : Result (Unit {0}) Fault) → octets_of digits ≡ Ok xs → AreLines xs lines answer → Gains old new lines → ShowsText digits old new answer
+answered digits xs lines old new (Err (Read path)) q s g = absurd (is_end s.1)
+answered digits xs lines old new (Err (Write path)) q s g = absurd (is_end s.1)
+answered digits xs lines old new (Err Hex) q s g = absurd (is_end s.1)
+answered digits xs lines old new (Err Memory) q s g = absurd (is_end s.1)
+answered digits xs lines old new answer q s g = all_shown digits xs lines old new answer q s g
+
+stopped : (digits xs lines : List ℕ) (old new : Device) (answer end : Result (Unit {0}) Fault) → octets_of digits ≡ Ok xs → AreLines xs lines answer → MatchResult end (λ _. ⊥) (FailsPut old new lines) → ShowsText digits old new end
+stopped digits xs lines old new answer (Ok u) q s p = absurd p
+stopped digits xs lines old new answer (Err (Write told)) q s p = (xs, s.0, answer, q, s.1, subst (Stops old new) s.2 p.1)
+stopped digits xs lines old new answer (Err f) q s p = absurd p
+
+put_shown : (digits xs lines : List ℕ) (old new : Device) (answer end : Result (Unit {0}) Fault) → octets_of digits ≡ Ok xs → AreLines xs lines answer → PutsLines lines answer old new end → ShowsText digits old new end
+put_shown digits xs lines old new answer end q s p = elim p [
+  | inl h ↦ subst (ShowsText digits old new) (sym h.0) (answered digits xs lines old new answer q s h.1)
+  | inr h ↦ stopped digits xs lines old new answer end q s h
+]
+
+text_shown : (digits xs lines : List ℕ) (old new : Device) (answer end : Result (Unit {0}) Fault) → octets_of digits ≡ Ok xs → ShowsOctets xs [] lines answer → PrintsLines lines answer old new end → ShowsText digits old new end
+text_shown digits xs lines old new (Err Memory) end q s p = subst (ShowsText digits old new) (sym p.0) p.1
+text_shown digits xs lines old new answer end q s p = put_shown digits xs lines old new answer end q s p
 
 -- the same for the input of a reader that tells its octets, each value behind its name
-pub input_shown : (known : Option (List ℕ)) (input digits octets xs start lines printed : List ℕ) (old new : Option (List ℕ)) (answer end : Result (Unit {0}) Fault)
+pub input_shown : (known : Option (List ℕ)) (input digits octets xs start lines printed : List ℕ) (old new : Device) (answer end : Result (Unit {0}) Fault)
     → IfSome known (λ ys. input ≡ ys) → digits ≡ input → octets_of digits ≡ Ok octets → xs ≡ octets → start ≡ [] → ShowsOctets xs start lines answer → printed ≡ lines → PrintsLines printed answer old new end
     → IfSome known (λ ys. ShowsText ys old new end)
 input_shown None input digits octets xs start lines printed old new answer end k q d e b s f p = tt
 input_shown (Some ys) input digits octets xs start lines printed old new answer end k q d e b s f p =
     let shown : ShowsOctets octets [] lines answer = subst (λ z. ShowsOctets z [] lines answer) e (subst (λ z. ShowsOctets xs z lines answer) b s) in
     subst (λ z. ShowsText z old new end) (q ∙ k) (text_shown digits octets lines old new answer end d shown (subst (λ z. PrintsLines z answer old new end) f p))
+
+-- a stream that is told to have failed is the one that was written
+ends_whole : {xs text : List ℕ} (input output : Device) (answer : Result (Unit {0}) Fault) → Shown xs text answer → IsOfStream input output answer
+ends_whole input output (Err (Read path)) s = absurd (is_end s)
+ends_whole input output (Err (Write path)) s = absurd (is_end s)
+ends_whole input output answer s = tt
+
+ends_stopped : (input old new : Device) (lines : List ℕ) (end : Result (Unit {0}) Fault) → MatchResult end (λ _. ⊥) (FailsPut old new lines) → IsOfStream input new end
+ends_stopped input old new lines (Ok u) p = absurd p
+ends_stopped input old new lines (Err (Write told)) p = (p.0 ∙ sym p.1.path, p.1.failed)
+ends_stopped input old new lines (Err f) p = absurd p
+
+ends_put : (input : Device) (xs start lines printed : List ℕ) (old new : Device) (answer end : Result (Unit {0}) Fault) → ((text : List ℕ) × Shown xs text answer × (lines ≡ start ++ text)) → PutsLines printed answer old new end → IsOfStream input new end
+ends_put input xs start lines printed old new answer end s p = elim p [
+  | inl h ↦ subst (IsOfStream input new) (sym h.0) (ends_whole input new answer s.1)
+  | inr h ↦ ends_stopped input old new printed end h
+]
+
+pub ends_by : (input : Device) (xs start lines printed : List ℕ) (old new : Device) (answer end : Result (Unit {0}) Fault) → ShowsOctets xs start lines answer → PrintsLines printed answer old new end → IsOfStream input new end
+ends_by input xs start lines printed old new (Err Memory) end s p = subst (IsOfStream input new) (sym p.0) tt
+ends_by input xs start lines printed old new answer end s p = ends_put input xs start lines printed old new answer end s p

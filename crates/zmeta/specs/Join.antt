@@ -1,6 +1,6 @@
 -- What `join` prints of two saved files.
-use Rattle.std.specs.Prelude.{◌≡◌, ◌≢◌, ◌⊎◌, ℕ, List, Option, Result, Ok, Err, MatchResult, IfErr, IfSome, Contains}
-use Rattle.std.specs.Io.KnownBytes.{Keeps, Appends, IsAtEnd}
+use Rattle.std.specs.Prelude.{◌≡◌, ◌≢◌, ◌⊎◌, ℕ, List, Option, Result, Ok, Err, MatchResult, IfErr, IfSome, Contains, true}
+use Rattle.std.specs.Io.KnownBytes.{IsAtEnd}
 use Rattle.zknow.specs.declared.fact.Fact.{Fact}
 use Rattle.zknow.specs.declared.fact.Mode.{Mode}
 use Rattle.zknow.specs.Facts.{AreFacts}
@@ -9,6 +9,8 @@ use Rattle.zknow.specs.Known.{HasFailed}
 use Rattle.zknow.specs.Listing.{listing}
 use Rattle.zknow.specs.Saved.{IsSaved}
 use Rattle.zknow.specs.Loaded.{IsNotKnowledge, IsNotCanonical}
+use Rattle.zmeta.specs.Faults.{end_status}
+use Rattle.zmeta.specs.Devices.{Device, Stays, Gains, Stops, FailsPut, TellsAnswer}
 use Rattle.zmeta.specs.declared.fault.Fault.{Fault}
 use Rattle.zmeta.specs.declared.fault.Fault.TheVariants.{Read, Write, NotKnowledge, NotCanonical, NamesDiffer, Memory}
 use Rattle.zmeta.specs.declared.fault.Status.{Status}
@@ -27,7 +29,7 @@ Loads file (Err (Read path)) = Unit {0}
 Loads file (Err Memory) = Unit {0}
 Loads file (Err _) = ⊥
 
--- a fault of one file: it cannot be read, is no saved one, or memory ran out on it
+-- a fault of the file at a path: it cannot be read, is no saved one, or memory ran out on it
 abbrev pub IsOfFile : List ℕ → Fault → Type 0
 IsOfFile path (Read told) = told.now ≡ path
 IsOfFile path (NotKnowledge at) = Unit {0}
@@ -35,15 +37,32 @@ IsOfFile path (NotCanonical at) = Unit {0}
 IsOfFile path Memory = Unit {0}
 IsOfFile path _ = ⊥
 
--- where a file is told to be unreadable, it is this one
-abbrev pub Tells : List ℕ → Fault → Type 0
-Tells path (Read told) = told.now ≡ path
-Tells path _ = Unit {0}
+-- where a file is told to be unreadable, it is the one at this path
+abbrev pub IsToldOf : List ℕ → Fault → Type 0
+IsToldOf path (Read told) = told.now ≡ path
+IsToldOf path _ = Unit {0}
 
--- The answer is a fault of the first file, and the second is left unread; or the first was read to its end and is a
--- saved one, and where a file is told to be unreadable, that is the second.
-abbrev pub IsInTurn : {A : Type 0} → Type 0 → List ℕ → List ℕ → Option (List ℕ) → Option (List ℕ) → Result A Fault → Type 0
-IsInTurn unread one two old new answer = (MatchResult answer (λ _. ⊥) (IsOfFile one) × unread) ⊎ (IfSome old IsSavedFile × IsAtEnd new × IfErr answer (Tells two))
+-- where a file is told to be unreadable, a read of this one failed
+abbrev pub IsUnread : Device → Fault → Type 0
+IsUnread file (Read told) = file.has_failed ≡ true
+IsUnread file _ = Unit {0}
+
+-- no fault of writing
+abbrev pub IsOfReading : Fault → Type 0
+IsOfReading (Write told) = ⊥
+IsOfReading _ = Unit {0}
+
+-- The answer is a fault of the first file; or that is a saved one, and where a file is told to be unreadable, it is the
+-- second.
+abbrev pub IsInOrder : {A : Type 0} → List ℕ → List ℕ → Option (List ℕ) → Result A Fault → Type 0
+IsInOrder one two octets answer = MatchResult answer (λ _. ⊥) (IsOfFile one) ⊎ (IfSome octets IsSavedFile × IfErr answer (IsToldOf two))
+
+-- The same of two streams, before and after: at a fault of the first the second is left unread, else the first is read
+-- to its end; a stream that is told to be unreadable is one of which a read failed.
+abbrev pub IsInTurn : {A : Type 0} → Type 0 → Device → Device → Device → Device → Result A Fault → Type 0
+IsInTurn unread one first two second answer =
+    (MatchResult answer (λ _. ⊥) (λ f. IsOfFile one.path f × IsUnread first f) × unread)
+    ⊎ (IfSome one.known IsSavedFile × IsAtEnd first.known × IfErr answer (λ f. IsToldOf two.path f × IsUnread second f))
 
 -- the names of both files, and the facts of both together
 pub record AreJoined (a b : List ℕ) (names : List (List ℕ)) (facts : List Fact) : Type 0 where
@@ -80,13 +99,35 @@ IsKnownStatus known statuses.Failed = HasFailed known
 IsKnownStatus known statuses.Done = HasFailed known → ⊥
 IsKnownStatus known _ = ⊥
 
+-- the list of what both files say together
+abbrev pub IsListOf : Mode → List ℕ → List ℕ → List Fact → List ℕ → Type 0
+IsListOf mode a b facts text = (names : List (List ℕ)) × AreJoined a b names facts × (text ≡ listing names mode facts)
+
+-- the list is written and the status stands, or a front of it where the stream failed
+abbrev pub PutsList : List ℕ → Status → Device → Device → Result Status Fault → Type 0
+PutsList text status old new result = MatchResult result (λ s. (s ≡ status) × Gains old new text) (FailsPut old new text)
+
 -- what an answer of `join` says of the files, and of what was written
-abbrev pub Joins : Mode → List ℕ → List ℕ → Option (List ℕ) → Option (List ℕ) → Result Status Fault → Type 0
-Joins mode a b old new (Ok status) = (names : List (List ℕ)) × (facts : List Fact) × AreJoined a b names facts × IsKnownStatus facts status × Appends old new (listing names mode facts)
-Joins mode a b old new (Err (NotKnowledge at)) = (IsNotKnowledge a at ⊎ (IsSavedFile a × IsNotKnowledge b at)) × Keeps old new
-Joins mode a b old new (Err (NotCanonical at)) = (IsNotCanonical a at ⊎ (IsSavedFile a × IsNotCanonical b at)) × Keeps old new
-Joins mode a b old new (Err NamesDiffer) = DoNamesDiffer a b × Keeps old new
-Joins mode a b old new (Err (Read path)) = Keeps old new
-Joins mode a b old new (Err (Write path)) = Unit {0}
-Joins mode a b old new (Err Memory) = Keeps old new
+abbrev pub Joins : Mode → List ℕ → List ℕ → Device → Device → Result Status Fault → Type 0
+Joins mode a b old new (Ok status) = (facts : List Fact) × (text : List ℕ) × IsListOf mode a b facts text × IsKnownStatus facts status × Gains old new text
+Joins mode a b old new (Err (NotKnowledge at)) = (IsNotKnowledge a at ⊎ (IsSavedFile a × IsNotKnowledge b at)) × Stays old new
+Joins mode a b old new (Err (NotCanonical at)) = (IsNotCanonical a at ⊎ (IsSavedFile a × IsNotCanonical b at)) × Stays old new
+Joins mode a b old new (Err NamesDiffer) = DoNamesDiffer a b × Stays old new
+Joins mode a b old new (Err (Read path)) = Stays old new
+Joins mode a b old new (Err (Write path)) = (facts : List Fact) × (text : List ℕ) × IsListOf mode a b facts text × Stops old new text
+Joins mode a b old new (Err Memory) = Stays old new
 Joins mode a b old new (Err _) = ⊥
+
+-- a stream that is told to be unwritable is the one that is written, and a write of it failed
+abbrev pub IsUnwritten : Device → Result Status Fault → Type 0
+IsUnwritten output (Err (Write told)) = (told.now ≡ output.path) × (output.has_failed ≡ true)
+IsUnwritten output _ = Unit {0}
+
+-- what `join` says of what the files hold, where that is known
+abbrev pub JoinsKnown : Mode → Option (List ℕ) → Option (List ℕ) → Device → Device → Result Status Fault → Type 0
+JoinsKnown mode one two output printed answer = IfSome one (λ a. IfSome two (λ b. Joins mode a b output printed answer))
+
+-- what `join` does with the files at two paths: what it writes and tells, and its status
+abbrev pub DoesJoin : Mode → List ℕ → List ℕ → Option (List ℕ) → Option (List ℕ) → Device → Device → Device → Device → Status → Type 0
+DoesJoin mode one two first second output printed errors told status = (answer : Result Status Fault) × (status ≡ end_status answer)
+    × JoinsKnown mode first second output printed answer × IsInOrder one two first answer × IsUnwritten printed answer × TellsAnswer errors told answer

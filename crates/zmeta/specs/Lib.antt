@@ -1,9 +1,13 @@
+pub mod Devices
 pub mod Digits
 pub mod Faults
 pub mod Fields
+pub mod Files
 pub mod Join
 pub mod Lines
+pub mod Pieces
 pub mod Pqf
 pub mod Searches
 pub mod Show
 pub mod Steps
+pub mod Words

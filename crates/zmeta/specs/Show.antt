@@ -1,6 +1,5 @@
 -- What `show` prints of octets, and how it ends.
-use Rattle.std.specs.Prelude.{◌≡◌, ℕ, ◌<◌, List, [], ◌++◌, length, Option, Result, Ok, Err}
-use Rattle.std.specs.Io.KnownBytes.{Keeps, Appends}
+use Rattle.std.specs.Prelude.{◌≡◌, ℕ, ◌<◌, List, [], ◌++◌, length, Result, Ok, Err, IfSome}
 use Rattle.zber.specs.declared.fault.FaultKind.{FaultKind}
 use Rattle.zber.specs.declared.fault.FaultKind.TheVariants as kinds
 use Rattle.zber.specs.Elements.{Element}
@@ -12,8 +11,11 @@ use Rattle.zapdu.specs.declared.apdu.Kind.{Kind}
 use Rattle.zapdu.specs.Writes.{Writes, IsNoApdu, IsMalformed}
 use Rattle.zmeta.specs.Digits.{octets_of}
 use Rattle.zmeta.specs.Lines.{apdu_text}
+use Rattle.zmeta.specs.Faults.{answer_status}
+use Rattle.zmeta.specs.Devices.{Device, Stays, Gains, Stops, IsOfStream, TellsAnswer}
 use Rattle.zmeta.specs.declared.fault.Fault.{Fault}
 use Rattle.zmeta.specs.declared.fault.Fault.TheVariants.{Read, Write, Hex, Frame, NotApdu, Malformed, Memory}
+use Rattle.zmeta.specs.declared.fault.Status.{Status}
 
 -- the most octets of one message
 abbrev pub limit : ℕ
@@ -33,13 +35,22 @@ abbrev pub OneShowing : Type 0
 OneShowing = (xs s t : List ℕ) (f g : Result (Unit {0}) Fault) → Shown xs s f → Shown xs t g → (s ≡ t) × (f ≡ g)
 
 -- the digits' octets are shown
-abbrev pub ShowsDigits : List ℕ → Option (List ℕ) → Option (List ℕ) → Result (Unit {0}) Fault → Type 0
-ShowsDigits digits old new answer = (xs text : List ℕ) × (octets_of digits ≡ Ok xs) × Shown xs text answer × Appends old new text
+abbrev pub ShowsDigits : List ℕ → Device → Device → Result (Unit {0}) Fault → Type 0
+ShowsDigits digits old new answer = (xs text : List ℕ) × (octets_of digits ≡ Ok xs) × Shown xs text answer × Gains old new text
+
+-- the digits' octets have a text, and a front of it is written where the stream failed
+abbrev pub ShowsFront : List ℕ → Device → Device → Type 0
+ShowsFront digits old new = (xs text : List ℕ) × (end : Result (Unit {0}) Fault) × (octets_of digits ≡ Ok xs) × Shown xs text end × Stops old new text
 
 -- what an answer of `show` says of its input, and of what was written
-abbrev pub ShowsText : List ℕ → Option (List ℕ) → Option (List ℕ) → Result (Unit {0}) Fault → Type 0
-ShowsText digits old new (Err Hex) = ((xs : List ℕ) → octets_of digits ≡ Ok xs → ⊥) × Keeps old new
-ShowsText digits old new (Err (Read path)) = Keeps old new
-ShowsText digits old new (Err (Write path)) = Unit {0}
-ShowsText digits old new (Err Memory) = Keeps old new
+abbrev pub ShowsText : List ℕ → Device → Device → Result (Unit {0}) Fault → Type 0
+ShowsText digits old new (Err Hex) = ((xs : List ℕ) → octets_of digits ≡ Ok xs → ⊥) × Stays old new
+ShowsText digits old new (Err (Read path)) = Stays old new
+ShowsText digits old new (Err (Write path)) = ShowsFront digits old new
+ShowsText digits old new (Err Memory) = Stays old new
 ShowsText digits old new answer = ShowsDigits digits old new answer
+
+-- what `show` does: of its input from before and after it, of what is written and told, and of its status
+abbrev pub DoesShow : Device → Device → Device → Device → Device → Device → Status → Type 0
+DoesShow input rest output printed errors told status = (answer : Result (Unit {0}) Fault) × (status ≡ answer_status answer)
+    × IfSome input.known (λ digits. ShowsText digits output printed answer) × IsOfStream rest printed answer × TellsAnswer errors told answer

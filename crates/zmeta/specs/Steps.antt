@@ -1,6 +1,5 @@
 -- What the steps of `show` do.
-use Rattle.std.specs.Prelude.{◌≡◌, ℕ, List, [], ◌++◌, Bool, true, false, Option, Result, Ok, Err}
-use Rattle.std.specs.Io.KnownBytes.{Keeps, Appends}
+use Rattle.std.specs.Prelude.{◌≡◌, ◌⊎◌, ℕ, List, [], ◌++◌, Bool, true, false, Result, Ok, Err, MatchResult}
 use Rattle.zber.specs.Elements.{Element}
 use Rattle.zber.specs.Spelling.{Begins}
 use Rattle.zber.specs.Stream.{Stream}
@@ -9,8 +8,9 @@ use Rattle.zapdu.specs.declared.apdu.Apdu.{Apdu}
 use Rattle.zapdu.specs.Writes.{Writes}
 use Rattle.zmeta.specs.Lines.{apdu_text}
 use Rattle.zmeta.specs.Show.{limit, Shown}
+use Rattle.zmeta.specs.Devices.{Device, Stays, Gains, FailsPut}
 use Rattle.zmeta.specs.declared.fault.Fault.{Fault}
-use Rattle.zmeta.specs.declared.fault.Fault.TheVariants.{Write, Memory}
+use Rattle.zmeta.specs.declared.fault.Fault.TheVariants.{Memory}
 
 -- the next message is shown, or there is none yet, or a fault ends the octets; nothing is said where memory ran out
 abbrev pub ShowsNext : Stream → Stream → List ℕ → List ℕ → Result Bool Fault → Type 0
@@ -24,8 +24,11 @@ abbrev pub ShowsOctets : List ℕ → List ℕ → List ℕ → Result (Unit {0}
 ShowsOctets xs old new (Err Memory) = Unit {0}
 ShowsOctets xs old new answer = (text : List ℕ) × Shown xs text answer × (new ≡ old ++ text)
 
--- the lines are written and the answer stands; no line is written where memory ran out
-abbrev pub PrintsLines : List ℕ → Result (Unit {0}) Fault → Option (List ℕ) → Option (List ℕ) → Result (Unit {0}) Fault → Type 0
-PrintsLines lines answer old new (Err (Write path)) = Unit {0}
-PrintsLines lines answer old new (Err Memory) = (answer ≡ Err Memory) × Keeps old new
-PrintsLines lines answer old new result = (result ≡ answer) × Appends old new lines
+-- the lines are written and the answer stands, or a front of them where the stream failed
+abbrev pub PutsLines : List ℕ → Result (Unit {0}) Fault → Device → Device → Result (Unit {0}) Fault → Type 0
+PutsLines lines answer old new result = ((result ≡ answer) × Gains old new lines) ⊎ MatchResult result (λ _. ⊥) (FailsPut old new lines)
+
+-- the lines are printed before the answer, and no line where memory ran out
+abbrev pub PrintsLines : List ℕ → Result (Unit {0}) Fault → Device → Device → Result (Unit {0}) Fault → Type 0
+PrintsLines lines (Err Memory) old new result = (result ≡ Err Memory) × Stays old new
+PrintsLines lines answer old new result = PutsLines lines answer old new result

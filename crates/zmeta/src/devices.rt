@@ -1,9 +1,14 @@
-//! Readers and writers for tests: each fails at one call, the first being call 1, and moves at most three octets in each other.
+//! Readers, writers and files for tests: each reader and writer fails at one call, the first being call 1, and moves at
+//! most three octets in each other.
 
+use crate::commands::run;
 use crate::fault::Status;
+use crate::files::Folder;
+use crate::input::Source;
+use crate::output::Sink;
 use crate::pqf::pqf;
 use crate::show::show;
-use std::alloc::Global;
+use std::alloc::{AllocError, Global};
 use std::io;
 use std::io::{ErrorKind, Read, Write};
 
@@ -50,6 +55,37 @@ impl Write for Full {
     }
 }
 
+/// A file in memory. Its read of this number fails.
+#[derive(Clone, Copy)]
+pub(crate) struct Kept<'a> {
+    pub path: &'a str,
+    pub octets: &'a [u8],
+    pub fails_at: u32,
+}
+
+/// Files in memory. No other file opens.
+#[derive(Clone, Copy)]
+pub(crate) struct Shelf<'a> {
+    pub files: &'a [Kept<'a>],
+}
+
+impl<'a> Folder for Shelf<'a> {
+    type File = Broken<'a>;
+
+    fn open(&self, path: &str) -> io::Result<Broken<'a>> {
+        for file in self.files {
+            if file.path == path {
+                return Ok(Broken {
+                    octets: file.octets,
+                    calls: 0,
+                    fails_at: file.fails_at,
+                });
+            }
+        }
+        Err(io::Error::from(ErrorKind::NotFound))
+    }
+}
+
 /// What a command answered, printed and told.
 #[derive(Drop)]
 pub(crate) struct Run {
@@ -60,10 +96,14 @@ pub(crate) struct Run {
 
 /// `show` on an input that is read without a failure.
 pub(crate) fn run_of(alloc: Global, input: &[u8]) -> Run {
-    let mut reader = input;
     let mut printed = Vec::new(alloc);
     let mut told = Vec::new(alloc);
-    let status = show(alloc, &mut reader, &mut printed, &mut told);
+    let status = show(
+        alloc,
+        &mut Source::new("-", input),
+        &mut Sink::new("-", &mut printed),
+        &mut Sink::new("-", &mut told),
+    );
     Run {
         status,
         printed,
@@ -75,7 +115,45 @@ pub(crate) fn run_of(alloc: Global, input: &[u8]) -> Run {
 pub(crate) fn query_run_of(alloc: Global, text: &str) -> Run {
     let mut printed = Vec::new(alloc);
     let mut told = Vec::new(alloc);
-    let status = pqf(alloc, text, &mut printed, &mut told);
+    let status = pqf(
+        alloc,
+        text,
+        &mut Sink::new("-", &mut printed),
+        &mut Sink::new("-", &mut told),
+    );
+    Run {
+        status,
+        printed,
+        told,
+    }
+}
+
+/// The words of a line, with `|` between them.
+pub(crate) fn words_of(alloc: Global, line: &str) -> Result<Vec<String>, AllocError> {
+    let mut words = Vec::new(alloc);
+    for word in line.split('|') {
+        words.push(String::from_str(alloc, word)?)?;
+    }
+    Ok(words)
+}
+
+/// What the words of a command line do, on an input that is read without a failure.
+pub(crate) fn command_run_of(
+    alloc: Global,
+    files: &Shelf<'_>,
+    words: Result<&[String], ErrorKind>,
+    input: &[u8],
+) -> Run {
+    let mut printed = Vec::new(alloc);
+    let mut told = Vec::new(alloc);
+    let status = run(
+        alloc,
+        files,
+        words,
+        &mut Source::new("-", input),
+        &mut Sink::new("-", &mut printed),
+        &mut Sink::new("-", &mut told),
+    );
     Run {
         status,
         printed,

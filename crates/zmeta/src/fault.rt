@@ -2,9 +2,11 @@
 ghost use Rattle.std.specs.Prelude.{◌≡◌, Some};
 ghost use Rattle.zmeta.specs.Faults.{code_of, status_of, fault_text, of_frame, of_apdu, of_query, of_print, of_build, of_load};
 ghost use Rattle.zmeta.specs.Fields.{apdu_word};
+ghost use Rattle.zmeta.specs.Devices.{held, Tells};
 ghost use Rattle.zmeta.specs.declared.fault.Fault.TheVariants.{Memory};
 
 use crate::lines::apdu_word;
+use crate::output::Sink;
 use std::alloc::AllocError;
 use std::fmt;
 use std::io::Write;
@@ -189,12 +191,121 @@ impl Fault<'_> {
         }
     }
 
-    /// Tells the fault on standard error, in a line after the program's name, and answers its status.
-    pub(crate) fn report<E: Write>(&self, errors: &mut E) -> Status
-        ensures { result ≡ status_of self.now }
+    /// Tells the fault in a line after the program's name, and answers its status. A fault that cannot be told keeps it.
+    pub(crate) fn report<E: Write>(&self, errors: &mut Sink<'_, E>) -> Status
+        ensures status { result ≡ status_of self.now }
+        ensures told { Tells (held E.contents errors.old) (held E.contents errors.new) self.now }
     {
-        // A fault that cannot be told keeps its status.
-        let _ = writeln!(errors, "zmeta: {self}");
+        errors.tell(self);
         self.status()
+    }
+}
+
+#[cfg(test)]
+mod tests {
+    use super::*;
+    use std::test::Fail;
+
+    fn frame(kind: FaultKind) -> Fault<'static> {
+        Fault::Frame { kind, at: 7 }
+    }
+
+    fn malformed(kind: Kind) -> Fault<'static> {
+        Fault::Malformed { kind, at: 8 }
+    }
+
+    fn query(kind: PqfErrorKind) -> Fault<'static> {
+        Fault::Query { kind, at: 9 }
+    }
+
+    #[test]
+    fn each_fault_has_its_line(rt: HostRuntime) -> Result<(), Fail> {
+        for (fault, line) in [
+            (Fault::Read("a b"), b"zmeta: cannot read a b\n".as_slice()),
+            (Fault::Write("-"), b"zmeta: cannot write -\n"),
+            (Fault::Hex, b"zmeta: hex refused\n"),
+            (frame(FaultKind::TagForm), b"zmeta: TagForm at 7\n"),
+            (frame(FaultKind::TagTooLarge), b"zmeta: TagTooLarge at 7\n"),
+            (frame(FaultKind::StrayEnd), b"zmeta: StrayEnd at 7\n"),
+            (frame(FaultKind::LengthForm), b"zmeta: LengthForm at 7\n"),
+            (
+                frame(FaultKind::IndefinitePrimitive),
+                b"zmeta: IndefinitePrimitive at 7\n",
+            ),
+            (frame(FaultKind::Overrun), b"zmeta: Overrun at 7\n"),
+            (frame(FaultKind::TooLong), b"zmeta: TooLong at 7\n"),
+            (frame(FaultKind::TooDeep), b"zmeta: TooDeep at 7\n"),
+            (frame(FaultKind::Truncated), b"zmeta: Truncated at 7\n"),
+            (Fault::NotApdu, b"zmeta: not an APDU\n"),
+            (
+                malformed(Kind::InitRequest),
+                b"zmeta: initRequest malformed at 8\n",
+            ),
+            (
+                malformed(Kind::InitResponse),
+                b"zmeta: initResponse malformed at 8\n",
+            ),
+            (
+                malformed(Kind::SearchRequest),
+                b"zmeta: searchRequest malformed at 8\n",
+            ),
+            (
+                malformed(Kind::SearchResponse),
+                b"zmeta: searchResponse malformed at 8\n",
+            ),
+            (
+                malformed(Kind::PresentRequest),
+                b"zmeta: presentRequest malformed at 8\n",
+            ),
+            (
+                malformed(Kind::PresentResponse),
+                b"zmeta: presentResponse malformed at 8\n",
+            ),
+            (malformed(Kind::Close), b"zmeta: close malformed at 8\n"),
+            (query(PqfErrorKind::OpenQuote), b"zmeta: OpenQuote at 9\n"),
+            (query(PqfErrorKind::Empty), b"zmeta: Empty at 9\n"),
+            (
+                query(PqfErrorKind::UnknownWord),
+                b"zmeta: UnknownWord at 9\n",
+            ),
+            (
+                query(PqfErrorKind::MissingOperand),
+                b"zmeta: MissingOperand at 9\n",
+            ),
+            (
+                query(PqfErrorKind::BadAttribute),
+                b"zmeta: BadAttribute at 9\n",
+            ),
+            (query(PqfErrorKind::UnknownSet), b"zmeta: UnknownSet at 9\n"),
+            (
+                query(PqfErrorKind::BadTermType),
+                b"zmeta: BadTermType at 9\n",
+            ),
+            (query(PqfErrorKind::BadNumber), b"zmeta: BadNumber at 9\n"),
+            (query(PqfErrorKind::TooDeep), b"zmeta: TooDeep at 9\n"),
+            (query(PqfErrorKind::Trailing), b"zmeta: Trailing at 9\n"),
+            (Fault::NotPrintable, b"zmeta: not printable\n"),
+            (
+                Fault::NotKnowledge { at: 1 },
+                b"zmeta: knowledge refused: NotKnowledge at 1\n",
+            ),
+            (
+                Fault::NotCanonical { at: 2 },
+                b"zmeta: knowledge refused: NotCanonical at 2\n",
+            ),
+            (Fault::NamesDiffer, b"zmeta: names differ\n"),
+            (Fault::Memory, b"zmeta: out of memory\n"),
+        ] {
+            let mut told = Vec::new(rt.alloc());
+            let status = fault.report(&mut Sink::new("-", &mut told));
+            assert_eq!(rt; told.as_slice(), line, "{line:?}");
+            let due = if line == b"zmeta: out of memory\n".as_slice() {
+                4
+            } else {
+                3
+            };
+            assert_eq!(rt; status.code(), due, "{line:?}");
+        }
+        Ok(())
     }
 }

@@ -2,79 +2,96 @@
 ghost use Rattle.std.specs.Prelude.{◌≡◌, ◌≢◌, ◌↔◌, IsTrue, IfSome, IfOk, IfErr, OnOk, Result};
 ghost use Rattle.std.specs.Io.KnownBytes.{IsAtEnd};
 ghost use Rattle.zmeta.specs.Faults.{end_status};
-ghost use Rattle.zmeta.specs.Join.{IsKnownStatus, Loads, IsOfFile, IsInTurn, LoadsBoth, Joins};
+ghost use Rattle.zmeta.specs.Join.{IsKnownStatus, Loads, IsOfFile, IsOfReading, IsUnread, IsInTurn, LoadsBoth, PutsList, JoinsKnown, IsUnwritten, DoesJoin};
+ghost use Rattle.zmeta.specs.Devices.{left, held, TellsAnswer};
 ghost use Rattle.zmeta.specs.declared.fault.Fault.{Fault};
 ghost use Rattle.zmeta.specs.declared.fault.Status.{Status};
 
 use crate::fault::{Fault, Status};
-use crate::files::NamedFile;
-use crate::input::read_all;
+use crate::files::{Folder, named};
+use crate::input::Source;
+use crate::output::Sink;
 use std::alloc::Global;
 use std::io::{Read, Write};
-use std::rt::Files;
 use zknow::{Knowledge, Mode, Names, load, print_list};
 
 /// Prints the list of what two saved files know together, or tells on standard error why there is none: a file is
 /// refused, the first before the second is read, or the files have different names. Nothing is printed then.
 ///
 /// The status is `Failed` where the list has a search or an association that failed.
-///
-/// The paths are told where a file cannot be read.
-pub fn join<R: Read, W: Write, E: Write>(
+pub(crate) fn join<'a, 'o: 'a, R: Read, W: Write, E: Write>(
     alloc: Global,
-    paths: (&str, &str),
-    first: &mut R,
-    second: &mut R,
+    first: &mut Source<'a, R>,
+    second: &mut Source<'a, R>,
     mode: Mode,
-    output: &mut W,
-    errors: &mut E,
+    output: &mut Sink<'o, W>,
+    errors: &mut Sink<'_, E>,
 ) -> Status
     ensures { (answer : Result Status Fault) × (result ≡ end_status answer)
-        × IfSome (R.remaining first.old) (λ a. IfSome (R.remaining second.old) (λ b.
-        Joins mode a b (W.contents output.old) (W.contents output.new) answer))
-        × IsInTurn (second.new ≡ second.old) paths.entry.0.now paths.entry.1.now (R.remaining first.old) (R.remaining first.new) answer }
+        × JoinsKnown mode (R.remaining first.old.reader) (R.remaining second.old.reader)
+        (held W.contents output.old) (held W.contents output.new) answer
+        × IsInTurn (second.new ≡ second.old) (left R.remaining first.old) (left R.remaining first.new)
+        (left R.remaining second.old) (left R.remaining second.new) answer
+        × IsUnwritten (held W.contents output.new) answer
+        × TellsAnswer (held E.contents errors.old) (held E.contents errors.new) answer }
 {
-    match join_files(alloc, paths, first, second, mode, output) {
+    match join_files(alloc, first, second, mode, output) {
         Ok(status) => status,
         Err(fault) => fault.report(errors),
     }
 }
 
 /// The same of the files at two paths, which are opened when they are read.
-pub fn join_named<F: Files, W: Write, E: Write>(
+pub(crate) fn join_named<'a, 'o: 'a, F: Folder, W: Write, E: Write>(
     alloc: Global,
-    files: &F,
-    paths: (&str, &str),
+    files: &'a F,
+    paths: (&'a str, &'a str),
     mode: Mode,
-    output: &mut W,
-    errors: &mut E,
-) -> Status {
-    let mut first = NamedFile::new(files, paths.0);
-    let mut second = NamedFile::new(files, paths.1);
-    join(alloc, paths, &mut first, &mut second, mode, output, errors)
+    output: &mut Sink<'o, W>,
+    errors: &mut Sink<'_, E>,
+) -> Status
+    ensures { DoesJoin mode paths.entry.0.now paths.entry.1.now (F.octets files.now paths.entry.0.now)
+        (F.octets files.now paths.entry.1.now) (held W.contents output.old) (held W.contents output.new)
+        (held E.contents errors.old) (held E.contents errors.new) result }
+{
+    let mut first = named(files, paths.0);
+    let mut second = named(files, paths.1);
+    join(alloc, &mut first, &mut second, mode, output, errors)
 }
 
 /// Prints the list, and answers the status.
-fn join_files<'a, R: Read, W: Write>(
+#[tactic(auto, using(crate::proofs::Joining::list_unwritten, crate::proofs::Joining::put_in_turn))]
+fn join_files<'a, 'o: 'a, R: Read, W: Write>(
     alloc: Global,
-    paths: (&'a str, &'a str),
-    first: &mut R,
-    second: &mut R,
+    first: &mut Source<'a, R>,
+    second: &mut Source<'a, R>,
     mode: Mode,
-    output: &mut W,
+    output: &mut Sink<'o, W>,
 ) -> Result<Status, Fault<'a>>
-    ensures joined { IfSome (R.remaining first.old) (λ a. IfSome (R.remaining second.old) (λ b.
-        Joins mode a b (W.contents output.old) (W.contents output.new) result)) }
-    ensures in_turn { IsInTurn (second.new ≡ second.old) paths.entry.0.now paths.entry.1.now
-        (R.remaining first.old) (R.remaining first.new) result }
+    ensures joined { JoinsKnown mode (R.remaining first.old.reader) (R.remaining second.old.reader)
+        (held W.contents output.old) (held W.contents output.new) result }
+    ensures in_turn { IsInTurn (second.new ≡ second.old) (left R.remaining first.old) (left R.remaining first.new)
+        (left R.remaining second.old) (left R.remaining second.new) result }
+    ensures unwritten { IsUnwritten (held W.contents output.new) result }
 {
-    let (knowledge, names) = load_both(alloc, paths, first, second)?;
+    let (knowledge, names) = load_both(alloc, first, second)?;
     let status = known_status(&knowledge);
     let mut text = Vec::new(alloc);
     print_list(alloc, &knowledge, &names, mode, &mut text)?;
-    match output.write_all(text.as_slice()) {
+    put_list(output, text.as_slice(), status)
+}
+
+/// Writes the list, and answers the status.
+fn put_list<'o, W: Write>(
+    output: &mut Sink<'o, W>,
+    text: &[u8],
+    status: Status,
+) -> Result<Status, Fault<'o>>
+    ensures { PutsList text.now status (held W.contents output.old) (held W.contents output.new) result }
+{
+    match output.put(text) {
         Ok(()) => Ok(status),
-        Err(_) => Err(Fault::Write("-")),
+        Err(fault) => Err(fault),
     }
 }
 
@@ -92,16 +109,17 @@ fn known_status(knowledge: &Knowledge) -> Status
 /// What both files say together.
 fn load_both<'a, R: Read>(
     alloc: Global,
-    paths: (&'a str, &'a str),
-    first: &mut R,
-    second: &mut R,
+    first: &mut Source<'a, R>,
+    second: &mut Source<'a, R>,
 ) -> Result<(Knowledge, Names), Fault<'a>>
-    ensures joined { IfSome (R.remaining first.old) (λ a. IfSome (R.remaining second.old) (λ b. LoadsBoth a b result)) }
-    ensures in_turn { IsInTurn (second.new ≡ second.old) paths.entry.0.now paths.entry.1.now
-        (R.remaining first.old) (R.remaining first.new) result }
+    ensures joined { IfSome (R.remaining first.old.reader) (λ a. IfSome (R.remaining second.old.reader)
+        (λ b. LoadsBoth a b result)) }
+    ensures reading { IfErr result IsOfReading }
+    ensures in_turn { IsInTurn (second.new ≡ second.old) (left R.remaining first.old) (left R.remaining first.new)
+        (left R.remaining second.old) (left R.remaining second.new) result }
 {
-    let (mut knowledge, names) = load_file(alloc, paths.0, first)?;
-    let (other, others) = load_file(alloc, paths.1, second)?;
+    let (mut knowledge, names) = load_file(alloc, first)?;
+    let (other, others) = load_file(alloc, second)?;
     if !are_same(&names, &others) {
         return Err(Fault::NamesDiffer);
     }
@@ -113,14 +131,14 @@ fn load_both<'a, R: Read>(
 /// What one file says.
 fn load_file<'a, R: Read>(
     alloc: Global,
-    path: &'a str,
-    reader: &mut R,
+    file: &mut Source<'a, R>,
 ) -> Result<(Knowledge, Names), Fault<'a>>
-    ensures loaded { IfSome (R.remaining reader.old) (λ file. Loads file result) }
-    ensures end { OnOk result (IsAtEnd (R.remaining reader.new)) }
-    ensures fault { IfErr result (λ f. IsOfFile path.entry.now f) }
+    ensures loaded { IfSome (R.remaining file.old.reader) (λ octets. Loads octets result) }
+    ensures end { OnOk result (IsAtEnd (R.remaining file.new.reader)) }
+    ensures fault { IfErr result (λ f. IsOfFile file.old.path.now f) }
+    ensures failed { IfErr result (λ f. IsUnread (left R.remaining file.new) f) }
 {
-    let octets = read_all(alloc, reader, path)?;
+    let octets = file.read_all(alloc)?;
     Ok(load(alloc, octets.as_slice())?)
 }
 
@@ -133,7 +151,7 @@ fn are_same(names: &Names, others: &Names) -> bool
 #[cfg(test)]
 mod tests {
     use super::*;
-    use crate::devices::{Broken, Full, Run};
+    use crate::devices::Run;
     use std::fs;
     use std::test::Fail;
     use zknow::save;
@@ -149,17 +167,35 @@ mod tests {
     /// No names, and nothing known.
     const NOTHING: &[u8] = b"\xa4\x00";
 
-    fn join_of<'a>(alloc: Global, mut first: &'a [u8], mut second: &'a [u8]) -> Run {
+    fn join_of<'a>(alloc: Global, first: &'a [u8], second: &'a [u8]) -> Run {
         let mut printed = Vec::new(alloc);
         let mut told = Vec::new(alloc);
         let status = join(
             alloc,
-            ("one", "two"),
-            &mut first,
-            &mut second,
+            &mut Source::new("one", first),
+            &mut Source::new("two", second),
             Mode::Text,
-            &mut printed,
-            &mut told,
+            &mut Sink::new("-", &mut printed),
+            &mut Sink::new("-", &mut told),
+        );
+        Run {
+            status,
+            printed,
+            told,
+        }
+    }
+
+    /// What comes of the files at two paths.
+    fn joined<'a>(rt: &'a HostRuntime, first: &'a str, second: &'a str, mode: Mode) -> Run {
+        let mut printed = Vec::new(rt.alloc());
+        let mut told = Vec::new(rt.alloc());
+        let status = join_named(
+            rt.alloc(),
+            rt,
+            (first, second),
+            mode,
+            &mut Sink::new("-", &mut printed),
+            &mut Sink::new("-", &mut told),
         );
         Run {
             status,
@@ -240,6 +276,7 @@ mod tests {
     fn reads_files_by_their_names(rt: HostRuntime) -> Result<(), Fail> {
         fs::write(&rt, "count", COUNT)?;
         fs::write(&rt, "record", RECORD)?;
+        fs::create_dir(&rt, "folder")?;
         for (first, second, mode, output, errors) in [
             (
                 "record",
@@ -257,71 +294,39 @@ mod tests {
             ),
             ("none", "other", Mode::Text, "", "zmeta: cannot read none\n"),
             ("count", "none", Mode::Hex, "", "zmeta: cannot read none\n"),
+            // A folder opens, and a read of it fails.
+            (
+                "folder",
+                "count",
+                Mode::Text,
+                "",
+                "zmeta: cannot read folder\n",
+            ),
+            (
+                "count",
+                "folder",
+                Mode::Text,
+                "",
+                "zmeta: cannot read folder\n",
+            ),
         ] {
-            let mut printed = Vec::new(rt.alloc());
-            let mut told = Vec::new(rt.alloc());
-            let status = join_named(
-                rt.alloc(),
-                &rt,
-                (first, second),
-                mode,
-                &mut printed,
-                &mut told,
-            );
+            let run = joined(&rt, first, second, mode);
             let due = if errors.is_empty() {
                 Status::Done
             } else {
                 Status::Refused
             };
-            assert_eq!(rt; printed.as_slice(), output.as_bytes(), "{first} {second}");
-            assert_eq!(rt; told.as_slice(), errors.as_bytes(), "{first} {second}");
-            assert_eq!(rt; status, due, "{first} {second}");
+            assert_eq!(rt;
+                run.printed.as_slice(),
+                output.as_bytes(),
+                "{first} {second}"
+            );
+            assert_eq!(rt; run.told.as_slice(), errors.as_bytes(), "{first} {second}");
+            assert_eq!(rt; run.status, due, "{first} {second}");
         }
         fs::remove_file(&rt, "count")?;
         fs::remove_file(&rt, "record")?;
+        fs::remove_dir(&rt, "folder")?;
         Ok(())
-    }
-
-    #[test]
-    fn refuses_the_first_file_before_it_reads_the_second(rt: HostRuntime) {
-        for (octets, fails_at, reads, due) in [
-            (
-                b"\xa4".as_slice(),
-                0,
-                0,
-                b"zmeta: knowledge refused: NotKnowledge at 0\n".as_slice(),
-            ),
-            (COUNT, 1, 0, b"zmeta: cannot read one\n"),
-            (COUNT, 0, 1, b"zmeta: cannot read two\n"),
-        ] {
-            let mut first = Broken {
-                octets,
-                calls: 0,
-                fails_at,
-            };
-            let mut second = Broken {
-                octets: COUNT,
-                calls: 0,
-                fails_at: 1,
-            };
-            let mut output = Full {
-                calls: 0,
-                fails_at: 0,
-            };
-            let mut told = Vec::new(rt.alloc());
-            let status = join(
-                rt.alloc(),
-                ("one", "two"),
-                &mut first,
-                &mut second,
-                Mode::Hex,
-                &mut output,
-                &mut told,
-            );
-            assert_eq!(rt; status, Status::Refused, "{octets:?}");
-            assert_eq!(rt; told.as_slice(), due, "{octets:?}");
-            assert_eq!(rt; second.calls, reads, "{octets:?}");
-            assert_eq!(rt; output.calls, 0, "{octets:?}");
-        }
     }
 }

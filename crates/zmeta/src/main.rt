@@ -1,6 +1,11 @@
 //! The command `zmeta`: a Z39.50 metasearch client.
 #![tactic(auto)]
 
+ghost use Rattle.std.specs.Prelude.{◌≡◌};
+ghost use Rattle.std.specs.Process.{exit_status};
+ghost use Rattle.zmeta.specs.Faults.{code_of};
+
+mod commands;
 #[cfg(test)]
 mod devices;
 mod digits;
@@ -10,68 +15,47 @@ mod files;
 mod input;
 mod join;
 mod lines;
+mod output;
 mod pqf;
 #[cfg(test)]
 mod rows;
 mod search;
 mod show;
+#[cfg(test)]
+mod table;
 mod words;
 
-use crate::fault::{Fault, Status};
-use crate::words::Words;
-use std::env;
+use crate::commands::run;
+use crate::fault::Status;
+use crate::input::Source;
+use crate::output::Sink;
 use std::io::ErrorKind;
 use std::process::ExitCode;
+use std::{env, io};
 
 fn main(rt: HostRuntime) -> ExitCode {
-    ExitCode::from(run(&rt).code())
-}
-
-fn run(rt: &HostRuntime) -> Status {
-    let mut errors = rt.stderr();
-    let arguments = match env::args(rt) {
-        Ok(arguments) => arguments,
-        Err(error) => return refuse(rt, error.kind()),
+    let words = arguments(&rt);
+    let mut input = Source::new("-", rt.stdin());
+    let mut output = Sink::new("-", rt.stdout());
+    let mut errors = Sink::new("-", rt.stderr());
+    let given = match &words {
+        Ok(words) => Ok(words.as_slice()),
+        Err(error) => Err(error.kind()),
     };
-    let Ok(arguments) = arguments.collect::<Vec<String>>(rt.alloc()) else {
-        return Fault::Memory.report(&mut errors);
-    };
-    match words::parse(rt.alloc(), arguments.as_slice()) {
-        Ok(words) => call(rt, words),
-        Err(error) => words::tell(rt, &error, &mut errors),
+    exit_of(run(rt.alloc(), &rt, given, &mut input, &mut output, &mut errors))
+}
+
+/// The words of the command line.
+fn arguments(rt: &HostRuntime) -> io::Result<Vec<String>> {
+    match env::args(rt)?.collect::<Vec<String>>(rt.alloc()) {
+        Ok(words) => Ok(words),
+        Err(_) => Err(io::Error::from(ErrorKind::OutOfMemory)),
     }
 }
 
-/// The status where there are no words: they are not UTF-8, or memory ran out.
-fn refuse(rt: &HostRuntime, kind: ErrorKind) -> Status {
-    let mut errors = rt.stderr();
-    if kind == ErrorKind::OutOfMemory {
-        return Fault::Memory.report(&mut errors);
-    }
-    match words::odd_words(rt.alloc()) {
-        Ok(error) => words::tell(rt, &error, &mut errors),
-        Err(_) => Fault::Memory.report(&mut errors),
-    }
-}
-
-fn call(rt: &HostRuntime, words: Words<'_>) -> Status {
-    let mut input = rt.stdin();
-    let mut output = rt.stdout();
-    let mut errors = rt.stderr();
-    match words {
-        Words::Show => show::show(rt.alloc(), &mut input, &mut output, &mut errors),
-        Words::Pqf { text } => pqf::pqf(rt.alloc(), text, &mut output, &mut errors),
-        Words::Join {
-            first,
-            second,
-            mode,
-        } => join::join_named(
-            rt.alloc(),
-            rt,
-            (first, second),
-            mode,
-            &mut output,
-            &mut errors,
-        ),
-    }
+/// The exit status of the command.
+fn exit_of(status: Status) -> ExitCode
+    ensures { exit_status result ≡ code_of status }
+{
+    ExitCode::from(status.code())
 }

@@ -1,13 +1,13 @@
 //! The command `pqf`: a query in the prefix notation, as it is understood and as it goes out.
-ghost use Rattle.std.specs.Prelude.{◌≡◌, ℕ, List, [], ◌∷◌, ◌++◌, OnOk, IfOk, IfErr, Result};
+ghost use Rattle.std.specs.Prelude.{◌≡◌, ℕ, List, [], ◌∷◌, ◌++◌, OnOk, IfOk, IfErr};
 ghost use Rattle.zber.specs.Elements.{Element};
-ghost use Rattle.zmeta.specs.Faults.{answer_status};
 ghost use Rattle.zquery.specs.Printing.{query_text};
 ghost use Rattle.zquery.specs.Type1.{WritesQuery};
-ghost use Rattle.zmeta.specs.Pqf.{IsQueryOf, element_text, query_lines, TellsQuery, PrintsQuery};
-ghost use Rattle.zmeta.specs.declared.fault.Fault.{Fault};
+ghost use Rattle.zmeta.specs.Pqf.{IsQueryOf, element_text, query_lines, TellsQuery, PrintsQuery, DoesPqf};
+ghost use Rattle.zmeta.specs.Devices.{held};
 
 use crate::fault::{Fault, Status};
+use crate::output::Sink;
 use std::alloc::{AllocError, Global};
 use std::io::Write;
 use zber::{Node, Tag};
@@ -16,10 +16,14 @@ use zquery::{BuildError, PrintError, Query, parse_pqf, print_pqf, to_node};
 
 /// Prints the query of a text in the prefix notation, and in hexadecimal the element `[21]` that a SearchRequest holds it
 /// in; or tells on standard error why the text is no query. Nothing is printed then.
-pub fn pqf<W: Write, E: Write>(alloc: Global, text: &str, output: &mut W, errors: &mut E) -> Status
-    ensures { (answer : Result (Unit {0}) Fault)
-        × PrintsQuery text.now (W.contents output.old) (W.contents output.new) answer
-        × (result ≡ answer_status answer) }
+pub(crate) fn pqf<W: Write, E: Write>(
+    alloc: Global,
+    text: &str,
+    output: &mut Sink<'_, W>,
+    errors: &mut Sink<'_, E>,
+) -> Status
+    ensures { DoesPqf text.now (held W.contents output.old) (held W.contents output.new)
+        (held E.contents errors.old) (held E.contents errors.new) result }
 {
     match pqf_text(alloc, text.as_bytes(), output) {
         Ok(()) => Status::Done,
@@ -27,14 +31,17 @@ pub fn pqf<W: Write, E: Write>(alloc: Global, text: &str, output: &mut W, errors
     }
 }
 
-fn pqf_text<W: Write>(alloc: Global, text: &[u8], output: &mut W) -> Result<(), Fault<'static>>
-    ensures { PrintsQuery text.now (W.contents output.old) (W.contents output.new) result }
+fn pqf_text<'a, W: Write>(
+    alloc: Global,
+    text: &[u8],
+    output: &mut Sink<'a, W>,
+) -> Result<(), Fault<'a>>
+    ensures printed { PrintsQuery text.now (held W.contents output.old) (held W.contents output.new) result }
 {
     let mut lines = Vec::new(alloc);
-    put_query(alloc, text, &mut lines)?;
-    match output.write_all(lines.as_slice()) {
-        Ok(()) => Ok(()),
-        Err(_) => Err(Fault::Write("-")),
+    match put_query(alloc, text, &mut lines) {
+        Ok(()) => output.put(lines.as_slice()),
+        Err(fault) => Err(fault),
     }
 }
 

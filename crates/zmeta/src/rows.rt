@@ -1,10 +1,8 @@
 //! What `show` prints of recorded messages.
 
-use crate::devices::{Full, run_of};
+use crate::devices::run_of;
 use crate::fault::Status;
-use crate::show::show;
 use std::alloc::{AllocError, Global};
-use std::io::Cursor;
 use std::test::Fail;
 
 /// A Close with the reason "finished".
@@ -107,23 +105,6 @@ fn what_was_printed_stands(rt: HostRuntime) {
         );
         assert_eq!(rt; run.told.as_slice(), told, "{input:?}");
         assert_eq!(rt; run.status, Status::Refused, "{input:?}");
-    }
-}
-
-#[test]
-fn a_failed_write_is_told(rt: HostRuntime) {
-    for fails_at in 1..6 {
-        let mut input = CLOSE;
-        let mut output = Full { calls: 0, fails_at };
-        let mut told = [0u8; 64];
-        let mut errors = Cursor::new(told.as_mut_slice());
-        let status = show(rt.alloc(), &mut input, &mut output, &mut errors);
-        if fails_at > 4 {
-            assert_eq!(rt; status, Status::Done, "at {fails_at}");
-        } else {
-            assert_eq!(rt; status, Status::Refused, "at {fails_at}");
-            assert_eq!(rt; &told[..22], b"zmeta: cannot write -\n".as_slice());
-        }
     }
 }
 

@@ -1,14 +1,14 @@
 //! The command `show`: what the messages say that octets begin with.
-ghost use Rattle.std.specs.Prelude.{◌≡◌, None, IfSome, Result};
-ghost use Rattle.zmeta.specs.Show.{limit, ShowsText, OneShowing};
+ghost use Rattle.std.specs.Prelude.{◌≡◌, None, IfSome};
+ghost use Rattle.zmeta.specs.Show.{limit, ShowsText, DoesShow, OneShowing};
 ghost use Rattle.zmeta.specs.Steps.{PrintsLines, ShowsOctets, ShowsNext};
-ghost use Rattle.zmeta.specs.Faults.{answer_status};
-ghost use Rattle.zmeta.specs.declared.fault.Fault.{Fault};
+ghost use Rattle.zmeta.specs.Devices.{left, held, IsOfStream};
 
 use crate::digits::decode;
 use crate::fault::{Fault, Status};
-use crate::input::read_all;
+use crate::input::Source;
 use crate::lines::print_apdu;
+use crate::output::Sink;
 use std::alloc::Global;
 use std::io::{Read, Write};
 use zapdu::from_node;
@@ -21,15 +21,15 @@ const MESSAGE_LIMIT: u32 = 2_097_152;
 
 /// Prints each APDU of the octets whose hexadecimal digits the input has, and tells on standard error why it stopped
 /// before their end. What was printed before a fault stands; where memory runs out, nothing is printed.
-pub fn show<R: Read, W: Write, E: Write>(
+pub(crate) fn show<'a, R: Read, W: Write, E: Write>(
     alloc: Global,
-    input: &mut R,
-    output: &mut W,
-    errors: &mut E,
+    input: &mut Source<'a, R>,
+    output: &mut Sink<'a, W>,
+    errors: &mut Sink<'_, E>,
 ) -> Status
-    ensures { IfSome (R.remaining input.old) (λ text. (answer : Result (Unit {0}) Fault)
-        × ShowsText text (W.contents output.old) (W.contents output.new) answer
-        × (result ≡ answer_status answer)) }
+    ensures { DoesShow (left R.remaining input.old) (left R.remaining input.new)
+        (held W.contents output.old) (held W.contents output.new)
+        (held E.contents errors.old) (held E.contents errors.new) result }
 {
     match show_text(alloc, input, output) {
         Ok(()) => Status::Done,
@@ -46,15 +46,16 @@ pub fn one_showing()
     one_refusal();
 }
 
-fn show_text<R: Read, W: Write>(
+fn show_text<'a, R: Read, W: Write>(
     alloc: Global,
-    input: &mut R,
-    output: &mut W,
-) -> Result<(), Fault<'static>>
-    ensures { IfSome (R.remaining input.old)
-        (λ text. ShowsText text (W.contents output.old) (W.contents output.new) result) }
+    input: &mut Source<'a, R>,
+    output: &mut Sink<'a, W>,
+) -> Result<(), Fault<'a>>
+    ensures shown { IfSome (R.remaining input.old.reader)
+        (λ text. ShowsText text (held W.contents output.old) (held W.contents output.new) result) }
+    ensures failed { IsOfStream (left R.remaining input.new) (held W.contents output.new) result }
 {
-    let text = read_all(alloc, input, "-")?;
+    let text = input.read_all(alloc)?;
     let octets = decode(alloc, text.as_slice())?;
     let mut lines = Vec::new(alloc);
     let answer = show_octets(alloc, octets.as_slice(), &mut lines);
@@ -62,19 +63,20 @@ fn show_text<R: Read, W: Write>(
 }
 
 /// Writes the lines that come before an answer, but none where memory ran out.
-fn print_lines<W: Write>(
-    output: &mut W,
+fn print_lines<'a, W: Write>(
+    output: &mut Sink<'a, W>,
     lines: &[u8],
-    answer: Result<(), Fault<'static>>,
-) -> Result<(), Fault<'static>>
-    ensures { PrintsLines lines.now answer.entry (W.contents output.old) (W.contents output.new) result }
+    answer: Result<(), Fault<'a>>,
+) -> Result<(), Fault<'a>>
+    ensures { PrintsLines lines.now answer.entry (held W.contents output.old)
+        (held W.contents output.new) result }
 {
     if matches!(answer, Err(Fault::Memory)) {
         return answer;
     }
-    match output.write_all(lines) {
+    match output.put(lines) {
         Ok(()) => answer,
-        Err(_) => Err(Fault::Write("-")),
+        Err(fault) => Err(fault),
     }
 }
 
@@ -106,8 +108,7 @@ fn show_next(alloc: Global, framer: &mut Framer, text: &mut Vec<u8>) -> Result<b
 #[cfg(test)]
 mod tests {
     use super::*;
-    use crate::devices::{Broken, Full, run_of};
-    use std::io::Cursor;
+    use crate::devices::run_of;
 
     #[test]
     fn tells_why_it_stopped(rt: HostRuntime) {
@@ -144,47 +145,5 @@ mod tests {
             assert_eq!(rt; run.printed.len(), 0, "{input:?}");
             assert_eq!(rt; run.status, status, "{input:?}");
         }
-    }
-
-    #[test]
-    fn a_failed_read_is_told(rt: HostRuntime) {
-        for fails_at in 1..5 {
-            let mut input = Broken {
-                octets: b"30 03",
-                calls: 0,
-                fails_at,
-            };
-            let mut output = Full {
-                calls: 0,
-                fails_at: 0,
-            };
-            let mut told = [0u8; 64];
-            let mut errors = Cursor::new(told.as_mut_slice());
-            let status = show(rt.alloc(), &mut input, &mut output, &mut errors);
-            assert_eq!(rt; status, Status::Refused, "at {fails_at}");
-            assert_eq!(rt; output.calls, 0, "at {fails_at}");
-            let line = if fails_at < 4 {
-                b"zmeta: cannot read -\n".as_slice()
-            } else {
-                b"zmeta: Truncated at 2\n"
-            };
-            assert_eq!(rt; &told[..line.len().min(64)], line, "at {fails_at}");
-        }
-    }
-
-    #[test]
-    fn a_failed_tale_keeps_the_status(rt: HostRuntime) {
-        let mut input = b"0".as_slice();
-        let mut output = Full {
-            calls: 0,
-            fails_at: 0,
-        };
-        let mut errors = Full {
-            calls: 0,
-            fails_at: 1,
-        };
-        let status = show(rt.alloc(), &mut input, &mut output, &mut errors);
-        assert_eq!(rt; status, Status::Refused);
-        assert_eq!(rt; errors.calls, 1);
     }
 }

@@ -1,10 +1,13 @@
 //! The words of the command line, read with `clap`.
 
-ghost use Rattle.std.specs.Prelude.{◌≡◌, ◌≢◌, ◌⊎◌, IfOk};
-ghost use Rattle.clap.specs.Words.{kind_of};
-ghost use Rattle.clap.specs.declared.error.kind.ErrorKind.TheVariants.{OutOfMemory, InvalidValue, DisplayHelp, DisplayVersion};
+ghost use Rattle.std.specs.Prelude.{◌≡◌, IfOk, IfSome};
+ghost use Rattle.clap.specs.Words.{kind_of, found_of};
+ghost use Rattle.clap.specs.declared.error.kind.ErrorKind.TheVariants.{InvalidValue};
+ghost use Rattle.zmeta.specs.Devices.{held};
+ghost use Rattle.zmeta.specs.Words.{Asks, HasMode, TellsWords};
 
 use crate::fault::{Fault, Status};
+use crate::output::Sink;
 use clap::error::ErrorKind;
 use clap::{Arg, ArgAction, ArgMatches, Command, Error};
 use std::alloc::{AllocError, Global};
@@ -157,22 +160,36 @@ fn command<'a>(alloc: Global) -> Result<Command<'a>, AllocError> {
 pub(crate) fn parse<'a>(alloc: Global, words: &'a [String]) -> Result<Words<'a>, Error> {
     let mut command = command(alloc)?;
     let matches = command.try_get_matches_from_mut(words)?;
-    match matches.subcommand() {
-        Some(("show", _)) => Ok(Words::Show),
-        Some(("pqf", found)) => Ok(Words::Pqf {
+    if let Some((name, found)) = matches.subcommand()
+        && let Some(asked) = words_of(name, found)
+    {
+        return Ok(asked);
+    }
+    Err(command.error(ErrorKind::InvalidSubcommand, "no such command")?)
+}
+
+/// What the command of this name asks for with the arguments that were found, or `None` where no command has the name.
+fn words_of<'a>(name: &str, found: &ArgMatches<'a>) -> Option<Words<'a>>
+    ensures asks { IfSome result (Asks name.now (found_of found.now)) }
+{
+    match name {
+        "show" => Some(Words::Show),
+        "pqf" => Some(Words::Pqf {
             text: found.get_str("TEXT").unwrap_or(""),
         }),
-        Some(("join", found)) => Ok(Words::Join {
+        "join" => Some(Words::Join {
             first: found.get_str("A").unwrap_or(""),
             second: found.get_str("B").unwrap_or(""),
             mode: mode_of(found),
         }),
-        _ => Err(command.error(ErrorKind::InvalidSubcommand, "no such command")?),
+        _ => None,
     }
 }
 
 /// How the option asks for records to be printed.
-fn mode_of(found: &ArgMatches<'_>) -> Mode {
+fn mode_of(found: &ArgMatches<'_>) -> Mode
+    ensures { HasMode (found_of found.now) result }
+{
     if found.get_flag("hex") {
         Mode::Hex
     } else {
@@ -188,25 +205,26 @@ pub(crate) fn odd_words(alloc: Global) -> Result<Error, AllocError>
     command(alloc)?.error(ErrorKind::InvalidValue, message)
 }
 
-/// Prints the text of `parse` and answers the status: of wrong words on standard error, of help on standard output.
-pub(crate) fn tell<R: Print + Eprint, E: Write>(rt: &R, error: &Error, errors: &mut E) -> Status
-    ensures memory { kind_of error.now ≡ OutOfMemory → result ≡ Status.Memory }
-    ensures help { (kind_of error.now ≡ DisplayHelp) ⊎ (kind_of error.now ≡ DisplayVersion)
-        → (result ≡ Status.Done) ⊎ (result ≡ Status.Refused) }
-    ensures wrong { kind_of error.now ≢ OutOfMemory → kind_of error.now ≢ DisplayHelp
-        → kind_of error.now ≢ DisplayVersion → result ≡ Status.Words }
+/// Writes the text of `parse` and answers the status: of wrong words to the errors, of help to the output.
+pub(crate) fn tell<'a, W: Write, E: Write>(
+    error: &Error,
+    output: &mut Sink<'a, W>,
+    errors: &mut Sink<'a, E>,
+) -> Status
+    ensures { TellsWords error.now (held W.contents output.old) (held W.contents output.new)
+        (held E.contents errors.old) (held E.contents errors.new) result }
 {
     if error.kind() == ErrorKind::OutOfMemory {
         return Fault::Memory.report(errors);
     }
-    let printed = error.print(rt);
     if error.use_stderr() {
         // Words that cannot be told to be wrong are wrong all the same.
+        let _ = errors.show(error);
         return Status::Words;
     }
-    match printed {
+    match output.show(error) {
         Ok(()) => Status::Done,
-        Err(_) => Fault::Write("-").report(errors),
+        Err(fault) => fault.report(errors),
     }
 }
 
