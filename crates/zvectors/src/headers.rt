@@ -45,7 +45,7 @@ fn a_close_is_encoded_up_to_its_length(rt: HostRuntime) -> Result<(), Fail> {
 }
 
 // So many constructed elements within one another, and an empty primitive one in the innermost.
-fn nested(alloc: Global, levels: u32) -> Result<Node, AllocError> {
+pub(crate) fn nested(alloc: Global, levels: u32) -> Result<Node, AllocError> {
     let mut node = Node::of_null(Tag::context(0));
     for _ in 0..levels {
         let mut nodes = Vec::new(alloc);

@@ -44,6 +44,32 @@ b709970101980100990101 SearchResponse malformed at 3
 b80a9f1f01319d01029e0101 PresentRequest malformed at 1
 b8139f1f01319e01019d0102bf8154053003810103 PresentRequest malformed at 3
 b80e9f1f01319e01019d01029f815100 PresentRequest malformed at 3
+# Records: primitive; one of nothing, a SET, a name alone behind a record; two lists; other information before one.
+b90b9801009901009b01059c00 PresentResponse malformed at 3
+b90d9801009901009b0105bc023000 PresentResponse malformed at 3
+b9119801009901009b0105bc063104a1028300 PresentResponse malformed at 3
+b9198201079801009901009b0105bc0b3004a10283003003800164 PresentResponse malformed at 4
+b9139801009901009b0105bc063004a1028300bc00 PresentResponse malformed at 4
+b90f9801009901009b0105bf814900bc00 PresentResponse malformed at 4
+# EXTERNALs: no content, two contents, the number before the object identifier; a surrogate's with an element of none.
+b9179801009901009b0105bc0c300aa108a106280406022a03 PresentResponse malformed at 3
+b9189801009901009b0105bc0d300ba109a10728058100820100 PresentResponse malformed at 3
+b91f8201079801009901009b0105bc11300fa10da10b280902010106022a038100 PresentResponse malformed at 4
+b9159801009901009b0105bc0a3008a106a2042802a000 PresentResponse malformed at 3
+# Diagnostics: a surrogate's without text; no condition, a tag too many, primitive; one of several; two faults.
+b91a9801009901009b0105bc0f300da10ba209300706022a03020101 PresentResponse malformed at 3
+b9139801009901009b0105bf81020606022a031a00 PresentResponse malformed at 3
+b9189801009901009b0105bf81020b300906022a030201011a00 PresentResponse malformed at 3
+b9108201079801009901009b01059f810200 PresentResponse malformed at 4
+b9239801009901009b0105bf814d16300906022a030201011a00300906022a030201010c00 PresentResponse malformed at 3
+b91a9801009901009b0105bf814d0d2800300906022a030201011a00 PresentResponse malformed at 3
+b9139801009901009b0105bf814d063004a1028300 PresentResponse malformed at 3
+b9179801009901009b0105bf81020606022a031a009f814900 PresentResponse malformed at 3
+# The same in a SearchResponse; an EXTERNAL of nothing in other APDUs.
+b71a9701019801009901019601009a0103bf81020706022a03020101 SearchResponse malformed at 5
+b710970101980100990101960100bc023000 SearchResponse malformed at 4
+b412830205e0840200c085010a860114ab022800 InitRequest malformed at 4
+bf30099f81530100a5022800 Close malformed at 1
 ";
 
 fn refusal(alloc: Global, digits: &str) -> Result<String, Fail> {

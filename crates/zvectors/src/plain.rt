@@ -69,6 +69,21 @@ pub(crate) fn record_of(alloc: Global, node: &Node) -> Result<Box<Record>, Fail>
     Ok(boxed(alloc, record)?)
 }
 
+pub(crate) fn is_record(alloc: Global, node: &Node) -> Result<bool, AllocError> {
+    let absent = zapdu::record_of(alloc, node)?.ok_or(()).err();
+    Ok(absent.is_none())
+}
+
+pub(crate) fn record_text(
+    alloc: Global,
+    record: &Record,
+    hex: bool,
+) -> Result<Vec<u8>, AllocError> {
+    let mut out = Vec::new(alloc);
+    zapdu::print_record(alloc, record, hex, &mut out)?;
+    Ok(out)
+}
+
 pub(crate) fn record_copy(alloc: Global, record: &Record) -> Result<Box<Record>, AllocError> {
     let copy = record.copy(alloc)?;
     boxed(alloc, copy)
@@ -81,6 +96,11 @@ pub(crate) fn diag_node(alloc: Global, diag: &DiagRec) -> Result<Node, BuildErro
 pub(crate) fn diag_of(alloc: Global, node: &Node) -> Result<Box<DiagRec>, Fail> {
     let diag = zapdu::diag_of(alloc, node)?.ok_or("no diagnostic")?;
     Ok(boxed(alloc, diag)?)
+}
+
+pub(crate) fn is_diag(alloc: Global, node: &Node) -> Result<bool, AllocError> {
+    let absent = zapdu::diag_of(alloc, node)?.ok_or(()).err();
+    Ok(absent.is_none())
 }
 
 pub(crate) fn diag_copy(alloc: Global, diag: &DiagRec) -> Result<Box<DiagRec>, AllocError> {

@@ -22,6 +22,17 @@ a12e06072a8648ce130301a023bf6620bf2c0a30089f7801019f79011f9f815a0f31393635303830
 a12206072a8648ce130301a017bf6614bf2c00bf815b0d06072a8648ce13030181026869
 a11a06072a8648ce130301a00fbf660cbf2c00bf815c05a103810105
 a11506072a8648ce130301a00abf6607bf2c009f815d00
+# Each of their tags, primitive and constructed.
+a11606072a8648ce130301a00bbf6608bf2c009f81590178
+a11906072a8648ce130301a00ebf660bbf2c00bf8159041a026869
+a11606072a8648ce130301a00bbf6608bf2c009f815a0178
+a11906072a8648ce130301a00ebf660bbf2c00bf815a041a026869
+a11606072a8648ce130301a00bbf6608bf2c009f815b0178
+a11906072a8648ce130301a00ebf660bbf2c00bf815b041a026869
+a11606072a8648ce130301a00bbf6608bf2c009f815c0178
+a11906072a8648ce130301a00ebf660bbf2c00bf815c041a026869
+a11606072a8648ce130301a00bbf6608bf2c009f815d0178
+a11906072a8648ce130301a00ebf660bbf2c00bf815d041a026869
 # Proximity, and with an operator below it and above it.
 a13906072a8648ce130301a12ea00abf6607bf2c009f2d0161a00abf6607bf2c009f2d0162bf2e13a311810100820101830100840102a503810102
 a15606072a8648ce130301a14ba138a11da00abf6607bf2c009f2d0161a00abf6607bf2c009f2d0162bf2e028100a0049f1f0178bf2e10a30e8201038301ff840101a503820107a00abf6607bf2c009f2d0161bf2e028200
@@ -111,6 +122,41 @@ fn is_kept(alloc: Global, row: &str) -> Result<bool, Fail> {
 #[test]
 fn queries_without_a_text_are_written_back(rt: HostRuntime) -> Result<(), Fail> {
     each_row(&rt, KEPT, &is_kept)
+}
+
+// What stands before an operand, the operand, and what stands behind it, of queries in which 60 operators stand in one
+// another: to the left, with each operator, and to the right. They have 64 levels.
+const TOWERS: &str = "\
+a180 a00abf6607bf2c009f2d0161 a00abf6607bf2c009f2d0162bf2e0280000000
+a180 a00abf6607bf2c009f2d0161 a00abf6607bf2c009f2d0162bf2e0281000000
+a180 a00abf6607bf2c009f2d0161 a00abf6607bf2c009f2d0162bf2e0282000000
+a180 a00abf6607bf2c009f2d0161 a00abf6607bf2c009f2d0162bf2e02a3000000
+a180a00abf6607bf2c009f2d0162 a00abf6607bf2c009f2d0161 bf2e0280000000
+a180a00abf6607bf2c009f2d0162 a00abf6607bf2c009f2d0161 bf2e0281000000
+a180a00abf6607bf2c009f2d0162 a00abf6607bf2c009f2d0161 bf2e0282000000
+a180a00abf6607bf2c009f2d0162 a00abf6607bf2c009f2d0161 bf2e02a3000000
+";
+
+fn tower(alloc: Global, row: &str) -> Result<Node, Fail> {
+    let (front, rest) = pair(row)?;
+    let (operand, back) = pair(rest)?;
+    let fronts = front.repeat(alloc, 60)?;
+    let backs = back.repeat(alloc, 60)?;
+    let digits = format!(in alloc; "a18006072a8648ce130301{fronts}{operand}{backs}0000")?;
+    element(alloc, digits.as_str())
+}
+
+// A call that went twice into one side of each operator would not come back.
+fn is_kept_high(alloc: Global, row: &str) -> Result<bool, Fail> {
+    let node = tower(alloc, row)?;
+    let query = query_of(alloc, &node)?;
+    let digits = encoding(alloc, &node)?;
+    is_opaque(alloc, &query, digits.as_str())
+}
+
+#[test]
+fn queries_of_60_operators_in_one_another_are_written_back(rt: HostRuntime) -> Result<(), Fail> {
+    each_row(&rt, TOWERS, &is_kept_high)
 }
 
 fn is_none(alloc: Global, row: &str) -> Result<bool, Fail> {

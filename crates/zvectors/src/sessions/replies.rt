@@ -66,6 +66,25 @@ peek b7128204000000019701029801009901009601ff = Answered
 peek b70c9701029801009901009601ff = UnknownReference
 take b70c9701029801009901009601ff = UnknownReference
 state - = Failed(UnknownReference)
+# No reference where nothing is outstanding, without concurrency and with it, and once all is answered.
+new
+init - = sent
+take b51b820400000000830205e0840206c0850310000086031000008c01ff = Opened
+peek b70c9701029801009901009601ff = UnknownReference
+take b70c9701029801009901009601ff = UnknownReference
+state - = Failed(UnknownReference)
+new
+init - = sent
+take b51c820400000000830205e0840301c006850310000086031000008c01ff = Opened
+take b9209801019901009b0100bc153013a111a10f280d06072a8648ce13050a81026869 = UnknownReference
+state - = Failed(UnknownReference)
+new
+init - = sent
+take b51b820400000000830205e0840206c0850310000086031000008c01ff = Opened
+search 1 1 = sent
+take b70c9701029801009901009601ff = Answered
+take b70c9701029801009901009601ff = UnknownReference
+state - = Failed(UnknownReference)
 # No reference to name two.
 new
 init - = sent
