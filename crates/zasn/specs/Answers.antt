@@ -1,5 +1,5 @@
 -- What readers and builders answer, against what reading and building give.
-use Rattle.std.specs.Prelude.{◌≡◌, Bool, false, List, [], ◌∷◌, Option, Some, None, Result, Ok, Err}
+use Rattle.std.specs.Prelude.{◌≡◌, ℕ, Bool, false, List, [], ◌∷◌, length, Option, Some, None, Result, Ok, Err}
 use Rattle.zber.specs.Names.{Name}
 use Rattle.zber.specs.Elements.{Element, tag_of}
 use Rattle.zber.specs.Productions.Tags.{among}
@@ -20,6 +20,11 @@ abbrev pub begins : Name → List Element → Bool
 begins tag [] = false
 begins tag (n ∷ ns) = among (tag_of n) (tag ∷ [])
 
+-- the same of one of the tags
+abbrev pub starts : List Name → List Element → Bool
+starts tags [] = false
+starts tags (n ∷ ns) = among (tag_of n) tags
+
 -- what the reader of one element returned is what the element means, unless memory ran out
 abbrev pub Means : {A : Type 0} → Option A → Result A PartError → Type 0
 Means meaning (Ok x) = meaning ≡ Some x
@@ -37,6 +42,28 @@ abbrev pub Finds : {A : Type 0} → Result A (List Element) → Result A PartErr
 Finds reading (Ok x) left = reading ≡ Ok x
 Finds reading (Err Misfit) left = reading ≡ Err left
 Finds reading (Err Memory) left = Unit {0}
+
+-- how far reading comes: to the value, or to where so many elements are left
+abbrev pub counted : {A : Type 0} → Result A (List Element) → Result A ℕ
+counted (Ok x) = Ok x
+counted (Err r) = Err (length r)
+
+-- what a step over elements that are given away returned and left is what reading gives; where the next one misfits, as
+-- many are left as before
+abbrev pub TakesAway : {A : Type 0} → Result (A × List Element) (List Element) → Result A PartError → List Element → List Element → Type 0
+TakesAway reading (Ok x) before left = reading ≡ Ok (x, left)
+TakesAway reading (Err Misfit) before left = (reading ≡ Err before) × (length left ≡ length before)
+TakesAway reading (Err Memory) before left = Unit {0}
+
+-- what the reader of a whole production returned, with how many elements it left, unless memory ran out
+abbrev pub FindsSo : {A : Type 0} → Result A (List Element) → Result A PartError → ℕ → Type 0
+FindsSo reading (Ok x) left = reading ≡ Ok x
+FindsSo reading (Err Misfit) left = counted reading ≡ Err left
+FindsSo reading (Err Memory) left = Unit {0}
+
+-- the same where the elements are given away: where one misfits, as many are left as are not read
+abbrev pub FindsAway : {A : Type 0} → Result A (List Element) → Result A PartError → List Element → Type 0
+FindsAway reading answer left = FindsSo reading answer (length left)
 
 -- what a builder returned is what is made, unless memory ran out
 abbrev pub Makes : {A : Type 0} → Option A → Result A BuildError → Type 0

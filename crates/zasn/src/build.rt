@@ -9,6 +9,7 @@ ghost use Rattle.zasn.specs.Places.{any, explicit, kept, strings};
 use crate::any::{write_any, write_kept};
 use crate::contents::{Contents, Tagged};
 use crate::error::BuildError;
+use crate::owned::give_alone_tagged;
 use crate::production::{write_alone, write_alone_tagged};
 use crate::texts::write_texts;
 use bytes::Bytes;
@@ -209,6 +210,29 @@ impl PartsBuf {
                 self.push(node)
             }
         }
+    }
+
+    /// Adds the element of a value with a tag of its own that is given away.
+    pub fn give_tagged<T: Tagged>(&mut self, alloc: Global, value: T) -> Result<(), BuildError>
+        ensures puts { Puts (required_put T.place.spelt value self.old) result self.new }
+        ensures err { OnErr result (self.new ≡ self.old) }
+    {
+        let node = value.into_element(alloc)?;
+        self.push(node)
+    }
+
+    /// Adds the element with the outer tag around that of a value with a tag of its own that is given away.
+    pub fn give_explicit_tagged<T: Tagged>(
+        &mut self,
+        alloc: Global,
+        outer: Tag,
+        value: T,
+    ) -> Result<(), BuildError>
+        ensures puts { Puts (required_put (explicit outer T.place).spelt value self.old) result self.new }
+        ensures err { OnErr result (self.new ≡ self.old) }
+    {
+        let node = give_alone_tagged(alloc, value, outer)?;
+        self.push(node)
     }
 
     /// The constructed element with the tag around these.

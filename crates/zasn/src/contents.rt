@@ -21,9 +21,23 @@ pub trait Contents: Sized + Drop {
     fn of_node(alloc: Global, node: &Node) -> Result<Self, PartError>
         ensures { Means ((place (tag_of node.now)).meaning node.now) result };
 
+    /// The same of an element that is given away: what the value keeps of it is moved.
+    fn take_node(alloc: Global, node: Node) -> Result<Self, PartError>
+        ensures { Means ((place (tag_of node)).meaning node) result }
+    {
+        Self::of_node(alloc, &node)
+    }
+
     /// The element with the tag that stands for the value.
     fn to_node(&self, alloc: Global, tag: Tag) -> Result<Node, BuildError>
         ensures { Makes ((place tag).spelt self.now) result };
+
+    /// The same of a value that is given away: what it keeps of elements is moved.
+    fn into_node(self, alloc: Global, tag: Tag) -> Result<Node, BuildError>
+        ensures { Makes ((place tag).spelt self) result }
+    {
+        self.to_node(alloc, tag)
+    }
 }
 
 /// A value whose element has a tag of its own: a choice, or a type with its own tag.
@@ -39,9 +53,23 @@ pub trait Tagged: Sized + Drop {
     fn of_element(alloc: Global, node: &Node) -> Result<Self, PartError>
         ensures { Means (place.meaning node.now) result };
 
+    /// The same of an element that is given away: what the value keeps of it is moved.
+    fn take_element(alloc: Global, node: Node) -> Result<Self, PartError>
+        ensures { Means (place.meaning node) result }
+    {
+        Self::of_element(alloc, &node)
+    }
+
     /// The element that stands for the value.
     fn to_element(&self, alloc: Global) -> Result<Node, BuildError>
         ensures { Makes (place.spelt self.now) result };
+
+    /// The same of a value that is given away: what it keeps of elements is moved.
+    fn into_element(self, alloc: Global) -> Result<Node, BuildError>
+        ensures { Makes (place.spelt self) result }
+    {
+        self.to_element(alloc)
+    }
 }
 
 impl Contents for Bytes {
@@ -123,6 +151,14 @@ impl Contents for Node {
             return Err(PartError::Misfit);
         }
         Ok(node.copy(alloc)?)
+    }
+
+    fn take_node(_alloc: Global, node: Node) -> Result<Self, PartError> {
+        if matches!(&node.body, Body::Prim(_)) {
+            Err(PartError::Misfit)
+        } else {
+            Ok(node)
+        }
     }
 
     fn to_node(&self, alloc: Global, tag: Tag) -> Result<Node, BuildError> {

@@ -1,5 +1,5 @@
 //! The elements of a production, read from left to right.
-ghost use Rattle.std.specs.Prelude.{◌≡◌, [], ◌∷◌, true, false, length, IfSome, IfNone, OnErr};
+ghost use Rattle.std.specs.Prelude.{◌≡◌, [], ◌∷◌, true, false, length, drop, ◌-◌, IfSome, IfNone, IfOk, OnErr};
 ghost use Rattle.zber.specs.Productions.Reading.{optional_at, required_at, ended_at};
 ghost use Rattle.zber.specs.Productions.Place.{Place};
 ghost use Rattle.zber.specs.Productions.Table.{Elements};
@@ -10,10 +10,11 @@ ghost use Rattle.zasn.specs.Places.{alone, kept, text_under};
 use crate::any::read_any;
 use crate::contents::{Contents, Tagged};
 use crate::error::PartError;
+use crate::own_parts::OwnParts;
 use crate::production::{read_alone, read_alone_tagged};
 use crate::texts::read_texts;
 use bytes::Bytes;
-use std::alloc::Global;
+use std::alloc::{AllocError, Global};
 use std::marker::Model;
 use zber::{Node, Seq, Tag};
 
@@ -50,6 +51,24 @@ impl<'a> Parts<'a> {
         ensures { result ≡ length self.now }
     {
         self.left.len()
+    }
+
+    /// Equal elements.
+    pub(crate) fn copies(&self, alloc: Global) -> Result<OwnParts, AllocError>
+        ensures { IfOk result (λ own. own ≡ self.now) }
+    {
+        let mut copies = Vec::with_capacity(alloc, self.left.len())?;
+        for node in self.left {
+            copies.push(node.copy(alloc)?)?;
+        }
+        Ok(OwnParts::new(copies))
+    }
+
+    /// Passes over all but the last so many, if there are more.
+    pub(crate) fn leave(&mut self, count: usize)
+        ensures { self.new ≡ drop (length self.old - count) self.old }
+    {
+        self.left = &self.left[self.left.len().saturating_sub(count)..];
     }
 
     /// The next element and those behind it, where it has the tag.

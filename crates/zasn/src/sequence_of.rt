@@ -25,6 +25,21 @@ fn all_in<T: Tagged>(alloc: Global, nodes: &[Node]) -> Result<Seq<T>, PartError>
     Ok(Seq::from_vec(values))
 }
 
+/// The same of elements that are given away.
+fn all_taken<T: Tagged>(alloc: Global, nodes: Vec<Node>) -> Result<Seq<T>, PartError>
+    ensures { Means (all_of (whole_of T.place) nodes.items) result }
+{
+    let mut values = Vec::new(alloc);
+    for given in nodes {
+        if !T::has(given.tag) {
+            return Err(PartError::Misfit);
+        }
+        let value = T::take_element(alloc, given)?;
+        values.push(value)?;
+    }
+    Ok(Seq::from_vec(values))
+}
+
 /// The elements of values, in order.
 fn all_of_them<T: Tagged>(alloc: Global, values: &[T]) -> Result<PartsBuf, BuildError>
     ensures { Makes (all_spelt T.place.spelt values.now) result }
@@ -44,6 +59,13 @@ impl<T: Tagged> Contents for Seq<T> {
         match &node.body {
             Body::Prim(_) => Err(PartError::Misfit),
             Body::Cons(nodes) => all_in(alloc, nodes.as_slice()),
+        }
+    }
+
+    fn take_node(alloc: Global, node: Node) -> Result<Self, PartError> {
+        match node.body {
+            Body::Prim(_) => Err(PartError::Misfit),
+            Body::Cons(nodes) => all_taken(alloc, nodes),
         }
     }
 

@@ -44,7 +44,7 @@ fn all_of_them(alloc: Global, texts: &[Bytes], tag: Tag) -> Result<PartsBuf, Bui
 
 /// The texts of the elements within one, each of which has the tag: SEQUENCE OF one kind of string (X.690, 8.10).
 ///
-/// `Misfit` where it is primitive, or an element within has another tag or is constructed.
+/// `Misfit` where it is primitive, or an element within has another tag or is no string.
 pub fn read_texts(alloc: Global, node: &Node, tag: Tag) -> Result<Seq<Bytes>, PartError>
     ensures { Means (list_of (text_under tag) node.now) result }
 {

@@ -1,0 +1,133 @@
+//! Values of elements that are given away: what a value keeps of them is moved, and not copied.
+ghost use Rattle.std.specs.Prelude.{◌≡◌, [], ◌∷◌};
+ghost use Rattle.zber.specs.Productions.Table.{Elements};
+ghost use Rattle.zber.specs.Productions.Place.{Place};
+ghost use Rattle.zber.specs.Productions.Within.{alone_at, any_at, around, sequence_of};
+ghost use Rattle.zasn.specs.Answers.{Finds, FindsAway, Makes, Means, Puts};
+ghost use Rattle.zasn.specs.Places.{explicit};
+
+use crate::any::write_around;
+use crate::build::PartsBuf;
+use crate::contents::{Contents, Tagged};
+use crate::error::{BuildError, PartError};
+use crate::own_parts::OwnParts;
+use crate::parts::Parts;
+use std::alloc::Global;
+use zber::{Body, Node, Tag};
+
+/// A value of several elements in order that takes them over.
+pub trait Taken: Sized + Drop {
+    /// Its table.
+    ghost table: { Elements Self };
+
+    /// The value of all elements that are left. Where one fails, as many are left as from the one that failed on.
+    fn take(alloc: Global, parts: &mut OwnParts) -> Result<Self, PartError>
+        ensures { FindsAway (table.at parts.old) result parts.new };
+}
+
+/// A value of several elements in order that is given away to them.
+pub trait Given: Sized + Drop {
+    /// Its table.
+    ghost table: { Elements Self };
+
+    /// Adds the elements of the value.
+    fn give(self, alloc: Global, out: &mut PartsBuf) -> Result<(), BuildError>
+        ensures { Puts (table.made self out.old) result out.new };
+}
+
+/// The value of equal elements.
+pub fn read_copies<T: Taken>(alloc: Global, parts: &mut Parts<'_>) -> Result<T, PartError>
+    ensures { Finds (T.table.at parts.old) result parts.new }
+{
+    let mut own = parts.copies(alloc)?;
+    let answer = T::take(alloc, &mut own);
+    parts.leave(own.len());
+    answer
+}
+
+/// The value of the elements within one, whatever its tag.
+pub fn take_within<T: Taken>(alloc: Global, node: Node) -> Result<T, PartError>
+    ensures { Means (sequence_of T.table.at node) result }
+{
+    match node.body {
+        Body::Prim(_) => Err(PartError::Misfit),
+        Body::Cons(nodes) => {
+            let mut parts = OwnParts::new(nodes);
+            T::take(alloc, &mut parts)
+        }
+    }
+}
+
+/// The value of the one element within an element, under the tag (explicit tagging).
+pub fn take_alone<T: Contents>(alloc: Global, node: Node, tag: Tag) -> Result<T, PartError>
+    ensures { Means (sequence_of (alone_at (tag ∷ []) (T.place tag).meaning) node) result }
+{
+    match node.body {
+        Body::Prim(_) => Err(PartError::Misfit),
+        Body::Cons(nodes) => {
+            let mut parts = OwnParts::new(nodes);
+            let value = parts.required(alloc, tag)?;
+            parts.end()?;
+            Ok(value)
+        }
+    }
+}
+
+/// The value of the one element within an element, with a tag of its own.
+pub fn take_alone_tagged<T: Tagged>(alloc: Global, node: Node) -> Result<T, PartError>
+    ensures { Means (sequence_of (alone_at T.place.tags T.place.meaning) node) result }
+{
+    match node.body {
+        Body::Prim(_) => Err(PartError::Misfit),
+        Body::Cons(nodes) => {
+            let mut parts = OwnParts::new(nodes);
+            let value = parts.required_tagged(alloc)?;
+            parts.end()?;
+            Ok(value)
+        }
+    }
+}
+
+/// The one element within an element, whichever it is.
+pub fn take_any(node: Node) -> Option<Node>
+    ensures { result ≡ sequence_of any_at node }
+{
+    match node.body {
+        Body::Prim(_) => None,
+        Body::Cons(nodes) => {
+            let mut parts = OwnParts::new(nodes);
+            let only = parts.next()?;
+            if parts.len() == 0 { Some(only) } else { None }
+        }
+    }
+}
+
+/// The element with the tag around the elements of the value.
+pub fn give_within<T: Given>(alloc: Global, value: T, tag: Tag) -> Result<Node, BuildError>
+    ensures { Makes (around tag (T.table.made value [])) result }
+{
+    let mut out = PartsBuf::new(alloc);
+    value.give(alloc, &mut out)?;
+    Ok(out.into_node(tag))
+}
+
+/// The element with the outer tag around the element of the value under the inner one.
+pub fn give_alone<T: Contents>(
+    alloc: Global,
+    value: T,
+    outer: Tag,
+    inner: Tag,
+) -> Result<Node, BuildError>
+    ensures { Makes ((explicit outer (T.place inner)).spelt value) result }
+{
+    let node = value.into_node(alloc, inner)?;
+    write_around(alloc, node, outer)
+}
+
+/// The element with the outer tag around the element of the value, which has a tag of its own.
+pub fn give_alone_tagged<T: Tagged>(alloc: Global, value: T, outer: Tag) -> Result<Node, BuildError>
+    ensures { Makes ((explicit outer T.place).spelt value) result }
+{
+    let node = value.into_element(alloc)?;
+    write_around(alloc, node, outer)
+}
