@@ -5,6 +5,10 @@ use Rattle.zber.specs.Names.{Name}
 use Rattle.zber.specs.Elements.{Element, Primitive, Constructed, elements, cons, tag_of}
 use Rattle.zber.specs.Productions.Laws.{IsMisfit}
 use Rattle.zber.proofs.Runs.{elements-forest}
+use Rattle.zasn.specs.declared.error.PartError.{PartError}
+use Rattle.zasn.specs.declared.error.PartError.TheVariants.{Misfit}
+use Rattle.zasn.specs.Answers.{FindsSo, counted}
+use Rattle.zasn.proofs.Withins.{value_is_no_misfit, err_is}
 use Rattle.zapdu.specs.declared.apdu.Apdu.{Apdu}
 use Rattle.zapdu.specs.declared.apdu.Kind.{Kind}
 use Rattle.zapdu.specs.Writes.{kind_of, tag_of_kind, parts_of, Writes, kind_at, BeginsWith, IsMisfitAt, IsMalformed, IsNoApdu, apdu_at}
@@ -61,6 +65,29 @@ decodes_malformed n t ns r kind e k f = rw (e, elements-forest ns) (not, (tag_fr
 pub decodes_none : (n : Element) → kind_at (tag_of n) ≡ None → IsNoApdu n
 decodes_none (Primitive t b) e = tt
 decodes_none (Constructed t f) e = λ kind h. let found : kind_at t ≡ Some kind = rw h (kind_at-tag_of_kind kind) in cc
+
+-- the same of elements that are given away
+
+stopped : (kind : Kind) (ns : List Element) (k : ℕ) → counted (apdu_at kind ns) ≡ Err k → (r : List Element) × (apdu_at kind ns ≡ Err r) × (length r ≡ k)
+stopped kind ns k h = by_reading (apdu_at kind ns) refl h
+  where
+    by_reading : (a : Result Apdu (List Element)) → apdu_at kind ns ≡ a → counted a ≡ Err k → (r : List Element) × (apdu_at kind ns ≡ Err r) × (length r ≡ k)
+    by_reading (Ok v) is h = absurd (value_is_no_misfit v k h)
+    by_reading (Err r) is h = (r, is, err_is (length r) k h)
+
+pub taken_ok : (n : Element) (t : Name) (ns xs : List Element) (kind : Kind) (a : Result Apdu PartError) (k : ℕ) (v : Apdu) → n ≡ cons t ns → kind_at t ≡ Some kind → xs ≡ ns → FindsSo (apdu_at kind xs) a k → a ≡ Ok v → Writes v n
+taken_ok n t ns xs kind a k v e is same h found =
+    let read : apdu_at kind ns ≡ Ok v = subst (λ (ys : List Element). apdu_at kind ys ≡ Ok v) same (subst (λ (b : Result Apdu PartError). FindsSo (apdu_at kind xs) b k) found h) in
+    decodes_ok n t ns kind v e is read
+
+pub taken_malformed : (n : Element) (t : Name) (ns xs zs : List Element) (kind : Kind) (a : Result Apdu PartError) (e : PartError) (all k at : ℕ) → n ≡ cons t ns → kind_at t ≡ Some kind → xs ≡ ns → FindsSo (apdu_at kind xs) a k → a ≡ Err e → e ≡ Misfit
+    → zs ≡ ns → all ≡ length zs → at ≡ all - k → ((v : Apdu) → Writes v n → ⊥) × IsMalformed kind at n
+taken_malformed n t ns xs zs kind a e all k at one is same h found misfit slice many place =
+    let told : FindsSo (apdu_at kind ns) (Err e) k = subst (λ (ys : List Element). FindsSo (apdu_at kind ys) (Err e) k) same (subst (λ (b : Result Apdu PartError). FindsSo (apdu_at kind xs) b k) found h) in
+    let count : counted (apdu_at kind ns) ≡ Err k = subst (λ (f : PartError). FindsSo (apdu_at kind ns) (Err f) k) misfit told in
+    let s = stopped kind ns k count in
+    let here : at ≡ length ns - length s.0 = omega (arith, place, many, s.2, ap length slice) in
+    rw here (decodes_malformed n t ns s.0 kind one is s.1)
 
 abbrev ok : Apdu → Result Apdu (List Element)
 ok v = Ok v

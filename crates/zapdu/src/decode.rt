@@ -1,6 +1,6 @@
 //! Elements read as APDUs, records and diagnostics.
 ghost use Rattle.std.specs.Prelude.{◌≡◌, IfOk, IfSome, IfNone};
-ghost use Rattle.zasn.specs.Answers.{Finds};
+ghost use Rattle.zasn.specs.Answers.{Finds, FindsAway, FindsSo};
 ghost use Rattle.zapdu.specs.declared.record.Record.{Record};
 ghost use Rattle.zapdu.specs.declared.diagnostic.DiagRec.{DiagRec};
 ghost use Rattle.zapdu.specs.Records.{WritesRecord};
@@ -18,7 +18,7 @@ use crate::record::Record;
 use crate::search_request::SearchRequest;
 use crate::search_response::SearchResponse;
 use std::alloc::{AllocError, Global};
-use zasn::{PartError, Parts, Production, Tagged};
+use zasn::{OwnParts, PartError, Parts, Production, Tagged, Taken};
 use zber::{Body, Node, Tag};
 
 fn kind_of_tag(tag: Tag) -> Option<Kind>
@@ -79,6 +79,44 @@ fn apdu_of(alloc: Global, kind: Kind, parts: &mut Parts<'_>) -> Result<Apdu, Par
     }
 }
 
+fn take_search_response(alloc: Global, parts: &mut OwnParts) -> Result<Apdu, PartError>
+    ensures { FindsAway (apdu_at Kind.SearchResponse parts.old) result parts.new }
+{
+    let apdu = SearchResponse::take(alloc, parts)?;
+    Ok(Apdu::SearchResponse(apdu))
+}
+
+fn take_present_response(alloc: Global, parts: &mut OwnParts) -> Result<Apdu, PartError>
+    ensures { FindsAway (apdu_at Kind.PresentResponse parts.old) result parts.new }
+{
+    let apdu = PresentResponse::take(alloc, parts)?;
+    Ok(Apdu::PresentResponse(apdu))
+}
+
+/// The APDU of a kind whose elements these are, and how many are left where it is none. The responses that bring records
+/// take them over.
+fn take_apdu(alloc: Global, kind: Kind, nodes: Vec<Node>) -> (Result<Apdu, PartError>, usize)
+    ensures { FindsSo (apdu_at kind nodes.items) result.0 result.1 }
+{
+    match kind {
+        Kind::SearchResponse => {
+            let mut parts = OwnParts::new(nodes);
+            let answer = take_search_response(alloc, &mut parts);
+            (answer, parts.len())
+        }
+        Kind::PresentResponse => {
+            let mut parts = OwnParts::new(nodes);
+            let answer = take_present_response(alloc, &mut parts);
+            (answer, parts.len())
+        }
+        _ => {
+            let mut parts = Parts::new(nodes.as_slice());
+            let answer = apdu_of(alloc, kind, &mut parts);
+            (answer, parts.len())
+        }
+    }
+}
+
 /// The APDU that an element stands for (Z39.50-2003, 4.1).
 ///
 /// Refused as `NotApdu` where the element is primitive or has the tag of no APDU, as `Malformed` where its elements are
@@ -102,6 +140,29 @@ pub fn from_node(alloc: Global, node: &Node) -> Result<Apdu, ApduError>
             Err(ApduError::Malformed { kind, at })
         }
         Err(PartError::Memory) => Err(ApduError::Memory),
+    }
+}
+
+/// The APDU that an element stands for, which is given away: records in syntaxes of elements are moved into the APDU, where
+/// `from_node` copies them. Its answers are those of `from_node`.
+pub fn from_element(alloc: Global, node: Node) -> Result<Apdu, ApduError>
+    ensures { Decodes node result }
+{
+    let Some(kind) = kind_of_tag(node.tag) else {
+        return Err(ApduError::NotApdu);
+    };
+    match node.body {
+        Body::Prim(_) => Err(ApduError::NotApdu),
+        Body::Cons(nodes) => {
+            let all = nodes.as_slice().len();
+            let (answer, left) = take_apdu(alloc, kind, nodes);
+            let at = all.saturating_sub(left);
+            match answer {
+                Ok(apdu) => Ok(apdu),
+                Err(PartError::Misfit) => Err(ApduError::Malformed { kind, at }),
+                Err(PartError::Memory) => Err(ApduError::Memory),
+            }
+        }
     }
 }
 

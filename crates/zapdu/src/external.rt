@@ -5,10 +5,10 @@ ghost use Rattle.zapdu.specs.Externals.{content, external_parts};
 use bytes::Bytes;
 use std::alloc::Global;
 use zasn::{
-    BuildError, Contents, PartError, Parts, PartsBuf, Production, Tagged, read_any, read_within,
-    write_any, write_within,
+    BuildError, Contents, Given, OwnParts, PartError, PartsBuf, Tagged, Taken, give_within,
+    take_any, take_within, write_around,
 };
-use zber::{Bits, Node, Oid, Tag};
+use zber::{Bits, Duplicate, Node, Oid, Tag};
 
 /// What an EXTERNAL holds (X.690, 8.18).
 #[derive(Drop)]
@@ -52,24 +52,34 @@ impl Tagged for Content {
     }
 
     fn of_element(alloc: Global, node: &Node) -> Result<Self, PartError> {
+        let copy = node.copy(alloc)?;
+        Self::take_element(alloc, copy)
+    }
+
+    fn take_element(alloc: Global, node: Node) -> Result<Self, PartError> {
         if node.tag == Tag::context(0) {
-            let any = read_any(alloc, node)?;
+            let any = take_any(node).ok_or(PartError::Misfit)?;
             return Ok(Content::Single(any));
         }
         if node.tag == Tag::context(1) {
-            let octets = Bytes::of_node(alloc, node)?;
+            let octets = Bytes::of_node(alloc, &node)?;
             return Ok(Content::Aligned(octets));
         }
         if node.tag == Tag::context(2) {
-            let bits = Bits::of_node(alloc, node)?;
+            let bits = Bits::of_node(alloc, &node)?;
             return Ok(Content::Arbitrary(bits));
         }
         Err(PartError::Misfit)
     }
 
     fn to_element(&self, alloc: Global) -> Result<Node, BuildError> {
+        let copy = self.duplicate(alloc)?;
+        copy.into_element(alloc)
+    }
+
+    fn into_element(self, alloc: Global) -> Result<Node, BuildError> {
         match self {
-            Content::Single(node) => write_any(alloc, node, Tag::context(0)),
+            Content::Single(node) => write_around(alloc, node, Tag::context(0)),
             Content::Aligned(octets) => octets.to_node(alloc, Tag::context(1)),
             Content::Arbitrary(bits) => bits.to_node(alloc, Tag::context(2)),
         }
@@ -77,10 +87,10 @@ impl Tagged for Content {
 }
 
 #[tactic(auto, unfolding(crate::specs::Externals::external_parts))]
-impl Production for External {
+impl Taken for External {
     ghost table = { external_parts };
 
-    fn read(alloc: Global, parts: &mut Parts<'_>) -> Result<Self, PartError> {
+    fn take(alloc: Global, parts: &mut OwnParts) -> Result<Self, PartError> {
         let direct = parts.optional(alloc, Tag::universal(6))?;
         let indirect = parts.optional(alloc, Tag::universal(2))?;
         let descriptor = parts.optional(alloc, Tag::universal(7))?;
@@ -93,12 +103,23 @@ impl Production for External {
             content,
         })
     }
+}
 
-    fn write(&self, alloc: Global, out: &mut PartsBuf) -> Result<(), BuildError> {
-        out.optional(alloc, Tag::universal(6), &self.direct)?;
-        out.optional(alloc, Tag::universal(2), &self.indirect)?;
-        out.optional(alloc, Tag::universal(7), &self.descriptor)?;
-        out.required_tagged(alloc, &self.content)
+#[tactic(auto, unfolding(crate::specs::Externals::external_parts))]
+impl Given for External {
+    ghost table = { external_parts };
+
+    fn give(self, alloc: Global, out: &mut PartsBuf) -> Result<(), BuildError> {
+        let External {
+            direct,
+            indirect,
+            descriptor,
+            content,
+        } = self;
+        out.optional(alloc, Tag::universal(6), &direct)?;
+        out.optional(alloc, Tag::universal(2), &indirect)?;
+        out.optional(alloc, Tag::universal(7), &descriptor)?;
+        out.give_tagged(alloc, content)
     }
 }
 
@@ -106,10 +127,20 @@ impl Contents for External {
     ghost place = { λ tag. within tag external_parts };
 
     fn of_node(alloc: Global, node: &Node) -> Result<Self, PartError> {
-        read_within(alloc, node)
+        let copy = node.copy(alloc)?;
+        Self::take_node(alloc, copy)
+    }
+
+    fn take_node(alloc: Global, node: Node) -> Result<Self, PartError> {
+        take_within(alloc, node)
     }
 
     fn to_node(&self, alloc: Global, tag: Tag) -> Result<Node, BuildError> {
-        write_within(alloc, self, tag)
+        let copy = self.duplicate(alloc)?;
+        copy.into_node(alloc, tag)
+    }
+
+    fn into_node(self, alloc: Global, tag: Tag) -> Result<Node, BuildError> {
+        give_within(alloc, self, tag)
     }
 }

@@ -27,7 +27,7 @@ mod text;
 
 pub use apdu::{Apdu, ApduError, Kind};
 pub use close::Close;
-pub use decode::{diag_of, from_node, record_of};
+pub use decode::{diag_of, from_element, from_node, record_of};
 pub use diagnostic::{DefaultDiag, DiagRec, Info};
 pub use element_set_names::{DatabaseElementSet, ElementSetNames};
 pub use encode::{diag_node, record_node, to_node};
@@ -42,5 +42,5 @@ pub use record_composition::RecordComposition;
 pub use search_query::SearchQuery;
 pub use search_request::SearchRequest;
 pub use search_response::SearchResponse;
-pub use text::{print_default_diag, print_diag, print_record, quote};
+pub use text::{print_default_diag, print_diag, print_given_record, print_record, quote};
 pub use zasn::BuildError;

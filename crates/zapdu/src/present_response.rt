@@ -4,7 +4,7 @@ ghost use Rattle.zapdu.specs.PresentResponses.{present_response_parts};
 use crate::record::Records;
 use bytes::Bytes;
 use std::alloc::Global;
-use zasn::{BuildError, PartError, Parts, PartsBuf, Production};
+use zasn::{BuildError, OwnParts, PartError, Parts, PartsBuf, Production, Taken, read_copies};
 use zber::{Node, Tag};
 
 /// The answer to a PresentRequest (Z39.50-2003, 3.2.3.1).
@@ -29,6 +29,24 @@ impl Production for PresentResponse {
     ghost table = { present_response_parts };
 
     fn read(alloc: Global, parts: &mut Parts<'_>) -> Result<Self, PartError> {
+        read_copies(alloc, parts)
+    }
+
+    fn write(&self, alloc: Global, out: &mut PartsBuf) -> Result<(), BuildError> {
+        out.optional(alloc, Tag::context(2), &self.reference_id)?;
+        out.required(alloc, Tag::context(24), &self.number_of_records_returned)?;
+        out.required(alloc, Tag::context(25), &self.next_result_set_position)?;
+        out.required(alloc, Tag::context(27), &self.present_status)?;
+        out.optional_tagged(alloc, &self.records)?;
+        out.optional(alloc, Tag::context(201), &self.other_info)
+    }
+}
+
+#[tactic(auto, unfolding(crate::specs::PresentResponses::present_response_parts))]
+impl Taken for PresentResponse {
+    ghost table = { present_response_parts };
+
+    fn take(alloc: Global, parts: &mut OwnParts) -> Result<Self, PartError> {
         let reference_id = parts.optional(alloc, Tag::context(2))?;
         let number_of_records_returned = parts.required(alloc, Tag::context(24))?;
         let next_result_set_position = parts.required(alloc, Tag::context(25))?;
@@ -44,14 +62,5 @@ impl Production for PresentResponse {
             records,
             other_info,
         })
-    }
-
-    fn write(&self, alloc: Global, out: &mut PartsBuf) -> Result<(), BuildError> {
-        out.optional(alloc, Tag::context(2), &self.reference_id)?;
-        out.required(alloc, Tag::context(24), &self.number_of_records_returned)?;
-        out.required(alloc, Tag::context(25), &self.next_result_set_position)?;
-        out.required(alloc, Tag::context(27), &self.present_status)?;
-        out.optional_tagged(alloc, &self.records)?;
-        out.optional(alloc, Tag::context(201), &self.other_info)
     }
 }

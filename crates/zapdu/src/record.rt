@@ -7,10 +7,10 @@ use crate::external::External;
 use bytes::Bytes;
 use std::alloc::Global;
 use zasn::{
-    BuildError, Contents, PartError, Parts, PartsBuf, Production, Tagged, read_alone,
-    read_alone_tagged, read_within, write_alone, write_alone_tagged, write_within,
+    BuildError, Contents, Given, OwnParts, PartError, PartsBuf, Tagged, Taken, give_alone,
+    give_alone_tagged, give_within, take_alone, take_alone_tagged, take_within,
 };
-use zber::{Node, Seq, Tag};
+use zber::{Duplicate, Node, Seq, Tag};
 
 /// What stands in the place of a record.
 pub enum RecordBody {
@@ -64,32 +64,41 @@ impl Tagged for RecordBody {
     }
 
     fn of_element(alloc: Global, node: &Node) -> Result<Self, PartError> {
+        let copy = node.copy(alloc)?;
+        Self::take_element(alloc, copy)
+    }
+
+    fn take_element(alloc: Global, node: Node) -> Result<Self, PartError> {
         let tag = node.tag;
         if tag == Tag::context(1) {
-            let external = read_alone(alloc, node, Tag::universal(8))?;
+            let external = take_alone(alloc, node, Tag::universal(8))?;
             return Ok(RecordBody::Retrieval(external));
         }
         if tag == Tag::context(2) {
-            let diag = read_alone_tagged(alloc, node)?;
+            let diag = take_alone_tagged(alloc, node)?;
             return Ok(RecordBody::Surrogate(diag));
         }
         if tag == Tag::context(3) || tag == Tag::context(4) || tag == Tag::context(5) {
-            let fragment = node.copy(alloc)?;
-            return Ok(RecordBody::Fragment(fragment));
+            return Ok(RecordBody::Fragment(node));
         }
         Err(PartError::Misfit)
     }
 
     fn to_element(&self, alloc: Global) -> Result<Node, BuildError> {
+        let copy = self.duplicate(alloc)?;
+        copy.into_element(alloc)
+    }
+
+    fn into_element(self, alloc: Global) -> Result<Node, BuildError> {
         match self {
             RecordBody::Retrieval(external) => {
-                write_alone(alloc, external, Tag::context(1), Tag::universal(8))
+                give_alone(alloc, external, Tag::context(1), Tag::universal(8))
             }
-            RecordBody::Surrogate(diag) => write_alone_tagged(alloc, diag, Tag::context(2)),
+            RecordBody::Surrogate(diag) => give_alone_tagged(alloc, diag, Tag::context(2)),
             RecordBody::Fragment(node) => {
                 let tag = node.tag;
                 if tag == Tag::context(3) || tag == Tag::context(4) || tag == Tag::context(5) {
-                    Ok(node.copy(alloc)?)
+                    Ok(node)
                 } else {
                     Err(BuildError::NotSpellable)
                 }
@@ -99,19 +108,25 @@ impl Tagged for RecordBody {
 }
 
 #[tactic(auto, unfolding(crate::specs::Records::record_parts))]
-impl Production for Record {
+impl Taken for Record {
     ghost table = { record_parts };
 
-    fn read(alloc: Global, parts: &mut Parts<'_>) -> Result<Self, PartError> {
+    fn take(alloc: Global, parts: &mut OwnParts) -> Result<Self, PartError> {
         let name = parts.optional(alloc, Tag::context(0))?;
         let body = parts.required_explicit_tagged(alloc, Tag::context(1))?;
         parts.end()?;
         Ok(Record { name, body })
     }
+}
 
-    fn write(&self, alloc: Global, out: &mut PartsBuf) -> Result<(), BuildError> {
-        out.optional(alloc, Tag::context(0), &self.name)?;
-        out.required_explicit_tagged(alloc, Tag::context(1), &self.body)
+#[tactic(auto, unfolding(crate::specs::Records::record_parts))]
+impl Given for Record {
+    ghost table = { record_parts };
+
+    fn give(self, alloc: Global, out: &mut PartsBuf) -> Result<(), BuildError> {
+        let Record { name, body } = self;
+        out.optional(alloc, Tag::context(0), &name)?;
+        out.give_explicit_tagged(alloc, Tag::context(1), body)
     }
 }
 
@@ -123,11 +138,21 @@ impl Tagged for Record {
     }
 
     fn of_element(alloc: Global, node: &Node) -> Result<Self, PartError> {
-        read_within(alloc, node)
+        let copy = node.copy(alloc)?;
+        Self::take_element(alloc, copy)
+    }
+
+    fn take_element(alloc: Global, node: Node) -> Result<Self, PartError> {
+        take_within(alloc, node)
     }
 
     fn to_element(&self, alloc: Global) -> Result<Node, BuildError> {
-        write_within(alloc, self, Tag::universal(16))
+        let copy = self.duplicate(alloc)?;
+        copy.into_element(alloc)
+    }
+
+    fn into_element(self, alloc: Global) -> Result<Node, BuildError> {
+        give_within(alloc, self, Tag::universal(16))
     }
 }
 
@@ -139,16 +164,21 @@ impl Tagged for Records {
     }
 
     fn of_element(alloc: Global, node: &Node) -> Result<Self, PartError> {
+        let copy = node.copy(alloc)?;
+        Self::take_element(alloc, copy)
+    }
+
+    fn take_element(alloc: Global, node: Node) -> Result<Self, PartError> {
         if node.tag == Tag::context(28) {
-            let list = Seq::of_node(alloc, node)?;
+            let list = Seq::take_node(alloc, node)?;
             return Ok(Records::List(list));
         }
         if node.tag == Tag::context(130) {
-            let diag = DefaultDiag::of_node(alloc, node)?;
+            let diag = DefaultDiag::take_node(alloc, node)?;
             return Ok(Records::OneDiag(diag));
         }
         if node.tag == Tag::context(205) {
-            let diags = Seq::of_node(alloc, node)?;
+            let diags = Seq::take_node(alloc, node)?;
             return Ok(Records::ManyDiags(diags));
         }
         Err(PartError::Misfit)

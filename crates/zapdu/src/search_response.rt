@@ -4,7 +4,7 @@ ghost use Rattle.zapdu.specs.SearchResponses.{search_response_parts};
 use crate::record::Records;
 use bytes::Bytes;
 use std::alloc::Global;
-use zasn::{BuildError, PartError, Parts, PartsBuf, Production};
+use zasn::{BuildError, OwnParts, PartError, Parts, PartsBuf, Production, Taken, read_copies};
 use zber::{Node, Tag};
 
 /// The answer to a SearchRequest (Z39.50-2003, 3.2.2.1).
@@ -37,6 +37,28 @@ impl Production for SearchResponse {
     ghost table = { search_response_parts };
 
     fn read(alloc: Global, parts: &mut Parts<'_>) -> Result<Self, PartError> {
+        read_copies(alloc, parts)
+    }
+
+    fn write(&self, alloc: Global, out: &mut PartsBuf) -> Result<(), BuildError> {
+        out.optional(alloc, Tag::context(2), &self.reference_id)?;
+        out.required(alloc, Tag::context(23), &self.result_count)?;
+        out.required(alloc, Tag::context(24), &self.number_of_records_returned)?;
+        out.required(alloc, Tag::context(25), &self.next_result_set_position)?;
+        out.required(alloc, Tag::context(22), &self.search_status)?;
+        out.optional(alloc, Tag::context(26), &self.result_set_status)?;
+        out.optional(alloc, Tag::context(27), &self.present_status)?;
+        out.optional_tagged(alloc, &self.records)?;
+        out.optional(alloc, Tag::context(203), &self.additional_search_info)?;
+        out.optional(alloc, Tag::context(201), &self.other_info)
+    }
+}
+
+#[tactic(auto, unfolding(crate::specs::SearchResponses::search_response_parts))]
+impl Taken for SearchResponse {
+    ghost table = { search_response_parts };
+
+    fn take(alloc: Global, parts: &mut OwnParts) -> Result<Self, PartError> {
         let reference_id = parts.optional(alloc, Tag::context(2))?;
         let result_count = parts.required(alloc, Tag::context(23))?;
         let number_of_records_returned = parts.required(alloc, Tag::context(24))?;
@@ -60,18 +82,5 @@ impl Production for SearchResponse {
             additional_search_info,
             other_info,
         })
-    }
-
-    fn write(&self, alloc: Global, out: &mut PartsBuf) -> Result<(), BuildError> {
-        out.optional(alloc, Tag::context(2), &self.reference_id)?;
-        out.required(alloc, Tag::context(23), &self.result_count)?;
-        out.required(alloc, Tag::context(24), &self.number_of_records_returned)?;
-        out.required(alloc, Tag::context(25), &self.next_result_set_position)?;
-        out.required(alloc, Tag::context(22), &self.search_status)?;
-        out.optional(alloc, Tag::context(26), &self.result_set_status)?;
-        out.optional(alloc, Tag::context(27), &self.present_status)?;
-        out.optional_tagged(alloc, &self.records)?;
-        out.optional(alloc, Tag::context(203), &self.additional_search_info)?;
-        out.optional(alloc, Tag::context(201), &self.other_info)
     }
 }

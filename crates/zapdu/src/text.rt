@@ -1,10 +1,11 @@
 //! The printed texts of octets, diagnostics and records.
-ghost use Rattle.std.specs.Prelude.{◌≡◌, ◌≤◌, ◌<◌, ◌∷◌, [], ◌++◌, length, take, IsTrue, IfOk, OnOk, OnErr, Option, MatchOption, Some, None};
+ghost use Rattle.std.specs.Prelude.{◌≡◌, ◌≤◌, ◌<◌, ◌∷◌, [], ◌++◌, length, take, IsTrue, IfOk, Bool, OnOk, OnErr, Option, MatchOption, Some, None};
 ghost use Rattle.std.specs.List.{flat_map};
 ghost use Rattle.std.specs.Fmt.{signed_decimal};
 ghost use Rattle.hex.specs.Hex.{encode_lower};
 ghost use Rattle.zber.specs.Canonical.{canonical};
 ghost use Rattle.zber.specs.Dotted.{dotted};
+ghost use Rattle.zapdu.specs.Records.{whole_record};
 ghost use Rattle.zapdu.specs.Text.{shown, quoted, quoted_or_dash, ber_text, info_octets, default_text, diag_text, octets_alone, octets_text, retrieval_text, record_text};
 
 use crate::diagnostic::{DefaultDiag, DiagRec, Info};
@@ -13,7 +14,7 @@ use crate::record::{Record, RecordBody};
 use bytes::Bytes;
 use std::alloc::{AllocError, Global};
 use zasn::{BuildError, Tagged};
-use zber::{Node, Oid};
+use zber::{Duplicate, Node, Oid};
 
 /// The octet behind a backslash, as two hexadecimal digits behind `\x`, or as it is.
 #[tactic(auto, unfolding(crate::specs::Text::shown))]
@@ -124,15 +125,26 @@ fn put_node(alloc: Global, node: &Node, out: &mut Vec<u8>) -> Result<(), AllocEr
     put_hex(alloc, octets.as_slice(), out)
 }
 
-fn put_ber<T: Tagged>(alloc: Global, value: &T, out: &mut Vec<u8>) -> Result<(), AllocError>
-    ensures { OnOk result (out.new.items ≡ out.old.items ++ ber_text (T.place.spelt value.now)) }
+fn put_given_ber<T: Tagged>(alloc: Global, value: T, out: &mut Vec<u8>) -> Result<(), AllocError>
+    ensures { OnOk result (out.new.items ≡ out.old.items ++ ber_text (T.place.spelt value)) }
 {
     out.extend_from_slice(b"ber ")?;
-    match value.to_element(alloc) {
+    match value.into_element(alloc) {
         Ok(node) => put_node(alloc, &node, out),
         Err(BuildError::NotSpellable) => Ok(()),
         Err(BuildError::Memory) => Err(AllocError),
     }
+}
+
+fn put_ber<T: Tagged + Duplicate>(
+    alloc: Global,
+    value: &T,
+    out: &mut Vec<u8>,
+) -> Result<(), AllocError>
+    ensures { OnOk result (out.new.items ≡ out.old.items ++ ber_text (T.place.spelt value.now)) }
+{
+    let copy = value.duplicate(alloc)?;
+    put_given_ber(alloc, copy, out)
 }
 
 #[tactic(auto, unfolding(crate::specs::Text::default_text))]
@@ -223,6 +235,32 @@ fn put_record(alloc: Global, value: &Record, hex: bool, out: &mut Vec<u8>) -> Re
     }
 }
 
+/// Whether the record is printed as `ber`.
+fn is_ber(value: &Record) -> bool
+    ensures { IsTrue result → (hex : Bool) → record_text hex value.now ≡ ber_text (whole_record.spelt value.now) }
+{
+    match &value.body {
+        RecordBody::Retrieval(external) => octets_of(external).is_none(),
+        RecordBody::Surrogate(_) => false,
+        RecordBody::Fragment(_) => true,
+    }
+}
+
+fn put_given_record(
+    alloc: Global,
+    value: Record,
+    hex: bool,
+    out: &mut Vec<u8>,
+) -> Result<(), AllocError>
+    ensures { OnOk result (out.new.items ≡ out.old.items ++ record_text hex value) }
+{
+    if is_ber(&value) {
+        put_given_ber(alloc, value, out)
+    } else {
+        put_record(alloc, &value, hex, out)
+    }
+}
+
 /// Appends the octets in quotes: 20 to 7E as they are, with a backslash before `"` and backslash, others as `\x` and two
 /// lower-case hexadecimal digits. Where no memory is found, nothing is appended.
 pub fn quote(alloc: Global, octets: &[u8], out: &mut Vec<u8>) -> Result<(), AllocError>
@@ -260,8 +298,9 @@ pub fn print_default_diag(
 }
 
 /// Appends a record: `rec OID DB TEXT` where it is octets in a named syntax, `diag DB DIAG` where it is a surrogate, else
-/// `ber` and its canonical encoding in hexadecimal. DB is quoted, or `-`; TEXT is quoted, or hexadecimal where `hex` is
-/// set. Where no memory is found, nothing is appended.
+/// `ber` and its canonical encoding in hexadecimal; no digits follow `ber` where a program built a record for which no
+/// element stands. DB is quoted, or `-`; TEXT is quoted, or hexadecimal where `hex` is set. Where no memory is found,
+/// nothing is appended.
 pub fn print_record(
     alloc: Global,
     value: &Record,
@@ -273,5 +312,20 @@ pub fn print_record(
 {
     let mut text = Vec::new(alloc);
     put_record(alloc, value, hex, &mut text)?;
+    out.extend_from_slice(&text)
+}
+
+/// Appends a record that is given away, as `print_record` does, which copies the elements of one that prints as `ber`.
+pub fn print_given_record(
+    alloc: Global,
+    value: Record,
+    hex: bool,
+    out: &mut Vec<u8>,
+) -> Result<(), AllocError>
+    ensures ok { OnOk result (out.new.items ≡ out.old.items ++ record_text hex value) }
+    ensures err { OnErr result (out.new.items ≡ out.old.items) }
+{
+    let mut text = Vec::new(alloc);
+    put_given_record(alloc, value, hex, &mut text)?;
     out.extend_from_slice(&text)
 }
