@@ -1,0 +1,17 @@
+pub mod Cuts
+mod Ends
+pub mod Order
+mod Asking
+mod Steps
+mod Fronts
+mod Parts
+mod Clips
+mod Runs
+mod Lists
+mod Trims
+mod Entries
+mod Among
+mod Uncuts
+mod Plans
+mod Agendas
+mod AgendaSteps

@@ -1,0 +1,97 @@
+-- The next part of ranges.
+use Rattle.std.proofs.Common.{◌≡◌, inl, inr, ℕ, zero, suc, ◌+◌, ◌-◌, ◌^◌, ◌<◌, ◌≤◌, false, List, [], ◌∷◌, ◌++◌, length, drop, get_or, refl, sym, ap, subst, ◌∙◌, arith, append_assoc}
+use Rattle.std.proofs.Math.Seq.{drop-cons}
+use Rattle.std.proofs.lemmas.Bool.Decides.{nat_tests}
+use Rattle.std.specs.List.{range_with_len}
+use Rattle.zplan.specs.declared.span.Span.{Span}
+use Rattle.zplan.specs.declared.part.Place.{Place}
+use Rattle.zplan.specs.Positions.{follows, IsFrom}
+use Rattle.zplan.specs.Ranges.{places, IsApart, IsBounded}
+use Rattle.zplan.specs.Cutting.{IsUsed, IsPlace, IsPart}
+use Rattle.zplan.proofs.Cuts.{places_ascend}
+
+pub drop_range : (a b s : ℕ) (ps : List ℕ) → drop a (range_with_len s (a + b) ++ ps) ≡ range_with_len (s + a) b ++ ps
+drop_range zero b s ps =
+    let e : 0 + b ≡ b = omega arith in let f : s ≡ s + 0 = omega arith in
+    ap (λ n. range_with_len s n ++ ps) e ∙ ap (λ t. range_with_len t b ++ ps) f
+drop_range (suc a) b s ps =
+    let e : suc a + b ≡ suc (a + b) = omega arith in let f : s + 1 + a ≡ s + suc a = omega arith in
+    ap (λ n. drop (suc a) (range_with_len s n ++ ps)) e ∙ drop_range a b (s + 1) ps ∙ ap (λ t. range_with_len t b ++ ps) f
+
+range_split : (a b s : ℕ) → range_with_len s (a + b) ≡ range_with_len s a ++ range_with_len (s + a) b
+range_split zero b s = let e : 0 + b ≡ b = omega arith in let f : s ≡ s + 0 = omega arith in ap (range_with_len s) e ∙ ap (λ t. range_with_len t b) f
+range_split (suc a) b s =
+    let e : suc a + b ≡ suc (a + b) = omega arith in let f : s + 1 + a ≡ s + suc a = omega arith in
+    ap (range_with_len s) e ∙ ap (λ l. s ∷ l) (range_split a b (s + 1) ∙ ap (λ t. range_with_len (s + 1) a ++ range_with_len t b) f)
+
+follows_far : (p low : ℕ) (ps : List ℕ) → IsFrom low ps → p + 1 < low → follows p ps ≡ false
+follows_far p low [] h lt = refl
+follows_far p low (q ∷ qs) h lt = let n : p + 1 < q = omega (arith, h.0) in grind (arith, nat_tests)
+
+apart_drop : (at low : ℕ) (rs : List Span) → IsApart low rs → (more : ℕ) × IsApart more (drop at rs)
+apart_drop zero low rs h = (low, h)
+apart_drop (suc at) low [] h = (low, tt)
+apart_drop (suc at) low (r ∷ rs) h = apart_drop at (r.start + r.n + 1) rs h.2
+
+pub bounded_drop : (at : ℕ) (rs : List Span) → IsBounded rs → IsBounded (drop at rs)
+bounded_drop zero rs h = h
+bounded_drop (suc at) [] h = tt
+bounded_drop (suc at) (r ∷ rs) h = bounded_drop at rs h.1
+
+pub used_none : (low : ℕ) (rs : List Span) → IsApart low rs → IsUsed 0 rs
+used_none low [] h = tt
+used_none low (r ∷ rs) h = h.1
+
+-- what is known at a place
+pub record Here (ranges : List Span) (place : Place) (r : Span) : Type 0 where
+  pub stands : drop place.at ranges ≡ r ∷ drop (place.at + 1) ranges
+  pub used : place.used < r.n
+  pub bound : r.start + r.n ≤ 2 ^ 31
+  pub far : IsFrom (r.start + r.n + 1) (places (drop (place.at + 1) ranges))
+  pub unused : IsUsed 0 (drop (place.at + 1) ranges)
+
+pub here : (ranges : List Span) (place : Place) (d : Span) → IsApart 1 ranges → IsBounded ranges → IsPlace ranges place → place.at < length ranges → Here ranges place (get_or ranges place.at d)
+here ranges place d w b p lt =
+    let e : drop place.at ranges ≡ get_or ranges place.at d ∷ drop (place.at + 1) ranges = drop-cons ranges place.at d lt ∙ ap (λ k. get_or ranges place.at d ∷ drop k ranges) (let s : suc place.at ≡ place.at + 1 = omega arith in s) in
+    let a = apart_drop place.at 1 ranges w in
+    let x = subst (IsApart a.0) e a.1 in
+    let y = subst IsBounded e (bounded_drop place.at ranges b) in
+    record { stands = e; used = subst (IsUsed place.used) e p; bound = y.0; far = (places_ascend _ (drop (place.at + 1) ranges) x.2).0; unused = used_none _ (drop (place.at + 1) ranges) x.2 }
+
+pub taken : (used : ℕ) (r : Span) (rs : List Span) → used < r.n → drop used (places (r ∷ rs)) ≡ range_with_len (r.start + used) (r.n - used) ++ places rs
+taken used r rs lt =
+    let e : r.n ≡ used + (r.n - used) = omega arith in
+    ap (λ n. drop used (range_with_len r.start n ++ places rs)) e ∙ drop_range used (r.n - used) r.start (places rs)
+
+pub part_whole : (ranges : List Span) (place : Place) (room : ℕ) (r : Span) → Here ranges place r → r.n - place.used ≤ room
+    → IsPart ranges place room (record { range = record { start = r.start + place.used; n = r.n - place.used }; next = record { at = place.at + 1; used = 0 } })
+part_whole ranges place room r h fits = record {
+  comes = ap (λ l. drop place.used (places l)) h.stands ∙ taken place.used r (drop (place.at + 1) ranges) h.used;
+  some = let u = h.used in omega arith;
+  fits = fits;
+  ends = inr (follows_far (r.start + place.used + (r.n - place.used - 1)) (r.start + r.n + 1) (places (drop (place.at + 1) ranges)) h.far (let u = h.used in omega arith));
+  stays = h.unused;
+  bounded = let u = h.used in let b = h.bound in omega (arith, u, b);
+}
+
+pub part_cut : (ranges : List Span) (place : Place) (room : ℕ) (r : Span) → Here ranges place r → 0 < room → room < r.n - place.used
+    → IsPart ranges place room (record { range = record { start = r.start + place.used; n = room }; next = record { at = place.at; used = place.used + room } })
+part_cut ranges place room r h pos lt =
+    let rs : List Span = drop (place.at + 1) ranges in
+    let e : r.n - place.used ≡ room + (r.n - (place.used + room)) = omega arith in
+    let first = taken place.used r rs h.used in
+    let second = taken (place.used + room) r rs (omega arith) in
+    let split = range_split room (r.n - (place.used + room)) (r.start + place.used) in
+    let s : r.start + place.used + room ≡ r.start + (place.used + room) = omega arith in
+    record {
+      comes = ap (λ l. drop place.used (places l)) h.stands ∙ first
+          ∙ ap (λ n. range_with_len (r.start + place.used) n ++ places rs) e ∙ ap (λ l. l ++ places rs) split
+          ∙ append_assoc (range_with_len (r.start + place.used) room) (range_with_len (r.start + place.used + room) (r.n - (place.used + room))) (places rs)
+          ∙ ap (λ l. range_with_len (r.start + place.used) room ++ l) (ap (λ t. range_with_len t (r.n - (place.used + room)) ++ places rs) s ∙ sym second)
+          ∙ ap (λ l. range_with_len (r.start + place.used) room ++ drop (place.used + room) (places l)) (sym h.stands);
+      some = pos;
+      fits = omega arith;
+      ends = inl refl;
+      stays = subst (IsUsed (place.used + room)) (sym h.stands) (let z : place.used + room < r.n = omega arith in z);
+      bounded = let b = h.bound in omega (arith, b, lt);
+    }

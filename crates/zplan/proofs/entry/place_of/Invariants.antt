@@ -1,0 +1,6 @@
+use Rattle.std.proofs.Common.{take}
+use Rattle.zplan.specs.Schedules.{NoneWaits}
+use Rattle.zplan.proofs.entry.place_of.Given as goal
+
+abbrev pub invariant-loop-at : goal.invariant-loop-at
+invariant-loop-at l = NoneWaits l.fn.first (take l.at l.entries)

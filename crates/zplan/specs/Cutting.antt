@@ -1,0 +1,59 @@
+-- How ranges are read as the lists that are asked.
+use Rattle.std.specs.Prelude.{◌≡◌, ◌⊎◌, ℕ, zero, suc, ◌+◌, ◌-◌, ◌^◌, ◌<◌, ◌≤◌, drop, Bool, false, ◌||◌, List, [], ◌∷◌, ◌++◌, length}
+use Rattle.zplan.specs.declared.span.Span.{Span}
+use Rattle.zplan.specs.declared.part.Place.{Place}
+use Rattle.zplan.specs.declared.part.Part.{Part}
+use Rattle.zplan.specs.declared.part.Run.{Run}
+use Rattle.zplan.specs.Positions.{put, follows}
+use Rattle.zplan.specs.Ranges.{places, places_of, AllHave, IsBounded}
+
+-- The lists that positions are cut into, all at once: a list has at most last + 1 positions, and m may still join the
+-- first one.
+abbrev pub deal : (three : Bool) (last : ℕ) → ℕ → List ℕ → List (List ℕ)
+deal three last m [] = []
+deal three last zero (p ∷ ps) = put false p (deal three last last ps)
+deal three last (suc m) (p ∷ ps) = put (three || follows p ps) p (deal three last m ps)
+
+-- what stands at a place of ranges and after it
+abbrev pub left_at : List Span → Place → List ℕ
+left_at ranges place = drop place.used (places (drop place.at ranges))
+
+abbrev pub IsUsed : ℕ → List Span → Type 0
+IsUsed used [] = Unit {0}
+IsUsed used (s ∷ ss) = used < s.n
+
+-- not all of the range at the place is behind
+abbrev pub IsPlace : List Span → Place → Type 0
+IsPlace ranges place = IsUsed place.used (drop place.at ranges)
+
+-- a gap comes after the part
+abbrev pub EndsIn : List Span → Part → Type 0
+EndsIn ranges part = follows (part.range.start + (part.range.n - 1)) (left_at ranges part.next) ≡ false
+
+-- A part is what comes next; it is as long as it may be, or a gap comes after it.
+pub record IsPart (ranges : List Span) (place : Place) (room : ℕ) (part : Part) : Type 0 where
+  pub comes : left_at ranges place ≡ places_of part.range ++ left_at ranges part.next
+  pub some : 0 < part.range.n
+  pub fits : part.range.n ≤ room
+  pub ends : (part.range.n ≡ room) ⊎ EndsIn ranges part
+  pub stays : IsPlace ranges part.next
+  pub bounded : part.range.start + part.range.n ≤ 2 ^ 31
+
+-- with version 3: as many positions as a list has, over several ranges
+pub record IsList (ranges : List Span) (place : Place) (step : ℕ) (list : List Span) (next : Place) : Type 0 where
+  pub comes : left_at ranges place ≡ places list ++ left_at ranges next
+  pub some : length list ≤ length (places list)
+  pub have : AllHave list
+  pub size : (length (places list) ≡ step) ⊎ ((length (places list) ≤ step) × (left_at ranges next ≡ []))
+  pub stays : IsPlace ranges next
+  pub bounded : IsBounded list
+
+-- without version 3: one run, and how many positions may still be put into its list
+pub record IsRun (ranges : List Span) (place : Place) (room step : ℕ) (run : Run) : Type 0 where
+  pub comes : left_at ranges place ≡ places_of run.range ++ left_at ranges run.next
+  pub first : deal false (step - 1) (room - 1) (left_at ranges place)
+      ≡ places_of run.range ∷ deal false (step - 1) (run.room - 1) (left_at ranges run.next)
+  pub stays : IsPlace ranges run.next
+  pub goes_on : 0 < run.room
+  pub some : 0 < run.range.n
+  pub bounded : run.range.start + run.range.n ≤ 2 ^ 31

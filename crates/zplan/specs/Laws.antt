@@ -1,0 +1,104 @@
+-- What holds of the plan, whatever the order in which replies come.
+use Rattle.std.specs.Prelude.{◌≡◌, ◌⊎◌, ℕ, ◌+◌, ◌<◌, ◌≤◌, Bool, true, false, List, [], ◌∷◌, length, None, Some, pos}
+use Rattle.zplan.specs.declared.range.Range.{Range}
+use Rattle.zplan.specs.Positions.{IsIn, IsWanted, up_to, cut_of}
+use Rattle.zplan.specs.Ranges.{positions}
+use Rattle.zplan.specs.Plan.{Operation, Init, Search, Present, Reply, Opens, Finds, Shows, Replies, number, IsAsked, IsNew, Event, Sends, Receives, Closes, replies_in, asked_in, firsts, count_in, IsDriven, IsComplete, IsServed, IsShown, Agree, IsRunList, outstanding_in, IsNext}
+use Rattle.zplan.specs.Cutting.{deal}
+use Rattle.zplan.specs.Agenda.{Agenda, IsAgenda, SameAgenda, IsSent, IsAnswered, whole_agenda}
+
+-- what was answered in a complete history is what is asked
+pub record CompleteLaws : Type 0 where
+  pub only : (wanted : List ℕ) (step : ℕ) (events : List Event) → IsComplete wanted step events
+      → (a : Operation) (r : Reply) → replies_in events a ≡ Some r → IsAsked wanted step (replies_in events) a
+  pub all : (wanted : List ℕ) (step : ℕ) (events : List Event) → IsComplete wanted step events
+      → (a : Operation) → IsAsked wanted step (replies_in events) a → (r : Reply) × (replies_in events a ≡ Some r)
+
+abbrev pub OrderLaw : Type 0
+OrderLaw =
+    (wanted : List ℕ) (step : ℕ) (one other : List Event) → IsComplete wanted step one → IsComplete wanted step other
+    → Agree (replies_in one) (replies_in other)
+    → (a : Operation) (r : Reply) → replies_in one a ≡ Some r → replies_in other a ≡ Some r
+
+abbrev pub NumberLaw : Type 0
+NumberLaw =
+    (wanted : List ℕ) (step : ℕ) (replies : Replies) → IsWanted wanted → 0 < step → (a b : Operation)
+    → IsAsked wanted step replies a → IsAsked wanted step replies b → number a ≡ number b → a ≡ b
+
+abbrev pub RunLaw : Type 0
+RunLaw =
+    (wanted : List ℕ) (step : ℕ) (replies : Replies) → replies Init ≡ Some (Opens true false) → (l : List ℕ)
+    → IsAsked wanted step replies (Present l) → IsRunList l
+
+-- after a reply to what was sent and is unanswered
+pub record ReplyLaws : Type 0 where
+  pub only : (wanted : List ℕ) (step : ℕ) (events : List Event) → IsDriven wanted step events
+      → (a : Operation) (r : Reply) → IsIn a (asked_in events) → replies_in events a ≡ None → (b : Operation)
+      → IsAsked wanted step (replies_in (Receives a r ∷ events)) b
+      → IsAsked wanted step (replies_in events) b ⊎ IsNew wanted step (replies_in events) a r b
+  pub all : (wanted : List ℕ) (step : ℕ) (events : List Event) → IsDriven wanted step events
+      → (a : Operation) (r : Reply) → IsIn a (asked_in events) → replies_in events a ≡ None → (b : Operation)
+      → IsNew wanted step (replies_in events) a r b → IsAsked wanted step (replies_in (Receives a r ∷ events)) b
+
+-- which positions are shown
+pub record ShownLaws : Type 0 where
+  pub all : (wanted : List ℕ) (step : ℕ) (replies : Replies) → 0 < step → IsServed wanted step replies
+      → (count position : ℕ) → IsAsked wanted step replies Search → replies Search ≡ Some (Finds (Some count))
+      → IsIn position (up_to count wanted) → IsShown wanted step replies position
+  pub only : (wanted : List ℕ) (step : ℕ) (replies : Replies) → 0 < step → (position : ℕ)
+      → IsShown wanted step replies position → IsIn position (up_to (count_in replies) wanted)
+
+-- how much is sent
+pub record BoundLaws : Type 0 where
+  pub requests : (wanted : List ℕ) (step : ℕ) (events : List Event) → IsWanted wanted → 0 < step
+      → IsDriven wanted step events
+      → length (asked_in events) ≤ 2 + length (up_to (count_in (replies_in events)) wanted)
+  pub presents : (wanted : List ℕ) (step : ℕ) (events : List Event) → IsWanted wanted → 0 < step
+      → IsDriven wanted step events
+      → length (firsts (asked_in events)) ≤ length (up_to (count_in (replies_in events)) wanted)
+
+abbrev pub no_agenda : Bool → Agenda
+no_agenda three = record { due = []; waiting = []; ready = false; three = three }
+
+-- what keeps an agenda exact
+pub record AgendaLaws : Type 0 where
+  -- before the count is known
+  pub idle : (wanted : List ℕ) (step : ℕ) (three : Bool) (events : List Event) → IsWanted wanted → 0 < step
+      → IsDriven wanted step events → ((count : ℕ) → replies_in events Search ≡ Some (Finds (Some count)) → ⊥)
+      → IsAgenda wanted step events (no_agenda three)
+  -- the search was answered with a count
+  pub starts : (wanted : List ℕ) (step : ℕ) (three : Bool) (events : List Event) (count : ℕ)
+      → IsWanted wanted → 0 < step
+      → IsDriven wanted step events → IsIn Search (asked_in events) → replies_in events Search ≡ None
+      → replies_in events Init ≡ Some (Opens true three)
+      → IsAgenda wanted step (Receives Search (Finds (Some count)) ∷ events)
+      (whole_agenda three step (up_to count wanted))
+  -- the Present of what stands first was sent
+  pub sends : (wanted : List ℕ) (step : ℕ) (events : List Event) (a b : Agenda) → IsWanted wanted → 0 < step
+      → IsDriven wanted step events → IsAgenda wanted step events a → (s : IsSent a b)
+      → IsAgenda wanted step (Sends (Present s.list) ∷ events) b
+  -- a list that waited was answered
+  pub receives : (wanted : List ℕ) (step : ℕ) (events : List Event) (p k : ℕ) (a b : Agenda)
+      → IsWanted wanted → 0 < step
+      → IsDriven wanted step events → IsAgenda wanted step events a → (s : IsAnswered p k a b)
+      → IsAgenda wanted step (Receives (Present s.list) (Shows k) ∷ events) b
+  pub stays : (wanted : List ℕ) (step : ℕ) (events : List Event) (a b : Agenda) → IsWanted wanted → 0 < step
+      → IsAgenda wanted step events a → SameAgenda a b → IsAgenda wanted step events b
+
+-- what the driver does next
+pub record NextLaws : Type 0 where
+  pub asks : (wanted : List ℕ) (step window : ℕ) (events : List Event) (a : Agenda) (l : List ℕ) (ls : List (List ℕ))
+      → IsWanted wanted → 0 < step → IsDriven wanted step events → IsAgenda wanted step events a → a.due ≡ l ∷ ls
+      → outstanding_in events < window → IsNext wanted step window events (Sends (Present l))
+  pub closes : (wanted : List ℕ) (step window : ℕ) (events : List Event) (a : Agenda) → IsWanted wanted → 0 < step
+      → IsAgenda wanted step events a → a.due ≡ [] → IsIn Init (asked_in events) → IsIn Search (asked_in events)
+      → outstanding_in events ≡ 0 → IsNext wanted step window events Closes
+
+abbrev pub row : List Range
+row = record { start = pos 1; n = pos 2 } ∷ record { start = pos 5; n = pos 3 } ∷ []
+
+-- positions 1 and 2, and 5 to 7, of 7, by 3
+pub record RowLaws : Type 0 where
+  pub with_three : deal true 2 2 (up_to 7 (positions row)) ≡ (1 ∷ 2 ∷ 5 ∷ []) ∷ (6 ∷ 7 ∷ []) ∷ []
+  pub without_three : deal false 2 2 (up_to 7 (positions row)) ≡ (1 ∷ 2 ∷ []) ∷ (5 ∷ []) ∷ (6 ∷ 7 ∷ []) ∷ []
+  pub second : cut_of 3 (up_to 7 (positions row)) 1 ≡ 6 ∷ 7 ∷ []

@@ -1,0 +1,169 @@
+-- What is asked of one target, and what befalls a connection to it (Z39.50-2003, 3.2.1.1, 3.2.2.1 and 3.2.3.1).
+use Rattle.std.specs.Prelude.{◌≡◌, ℕ, ◌+◌, ◌-◌, ◌*◌, ◌<◌, ◌≤◌, Bool, true, false, ◌&&◌, ◌==◌, if◌then◌else◌, List, [], ◌∷◌, length, take, drop, Option, None, Some}
+use Rattle.std.specs.List.{range_with_len}
+use Rattle.zplan.specs.Positions.{up_to, cut_of, presents, first_of, IsIn}
+
+-- an operation; a Present asks a list of positions
+pub data Operation : Type 0 where
+  Init : Operation
+  Search : Operation
+  Present : List ℕ → Operation
+
+-- its reply, as far as it decides what is asked next
+pub data Reply : Type 0 where
+  Opens : (search three : Bool) → Reply  -- Init was accepted and the search can be sent; version 3 is in force
+  Finds : Option ℕ → Reply  -- the count, where the search succeeded and records can be asked for
+  Shows : ℕ → Reply  -- the number of records; 0 where diagnostics came
+
+abbrev pub Replies : Type 0
+Replies = Operation → Option Reply
+
+-- the number of an operation
+abbrev pub number : Operation → ℕ
+number Init = 0
+number Search = 1
+number (Present l) = first_of l + 1
+
+-- What is asked, the least set: Init; the search, where Init was accepted; the Presents for the lists that cut the
+-- wanted positions up to the count by step; and a Present for what is left of each that was answered in part.
+pub data IsAsked (wanted : List ℕ) (step : ℕ) (replies : Replies) : Operation → Type 0 where
+  first : IsAsked wanted step replies Init
+  search : (three : Bool) → IsAsked wanted step replies Init → replies Init ≡ Some (Opens true three)
+      → IsAsked wanted step replies Search
+  cut : (three : Bool) (count i : ℕ) (l : List ℕ) → IsAsked wanted step replies Search
+      → replies Init ≡ Some (Opens true three)
+      → replies Search ≡ Some (Finds (Some count)) → i * step < length (up_to count wanted)
+      → IsIn l (presents three (cut_of step (up_to count wanted) i))
+      → IsAsked wanted step replies (Present l)
+  rest : (l : List ℕ) (k : ℕ) → IsAsked wanted step replies (Present l) → replies (Present l) ≡ Some (Shows k)
+      → 0 < k → k < length l → IsAsked wanted step replies (Present (drop k l))
+
+abbrev pub eq_list : List ℕ → List ℕ → Bool
+eq_list [] [] = true
+eq_list [] (q ∷ qs) = false
+eq_list (p ∷ ps) [] = false
+eq_list (p ∷ ps) (q ∷ qs) = (p == q) && eq_list ps qs
+
+abbrev pub same : Operation → Operation → Bool
+same Init Init = true
+same Search Search = true
+same (Present l) (Present m) = eq_list l m
+same Init Search = false
+same Init (Present m) = false
+same Search Init = false
+same Search (Present m) = false
+same (Present l) Init = false
+same (Present l) Search = false
+
+-- what befell one connection, the newest first: an operation was asked, its reply was accepted, Close was sent
+pub data Event : Type 0 where
+  Sends : Operation → Event
+  Receives : Operation → Reply → Event
+  Closes : Event
+
+-- the replies accepted so far
+abbrev pub replies_in : List Event → Replies
+replies_in [] a = None
+replies_in (Sends b ∷ events) a = replies_in events a
+replies_in (Receives b r ∷ events) a = if same b a then Some r else replies_in events a
+replies_in (Closes ∷ events) a = replies_in events a
+
+-- the operations asked so far
+abbrev pub asked_in : List Event → List Operation
+asked_in [] = []
+asked_in (Sends b ∷ events) = b ∷ asked_in events
+asked_in (Receives b r ∷ events) = asked_in events
+asked_in (Closes ∷ events) = asked_in events
+
+-- the first positions of the Presents among them
+abbrev pub firsts : List Operation → List ℕ
+firsts [] = []
+firsts (Init ∷ asks) = firsts asks
+firsts (Search ∷ asks) = firsts asks
+firsts (Present l ∷ asks) = first_of l ∷ firsts asks
+
+-- the count, 0 before it is known
+abbrev pub found : Option Reply → ℕ
+found None = 0
+found (Some (Opens b t)) = 0
+found (Some (Finds None)) = 0
+found (Some (Finds (Some count))) = count
+found (Some (Shows k)) = 0
+
+abbrev pub count_in : Replies → ℕ
+count_in replies = found (replies Search)
+
+module _ (wanted : List ℕ) (step : ℕ) where
+  -- due: in Asked, and not asked yet
+  abbrev pub IsDue : List Event → Operation → Type 0
+  IsDue events a = IsAsked wanted step (replies_in events) a × (IsIn a (asked_in events) → ⊥)
+
+  -- all that is asked was answered
+  abbrev pub IsAnsweredWhole : List Event → Type 0
+  IsAnsweredWhole events =
+      (a : Operation) → IsAsked wanted step (replies_in events) a → (r : Reply) × (replies_in events a ≡ Some r)
+
+  -- Only what is due is sent; a reply answers what was sent, once; and Close is sent once all that is asked was
+  -- answered. The window and the order of what is due decide when, and nothing else.
+  abbrev pub IsDriven : List Event → Type 0
+  IsDriven [] = Unit {0}
+  IsDriven (Sends a ∷ events) = IsDue events a × IsDriven events
+  IsDriven (Receives a r ∷ events) = IsIn a (asked_in events) × (replies_in events a ≡ None) × IsDriven events
+  IsDriven (Closes ∷ events) = IsAnsweredWhole events × IsDriven events
+
+  -- Close was sent
+  pub record IsComplete (events : List Event) : Type 0 where
+    pub driven : IsDriven events
+    pub all : IsAnsweredWhole events
+
+  -- what a reply makes due
+  pub data IsNew (replies : Replies) : Operation → Reply → Operation → Type 0 where
+    new_search : (three : Bool) → IsNew replies Init (Opens true three) Search
+    new_cut : (three : Bool) (count i : ℕ) (l : List ℕ) → replies Init ≡ Some (Opens true three)
+        → i * step < length (up_to count wanted) → IsIn l (presents three (cut_of step (up_to count wanted) i))
+        → IsNew replies Search (Finds (Some count)) (Present l)
+    new_rest : (l : List ℕ) (k : ℕ) → 0 < k → k < length l → IsNew replies (Present l) (Shows k) (Present (drop k l))
+
+  -- each Present asked was answered with one record at least, and no more than asked
+  abbrev pub IsServed : Replies → Type 0
+  IsServed replies =
+      (l : List ℕ) → IsAsked wanted step replies (Present l)
+      → (k : ℕ) × (replies (Present l) ≡ Some (Shows k)) × (0 < k) × (k ≤ length l)
+
+  -- some Present asked shows the record at this position
+  pub record IsShown (replies : Replies) (position : ℕ) : Type 0 where
+    pub list : List ℕ
+    pub shows : ℕ
+    pub asked : IsAsked wanted step replies (Present list)
+    pub answered : replies (Present list) ≡ Some (Shows shows)
+    pub among : IsIn position (take shows list)
+
+-- equal operations had equal replies
+abbrev pub Agree : Replies → Replies → Type 0
+Agree one other = (a : Operation) (r s : Reply) → one a ≡ Some r → other a ≡ Some s → r ≡ s
+
+-- consecutive positions
+abbrev pub IsRunList : List ℕ → Type 0
+IsRunList l = l ≡ range_with_len (first_of l) (length l)
+
+abbrev pub start_of : Operation → ℕ
+start_of Init = 0
+start_of Search = 0
+start_of (Present l) = first_of l
+
+-- the operations that wait for a reply
+abbrev pub outstanding_in : List Event → ℕ
+outstanding_in [] = 0
+outstanding_in (Sends a ∷ events) = outstanding_in events + 1
+outstanding_in (Receives a r ∷ events) = outstanding_in events - 1
+outstanding_in (Closes ∷ events) = outstanding_in events
+
+-- What the driver does next: it sends what is due with the least first position, while the window has room; with
+-- nothing due and nothing outstanding it closes.
+abbrev pub IsNext : List ℕ → ℕ → ℕ → List Event → Event → Type 0
+IsNext wanted step window events (Sends a) =
+    IsDue wanted step events a × (outstanding_in events < window)
+    × ((b : Operation) → IsDue wanted step events b → start_of a ≤ start_of b)
+IsNext wanted step window events (Receives a r) = ⊥
+IsNext wanted step window events Closes =
+    ((b : Operation) → IsDue wanted step events b → ⊥) × (outstanding_in events ≡ 0)

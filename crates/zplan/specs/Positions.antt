@@ -1,0 +1,55 @@
+-- Positions of a result set, and the lists that they are asked in (Z39.50-2003, 3.2.3.1).
+use Rattle.std.specs.Prelude.{◌≡◌, ◌⊎◌, ℕ, ◌+◌, ◌*◌, ◌≤◌, nat_le, Bool, true, false, ◌==◌, List, [], ◌∷◌, take, drop, filter}
+
+-- x is one of the list
+abbrev pub IsIn : {X : Type 0} → X → List X → Type 0
+IsIn x [] = ⊥
+IsIn x (y ∷ ys) = (x ≡ y) ⊎ IsIn x ys
+
+-- each position is low or more
+abbrev pub IsFrom : ℕ → List ℕ → Type 0
+IsFrom low [] = Unit {0}
+IsFrom low (p ∷ ps) = (low ≤ p) × IsFrom low ps
+
+-- each position is below those after it
+abbrev pub Ascends : List ℕ → Type 0
+Ascends [] = Unit {0}
+Ascends (p ∷ ps) = IsFrom (p + 1) ps × Ascends ps
+
+-- positions that can be wanted: from 1 on, in order, each once
+abbrev pub IsWanted : List ℕ → Type 0
+IsWanted wanted = IsFrom 1 wanted × Ascends wanted
+
+-- those up to the count
+abbrev pub up_to : ℕ → List ℕ → List ℕ
+up_to count wanted = filter (λ p. nat_le p count) wanted
+
+-- the list number i that positions are cut into by step; the last one is shorter
+abbrev pub cut_of : ℕ → List ℕ → ℕ → List ℕ
+cut_of step ps i = take step (drop (i * step) ps)
+
+-- p goes in front of the first list where it joins it, else it is a list of its own
+abbrev pub put : Bool → ℕ → List (List ℕ) → List (List ℕ)
+put joins p [] = (p ∷ []) ∷ []
+put false p (l ∷ ls) = (p ∷ []) ∷ l ∷ ls
+put true p (l ∷ ls) = (p ∷ l) ∷ ls
+
+-- the positions begin right after p
+abbrev pub follows : ℕ → List ℕ → Bool
+follows p [] = false
+follows p (q ∷ qs) = q == p + 1
+
+-- the runs of consecutive positions
+abbrev pub runs : List ℕ → List (List ℕ)
+runs [] = []
+runs (p ∷ ps) = put (follows p ps) p (runs ps)
+
+-- the Presents for a list: one with version 3 in force, else one for each run
+abbrev pub presents : Bool → List ℕ → List (List ℕ)
+presents true l = l ∷ []
+presents false l = runs l
+
+-- the first position, 0 where there is none
+abbrev pub first_of : List ℕ → ℕ
+first_of [] = 0
+first_of (p ∷ ps) = p

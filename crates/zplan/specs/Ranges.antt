@@ -1,0 +1,84 @@
+-- Ranges of positions, as a caller gives them and as they are kept (Z39.50-2003, 3.2.3.1).
+use Rattle.std.specs.Prelude.{◌≡◌, ℕ, ℤ, pos, negsuc, ◌+◌, ◌-◌, ◌^◌, ◌<◌, ◌≤◌, nat_le, if◌then◌else◌, List, [], ◌∷◌, map, flat_map}
+use Rattle.std.specs.List.{range_with_len}
+use Rattle.zplan.specs.declared.range.Range.{Range}
+use Rattle.zplan.specs.declared.span.Span.{Span}
+
+-- 0 in the place of a negative number
+abbrev pub natural : ℤ → ℕ
+natural (pos n) = n
+natural (negsuc n) = 0
+
+-- the positions of a range, in order
+abbrev pub positions_of : Range → List ℕ
+positions_of r = range_with_len (natural r.start) (natural r.n)
+
+-- the positions of ranges, in the order of the ranges
+abbrev pub positions : List Range → List ℕ
+positions ranges = flat_map positions_of ranges
+
+-- ---- as they are kept
+
+abbrev pub places_of : Span → List ℕ
+places_of s = range_with_len s.start s.n
+
+abbrev pub places : List Span → List ℕ
+places = flat_map places_of
+
+abbrev pub span_of : Range → Span
+span_of r = record { start = natural r.start; n = natural r.n }
+
+abbrev pub range_of : Span → Range
+range_of s = record { start = pos s.start; n = pos s.n }
+
+-- ---- which can be wanted
+
+-- they ascend from low on, have positions, and do not touch or overlap
+abbrev pub IsApart : ℕ → List Span → Type 0
+IsApart low [] = Unit {0}
+IsApart low (s ∷ ss) = (low ≤ s.start) × (0 < s.n) × IsApart (s.start + s.n + 1) ss
+
+-- none of their positions is past 2,147,483,647, the highest that a Present can name
+abbrev pub IsBounded : List Span → Type 0
+IsBounded [] = Unit {0}
+IsBounded (s ∷ ss) = (s.start + s.n ≤ 2 ^ 31) × IsBounded ss
+
+-- each has positions
+abbrev pub AllHave : List Span → Type 0
+AllHave [] = Unit {0}
+AllHave (s ∷ ss) = (0 < s.n) × AllHave ss
+
+-- there is a range, and each has positions
+abbrev pub IsBegun : List Span → Type 0
+IsBegun [] = ⊥
+IsBegun (s ∷ ss) = (0 < s.n) × AllHave ss
+
+-- Ranges that can be wanted: from position 1 to 2,147,483,647, each with positions, in order, and with a gap between
+-- them.
+pub record AreWanted (ranges : List Range) : Type 0 where
+  pub apart : IsApart 1 (map span_of ranges)
+  pub bounded : IsBounded (map span_of ranges)
+
+-- ranges that begin after one another, from low on, each with positions
+abbrev pub InOrder : ℕ → List Range → Type 0
+InOrder low [] = Unit {0}
+InOrder low (r ∷ rs) =
+    (low ≤ natural r.start) × (0 < natural r.n) × InOrder (natural r.start + natural r.n) rs
+
+-- Ranges that a Present can ask for: some, that begin after one another from position 1 on; none passes 2,147,483,647.
+pub record CanBeAsked (ranges : List Range) : Type 0 where
+  pub some : ranges ≡ [] → ⊥
+  pub order : InOrder 1 ranges
+  pub bounded : IsBounded (map span_of ranges)
+
+-- as many of its positions as the count has
+abbrev pub most_of : ℕ → Span → ℕ
+most_of count s = if nat_le s.n (count - s.start) then s.n else count - s.start + 1
+
+-- the ranges as far as the count
+abbrev pub clip : ℕ → List Span → List Span
+clip count [] = []
+clip count (s ∷ ss) =
+    if nat_le s.start count
+    then record { start = s.start; n = most_of count s } ∷ clip count ss
+    else clip count ss

@@ -1,0 +1,81 @@
+//! Lists that were cut off.
+ghost use Rattle.std.specs.Prelude.{◌≡◌, Bool, ◌==◌, ◌&&◌, nat_lt, true, false, drop, length, IfSome, IfNone};
+ghost use Rattle.zplan.specs.Positions.{first_of};
+ghost use Rattle.zplan.specs.Ranges.{places, IsBegun};
+ghost use Rattle.zplan.specs.Schedules.{IsListed, AllListed, IsDueAt, IsWaitingAt, waiting_of, has_due, NoneWaits};
+
+use crate::span::Span;
+use crate::trim::trim;
+
+/// A list that was cut off: its Present was sent and is not answered, or it is due.
+#[derive(Drop)]
+pub struct Entry {
+    pub sent: bool,
+    pub list: Vec<Span>,
+}
+
+impl Entry {
+    /// Whether it waits, and begins at `first`.
+    fn waits_from(&self, first: u32) -> bool
+        requires { IsBegun self.now.list.items }
+        ensures { result ≡ (self.now.sent && first_of (places self.now.list.items) == first) }
+    {
+        self.sent && self.list[0].start == first
+    }
+}
+
+/// The place of the first that is due.
+pub(crate) fn first_due(entries: &[Entry]) -> Option<usize>
+    ensures some { IfSome result (λ at. IsDueAt entries.now at) }
+    ensures none { IfNone result (has_due entries.now ≡ false) }
+{
+    for at in 0..entries.len() {
+        if !entries[at].sent {
+            return Some(at);
+        }
+    }
+    None
+}
+
+/// The place of the one that waits and begins at `first`.
+pub(crate) fn place_of(entries: &[Entry], first: u32) -> Option<usize>
+    requires { (three : Bool) × AllListed three entries.now }
+    ensures some { IfSome result (λ at. IsWaitingAt first entries.now at) }
+    ensures none { IfNone result (NoneWaits first entries.now) }
+{
+    for at in 0..entries.len() {
+        if entries[at].waits_from(first) {
+            return Some(at);
+        }
+    }
+    None
+}
+
+/// How many wait.
+pub(crate) fn count_waiting(entries: &[Entry]) -> usize
+    ensures { result ≡ length (waiting_of entries.now) }
+{
+    let mut count = 0;
+    for at in 0..entries.len() {
+        if entries[at].sent {
+            count += 1;
+        }
+    }
+    count
+}
+
+/// Whether an answer with `k` records leaves a part of the list, which is then due. It takes no memory.
+pub(crate) fn leave(entry: &mut Entry, three: bool, k: usize) -> bool
+    requires { IsListed three entry.old.list.items }
+    ensures left { result ≡ (nat_lt 0 k && nat_lt k (length (places entry.old.list.items))) }
+    ensures due { result ≡ true → entry.new.sent ≡ false }
+    ensures rest { result ≡ true → places entry.new.list.items ≡ drop k (places entry.old.list.items) }
+    ensures listed { result ≡ true → IsListed three entry.new.list.items }
+{
+    if k == 0 {
+        return false;
+    }
+    trim(&mut entry.list, k);
+    entry.sent = false;
+    !entry.list.is_empty()
+}

@@ -1,0 +1,46 @@
+//! Ranges as they are kept.
+ghost use Rattle.std.specs.Prelude.{◌≡◌, ◌+◌, ◌^◌, ◌≤◌, map, IfOk};
+ghost use Rattle.zplan.specs.Ranges.{natural, span_of, range_of};
+
+use crate::range::Range;
+use std::alloc::{AllocError, Global};
+
+/// `n` positions from `start` on.
+#[derive(Clone, Copy)]
+pub struct Span {
+    pub start: u32,
+    pub n: u32,
+}
+
+/// 0 in the place of a negative number.
+fn natural(number: i64) -> u32
+    requires { natural number ≤ 2 ^ 31 }
+    ensures { result ≡ natural number }
+{
+    if number < 0 { 0 } else { number as u32 }
+}
+
+pub(crate) fn span_of(range: Range) -> Span
+    requires { natural range.start + natural range.n ≤ 2 ^ 31 }
+    ensures { result ≡ span_of range }
+{
+    Span {
+        start: natural(range.start),
+        n: natural(range.n),
+    }
+}
+
+fn range_of(span: Span) -> Range
+    ensures { result ≡ range_of span }
+{
+    Range {
+        start: i64::from(span.start),
+        n: i64::from(span.n),
+    }
+}
+
+pub(crate) fn ranges_of(alloc: Global, spans: &[Span]) -> Result<Vec<Range>, AllocError>
+    ensures { IfOk result (λ v. v.items ≡ map range_of spans.now) }
+{
+    spans.iter().map(|span| range_of(*span)).collect(alloc)
+}

@@ -1,0 +1,29 @@
+//! What an answer leaves of a list.
+ghost use Rattle.std.specs.Prelude.{◌≡◌, ◌≤◌, drop, length};
+ghost use Rattle.zplan.specs.Ranges.{AllHave, IsBounded, places};
+
+use crate::span::Span;
+
+/// Takes the first `k` positions from the list. It takes no memory.
+pub(crate) fn trim(list: &mut Vec<Span>, k: usize)
+    requires have { AllHave list.old.items }
+    requires bounded { IsBounded list.old.items }
+    ensures left { places list.new.items ≡ drop k (places list.old.items) }
+    ensures have { AllHave list.new.items }
+    ensures bounded { IsBounded list.new.items }
+    ensures fewer { length list.new.items ≤ length list.old.items }
+{
+    let mut skip = k;
+    while !list.is_empty() {
+        let first = list[0];
+        if skip < first.n as usize {
+            list[0] = Span {
+                start: first.start + skip as u32,
+                n: first.n - skip as u32,
+            };
+            return;
+        }
+        skip -= first.n as usize;
+        let _ = list.remove(0);
+    }
+}

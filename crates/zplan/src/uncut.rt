@@ -1,0 +1,60 @@
+//! What is still to be cut into lists.
+ghost use Rattle.std.specs.Prelude.{◌≡◌, IfOk};
+ghost use Rattle.zplan.specs.Schedules.{IsUncut, IsCutOf, after_cut};
+
+use crate::part::{Place, next_list, next_run};
+use crate::span::Span;
+use std::alloc::{AllocError, Global};
+
+/// The wanted ranges as far as the count, and the place from which nothing was cut off yet.
+#[derive(Drop)]
+pub struct Uncut {
+    pub ranges: Vec<Span>,
+    pub place: Place,
+    /// How many positions the list at the place may still have.
+    pub room: u32,
+    /// The positions of a list.
+    pub step: u32,
+    /// Version 3 is in force.
+    pub three: bool,
+}
+
+/// A list, and where to cut on.
+#[derive(Drop)]
+pub struct Cut {
+    pub list: Vec<Span>,
+    pub place: Place,
+    pub room: u32,
+}
+
+impl Uncut {
+    /// The next list.
+    pub(crate) fn next(&self, alloc: Global) -> Result<Option<Cut>, AllocError>
+        requires { IsUncut self.now }
+        ensures { IfOk result (λ o. IsCutOf self.now o) }
+    {
+        if self.three {
+            let (list, place) = next_list(alloc, &self.ranges, self.place, self.step)?;
+            if list.is_empty() {
+                return Ok(None);
+            }
+            return Ok(Some(Cut {
+                list,
+                place,
+                room: self.room,
+            }));
+        }
+        match next_run(&self.ranges, self.place, self.room, self.step) {
+            Some(run) => {
+                let mut list = Vec::new(alloc);
+                list.push(run.range)?;
+                Ok(Some(Cut {
+                    list,
+                    place: run.next,
+                    room: run.room,
+                }))
+            }
+            None => Ok(None),
+        }
+    }
+}
