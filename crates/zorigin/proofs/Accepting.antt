@@ -223,25 +223,25 @@ module _ (s : Standing) (q : Asked) where
       no_request : (w : What) → Fits w (apdus.InitRequest v) → ⊥
       no_request what.Init h = h
       no_request what.Search h = h
-      no_request (what.Present start n) h = h
+      no_request (what.Present ranges) h = h
   answered_answer (apdus.SearchRequest v) e f = absurd (no_request q.what f)
     where
       no_request : (w : What) → Fits w (apdus.SearchRequest v) → ⊥
       no_request what.Init h = h
       no_request what.Search h = h
-      no_request (what.Present start n) h = h
+      no_request (what.Present ranges) h = h
   answered_answer (apdus.PresentRequest v) e f = absurd (no_request q.what f)
     where
       no_request : (w : What) → Fits w (apdus.PresentRequest v) → ⊥
       no_request what.Init h = h
       no_request what.Search h = h
-      no_request (what.Present start n) h = h
+      no_request (what.Present ranges) h = h
   answered_answer (apdus.Close v) e f = absurd (no_close q.what f)
     where
       no_close : (w : What) → Fits w (apdus.Close v) → ⊥
       no_close what.Init h = h
       no_close what.Search h = h
-      no_close (what.Present start n) h = h
+      no_close (what.Present ranges) h = h
   answered_answer (apdus.InitResponse v) e f = against_answer (named s v.reference_id) (record { asked = q; reply = apdus.InitResponse v }) e (fits_none q.what (apdus.InitResponse v) f)
   answered_answer (apdus.SearchResponse v) e f = against_answer (named s v.reference_id) (record { asked = q; reply = apdus.SearchResponse v }) e (fits_none q.what (apdus.SearchResponse v) f)
   answered_answer (apdus.PresentResponse v) e f = against_answer (named s v.reference_id) (record { asked = q; reply = apdus.PresentResponse v }) e (fits_none q.what (apdus.PresentResponse v) f)

@@ -123,15 +123,15 @@ admitted-standing p (Search op set ask) ok f =
       searches = one_search p op set ask (ok.known op fresh) f.set i;
       outstanding = outstanding_more p (Search op set ask) _ ok refl fresh i;
     }
-admitted-standing p (Present op set start n) ok f =
+admitted-standing p (Present op set ranges) ok f =
     let fresh = fresh_op p op f.op in
     λ i. record {
       settings = p.settings;
-      state = same_state p (Present op set start n) refl refl i;
+      state = same_state p (Present op set ranges) refl refl i;
       force = force_after (opening p);
-      used = used_more p (Present op set start n) _ refl fresh i;
-      searches = map filed (no_search p (Present op set start n) refl i);
-      outstanding = outstanding_more p (Present op set start n) _ ok refl fresh i;
+      used = used_more p (Present op set ranges) _ refl fresh i;
+      searches = map filed (no_search p (Present op set ranges) refl i);
+      outstanding = outstanding_more p (Present op set ranges) _ ok refl fresh i;
     }
 admitted-standing p Close ok f =
     let same : asked p ≡ asked (admit p Close) = sym (asked_more p Close ∙ append-nil (asked p)) in

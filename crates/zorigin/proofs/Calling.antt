@@ -1,9 +1,10 @@
 -- What a call answers, by the rows before its request and by the request.
-use Rattle.std.proofs.Common.{◌≡◌, ◌≢◌, ℕ, ℤ, Bool, true, false, cond, is_none, Option, None, Some, Result, Ok, Err, refl, sym, ap, ◌∙◌}
+use Rattle.std.proofs.Common.{◌≡◌, ◌≢◌, ℕ, Bool, true, false, cond, is_none, List, [], ◌∷◌, Option, None, Some, Result, Ok, Err, refl, sym, ap, ◌∙◌}
 use Rattle.std.specs.Option.{option_map}
 use Rattle.zber.specs.Integers.{integer_octets}
 use Rattle.zapdu.specs.declared.apdu.Apdu.{Apdu}
 use Rattle.zapdu.specs.Closes.{close_parts}
+use Rattle.zorigin.specs.declared.range.Range.{Range}
 use Rattle.zorigin.specs.declared.settings.Ask.{Ask}
 use Rattle.zorigin.specs.declared.answer.Sent.{Sent}
 use Rattle.zorigin.specs.declared.refusal.CallRefused.{CallRefused}
@@ -11,7 +12,7 @@ use Rattle.zorigin.specs.declared.refusal.CallRefused.TheVariants as refused
 use Rattle.zorigin.specs.declared.state.Searched.{Searched}
 use Rattle.zorigin.specs.Standings.{Call, Init, Search, Present, Close, Standing, is_ready, search_of}
 use Rattle.zorigin.specs.Sending.{is_unsendable, init_request, search_request, present_request, close_request, request_of, Sends}
-use Rattle.zorigin.specs.Calls.{wrong_state, not_offered, op_used, unsendable, early_refusal, refusal, or_unsendable, answer_by, call_answer, is_unsendable_request, SendsFor}
+use Rattle.zorigin.specs.Calls.{wrong_state, not_offered, op_used, set_unknown, set_not_ready, set_replaced, unsendable, early_refusal, refusal, or_unsendable, answer_by, call_answer, is_unsendable_request, SendsFor}
 use Rattle.zorigin.specs.Changes.{admitted_at, called_at, admitted_unless}
 
 -- what a call answers and leaves
@@ -76,12 +77,12 @@ pub ready_search : (s : Standing) (op set : ℕ) (ask : Ask) → early_refusal s
 ready_search s op set ask e = record { early = e; request = refl; sendable = refl }
 
 -- a Present that the rows before let pass is of a set that a search made
-known : (s : Standing) (op set : ℕ) (start n : ℤ) (o : Option Searched) → search_of s.searches set ≡ o
-    → early_refusal s (Present op set start n) ≡ None → (x : Searched) × (o ≡ Some x)
-known s op set start n (Some x) e h = (x, refl)
-known s op set start n None e h = absurd (
+known : (s : Standing) (op set : ℕ) (ranges : List Range) (o : Option Searched) → search_of s.searches set ≡ o
+    → early_refusal s (Present op set ranges) ≡ None → (x : Searched) × (o ≡ Some x)
+known s op set ranges (Some x) e h = (x, refl)
+known s op set ranges None e h = absurd (
     let m : is_none (search_of s.searches set) ≡ true = ap (λ o. is_none o) e in
-    blocked (wrong_state s (Present op set start n)) (not_offered s (Present op set start n)) (op_used s (Present op set start n)) (rw m at h)
+    blocked (wrong_state s (Present op set ranges)) (not_offered s (Present op set ranges)) (op_used s (Present op set ranges)) (rw m at h)
     )
   where
     blocked : (a b c : Bool) → cond a (Some refused.WrongState) (cond b (Some refused.NotOffered) (cond c (Some refused.OpUsed) (Some refused.SetUnknown))) ≡ None → ⊥
@@ -90,12 +91,28 @@ known s op set start n None e h = absurd (
     blocked false false true h = cc
     blocked false false false h = cc
 
-pub ready_present : (s : Standing) (op set : ℕ) (start n : ℤ) → early_refusal s (Present op set start n) ≡ None
-    → (apdu : Apdu) × IsReady s (Present op set start n) apdu
-ready_present s op set start n e =
-    let k = known s op set start n (search_of s.searches set) refl e in
-    let r : request_of s (Present op set start n) ≡ Some (present_request s.force.named op start n k.0) = ap (option_map (present_request s.force.named op start n)) k.1 in
-    (present_request s.force.named op start n k.0, record { early = e; request = r; sendable = ap is_unsendable_request r })
+-- and of one range at least
+no_range : (a b c d e f : Bool)
+    → cond a (Some refused.WrongState) (cond b (Some refused.NotOffered) (cond c (Some refused.OpUsed) (cond d (Some refused.SetUnknown)
+    (cond e (Some refused.SetNotReady) (cond f (Some refused.SetReplaced) (Some refused.OutOfRange)))))) ≡ None → ⊥
+no_range true b c d e f h = cc
+no_range false true c d e f h = cc
+no_range false false true d e f h = cc
+no_range false false false true e f h = cc
+no_range false false false false true f h = cc
+no_range false false false false false true h = cc
+no_range false false false false false false h = cc
+
+pub ready_present : (s : Standing) (op set : ℕ) (ranges : List Range) → early_refusal s (Present op set ranges) ≡ None
+    → (apdu : Apdu) × IsReady s (Present op set ranges) apdu
+ready_present s op set [] h = absurd (no_range
+    (wrong_state s (Present op set [])) (not_offered s (Present op set [])) (op_used s (Present op set [])) (set_unknown s (Present op set []))
+    (set_not_ready s (Present op set [])) (set_replaced s (Present op set [])) h)
+ready_present s op set (r ∷ rs) h =
+    let k = known s op set (r ∷ rs) (search_of s.searches set) refl h in
+    let made = present_request s.force.named op r rs in
+    let e : request_of s (Present op set (r ∷ rs)) ≡ Some (made k.0) = ap (option_map made) k.1 in
+    (made k.0, record { early = h; request = e; sendable = ap is_unsendable_request e })
 
 pub ready_close : (s : Standing) → is_ready s.state ≡ true → IsReady s Close close_request
 ready_close s h = record { early = close_early s h; request = refl; sendable = sym close_sendable }

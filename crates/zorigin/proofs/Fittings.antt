@@ -10,6 +10,7 @@ use Rattle.zapdu.specs.declared.present_response.PresentResponse.{PresentRespons
 use Rattle.zorigin.specs.declared.answer.What.{What}
 use Rattle.zorigin.specs.declared.answer.What.TheVariants as what
 use Rattle.zorigin.specs.declared.refusal.Refused.TheVariants as refused
+use Rattle.zorigin.specs.Ranges.{positions}
 use Rattle.zorigin.specs.Fitting.{records_in, diagnostics_in, is_empty, has_fragment, IsCounted, FitsSearch, FitsPresent, Fits, is_number, exceeds, count_mismatch, bad_number, bad_search, bad_present, search_fault, present_fault, fault_of}
 
 -- ---- the rows
@@ -118,26 +119,34 @@ shown_some v (inr d) = ap (λ b. is_empty (records_in v.records) && b) (so_some 
     and_false true = refl
     and_false false = refl
 
-present_so : (n : ℤ) (v : PresentResponse) (a b : Bool) → count_mismatch v.records v.number_of_records_returned ≡ a → bad_present n v ≡ b
-    → cond a (Some refused.CountMismatch) (cond b (Some refused.BadShape) None) ≡ None → FitsPresent n v
-present_so n v true b ea eb h = absurd (cc)
-present_so n v false true ea eb h = absurd (cc)
-present_so n v false false ea eb h =
+not_more : (k n : ℕ) → ltb n k ≡ false → k ≤ n
+not_more k n h = grind (arith, nat_tests)
+
+no_more : (k n : ℕ) → k ≤ n → ltb n k ≡ false
+no_more k n h = grind (arith, nat_tests)
+
+present_so : (asked : List ℕ) (v : PresentResponse) (a b : Bool) → count_mismatch v.records v.number_of_records_returned ≡ a → bad_present asked v ≡ b
+    → cond a (Some refused.CountMismatch) (cond b (Some refused.BadShape) None) ≡ None → FitsPresent asked v
+present_so asked v true b ea eb h = absurd (cc)
+present_so asked v false true ea eb h = absurd (cc)
+present_so asked v false false ea eb h =
+    let many = ltb (length asked) (length (records_in v.records)) in
     let none = is_empty (records_in v.records) && is_empty (diagnostics_in v.records) in
-    let last = neither (exceeds (length (records_in v.records)) n || has_fragment v.records) none eb in
-    let shape = neither (exceeds (length (records_in v.records)) n) (has_fragment v.records) last.0 in
+    let last = neither (many || has_fragment v.records) none eb in
+    let shape = neither many (has_fragment v.records) last.0 in
     record {
       counted = counted_so v.records v.number_of_records_returned ea;
-      within = within_so (length (records_in v.records)) n shape.0;
+      within = not_more (length (records_in v.records)) (length asked) shape.0;
       entire = shape.1;
       some = some_shown v last.1;
     }
 
-so_present : (n : ℤ) (v : PresentResponse) → FitsPresent n v → present_fault n v ≡ None
-so_present n v f =
+so_present : (asked : List ℕ) (v : PresentResponse) → FitsPresent asked v → present_fault asked v ≡ None
+so_present asked v f =
+    let many = ltb (length asked) (length (records_in v.records)) in
     let a : count_mismatch v.records v.number_of_records_returned ≡ false = so_counted v.records v.number_of_records_returned f.counted in
-    let b : bad_present n v ≡ false = both_false (exceeds (length (records_in v.records)) n || has_fragment v.records) (is_empty (records_in v.records) && is_empty (diagnostics_in v.records))
-    (both_false (exceeds (length (records_in v.records)) n) (has_fragment v.records) (so_within (length (records_in v.records)) n f.within) f.entire) (shown_some v f.some) in
+    let b : bad_present asked v ≡ false = both_false (many || has_fragment v.records) (is_empty (records_in v.records) && is_empty (diagnostics_in v.records))
+    (both_false many (has_fragment v.records) (no_more (length (records_in v.records)) (length asked) f.within) f.entire) (shown_some v f.some) in
     λ i. cond (a i) (Some refused.CountMismatch) (cond (b i) (Some refused.BadShape) None)
 
 pub fitting : (w : What) (reply : Apdu) → fault_of w reply ≡ None → Fits w reply
@@ -155,13 +164,13 @@ fitting what.Search (apdus.SearchResponse v) h = search_so v (count_mismatch v.r
 fitting what.Search (apdus.PresentRequest v) h = absurd (cc)
 fitting what.Search (apdus.PresentResponse v) h = absurd (cc)
 fitting what.Search (apdus.Close v) h = absurd (cc)
-fitting (what.Present start n) (apdus.InitRequest v) h = absurd (cc)
-fitting (what.Present start n) (apdus.InitResponse v) h = absurd (cc)
-fitting (what.Present start n) (apdus.SearchRequest v) h = absurd (cc)
-fitting (what.Present start n) (apdus.SearchResponse v) h = absurd (cc)
-fitting (what.Present start n) (apdus.PresentRequest v) h = absurd (cc)
-fitting (what.Present start n) (apdus.PresentResponse v) h = present_so n v (count_mismatch v.records v.number_of_records_returned) (bad_present n v) refl refl h
-fitting (what.Present start n) (apdus.Close v) h = absurd (cc)
+fitting (what.Present ranges) (apdus.InitRequest v) h = absurd (cc)
+fitting (what.Present ranges) (apdus.InitResponse v) h = absurd (cc)
+fitting (what.Present ranges) (apdus.SearchRequest v) h = absurd (cc)
+fitting (what.Present ranges) (apdus.SearchResponse v) h = absurd (cc)
+fitting (what.Present ranges) (apdus.PresentRequest v) h = absurd (cc)
+fitting (what.Present ranges) (apdus.PresentResponse v) h = present_so (positions ranges) v (count_mismatch v.records v.number_of_records_returned) (bad_present (positions ranges) v) refl refl h
+fitting (what.Present ranges) (apdus.Close v) h = absurd (cc)
 
 pub fits_none : (w : What) (reply : Apdu) → Fits w reply → fault_of w reply ≡ None
 fits_none what.Init (apdus.InitRequest v) h = absurd h
@@ -178,10 +187,10 @@ fits_none what.Search (apdus.SearchResponse v) h = so_search v h
 fits_none what.Search (apdus.PresentRequest v) h = absurd h
 fits_none what.Search (apdus.PresentResponse v) h = absurd h
 fits_none what.Search (apdus.Close v) h = absurd h
-fits_none (what.Present start n) (apdus.InitRequest v) h = absurd h
-fits_none (what.Present start n) (apdus.InitResponse v) h = absurd h
-fits_none (what.Present start n) (apdus.SearchRequest v) h = absurd h
-fits_none (what.Present start n) (apdus.SearchResponse v) h = absurd h
-fits_none (what.Present start n) (apdus.PresentRequest v) h = absurd h
-fits_none (what.Present start n) (apdus.PresentResponse v) h = so_present n v h
-fits_none (what.Present start n) (apdus.Close v) h = absurd h
+fits_none (what.Present ranges) (apdus.InitRequest v) h = absurd h
+fits_none (what.Present ranges) (apdus.InitResponse v) h = absurd h
+fits_none (what.Present ranges) (apdus.SearchRequest v) h = absurd h
+fits_none (what.Present ranges) (apdus.SearchResponse v) h = absurd h
+fits_none (what.Present ranges) (apdus.PresentRequest v) h = absurd h
+fits_none (what.Present ranges) (apdus.PresentResponse v) h = so_present (positions ranges) v h
+fits_none (what.Present ranges) (apdus.Close v) h = absurd h

@@ -15,7 +15,9 @@ use Rattle.zorigin.specs.declared.answer.What.{What}
 use Rattle.zorigin.specs.declared.answer.What.TheVariants as what
 use Rattle.zorigin.specs.declared.answer.Answer.{Answer}
 use Rattle.zorigin.specs.Fitting.{Fits, records_in, diagnostics_in}
-use Rattle.zorigin.specs.Facts.{seen_from, told_at, count_or_failed, facts_by, facts_of, records_of, are_positions, asks_positions, IsShowable}
+use Rattle.zorigin.specs.Ranges.{positions, first_of}
+use Rattle.zorigin.specs.Facts.{seen_from, seen_at, told_at, count_or_failed, facts_by, facts_of, records_of, asks_positions, IsShowable}
+use Rattle.zorigin.proofs.Ranges.{IsLow, follows, low_positions}
 
 abbrev AreFacts : List Fact → Type 0
 AreFacts facts = AllByRecursion IsFact facts
@@ -39,8 +41,13 @@ counted : (target set : ℕ) (status : Bool) (count : ℤ) → pos 0 ≤ℤ coun
 counted target set true count low = low
 counted target set false count low = tt
 
-starts : (start n : ℤ) → are_positions start n ≡ true → pos 1 ≤ℤ start
-starts start n h = grind (arith, ints)
+there : (target set : ℕ) (asked : List ℕ) (records : List Record) → AllByRecursion IsLow asked → AllByRecursion (λ r. IsSpellable whole_record r) records
+    → AreFacts (seen_at target set asked records)
+there target set [] records low h = tt
+there target set (p ∷ ps) [] low h = tt
+there target set (p ∷ ps) (r ∷ rs) low h =
+    let at : pos 1 ≤ℤ pos p = omega (arith, ints, low.0) in
+    ((at, h.0), there target set ps rs low.1 h.1)
 
 facts : (target set : ℕ) (w : What) (reply : Apdu) → Fits w reply → asks_positions w ≡ true → AllByRecursion (λ r. IsSpellable whole_record r) (records_of reply) → AreFacts (facts_by target set w reply)
 facts target set what.Init (apdus.InitResponse v) f p h = elim v.result as (λ b. AreFacts (if b then [] else Failed target 0 ∷ [])) [ true ↦ tt | false ↦ (tt, tt) ]
@@ -50,9 +57,11 @@ facts target set what.Search (apdus.SearchResponse v) f p h =
     let rows = seen_from target set (pos 1) (records_in v.records) in
     both (first ++ rows) (told_at target set (pos 0) (diagnostics_in v.records)) (both first rows count (seen target set (pos 1) 0 (records_in v.records) (omega (arith, ints)) h))
     (told target set (pos 0) (diagnostics_in v.records) (omega (arith, ints)))
-facts target set (what.Present start n) (apdus.PresentResponse v) f p h =
-    let low = starts start n p in
-    both (seen_from target set start (records_in v.records)) (told_at target set start (diagnostics_in v.records)) (seen target set start 0 (records_in v.records) low h) (told target set start (diagnostics_in v.records) (omega (arith, ints)))
+facts target set (what.Present ranges) (apdus.PresentResponse v) f p h =
+    let asked = positions ranges in
+    let place = pos (first_of asked) in
+    both (seen_at target set asked (records_in v.records)) (told_at target set place (diagnostics_in v.records))
+    (there target set asked (records_in v.records) (low_positions (pos 0) ranges (follows ranges p)) h) (told target set place (diagnostics_in v.records) (omega (arith, ints)))
 facts target set what.Init (apdus.InitRequest v) f p h = absurd f
 facts target set what.Init (apdus.SearchRequest v) f p h = absurd f
 facts target set what.Init (apdus.SearchResponse v) f p h = absurd f
@@ -65,12 +74,12 @@ facts target set what.Search (apdus.SearchRequest v) f p h = absurd f
 facts target set what.Search (apdus.PresentRequest v) f p h = absurd f
 facts target set what.Search (apdus.PresentResponse v) f p h = absurd f
 facts target set what.Search (apdus.Close v) f p h = absurd f
-facts target set (what.Present start n) (apdus.InitRequest v) f p h = absurd f
-facts target set (what.Present start n) (apdus.InitResponse v) f p h = absurd f
-facts target set (what.Present start n) (apdus.SearchRequest v) f p h = absurd f
-facts target set (what.Present start n) (apdus.SearchResponse v) f p h = absurd f
-facts target set (what.Present start n) (apdus.PresentRequest v) f p h = absurd f
-facts target set (what.Present start n) (apdus.Close v) f p h = absurd f
+facts target set (what.Present ranges) (apdus.InitRequest v) f p h = absurd f
+facts target set (what.Present ranges) (apdus.InitResponse v) f p h = absurd f
+facts target set (what.Present ranges) (apdus.SearchRequest v) f p h = absurd f
+facts target set (what.Present ranges) (apdus.SearchResponse v) f p h = absurd f
+facts target set (what.Present ranges) (apdus.PresentRequest v) f p h = absurd f
+facts target set (what.Present ranges) (apdus.Close v) f p h = absurd f
 
 pub known_facts : (target : ℕ) (answer : Answer) → IsShowable answer → AllByRecursion (λ r. IsSpellable whole_record r) (records_of answer.reply) → AllByRecursion IsFact (facts_of target answer)
 known_facts target answer s h = facts target answer.asked.set answer.asked.what answer.reply s.fits s.positions h

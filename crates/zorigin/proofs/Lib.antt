@@ -1,3 +1,4 @@
+pub mod Ranges
 pub mod Positions
 pub mod Calling
 pub mod Operations

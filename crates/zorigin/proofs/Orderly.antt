@@ -141,7 +141,7 @@ found_in t (x ∷ xs) a h =
 init_asked : (w : What) → is_init w ≡ true → w ≡ what.Init
 init_asked what.Init h = refl
 init_asked what.Search h = absurd (true≢false (sym h))
-init_asked (what.Present start n) h = absurd (true≢false (sym h))
+init_asked (what.Present ranges) h = absurd (true≢false (sym h))
 
 -- Ready is said only by a response that accepts
 ready_accepts : (closing : Bool) (reply : Apdu) → is_ready (closing_state closing (state_by reply)) ≡ true → Accepts reply
@@ -221,7 +221,7 @@ answered s c apdu h e = record { request = apdu; made = e; answer = ap (λ r. an
 pub sent_request : (s : Standing) (c : Call) → refusal s c ≡ None → IsSent s c
 sent_request s Init h = answered s Init (init_request s.settings) h refl
 sent_request s (Search op set ask) h = answered s (Search op set ask) (search_request s.force.named op set ask) h refl
-sent_request s (Present op set start n) h =
-    let ready = ready_present s op set start n (early s (Present op set start n) h) in
-    answered s (Present op set start n) ready.0 h ready.1.request
+sent_request s (Present op set ranges) h =
+    let ready = ready_present s op set ranges (early s (Present op set ranges) h) in
+    answered s (Present op set ranges) ready.0 h ready.1.request
 sent_request s Close h = answered s Close close_request h refl

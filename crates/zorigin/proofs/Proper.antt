@@ -18,7 +18,8 @@ use Rattle.zorigin.specs.declared.refusal.Refused.TheVariants as refused
 use Rattle.zorigin.specs.declared.state.Searched.{Searched}
 use Rattle.zorigin.specs.References.{number_of}
 use Rattle.zorigin.specs.Fitting.{first_row, fault_of}
-use Rattle.zorigin.specs.Facts.{are_positions, asks_positions}
+use Rattle.zorigin.specs.Ranges.{are_ranges}
+use Rattle.zorigin.specs.Facts.{asks_positions}
 use Rattle.zorigin.specs.Standings.{Call, Init, Search, Present, Close, Standing, is_open, is_ready}
 use Rattle.zorigin.specs.Calls.{refusal, or_unsendable, unsendable, early_rows, early_refusal, wrong_state, op_used, set_used, out_of_range}
 use Rattle.zorigin.specs.Replies.{only_of, numbered_as, named, against, judged, answered, verdict, taken_as, taken_by}
@@ -288,11 +289,11 @@ proper_admit p (Search op set ask) f ok =
     let fresh = fresh_op p op f.op in
     proper_operation p (Search op set ask) (search_asked op set) refl refl fresh (λ h. absurd (true≢false (sym h))) refl
     (sets_search p op set ask (none_filed p.accepted set (made p) f.set) ok) (agreed_search p op set ask fresh ok) ok
-proper_admit p (Present op set start n) f ok =
+proper_admit p (Present op set ranges) f ok =
     let fresh = fresh_op p op f.op in
-    let q : Asked = record { op = op; set = set; what = what.Present start n } in
-    proper_operation p (Present op set start n) q refl refl fresh (λ h. absurd (true≢false (sym h))) (in_range (are_positions start n) _ f.range)
-    (sets_same p (Present op set start n) refl ok) (agreed_same p (Present op set start n) q refl fresh ok) ok
+    let q : Asked = record { op = op; set = set; what = what.Present ranges } in
+    proper_operation p (Present op set ranges) q refl refl fresh (λ h. absurd (true≢false (sym h))) (in_range (are_ranges ranges) _ f.range)
+    (sets_same p (Present op set ranges) refl ok) (agreed_same p (Present op set ranges) q refl fresh ok) ok
 proper_admit p Close f ok =
     let more : asked (admit p Close) ≡ asked p = asked_more p Close ∙ append-nil (asked p) in
     record {

@@ -58,7 +58,7 @@ agreed_new q (Search op set ask ∷ cs) h =
     let other : (op == q.op) ≡ false = grind arith in
     let rest : list_any (has q.op) (flat_map operation_of cs) ≡ false = grind arith in
     (λ e. absurd (true≢false (sym e ∙ other)), agreed_new q cs rest)
-agreed_new q (Present op set start n ∷ cs) h = let rest : list_any (has q.op) (flat_map operation_of cs) ≡ false = grind arith in agreed_new q cs rest
+agreed_new q (Present op set ranges ∷ cs) h = let rest : list_any (has q.op) (flat_map operation_of cs) ≡ false = grind arith in agreed_new q cs rest
 agreed_new q (Close ∷ cs) h = agreed_new q cs h
 
 -- ---- with what came of them

@@ -1,6 +1,6 @@
 -- The table of calls (Z39.50-2003, 3.2.1.1, 3.2.2.1, 3.2.3.1 and 3.2.11.1; concurrent operations: 3.5): which are refused,
 -- row by row, and what one that is not refused comes to.
-use Rattle.std.specs.Prelude.{◌≡◌, ℕ, ℤ, pos, int_lt, nat_eq, ◌==◌, ◌-◌, Bool, false, not, ◌||◌, ◌&&◌, if◌then◌else◌, List, [], ◌∷◌, length, slice_get, is_some, is_none, Option, Some, None, Result, Ok, Err}
+use Rattle.std.specs.Prelude.{◌≡◌, ℕ, pos, int_lt, nat_eq, nat_le, ◌==◌, ◌-◌, Bool, false, not, ◌||◌, ◌&&◌, if◌then◌else◌, List, [], ◌∷◌, length, slice_get, is_some, is_none, Option, Some, None, Result, Ok, Err}
 use Rattle.std.specs.List.{list_any}
 use Rattle.zapdu.specs.declared.apdu.Apdu.{Apdu}
 use Rattle.zorigin.specs.declared.settings.Ask.{Ask}
@@ -12,7 +12,7 @@ use Rattle.zorigin.specs.declared.state.Outcome.TheVariants as outcomes
 use Rattle.zorigin.specs.declared.state.Searched.{Searched}
 use Rattle.zorigin.specs.Standings.{Call, Init, Search, Present, Close, Standing, is_fresh, is_ready, is_found, search_of}
 use Rattle.zorigin.specs.Fitting.{first_row, is_empty}
-use Rattle.zorigin.specs.Facts.{are_positions, last_position}
+use Rattle.zorigin.specs.Ranges.{positions, are_ranges, is_past}
 use Rattle.zorigin.specs.Sending.{request_of, is_unsendable, sent_of, Sends}
 
 -- Init is called first and once, the others in Ready
@@ -20,10 +20,10 @@ abbrev pub wrong_state : Standing → Call → Bool
 wrong_state s Init = not (is_fresh s.state)
 wrong_state s _ = not (is_ready s.state)
 
--- the option is not in force
+-- the option is not in force; several ranges are in version 3 alone
 abbrev pub not_offered : Standing → Call → Bool
 not_offered s (Search op set ask) = not s.force.search
-not_offered s (Present op set start n) = not s.force.present
+not_offered s (Present op set ranges) = not s.force.present || (nat_le 2 (length ranges) && not s.force.v3)
 not_offered s _ = false
 
 -- an earlier admitted call had this number, which is 0 for Init
@@ -33,7 +33,7 @@ is_used s op = list_any (nat_eq op) s.used
 abbrev pub op_used : Standing → Call → Bool
 op_used s Init = is_used s 0
 op_used s (Search op set ask) = is_used s op
-op_used s (Present op set start n) = is_used s op
+op_used s (Present op set ranges) = is_used s op
 op_used s _ = false
 
 -- an earlier admitted search had this set
@@ -43,7 +43,7 @@ set_used s _ = false
 
 -- no admitted search had this set
 abbrev pub set_unknown : Standing → Call → Bool
-set_unknown s (Present op set start n) = is_none (search_of s.searches set)
+set_unknown s (Present op set ranges) = is_none (search_of s.searches set)
 set_unknown s _ = false
 
 -- its search is unanswered, or failed
@@ -52,7 +52,7 @@ is_unready None = false
 is_unready (Some searched) = not (is_found searched.outcome)
 
 abbrev pub set_not_ready : Standing → Call → Bool
-set_not_ready s (Present op set start n) = is_unready (search_of s.searches set)
+set_not_ready s (Present op set ranges) = is_unready (search_of s.searches set)
 set_not_ready s _ = false
 
 -- the latest search made the set
@@ -65,7 +65,7 @@ is_latest s set = is_set set (slice_get s.searches (length s.searches - 1))
 
 -- names are not in force, and a later search was admitted
 abbrev pub set_replaced : Standing → Call → Bool
-set_replaced s (Present op set start n) = not s.force.named && not (is_latest s set)
+set_replaced s (Present op set ranges) = not s.force.named && not (is_latest s set)
 set_replaced s _ = false
 
 -- set 0, a negative bound, or a large bound not above the small one
@@ -74,26 +74,26 @@ search_beyond set ask =
     set == 0 || int_lt ask.small (pos 0) || int_lt ask.large (pos 0) || int_lt ask.medium (pos 0)
     || not (int_lt ask.small ask.large)
 
--- a position past the count that the search told
-abbrev pub past_outcome : ℤ → Option Outcome → Bool
-past_outcome last (Some (outcomes.Found count)) = int_lt count last
-past_outcome last _ = false
+-- a position is past the count that the search told
+abbrev pub past_outcome : List ℕ → Option Outcome → Bool
+past_outcome asked (Some (outcomes.Found count)) = is_past count asked
+past_outcome asked _ = false
 
-abbrev pub is_past : ℤ → Option Searched → Bool
-is_past last None = false
-is_past last (Some searched) = past_outcome last searched.outcome
+abbrev pub past_count : List ℕ → Option Searched → Bool
+past_count asked None = false
+past_count asked (Some searched) = past_outcome asked searched.outcome
 
 abbrev pub out_of_range : Standing → Call → Bool
 out_of_range s (Search op set ask) = search_beyond set ask
-out_of_range s (Present op set start n) =
-    not (are_positions start n) || is_past (last_position start n) (search_of s.searches set)
+out_of_range s (Present op set ranges) =
+    not (are_ranges ranges) || past_count (positions ranges) (search_of s.searches set)
 out_of_range s _ = false
 
 -- an operation is outstanding, and no second one may be: concurrency is not in force, or it is a search that would replace a set
 abbrev pub busy : Standing → Call → Bool
 busy s (Search op set ask) =
     not (is_empty s.outstanding) && (not s.force.concurrent || (not s.force.named && not (is_empty s.searches)))
-busy s (Present op set start n) = not (is_empty s.outstanding) && not s.force.concurrent
+busy s (Present op set ranges) = not (is_empty s.outstanding) && not s.force.concurrent
 busy s _ = false
 
 -- the request can't be sent; a Close always can

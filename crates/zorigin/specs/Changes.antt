@@ -7,6 +7,7 @@ use Rattle.indexmap.specs.IndexSet.{insert_key}
 use Rattle.zapdu.specs.declared.apdu.Apdu.{Apdu}
 use Rattle.zapdu.specs.declared.apdu.Apdu.TheVariants as apdus
 use Rattle.zapdu.specs.declared.init_response.InitResponse.{InitResponse}
+use Rattle.zorigin.specs.declared.range.Range.{Range}
 use Rattle.zorigin.specs.declared.settings.Ask.{Ask}
 use Rattle.zorigin.specs.declared.answer.Asked.{Asked}
 use Rattle.zorigin.specs.declared.answer.What.TheVariants as what
@@ -30,6 +31,9 @@ init_asked = record { op = 0; set = 0; what = what.Init }
 abbrev pub search_asked : ℕ → ℕ → Asked
 search_asked op set = record { op = op; set = set; what = what.Search }
 
+abbrev pub present_asked : ℕ → ℕ → List Range → Asked
+present_asked op set ranges = record { op = op; set = set; what = what.Present ranges }
+
 -- what is kept of a search that is not answered yet
 abbrev pub unanswered : ℕ → ℕ → Ask → Searched
 unanswered op set ask = record { op = op; set = set; syntax = ask.syntax; elements = ask.elements; outcome = None }
@@ -47,7 +51,7 @@ admitted_at s Init = record (with_asked s init_asked) { state = states.Initialis
 admitted_at s (Search op set ask) = record (with_asked s (search_asked op set)) {
   searches = insert_entry nat_eq s.searches set (unanswered op set ask);
 }
-admitted_at s (Present op set start n) = with_asked s (record { op = op; set = set; what = what.Present start n })
+admitted_at s (Present op set ranges) = with_asked s (present_asked op set ranges)
 admitted_at s Close = record s { state = states.Closing }
 
 abbrev pub admitted_unless : Standing → Call → Option CallRefused → Standing

@@ -1,5 +1,5 @@
 -- What a reply that answers an operation says of the target's result sets (Z39.50-2003, 3.2.1.1, 3.2.2.1 and 3.2.3.1).
-use Rattle.std.specs.Prelude.{◌≡◌, ℕ, ℤ, pos, ◌+ℤ◌, ◌-ℤ◌, int_le, Bool, true, ◌&&◌, if◌then◌else◌, List, [], ◌∷◌, ◌++◌, map}
+use Rattle.std.specs.Prelude.{◌≡◌, ℕ, ℤ, pos, ◌+ℤ◌, Bool, true, if◌then◌else◌, List, [], ◌∷◌, ◌++◌, map, zip}
 use Rattle.std.specs.List.{AllByRecursion, enumerate_from}
 use Rattle.zapdu.specs.declared.apdu.Apdu.{Apdu}
 use Rattle.zapdu.specs.declared.apdu.Apdu.TheVariants as apdus
@@ -16,12 +16,17 @@ use Rattle.zorigin.specs.declared.answer.Asked.{Asked}
 use Rattle.zorigin.specs.declared.answer.Answer.{Answer}
 use Rattle.zorigin.specs.declared.answer.Taken.{Taken}
 use Rattle.zorigin.specs.declared.answer.Taken.TheVariants as taken
+use Rattle.zorigin.specs.Ranges.{positions, first_of, are_ranges}
 use Rattle.zorigin.specs.Fitting.{Fits, records_in, diagnostics_in}
 
 -- record j stands at the j-th position from the first
 abbrev pub seen_from : ℕ → ℕ → ℤ → List Record → List Fact
 seen_from target set first records =
     map (λ (e : ℕ × Record). Seen target set (first +ℤ pos e.0) e.1) (enumerate_from 0 records)
+
+-- record j stands at the j-th of the positions
+abbrev pub seen_at : ℕ → ℕ → List ℕ → List Record → List Fact
+seen_at target set asked records = map (λ (e : ℕ × Record). Seen target set (pos e.0) e.1) (zip asked records)
 
 -- a diagnostic of the search has place 0, one of a Present the first position that was asked
 abbrev pub told_at : ℕ → ℕ → ℤ → List DiagRec → List Fact
@@ -39,28 +44,24 @@ search_facts target set v =
     ++ seen_from target set (pos 1) (records_in v.records)
     ++ told_at target set (pos 0) (diagnostics_in v.records)
 
-abbrev pub present_facts : ℕ → ℕ → ℤ → PresentResponse → List Fact
-present_facts target set start v =
-    seen_from target set start (records_in v.records) ++ told_at target set start (diagnostics_in v.records)
+-- of the positions that were asked for
+abbrev pub present_facts : ℕ → ℕ → List ℕ → PresentResponse → List Fact
+present_facts target set asked v =
+    seen_at target set asked (records_in v.records)
+    ++ told_at target set (pos (first_of asked)) (diagnostics_in v.records)
 
 abbrev pub facts_by : ℕ → ℕ → What → Apdu → List Fact
 facts_by target set what.Init (apdus.InitResponse v) = init_facts target v
 facts_by target set what.Search (apdus.SearchResponse v) = search_facts target set v
-facts_by target set (what.Present start n) (apdus.PresentResponse v) = present_facts target set start v
+facts_by target set (what.Present ranges) (apdus.PresentResponse v) = present_facts target set (positions ranges) v
 facts_by _ _ _ _ = []
 
 abbrev pub facts_of : ℕ → Answer → List Fact
 facts_of target answer = facts_by target answer.asked.set answer.asked.what answer.reply
 
--- positions that can be asked for, whatever the set's count is
-abbrev pub last_position : ℤ → ℤ → ℤ
-last_position start n = (start +ℤ n) -ℤ pos 1
-
-abbrev pub are_positions : ℤ → ℤ → Bool
-are_positions start n = int_le (pos 1) start && int_le (pos 1) n && int_le (last_position start n) (pos 2147483647)
-
+-- what is asked for can be, whatever the set's count is
 abbrev pub asks_positions : What → Bool
-asks_positions (what.Present start n) = are_positions start n
+asks_positions (what.Present ranges) = are_ranges ranges
 asks_positions _ = true
 
 -- the reply fits, and the positions that were asked are some

@@ -1,5 +1,5 @@
 -- What a reply has to be like to answer an operation (Z39.50-2003, 3.2.2.1, 3.2.3.1), and what is wrong with one that does not.
-use Rattle.std.specs.Prelude.{◌≡◌, ◌≢◌, ◌⊎◌, ℕ, ℤ, pos, negsuc, ◌≤ℤ◌, int_lt, nat_lt, ◌==◌, Bool, true, false, not, ◌||◌, ◌&&◌, if◌then◌else◌, List, [], ◌∷◌, length, Option, Some, None}
+use Rattle.std.specs.Prelude.{◌≡◌, ◌≢◌, ◌⊎◌, ℕ, ℤ, pos, negsuc, ◌≤◌, ◌≤ℤ◌, int_lt, nat_lt, ◌==◌, Bool, true, false, not, ◌||◌, ◌&&◌, if◌then◌else◌, List, [], ◌∷◌, length, Option, Some, None}
 use Rattle.std.specs.List.{list_any}
 use Rattle.zapdu.specs.declared.apdu.Apdu.{Apdu}
 use Rattle.zapdu.specs.declared.apdu.Apdu.TheVariants as apdus
@@ -16,6 +16,7 @@ use Rattle.zorigin.specs.declared.answer.What.{What}
 use Rattle.zorigin.specs.declared.answer.What.TheVariants as what
 use Rattle.zorigin.specs.declared.refusal.Refused.{Refused}
 use Rattle.zorigin.specs.declared.refusal.Refused.TheVariants as refused
+use Rattle.zorigin.specs.Ranges.{positions}
 
 -- the records of a response, in order
 abbrev pub records_in : Option Records → List Record
@@ -52,9 +53,10 @@ pub record FitsSearch (v : SearchResponse) : Type 0 where
   pub within : pos (length (records_in v.records)) ≤ℤ v.result_count
   pub entire : has_fragment v.records ≡ false
 
-pub record FitsPresent (n : ℤ) (v : PresentResponse) : Type 0 where
+-- of the positions that were asked for
+pub record FitsPresent (asked : List ℕ) (v : PresentResponse) : Type 0 where
   pub counted : IsCounted v.records v.number_of_records_returned
-  pub within : pos (length (records_in v.records)) ≤ℤ n
+  pub within : length (records_in v.records) ≤ length asked
   pub entire : has_fragment v.records ≡ false
   pub some : (records_in v.records ≢ []) ⊎ (diagnostics_in v.records ≢ [])
 
@@ -62,7 +64,7 @@ pub record FitsPresent (n : ℤ) (v : PresentResponse) : Type 0 where
 abbrev pub Fits : What → Apdu → Type 0
 Fits what.Init (apdus.InitResponse v) = Unit {0}
 Fits what.Search (apdus.SearchResponse v) = FitsSearch v
-Fits (what.Present start n) (apdus.PresentResponse v) = FitsPresent n v
+Fits (what.Present ranges) (apdus.PresentResponse v) = FitsPresent (positions ranges) v
 Fits _ _ = ⊥
 
 -- ---- what does not, row by row
@@ -91,9 +93,9 @@ bad_number v = int_lt v.result_count (pos 0)
 abbrev pub bad_search : SearchResponse → Bool
 bad_search v = exceeds (length (records_in v.records)) v.result_count || has_fragment v.records
 
-abbrev pub bad_present : ℤ → PresentResponse → Bool
-bad_present n v =
-    exceeds (length (records_in v.records)) n || has_fragment v.records
+abbrev pub bad_present : List ℕ → PresentResponse → Bool
+bad_present asked v =
+    nat_lt (length asked) (length (records_in v.records)) || has_fragment v.records
     || (is_empty (records_in v.records) && is_empty (diagnostics_in v.records))
 
 abbrev pub search_fault : SearchResponse → Option Refused
@@ -103,15 +105,15 @@ search_fault v = first_row (
     ∷ (bad_search v, refused.BadShape)
     ∷ [])
 
-abbrev pub present_fault : ℤ → PresentResponse → Option Refused
-present_fault n v = first_row (
+abbrev pub present_fault : List ℕ → PresentResponse → Option Refused
+present_fault asked v = first_row (
     (count_mismatch v.records v.number_of_records_returned, refused.CountMismatch)
-    ∷ (bad_present n v, refused.BadShape)
+    ∷ (bad_present asked v, refused.BadShape)
     ∷ [])
 
 -- why the reply can't answer such an operation
 abbrev pub fault_of : What → Apdu → Option Refused
 fault_of what.Init (apdus.InitResponse v) = None
 fault_of what.Search (apdus.SearchResponse v) = search_fault v
-fault_of (what.Present start n) (apdus.PresentResponse v) = present_fault n v
+fault_of (what.Present ranges) (apdus.PresentResponse v) = present_fault (positions ranges) v
 fault_of _ _ = Some refused.WrongKind

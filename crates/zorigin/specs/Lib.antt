@@ -1,5 +1,6 @@
 pub mod Refusal
 pub mod References
+pub mod Ranges
 pub mod Fitting
 pub mod Facts
 pub mod Standings

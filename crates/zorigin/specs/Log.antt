@@ -25,7 +25,7 @@ use Rattle.zorigin.specs.Standings.{Call, Init, Search, Present, Close, Standing
 use Rattle.zorigin.specs.Sending.{request_of}
 use Rattle.zorigin.specs.Calls.{refusal, call_answer}
 use Rattle.zorigin.specs.Replies.{verdict}
-use Rattle.zorigin.specs.Changes.{init_asked, search_asked, unanswered, force_in, outcome_in}
+use Rattle.zorigin.specs.Changes.{init_asked, search_asked, present_asked, unanswered, force_in, outcome_in}
 
 -- A call that was made, or an APDU that was taken. A call answered for want of memory is none.
 pub data Entry : Type 0 where
@@ -54,7 +54,7 @@ nothing settings = record { settings = settings; admitted = []; sent = []; accep
 abbrev pub operation_of : Call → List Asked
 operation_of Init = init_asked ∷ []
 operation_of (Search op set ask) = search_asked op set ∷ []
-operation_of (Present op set start n) = record { op = op; set = set; what = what.Present start n } ∷ []
+operation_of (Present op set ranges) = present_asked op set ranges ∷ []
 operation_of Close = []
 
 -- the operations that were admitted, in the order of the calls

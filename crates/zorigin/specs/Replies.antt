@@ -1,5 +1,5 @@
 -- The table of replies (Z39.50-2003, 3.4): which are refused, row by row, and what one that is accepted comes to.
-use Rattle.std.specs.Prelude.{◌≡◌, ℕ, nat_eq, if◌then◌else◌, List, [], ◌∷◌, Option, Some, None, Result, Ok, Err}
+use Rattle.std.specs.Prelude.{◌≡◌, ◌≢◌, ℕ, nat_eq, if◌then◌else◌, List, [], ◌∷◌, Option, Some, None, Result, Ok, Err}
 use Rattle.std.specs.Map.{lookup}
 use Rattle.zapdu.specs.declared.apdu.Apdu.{Apdu}
 use Rattle.zapdu.specs.declared.apdu.Apdu.TheVariants as apdus
@@ -55,12 +55,12 @@ answered s _ = Err refused.WrongKind
 unfoldable pub verdict : Standing → Apdu → Result Taken Refused
 verdict s reply = if is_open s.state then answered s reply else Err refused.WrongState
 
--- the operation that a reply answers, none for a Close, or the same refusal
+-- the operation that a reply answers, none for a Close, or the same refusal; memory aside
 abbrev pub JudgesBy : Result Taken Refused → Apdu → Result Asked Refused → Type 0
 JudgesBy given reply (Ok asked) = given ≡ Ok (taken_as (record { asked = asked; reply = reply }))
-JudgesBy given reply (Err reason) = given ≡ Err reason
+JudgesBy given reply (Err reason) = reason ≢ refused.Memory → given ≡ Err reason
 
 abbrev pub Judges : Result Taken Refused → Apdu → Result (Option Asked) Refused → Type 0
 Judges given reply (Ok None) = given ≡ Ok taken.Closed
 Judges given reply (Ok (Some asked)) = given ≡ Ok (taken_as (record { asked = asked; reply = reply }))
-Judges given reply (Err reason) = given ≡ Err reason
+Judges given reply (Err reason) = reason ≢ refused.Memory → given ≡ Err reason

@@ -1,5 +1,5 @@
 -- The APDU that is sent for a call (Z39.50-2003, 3.2.1.1, 3.2.2.1, 3.2.3.1, 3.2.11.1), and which can be sent at all.
-use Rattle.std.specs.Prelude.{◌≡◌, ℕ, ℤ, pos, nat_lt, Bool, true, false, ◌||◌, if◌then◌else◌, List, [], ◌∷◌, ◌++◌, length, Option, Some, None, Result, Ok, Err, codes}
+use Rattle.std.specs.Prelude.{◌≡◌, ℕ, pos, nat_lt, Bool, true, false, ◌||◌, if◌then◌else◌, List, [], ◌∷◌, ◌++◌, length, map, Option, Some, None, Result, Ok, Err, codes}
 use Rattle.std.specs.Option.{option_map}
 use Rattle.std.specs.Fmt.{decimal}
 use Rattle.zber.specs.Elements.{Element, height}
@@ -9,11 +9,13 @@ use Rattle.zapdu.specs.declared.apdu.Apdu.{Apdu}
 use Rattle.zapdu.specs.declared.apdu.Apdu.TheVariants as apdus
 use Rattle.zapdu.specs.declared.element_set_names.ElementSetNames.{ElementSetNames}
 use Rattle.zapdu.specs.declared.element_set_names.ElementSetNames.TheVariants.{Generic}
+use Rattle.zapdu.specs.declared.range.Range.{Range as SentRange}
 use Rattle.zapdu.specs.declared.record_composition.RecordComposition.{RecordComposition}
 use Rattle.zapdu.specs.declared.record_composition.RecordComposition.TheVariants.{Simple}
 use Rattle.zapdu.specs.declared.search_query.SearchQuery.TheVariants.{Rpn}
 use Rattle.zapdu.specs.Writes.{Writes, apdu_spelt}
 use Rattle.zorigin.specs.declared.settings.Settings.{Settings}
+use Rattle.zorigin.specs.declared.range.Range.{Range}
 use Rattle.zorigin.specs.declared.settings.Ask.{Ask}
 use Rattle.zorigin.specs.declared.state.Searched.{Searched}
 use Rattle.zorigin.specs.declared.answer.Sent.{Sent}
@@ -77,14 +79,22 @@ search_request named op set ask = apdus.SearchRequest (record {
   other_info = None;
 })
 
+abbrev pub sent_range : Range → SentRange
+sent_range r = record { starting_position = r.start; number_of_records = r.n }
+
+-- the ranges after the first, where there are some
+abbrev pub additional : List Range → Option (List SentRange)
+additional [] = None
+additional (r ∷ rs) = Some (map sent_range (r ∷ rs))
+
 -- the syntax and the element set are those of the set's search
-abbrev pub present_request : Bool → ℕ → ℤ → ℤ → Searched → Apdu
-present_request named op start n searched = apdus.PresentRequest (record {
+abbrev pub present_request : Bool → ℕ → Range → List Range → Searched → Apdu
+present_request named op first others searched = apdus.PresentRequest (record {
   reference_id = Some (reference_id op);
   result_set_id = set_name named searched.set;
-  result_set_start_point = start;
-  number_of_records_requested = n;
-  additional_ranges = None;
+  result_set_start_point = first.start;
+  number_of_records_requested = first.n;
+  additional_ranges = additional others;
   record_composition = composition searched.elements;
   preferred_record_syntax = searched.syntax;
   max_segment_count = None;
@@ -104,11 +114,12 @@ close_request = apdus.Close (record {
   other_info = None;
 })
 
--- none for a Present of a set that no search made
+-- none for a Present of a set that no search made, or of no range
 abbrev pub request_of : Standing → Call → Option Apdu
 request_of s Init = Some (init_request s.settings)
 request_of s (Search op set ask) = Some (search_request s.force.named op set ask)
-request_of s (Present op set start n) = option_map (present_request s.force.named op start n) (search_of s.searches set)
+request_of s (Present op set []) = None
+request_of s (Present op set (r ∷ rs)) = option_map (present_request s.force.named op r rs) (search_of s.searches set)
 request_of s Close = Some close_request
 
 -- ---- which can be sent

@@ -1,8 +1,9 @@
 -- What a log amounts to, as the tables ask it, and the calls (Z39.50-2003, 3.2 and 3.4).
-use Rattle.std.specs.Prelude.{ℕ, ℤ, nat_eq, Bool, true, false, List, Option, Some}
+use Rattle.std.specs.Prelude.{ℕ, nat_eq, Bool, true, false, List, Option, Some}
 use Rattle.std.specs.Map.{lookup}
 use Rattle.zorigin.specs.declared.settings.Settings.{Settings}
 use Rattle.zorigin.specs.declared.settings.Ask.{Ask}
+use Rattle.zorigin.specs.declared.range.Range.{Range}
 use Rattle.zorigin.specs.declared.answer.Asked.{Asked}
 use Rattle.zorigin.specs.declared.state.State.{State}
 use Rattle.zorigin.specs.declared.state.State.TheVariants as states
@@ -11,11 +12,11 @@ use Rattle.zorigin.specs.declared.state.Outcome.{Outcome}
 use Rattle.zorigin.specs.declared.state.Outcome.TheVariants as outcomes
 use Rattle.zorigin.specs.declared.state.Searched.{Searched}
 
--- a call: a search with its operation, its set and what it asks for; a Present with its operation, its set, the first position and how many
+-- a call: a search with its operation, its set and what it asks for; a Present with its operation, its set and the ranges of positions
 pub data Call : Type 0 where
   Init : Call
   Search : ℕ → ℕ → Ask → Call
-  Present : ℕ → ℕ → ℤ → ℤ → Call
+  Present : ℕ → ℕ → List Range → Call
   Close : Call
 
 pub record Standing : Type 0 where

@@ -4,15 +4,16 @@ ghost use Rattle.indexmap.specs.IndexMap.{insert_entry};
 ghost use Rattle.indexmap.specs.IndexSet.{insert_key};
 ghost use Rattle.zorigin.specs.Standings.{Init, Search, Present};
 ghost use Rattle.zorigin.specs.Changes.{admitted_at};
-ghost use Rattle.zorigin.specs.Facts.{are_positions};
+ghost use Rattle.zorigin.specs.Ranges.{are_ranges};
 
 use crate::answer::{Asked, What};
 use crate::origin::Origin;
+use crate::range::Range;
 use crate::refusal::CallRefused;
 use crate::settings::Ask;
 use crate::state::{Searched, State};
 use indexmap::{IndexMap, IndexSet};
-use zber::Duplicate;
+use zber::{Duplicate, Seq};
 
 /// Notes an operation as admitted.
 fn admit(
@@ -26,9 +27,10 @@ fn admit(
         (outstanding.new.entries ≡ insert_entry nat_eq outstanding.old.entries asked.op asked) }
     ensures err { OnErr result ((used.new.keys ≡ used.old.keys) × (outstanding.new.entries ≡ outstanding.old.entries)) }
 {
+    let op = asked.op;
     used.reserve(1)?;
-    outstanding.insert(asked.op, asked)?;
-    used.insert(asked.op)?;
+    outstanding.insert(op, asked)?;
+    used.insert(op)?;
     Ok(())
 }
 
@@ -75,18 +77,19 @@ impl Origin {
         &mut self,
         op: u32,
         set: u32,
-        start: i64,
-        n: i64,
+        ranges: &[Range],
     ) -> Result<(), CallRefused>
-        requires { are_positions start n ≡ true }
+        requires { are_ranges ranges.now ≡ true }
         ensures memory { IfErr result (λ e. e ≡ CallRefused.Memory) }
-        ensures ok { OnOk result (self.new ≡ admitted_at self.old (Present op set start n)) }
+        ensures ok { OnOk result (self.new ≡ admitted_at self.old (Present op set ranges.now)) }
         ensures err { OnErr result (self.new ≡ self.old) }
     {
         let asked = Asked {
             op,
             set,
-            what: What::Present { start, n },
+            what: What::Present {
+                ranges: Seq::from_vec(Vec::from_slice(self.alloc, ranges)?),
+            },
         };
         admit(&mut self.used, &mut self.outstanding, asked)
     }

@@ -1,10 +1,13 @@
 //! Operations, and the replies to them.
 
+use crate::range::Range;
 use bytes::Bytes;
+use std::alloc::{AllocError, Global};
 use zapdu::Apdu;
+use zber::{Duplicate, Seq};
 
 /// What an operation asks for.
-#[derive(Clone, Copy, Debug, PartialEq, Eq)]
+#[derive(Drop)]
 pub enum What {
     /// The association itself.
     Init,
@@ -12,15 +15,13 @@ pub enum What {
     Search,
     /// Records of the set.
     Present {
-        /// The first record's position, from 1 on.
-        start: i64,
-        /// How many, from 1 on.
-        n: i64,
+        /// Their positions: one range at least, each beginning after the end of the one before.
+        ranges: Seq<Range>,
     },
 }
 
 /// An operation that was admitted.
-#[derive(Clone, Copy, Debug, PartialEq, Eq)]
+#[derive(Drop)]
 pub struct Asked {
     /// Its number, which its reference id spells; 0 for Init.
     pub op: u32,
@@ -28,6 +29,28 @@ pub struct Asked {
     pub set: u32,
     /// What it asks for.
     pub what: What,
+}
+
+impl Duplicate for What {
+    fn duplicate(&self, alloc: Global) -> Result<Self, AllocError> {
+        match self {
+            What::Init => Ok(What::Init),
+            What::Search => Ok(What::Search),
+            What::Present { ranges } => Ok(What::Present {
+                ranges: ranges.duplicate(alloc)?,
+            }),
+        }
+    }
+}
+
+impl Duplicate for Asked {
+    fn duplicate(&self, alloc: Global) -> Result<Self, AllocError> {
+        Ok(Asked {
+            op: self.op,
+            set: self.set,
+            what: self.what.duplicate(alloc)?,
+        })
+    }
 }
 
 /// A reply with the operation that it answers.

@@ -1,6 +1,7 @@
 //! Calls: the request that one sends, or why it is refused.
 ghost use Rattle.std.specs.Prelude.{◌≡◌, IfOk, OnErr};
 ghost use Rattle.zorigin.specs.Standings.{Init, Search, Present, Close};
+ghost use Rattle.zorigin.specs.Ranges.{one_range};
 ghost use Rattle.zorigin.specs.Calls.{call_answer, SendsFor};
 ghost use Rattle.zorigin.specs.Changes.{called_at};
 ghost use Rattle.zorigin.specs.Log.{Answers, AnswersCall, LeavesCall, IsCalled};
@@ -8,6 +9,7 @@ ghost use Rattle.zorigin.specs.Sending.{IsReadBack};
 
 use crate::answer::Sent;
 use crate::origin::Origin;
+use crate::range::Range;
 use crate::refusal::CallRefused;
 use crate::refusing::{is_ready, search_of};
 use crate::request::{close_request, init_request, present_request, search_request};
@@ -32,14 +34,17 @@ impl Origin {
         send(self.alloc, apdu)
     }
 
-    fn present_sent(&self, op: u32, set: u32, start: i64, n: i64) -> Result<Sent, CallRefused>
-        ensures exact { SendsFor self.now (Present op set start n) result }
+    fn present_sent(&self, op: u32, set: u32, ranges: &[Range]) -> Result<Sent, CallRefused>
+        ensures exact { SendsFor self.now (Present op set ranges.now) result }
         ensures framed { IfOk result IsReadBack }
     {
         let Some(searched) = search_of(&self.searches, set) else {
             return Err(CallRefused::SetUnknown);
         };
-        let apdu = present_request(self.alloc, self.force.named, op, start, n, searched)?;
+        let [first, others @ ..] = ranges else {
+            return Err(CallRefused::SetUnknown);
+        };
+        let apdu = present_request(self.alloc, self.force.named, op, *first, others, searched)?;
         send(self.alloc, apdu)
     }
 
@@ -71,17 +76,17 @@ impl Origin {
         Ok(sent)
     }
 
-    fn make_present(&mut self, op: u32, set: u32, start: i64, n: i64) -> Result<Sent, CallRefused>
-        ensures answer { Answers (call_answer self.old (Present op set start n)) result }
-        ensures after { IsCalled result → self.new ≡ called_at self.old (Present op set start n) }
+    fn make_present(&mut self, op: u32, set: u32, ranges: &[Range]) -> Result<Sent, CallRefused>
+        ensures answer { Answers (call_answer self.old (Present op set ranges.now)) result }
+        ensures after { IsCalled result → self.new ≡ called_at self.old (Present op set ranges.now) }
         ensures framed { IfOk result IsReadBack }
         ensures err { OnErr result (self.new ≡ self.old) }
     {
-        if let Some(reason) = self.present_refusal(op, set, start, n) {
+        if let Some(reason) = self.present_refusal(op, set, ranges) {
             return Err(reason);
         }
-        let sent = self.present_sent(op, set, start, n)?;
-        self.admit_present(op, set, start, n)?;
+        let sent = self.present_sent(op, set, ranges)?;
+        self.admit_present(op, set, ranges)?;
         Ok(sent)
     }
 
@@ -127,17 +132,36 @@ impl Origin {
         self.make_search(op, set, ask)
     }
 
-    /// Asks, as operation `op`, for `n` records of the set from position `start` on, with the syntax and the element
-    /// set of the set's search (Z39.50-2003, 3.2.3.1). Positions count from 1.
+    /// Asks, as operation `op`, for `n` records of the set from position `start` on, as `present_ranges` does for this
+    /// one range.
     ///
     /// `CallRefused` says when it is refused, in its order; the origin is then as it was.
     pub fn present(&mut self, op: u32, set: u32, start: i64, n: i64) -> Result<Sent, CallRefused>
-        ensures answer { AnswersCall self.old (Present op set start n) result }
-        ensures after { LeavesCall self.old (Present op set start n) result self.new }
+        ensures answer { AnswersCall self.old (Present op set (one_range start n)) result }
+        ensures after { LeavesCall self.old (Present op set (one_range start n)) result self.new }
         ensures framed { IfOk result IsReadBack }
         ensures err { OnErr result (self.new ≡ self.old) }
     {
-        self.make_present(op, set, start, n)
+        self.present_ranges(op, set, &[Range { start, n }])
+    }
+
+    /// Asks, as operation `op`, for the records of the set at the positions of all ranges, in their order, with the
+    /// syntax and the element set of the set's search (Z39.50-2003, 3.2.3.1). Positions count from 1. The first range
+    /// is sent as resultSetStartPoint and numberOfRecordsRequested, the others as additionalRanges.
+    ///
+    /// `CallRefused` says when it is refused, in its order; the origin is then as it was.
+    pub fn present_ranges(
+        &mut self,
+        op: u32,
+        set: u32,
+        ranges: &[Range],
+    ) -> Result<Sent, CallRefused>
+        ensures answer { AnswersCall self.old (Present op set ranges.now) result }
+        ensures after { LeavesCall self.old (Present op set ranges.now) result self.new }
+        ensures framed { IfOk result IsReadBack }
+        ensures err { OnErr result (self.new ≡ self.old) }
+    {
+        self.make_present(op, set, ranges)
     }
 
     /// Ends the association, with reason 0 (finished) and no reference id (Z39.50-2003, 3.2.11.1). Outstanding replies

@@ -1,11 +1,13 @@
 //! What a reply says of a target's result sets.
-ghost use Rattle.std.specs.Prelude.{◌≡◌, ◌++◌, ℤ, pos, ◌+ℤ◌, ◌≤ℤ◌, ◌<ℤ◌, length, IfOk, OnOk};
+ghost use Rattle.std.specs.Prelude.{◌≡◌, true, ◌++◌, ℤ, pos, ◌+ℤ◌, ◌≤ℤ◌, ◌<ℤ◌, length, IfOk, OnOk};
 ghost use Rattle.zknow.specs.declared.fact.Fact.TheVariants.{Seen};
-ghost use Rattle.zorigin.specs.Facts.{seen_from, told_at, count_or_failed, init_facts, search_facts, present_facts, facts_of, IsShowable};
+ghost use Rattle.zorigin.specs.Ranges.{positions, are_ranges};
+ghost use Rattle.zorigin.specs.Facts.{seen_from, seen_at, told_at, count_or_failed, init_facts, search_facts, present_facts, facts_of, IsShowable};
 ghost use Rattle.zorigin.specs.Fitting.{records_in, diagnostics_in};
 
 use crate::answer::{Answer, What};
 use crate::fitting::records_in;
+use crate::range::{Range, first_of, natural};
 use std::alloc::{AllocError, Global};
 use zapdu::{Apdu, DiagRec, InitResponse, PresentResponse, Record, Records, SearchResponse};
 use zber::Duplicate;
@@ -153,28 +155,48 @@ fn search_facts(
     Ok(facts)
 }
 
+/// Appends what the records say, each of them at the next position of the ranges.
+fn put_seen_in(
+    alloc: Global,
+    target: u32,
+    set: u32,
+    ranges: &[Range],
+    records: &[Record],
+    out: &mut Vec<Fact>,
+) -> Result<(), AllocError>
+    requires { are_ranges ranges.now ≡ true }
+    ensures { OnOk result (out.new.items ≡ out.old.items ++ seen_at target set (positions ranges.now) records.now) }
+{
+    let mut left = records;
+    for range in ranges {
+        let (within, after) = left.split_at(natural(range.n).min(left.len()));
+        put_seen(alloc, target, set, range.start, within, out)?;
+        left = after;
+    }
+    Ok(())
+}
+
 fn present_facts(
     alloc: Global,
     target: u32,
     set: u32,
-    start: i64,
+    ranges: &[Range],
     response: &PresentResponse,
 ) -> Result<Vec<Fact>, AllocError>
-    requires low { pos 0 ≤ℤ start }
-    requires high { (start +ℤ pos (length (records_in response.now.records))) <ℤ pos 9223372036854775809 }
-    ensures { IfOk result (λ facts. facts.items ≡ present_facts target set start response.now) }
+    requires { are_ranges ranges.now ≡ true }
+    ensures { IfOk result (λ facts. facts.items ≡ present_facts target set (positions ranges.now) response.now) }
 {
     let records = records_in(&response.records);
     let mut facts = Vec::new(alloc);
-    put_seen(alloc, target, set, start, records, &mut facts)?;
-    put_told(alloc, target, set, start, &response.records, &mut facts)?;
+    put_seen_in(alloc, target, set, ranges, records, &mut facts)?;
+    let first = first_of(ranges);
+    put_told(alloc, target, set, first, &response.records, &mut facts)?;
     Ok(facts)
 }
 
 /// The facts of a reply, of the target with this number: of a rejected Init, that the connection failed; of a search,
-/// its count, or that it failed; each record at its position, which for a Present counts from the first that was asked;
-/// each diagnostic that stands for no record, of a search at place 0, of a Present at the first position that was
-/// asked.
+/// its count, or that it failed; each record at its position, record j of a Present at the j-th that was asked for; each
+/// diagnostic that stands for no record, of a search at place 0, of a Present at the first position that was asked for.
 ///
 /// An error only where no memory was found.
 pub fn facts_of(alloc: Global, target: u32, answer: &Answer) -> Result<Vec<Fact>, AllocError>
@@ -182,13 +204,13 @@ pub fn facts_of(alloc: Global, target: u32, answer: &Answer) -> Result<Vec<Fact>
     ensures { IfOk result (λ facts. facts.items ≡ facts_of target answer.now) }
 {
     let set = answer.asked.set;
-    match (answer.asked.what, &answer.reply) {
+    match (&answer.asked.what, &answer.reply) {
         (What::Init, Apdu::InitResponse(response)) => init_facts(alloc, target, response),
         (What::Search, Apdu::SearchResponse(response)) => {
             search_facts(alloc, target, set, response)
         }
-        (What::Present { start, .. }, Apdu::PresentResponse(response)) => {
-            present_facts(alloc, target, set, start, response)
+        (What::Present { ranges }, Apdu::PresentResponse(response)) => {
+            present_facts(alloc, target, set, ranges.as_slice(), response)
         }
         _ => Ok(Vec::new(alloc)),
     }

@@ -1,8 +1,10 @@
 //! Whether a reply can answer an operation.
 ghost use Rattle.std.specs.Prelude.{◌≡◌, not, length};
+ghost use Rattle.zorigin.specs.Ranges.{positions};
 ghost use Rattle.zorigin.specs.Fitting.{records_in, diagnostics_in, is_empty, is_fragment, has_fragment, is_number, exceeds, count_mismatch, bad_number, bad_search, bad_present, search_fault, present_fault, fault_of};
 
 use crate::answer::What;
+use crate::range::{Range, exceed_positions};
 use crate::refusal::Refused;
 use zapdu::{Apdu, PresentResponse, Record, RecordBody, Records, SearchResponse};
 
@@ -66,11 +68,11 @@ fn is_bad_search(response: &SearchResponse) -> bool
         || has_fragment(&response.records)
 }
 
-fn is_bad_present(n: i64, response: &PresentResponse) -> bool
-    ensures { result ≡ bad_present n response.now }
+fn is_bad_present(ranges: &[Range], response: &PresentResponse) -> bool
+    ensures { result ≡ bad_present (positions ranges.now) response.now }
 {
     let records = records_in(&response.records);
-    exceeds(records.len(), n)
+    exceed_positions(records.len(), ranges)
         || has_fragment(&response.records)
         || (records.is_empty() && !has_diagnostics(&response.records))
 }
@@ -90,27 +92,29 @@ fn search_fault(response: &SearchResponse) -> Option<Refused>
     None
 }
 
-fn present_fault(n: i64, response: &PresentResponse) -> Option<Refused>
-    ensures { result ≡ present_fault n response.now }
+fn present_fault(ranges: &[Range], response: &PresentResponse) -> Option<Refused>
+    ensures { result ≡ present_fault (positions ranges.now) response.now }
 {
     let returned = response.number_of_records_returned;
     if is_count_mismatch(&response.records, returned) {
         return Some(Refused::CountMismatch);
     }
-    if is_bad_present(n, response) {
+    if is_bad_present(ranges, response) {
         return Some(Refused::BadShape);
     }
     None
 }
 
 /// Why the reply can't answer an operation that asked for this; none where it fits.
-pub(crate) fn fault_of(what: What, reply: &Apdu) -> Option<Refused>
-    ensures { result ≡ fault_of what reply.now }
+pub(crate) fn fault_of(what: &What, reply: &Apdu) -> Option<Refused>
+    ensures { result ≡ fault_of what.now reply.now }
 {
     match (what, reply) {
         (What::Init, Apdu::InitResponse(_)) => None,
         (What::Search, Apdu::SearchResponse(response)) => search_fault(response),
-        (What::Present { n, .. }, Apdu::PresentResponse(response)) => present_fault(n, response),
+        (What::Present { ranges }, Apdu::PresentResponse(response)) => {
+            present_fault(ranges.as_slice(), response)
+        }
         _ => Some(Refused::WrongKind),
     }
 }

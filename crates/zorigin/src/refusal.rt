@@ -11,7 +11,8 @@ pub enum CallRefused {
     /// `init` elsewhere than in Fresh, another call elsewhere than in Ready.
     #[error("not in this state")]
     WrongState,
-    /// The search or present option is not in force.
+    /// The search or present option is not in force; or a Present asks for two or more ranges, and version 3 is not in
+    /// force.
     #[error("the option is not in force")]
     NotOffered,
     /// An earlier admitted call had this number. That of `init` is 0.
@@ -29,8 +30,9 @@ pub enum CallRefused {
     /// Named result sets are not in force, and a later search was admitted.
     #[error("the set was replaced")]
     SetReplaced,
-    /// A search of set 0, with a negative bound, or with a large bound not above the small one. A Present whose start
-    /// or number is below 1, or that asks for a position past the count or past 2,147,483,647.
+    /// A search of set 0, with a negative bound, or with a large bound not above the small one. A Present of no range, of
+    /// a range whose start or number is below 1 or that does not begin after the end of the one before, or that asks for
+    /// a position past the count or past 2,147,483,647.
     #[error("out of range")]
     OutOfRange,
     /// An operation is outstanding, and either concurrent operations are not in force, or the call is a search, named

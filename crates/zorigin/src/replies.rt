@@ -1,5 +1,6 @@
 //! Replies: which is accepted, and what it changes.
 ghost use Rattle.std.specs.Prelude.{◌≡◌, ◌==◌, Ok, Err, IfOk, IfErr};
+ghost use Rattle.std.specs.Option.{option_map};
 ghost use Rattle.zorigin.specs.declared.refusal.Refused.TheVariants.{Memory};
 ghost use Rattle.zorigin.specs.Standings.{is_open, ready};
 ghost use Rattle.zorigin.specs.Replies.{only_of, named, taken_by, taken_as, against, verdict, Judges, JudgesBy};
@@ -16,6 +17,7 @@ use crate::state::{InForce, Outcome, Searched, State};
 use bytes::Bytes;
 use indexmap::IndexMap;
 use zapdu::{Apdu, InitResponse};
+use zber::Duplicate;
 
 /// Whether replies are taken.
 fn is_open(state: State) -> bool
@@ -76,8 +78,8 @@ fn note_if(searched: &mut Searched, op: u32, outcome: Option<Outcome>)
 }
 
 /// Notes what came of the operation's search, if it is one.
-fn note(searches: &mut IndexMap<u32, Searched>, asked: Asked, outcome: Option<Outcome>)
-    ensures { searches.new.entries ≡ noted asked outcome searches.old.entries }
+fn note(searches: &mut IndexMap<u32, Searched>, asked: &Asked, outcome: Option<Outcome>)
+    ensures { searches.new.entries ≡ noted asked.now outcome searches.old.entries }
 {
     if let Some(searched) = searches.get_mut(&asked.set) {
         note_if(searched, asked.op, outcome);
@@ -101,23 +103,23 @@ fn taken_as(answer: Answer) -> Taken
 
 impl Origin {
     /// The one operation that is outstanding, if it is one.
-    fn only(&self) -> Option<Asked>
-        ensures { result ≡ only_of self.now.outstanding }
+    fn only(&self) -> Option<&Asked>
+        ensures { option_map (λ r. r.now) result ≡ only_of self.now.outstanding }
     {
         if self.outstanding.len() == 1 {
-            self.outstanding.first().map(|(_, asked)| *asked)
+            self.outstanding.first().map(|(_, asked)| asked)
         } else {
             None
         }
     }
 
     /// The outstanding operation that a reference id names.
-    fn named(&self, id: &Option<Bytes>) -> Option<Asked>
-        ensures { result ≡ named self.now id.now }
+    fn named<'a>(&'a self, id: &Option<Bytes>) -> Option<&'a Asked>
+        ensures { option_map (λ r. r.now) result ≡ named self.now id.now }
     {
         match id {
             Some(id) => match number_of(id) {
-                Some(op) => self.outstanding.get(&op).copied(),
+                Some(op) => self.outstanding.get(&op),
                 None => None,
             },
             None => {
@@ -137,9 +139,12 @@ impl Origin {
         let Some(asked) = self.named(id) else {
             return Err(Refused::UnknownReference);
         };
-        match fault_of(asked.what, reply) {
-            Some(reason) => Err(reason),
-            None => Ok(asked),
+        if let Some(reason) = fault_of(&asked.what, reply) {
+            return Err(reason);
+        }
+        match asked.duplicate(self.alloc) {
+            Ok(asked) => Ok(asked),
+            Err(_) => Err(Refused::Memory),
         }
     }
 
@@ -211,7 +216,7 @@ impl Origin {
             }
             Taken::Answered(answer) => {
                 self.answered(answer.asked.op);
-                note(&mut self.searches, answer.asked, outcome_in(&answer.reply));
+                note(&mut self.searches, &answer.asked, outcome_in(&answer.reply));
             }
             Taken::Closed => self.state = State::Closed,
         }

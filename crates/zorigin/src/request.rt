@@ -1,17 +1,18 @@
 //! The APDUs that an origin sends.
 ghost use Rattle.std.specs.Prelude.{◌≡◌, IfOk};
-ghost use Rattle.zorigin.specs.Sending.{init_request, set_name, element_set, search_request, composition, present_request, close_request};
+ghost use Rattle.zorigin.specs.Sending.{init_request, set_name, element_set, search_request, composition, sent_range, additional, present_request, close_request};
 
+use crate::range::Range;
 use crate::reference::reference_id;
 use crate::settings::{Ask, Settings};
 use crate::state::Searched;
 use bytes::Bytes;
 use std::alloc::{AllocError, Global};
 use zapdu::{
-    Apdu, Close, ElementSetNames, InitRequest, PresentRequest, RecordComposition, SearchQuery,
-    SearchRequest,
+    Apdu, Close, ElementSetNames, InitRequest, PresentRequest, Range as SentRange,
+    RecordComposition, SearchQuery, SearchRequest,
 };
-use zber::{Bits, Duplicate};
+use zber::{Bits, Duplicate, Seq};
 
 /// The size that is offered for records and for one record.
 const SIZE: i64 = 1_048_576;
@@ -109,22 +110,45 @@ fn composition(
     }
 }
 
+fn sent_range(range: Range) -> SentRange
+    ensures { result ≡ sent_range range }
+{
+    SentRange {
+        starting_position: range.start,
+        number_of_records: range.n,
+    }
+}
+
+/// The ranges after the first, where there are some.
+fn additional(alloc: Global, others: &[Range]) -> Result<Option<Seq<SentRange>>, AllocError>
+    ensures { IfOk result (λ ranges. ranges ≡ additional others.now) }
+{
+    if others.is_empty() {
+        return Ok(None);
+    }
+    let mut ranges = Vec::with_capacity(alloc, others.len())?;
+    for range in others {
+        ranges.push(sent_range(*range))?;
+    }
+    Ok(Some(Seq::from_vec(ranges)))
+}
+
 pub(crate) fn present_request(
     alloc: Global,
     named: bool,
     op: u32,
-    start: i64,
-    n: i64,
+    first: Range,
+    others: &[Range],
     searched: &Searched,
 ) -> Result<Apdu, AllocError>
-    ensures { IfOk result (λ apdu. apdu ≡ present_request named op start n searched.now) }
+    ensures { IfOk result (λ apdu. apdu ≡ present_request named op first others.now searched.now) }
 {
     Ok(Apdu::PresentRequest(PresentRequest {
         reference_id: Some(reference_id(alloc, op)?),
         result_set_id: set_name(alloc, named, searched.set)?,
-        result_set_start_point: start,
-        number_of_records_requested: n,
-        additional_ranges: None,
+        result_set_start_point: first.start,
+        number_of_records_requested: first.n,
+        additional_ranges: additional(alloc, others)?,
         record_composition: composition(alloc, &searched.elements)?,
         preferred_record_syntax: searched.syntax.duplicate(alloc)?,
         max_segment_count: None,

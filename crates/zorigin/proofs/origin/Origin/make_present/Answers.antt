@@ -4,29 +4,29 @@ use Rattle.zorigin.proofs.Calling.{refused_early, unsent, sent_so, ready_present
 use Rattle.zorigin.proofs.origin.Origin.make_present.Goals as goal
 
 pub returns-in-Some-clause-answer : goal.returns-in-Some-clause-answer
-returns-in-Some-clause-answer c = λ _. (refused_early c.args.self.now (Present c.args.op c.args.set c.args.start c.args.n) c.in-Some.reason (search rules)).answer
+returns-in-Some-clause-answer c = λ _. (refused_early c.args.self.now (Present c.args.op c.args.set c.args.ranges.now) c.in-Some.reason (search rules)).answer
 
 pub returns-in-Some-clause-after : goal.returns-in-Some-clause-after
-returns-in-Some-clause-after c = λ _. (refused_early c.args.self.now (Present c.args.op c.args.set c.args.start c.args.n) c.in-Some.reason (search rules)).new
+returns-in-Some-clause-after c = λ _. (refused_early c.args.self.now (Present c.args.op c.args.set c.args.ranges.now) c.in-Some.reason (search rules)).new
 
 pub returns-in_err-sent-clause-answer : goal.returns-in_err-sent-clause-answer
 returns-in_err-sent-clause-answer c =
     let is : c.from_residual.result ≡ Err c.in_err-sent.field-0.0 = search rules in
-    let ready = ready_present c.args.self.now c.args.op c.args.set c.args.start c.args.n (search rules) in
-    rw is (λ m. (unsent c.args.self.now (Present c.args.op c.args.set c.args.start c.args.n) ready.0 c.in_err-sent.field-0.0 ready.1 (search rules) m).answer)
+    let ready = ready_present c.args.self.now c.args.op c.args.set c.args.ranges.now (search rules) in
+    rw is (λ m. (unsent c.args.self.now (Present c.args.op c.args.set c.args.ranges.now) ready.0 c.in_err-sent.field-0.0 ready.1 (search rules) m).answer)
 
 pub returns-in_err-sent-clause-after : goal.returns-in_err-sent-clause-after
 returns-in_err-sent-clause-after c =
     let is : c.from_residual.result ≡ Err c.in_err-sent.field-0.0 = search rules in
-    let ready = ready_present c.args.self.now c.args.op c.args.set c.args.start c.args.n (search rules) in
-    rw is (λ m. (unsent c.args.self.now (Present c.args.op c.args.set c.args.start c.args.n) ready.0 c.in_err-sent.field-0.0 ready.1 (search rules) m).new)
+    let ready = ready_present c.args.self.now c.args.op c.args.set c.args.ranges.now (search rules) in
+    rw is (λ m. (unsent c.args.self.now (Present c.args.op c.args.set c.args.ranges.now) ready.0 c.in_err-sent.field-0.0 ready.1 (search rules) m).new)
 
 pub returns-clause-answer : goal.returns-clause-answer
 returns-clause-answer c =
-    let ready = ready_present c.args.self.now c.args.op c.args.set c.args.start c.args.n (search rules) in
-    λ _. (sent_so c.args.self.now (Present c.args.op c.args.set c.args.start c.args.n) ready.0 c.in_ok-sent.sent ready.1 (search rules)).answer
+    let ready = ready_present c.args.self.now c.args.op c.args.set c.args.ranges.now (search rules) in
+    λ _. (sent_so c.args.self.now (Present c.args.op c.args.set c.args.ranges.now) ready.0 c.in_ok-sent.sent ready.1 (search rules)).answer
 
 pub returns-clause-after : goal.returns-clause-after
 returns-clause-after c =
-    let ready = ready_present c.args.self.now c.args.op c.args.set c.args.start c.args.n (search rules) in
-    λ _. (search rules) ∙ (sent_so c.args.self.now (Present c.args.op c.args.set c.args.start c.args.n) ready.0 c.in_ok-sent.sent ready.1 (search rules)).new
+    let ready = ready_present c.args.self.now c.args.op c.args.set c.args.ranges.now (search rules) in
+    λ _. (search rules) ∙ (sent_so c.args.self.now (Present c.args.op c.args.set c.args.ranges.now) ready.0 c.in_ok-sent.sent ready.1 (search rules)).new

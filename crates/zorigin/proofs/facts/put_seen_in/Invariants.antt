@@ -1,0 +1,9 @@
+use Rattle.std.proofs.Common.{◌≡◌, ◌++◌, drop}
+use Rattle.zorigin.specs.Ranges.{positions}
+use Rattle.zorigin.specs.Facts.{seen_at}
+use Rattle.zorigin.proofs.facts.put_seen_in.Given as goal
+
+abbrev pub invariant-loop-range : goal.invariant-loop-range
+invariant-loop-range l =
+    l.out.items ++ seen_at l.target l.set (positions (drop l.range-index l.ranges)) l.left
+    ≡ l.fn.out.items ++ seen_at l.target l.set (positions l.ranges) l.fn.records

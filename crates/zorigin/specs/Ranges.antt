@@ -1,0 +1,48 @@
+-- The positions of a result set that are asked for, as ranges of them, and which ranges can be asked for (Z39.50-2003, 3.2.3.1).
+use Rattle.std.specs.Prelude.{ℕ, ℤ, pos, negsuc, ◌+ℤ◌, ◌-ℤ◌, int_le, int_lt, Bool, true, false, ◌&&◌, List, [], ◌∷◌}
+use Rattle.std.specs.List.{range_with_len, flat_map, list_any}
+use Rattle.zorigin.specs.declared.range.Range.{Range}
+
+-- 0 in the place of a negative number
+abbrev pub natural : ℤ → ℕ
+natural (pos n) = n
+natural (negsuc n) = 0
+
+-- the positions of one range, in order
+abbrev pub positions_of : Range → List ℕ
+positions_of r = range_with_len (natural r.start) (natural r.n)
+
+-- the positions of ranges, in the order of the ranges
+abbrev pub positions : List Range → List ℕ
+positions ranges = flat_map positions_of ranges
+
+-- so many positions from the start on
+abbrev pub one_range : ℤ → ℤ → List Range
+one_range start n = record { start = start; n = n } ∷ []
+
+-- the first of the positions, 0 where there is none
+abbrev pub first_of : List ℕ → ℕ
+first_of [] = 0
+first_of (p ∷ ps) = p
+
+-- ---- ranges that can be asked for, whatever the set's count is
+
+abbrev pub last_of : Range → ℤ
+last_of r = (r.start +ℤ r.n) -ℤ pos 1
+
+-- it begins at 1 or later, has a position, and none past 2,147,483,647
+abbrev pub is_range : Range → Bool
+is_range r = int_le (pos 1) r.start && int_le (pos 1) r.n && int_le (last_of r) (pos 2147483647)
+
+-- each begins after the end of the one before, the first after this position
+abbrev pub follow : ℤ → List Range → Bool
+follow last [] = true
+follow last (r ∷ rs) = is_range r && int_lt last r.start && follow (last_of r) rs
+
+abbrev pub are_ranges : List Range → Bool
+are_ranges [] = false
+are_ranges (r ∷ rs) = follow (pos 0) (r ∷ rs)
+
+-- one of the positions is past the count
+abbrev pub is_past : ℤ → List ℕ → Bool
+is_past count asked = list_any (λ p. int_lt count (pos p)) asked
