@@ -1,4 +1,5 @@
 pub mod Places
+pub mod AskedPositions
 pub mod FewEntries
 pub mod Histories
 pub mod LongestRuns
@@ -9,6 +10,7 @@ pub mod NamedSets
 pub mod KeptSets
 pub mod KeptEntries
 pub mod Criteria
+pub mod Repeats
 pub mod Indexes
 pub mod Members
 pub mod Walks
@@ -19,6 +21,13 @@ pub mod KeptAt
 pub mod OnceNamed
 pub mod Lookups
 pub mod Merges
+pub mod InCommon
+pub mod Narrowings
+pub mod Needs
+pub mod Evaluations
 pub mod Levels
 pub mod ReplyElements
 pub mod Sendable
+pub mod Answered
+pub mod Leading
+pub mod Cuts

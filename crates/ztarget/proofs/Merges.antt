@@ -58,7 +58,7 @@ module _ (keep : Keep) where
       ]
 
 module _ {X : Type 0} where
-  places_same : (p q : X → Bool) → ((x : X) → p x ≡ q x) → (n : ℕ) (xs : List X) → places_from p n xs ≡ places_from q n xs
+  pub places_same : (p q : X → Bool) → ((x : X) → p x ≡ q x) → (n : ℕ) (xs : List X) → places_from p n xs ≡ places_from q n xs
   places_same p q same n [] = refl
   places_same p q same n (x ∷ xs) = ap (λ b. if b then n ∷ places_from p (n + 1) xs else places_from p (n + 1) xs) (same x) ∙ ap (λ l. if q x then n ∷ l else l) (places_same p q same (n + 1) xs)
 

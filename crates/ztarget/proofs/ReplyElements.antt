@@ -18,14 +18,11 @@ use Rattle.zapdu.specs.declared.diagnostic.DiagRec.TheVariants.{Default}
 use Rattle.zapdu.specs.declared.external.External.{External}
 use Rattle.zapdu.specs.declared.external.Content.TheVariants.{Aligned}
 use Rattle.zapdu.specs.declared.init_request.InitRequest.{InitRequest}
-use Rattle.zapdu.specs.declared.init_response.InitResponse.{InitResponse}
 use Rattle.zapdu.specs.declared.present_request.PresentRequest.{PresentRequest}
-use Rattle.zapdu.specs.declared.present_response.PresentResponse.{PresentResponse}
 use Rattle.zapdu.specs.declared.record.Record.{Record}
 use Rattle.zapdu.specs.declared.record.RecordBody.{RecordBody}
 use Rattle.zapdu.specs.declared.record.RecordBody.TheVariants.{Retrieval, Surrogate}
 use Rattle.zapdu.specs.declared.search_request.SearchRequest.{SearchRequest}
-use Rattle.zapdu.specs.declared.search_response.SearchResponse.{SearchResponse}
 use Rattle.zapdu.specs.Closes.{close_table, close_parts}
 use Rattle.zapdu.specs.Diagnostics.{default_table, default_parts, diag_rec}
 use Rattle.zapdu.specs.Externals.{external_table, external_parts}
@@ -41,7 +38,8 @@ use Rattle.ztarget.specs.Faults.{Reason, fault}
 use Rattle.ztarget.specs.Initialising.{size_answered, init_response}
 use Rattle.ztarget.specs.Levels.{HasLevels, IsShowable, HasElement}
 use Rattle.ztarget.specs.Replies.{close_reply}
-use Rattle.ztarget.specs.Responding.{next_position, status, status_of, records_of, before_start, search_response, search_failed, present_response, present_failed}
+use Rattle.ztarget.specs.Positions.{last_of}
+use Rattle.ztarget.specs.Responding.{next_position, status, status_of, records_of, asked_by, search_response, search_failed, present_response, present_failed}
 use Rattle.ztarget.specs.Searching.{Found}
 use Rattle.ztarget.specs.Showing.{diagnostic, retrieval, surrogate, in_syntax, size_of, shown}
 use Rattle.ztarget.proofs.Levels.{HaveLevels, IfThere, AreWithin, of_table, of_around, of_explicit, of_list, up_to, of_oid, of_integer}
@@ -170,16 +168,15 @@ module _ (r : SearchRequest) where
   failed_element reason is = of_parts (apdus.SearchResponse (search_failed r reason)) (failed_fits reason is)
 
 module _ (r : PresentRequest) where
-  present_fits : (count : ℕ) (held : List Record) → count < 2 ^ 32 → before_start r + length held ≤ count → All IsShowable held → HaveLevels 63 (present_response_parts.made (present_response r count held) [])
+  present_fits : (count : ℕ) (held : List Record) → count < 2 ^ 32 → last_of (asked_by r) (length held) ≤ count → length held < 2 ^ 63 → All IsShowable held → HaveLevels 63 (present_response_parts.made (present_response r count held) [])
   unfolding present_response_parts
-  present_fits count held few l h =
-      let returned : length held < 2 ^ 32 = omega (arith, few, l) in
+  present_fits count held few l returned h =
       of_table 63 present_response_table (fields present_response_table (present_response r count held)) [] (
         text 63 (context 2) r.reference_id,
         (
-          of_integer 63 (context 24) (pos (length held)) (count_fits (length held) returned),
+          of_integer 63 (context 24) (pos (length held)) (small (length held) returned),
           (
-            of_integer 63 (context 25) (next_position (before_start r + length held) count) (next_fits (before_start r + length held) count l few),
+            of_integer 63 (context 25) (next_position (last_of (asked_by r) (length held)) count) (next_fits (last_of (asked_by r) (length held)) count l few),
             (
               of_integer 63 (context 27) (status (length held) _) (status_fits (length held) _),
               (records_fit held h, (tt, tt)),
@@ -196,8 +193,8 @@ module _ (r : PresentRequest) where
       (text 63 (context 2) r.reference_id, (low 63, (low 63, (low 63, (diagnosed_fits reason is, (tt, tt))))))
       tt
 
-  pub presented_element : (count : ℕ) (held : List Record) → count < 2 ^ 32 → before_start r + length held ≤ count → All IsShowable held → HasElement (apdus.PresentResponse (present_response r count held))
-  presented_element count held few l h = of_parts (apdus.PresentResponse (present_response r count held)) (present_fits count held few l h)
+  pub presented_element : (count : ℕ) (held : List Record) → count < 2 ^ 32 → last_of (asked_by r) (length held) ≤ count → length held < 2 ^ 63 → All IsShowable held → HasElement (apdus.PresentResponse (present_response r count held))
+  presented_element count held few l returned h = of_parts (apdus.PresentResponse (present_response r count held)) (present_fits count held few l returned h)
 
   pub unpresented_element : (reason : Reason) → is_i64 reason.condition ≡ true → HasElement (apdus.PresentResponse (present_failed r reason))
   unpresented_element reason is = of_parts (apdus.PresentResponse (present_failed r reason)) (unpresented_fits reason is)

@@ -1,5 +1,5 @@
 -- Each pending reply has an element, also when one was put last or taken out.
-use Rattle.std.proofs.Common.{◌≡◌, sym, subst, ℕ, suc, List, ◌∷◌, [], ◌++◌, get_or, Option, Some, None, IfSome, Result, Ok, Err, IfOk, take, drop}
+use Rattle.std.proofs.Common.{◌≡◌, sym, subst, ℕ, suc, List, ◌∷◌, [], ◌++◌, Option, Some, None, IfSome, Result, Ok, Err, IfOk, take, drop}
 use Rattle.std.specs.List.{All, remove}
 use Rattle.std.proofs.lemmas.Option.{slice_get_within, get_or_from_slice_get}
 use Rattle.std.proofs.lemmas.List.Elements.{All-append, All-take, All-drop, All-push, All-same, All-get_or}
@@ -25,3 +25,8 @@ one_taken old new k (Some apdu) h all =
 pub known_ok : {A E : Type 0} (P : A → Type 0) (v : A) (r : Result A E) → IfOk r (λ x. x ≡ v) → P v → IfOk r P
 known_ok P v (Ok x) h p = subst P (sym h) p
 known_ok P v (Err e) h p = tt
+
+-- the same of a part of it
+pub part_known_ok : {A B E : Type 0} (part : A → B) (P : B → Type 0) (v : B) (r : Result A E) → IfOk r (λ x. part x ≡ v) → P v → IfOk r (λ x. P (part x))
+part_known_ok part P v (Ok x) h p = subst P (sym h) p
+part_known_ok part P v (Err e) h p = tt

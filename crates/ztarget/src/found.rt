@@ -1,33 +1,23 @@
 //! What a search finds.
 ghost use Rattle.std.specs.Prelude.{◌≡◌, ◌+◌, ◌++◌, ◌<◌, ◌^◌, length, map, IfOk, OnOk};
-ghost use Rattle.std.specs.List.{AllByRecursion, flat_map};
+ghost use Rattle.std.specs.List.{AllByRecursion};
 ghost use Rattle.ztarget.specs.Asking.{meets};
 ghost use Rattle.ztarget.specs.Viewed.{asks};
-ghost use Rattle.ztarget.specs.Counting.{places_in, kept_in, kept_by, entry_at};
-ghost use Rattle.ztarget.specs.Searching.{entries_in, places_from, found};
+ghost use Rattle.ztarget.specs.Counting.{places_in};
+ghost use Rattle.ztarget.specs.Keeping.{hit, databases_of, hits_in, hits_by};
+ghost use Rattle.ztarget.specs.Searching.{entries_in, places_from};
 
 use crate::criterion::Criterion;
-use crate::database::Entry;
 use crate::indexed::Indexed;
-use bytes::Bytes;
+use crate::searched::Numbered;
 use std::alloc::{AllocError, Global};
-use std::marker::Model;
-use zber::Oid;
 
-/// A record that a search found, with the name of its database. The octets are shared with the entry.
-#[derive(Drop)]
+/// Where an entry that a search found stands: the number of its database among those of the target, and its own in that,
+/// each counted from 0.
+#[derive(Clone, Copy, Debug, PartialEq, Eq)]
 pub(crate) struct Hit {
-    pub database: Bytes,
-    pub syntax: Oid,
-    pub octets: Bytes,
-}
-
-impl Model for Hit {
-    ghost use Rattle.ztarget.specs.Searching.{Found};
-
-    ghost Value = { Found };
-
-    ghost view = { λ h. record { database = h.database; syntax = h.syntax; octets = h.octets } };
+    pub(crate) database: usize,
+    pub(crate) entry: u32,
 }
 
 /// Adds places, counted from another first one.
@@ -55,84 +45,57 @@ fn put_found(
     ensures { OnOk result (places.new.items ≡ places.old.items ++ places_from (meets (asks criterion.now)) first database.now.entries) }
 {
     let found = database.found(alloc, criterion)?;
-    put_shifted(first, &found, places)
+    put_shifted(first, found.as_slice(), places)
 }
 
 /// The places of the entries that meet the criterion, counted through the databases.
 pub(crate) fn places(
     alloc: Global,
     criterion: &Criterion,
-    databases: &[&Indexed],
+    searched: &[Numbered<'_>],
 ) -> Result<Vec<u32>, AllocError>
-    requires { length (entries_in (map (λ d. d.now) databases.now)) < 2 ^ 32 }
-    ensures { IfOk result (λ places. places.items ≡ places_in (meets (asks criterion.now)) 0 (map (λ d. d.now) databases.now)) }
+    requires { length (entries_in (databases_of searched.now)) < 2 ^ 32 }
+    ensures { IfOk result (λ places. places.items ≡ places_in (meets (asks criterion.now)) 0 (databases_of searched.now)) }
 {
     let mut places = Vec::new(alloc);
     let mut first = 0;
-    let mut left = databases;
-    while let [database, others @ ..] = left {
-        put_found(alloc, criterion, database, first, &mut places)?;
-        first += database.entries().len() as u32;
+    let mut left = searched;
+    while let [numbered, others @ ..] = left {
+        put_found(alloc, criterion, numbered.database, first, &mut places)?;
+        first += numbered.database.entries().len() as u32;
         left = others;
     }
     Ok(places)
 }
 
-fn hit_of(alloc: Global, database: &Bytes, entry: &Entry) -> Result<Hit, AllocError>
-    ensures { IfOk result (λ hit. hit ≡ found database.now entry.now) }
+/// Adds the hits of entries of the database with this number.
+fn put_entries(database: usize, entries: &[u32], hits: &mut Vec<Hit>) -> Result<(), AllocError>
+    ensures { OnOk result (hits.new.items ≡ hits.old.items ++ map (hit database) entries.now) }
 {
-    Ok(Hit {
-        database: database.clone()?,
-        syntax: entry.syntax.copy(alloc)?,
-        octets: entry.octets.clone()?,
-    })
-}
-
-/// Adds what stands at a place of a database.
-fn put_entry(
-    alloc: Global,
-    database: &Indexed,
-    place: u32,
-    hits: &mut Vec<Hit>,
-) -> Result<(), AllocError>
-    ensures { OnOk result (hits.new.items ≡ hits.old.items ++ entry_at database.now place) }
-{
-    if let Some(entry) = database.entries().get(place as usize) {
-        hits.push(hit_of(alloc, database.name(), entry)?)?;
-    }
-    Ok(())
-}
-
-/// The same of each of some places.
-fn put_entries(
-    alloc: Global,
-    database: &Indexed,
-    places: &[u32],
-    hits: &mut Vec<Hit>,
-) -> Result<(), AllocError>
-    ensures { OnOk result (hits.new.items ≡ hits.old.items ++ flat_map (entry_at database.now) places.now) }
-{
-    let mut left = places;
-    while let [place, others @ ..] = left {
-        put_entry(alloc, database, *place, hits)?;
+    hits.reserve(entries.len())?;
+    let mut left = entries;
+    while let [entry, others @ ..] = left {
+        hits.push(Hit {
+            database,
+            entry: *entry,
+        })?;
         left = others;
     }
     Ok(())
 }
 
 /// Adds what is found in a database.
-#[tactic(auto, using(crate::proofs::KeptAt::kept_at))]
 fn put_hits(
     alloc: Global,
     criterion: &Criterion,
-    database: &Indexed,
+    numbered: Numbered<'_>,
     hits: &mut Vec<Hit>,
 ) -> Result<(), AllocError>
-    requires { length database.now.entries < 2 ^ 32 }
-    ensures { OnOk result (hits.new.items ≡ hits.old.items ++ kept_in (meets (asks criterion.now)) database.now) }
+    requires { length numbered.database.now.entries < 2 ^ 32 }
+    ensures { OnOk result (hits.new.items ≡ hits.old.items ++ hits_in (meets (asks criterion.now)) numbered.entry) }
 {
-    let found = database.found(alloc, criterion)?;
-    put_entries(alloc, database, &found, hits)
+    let found = numbered.database.found(alloc, criterion)?;
+    put_entries(numbered.number, found.as_slice(), hits)
 }
 
 /// What is found in the databases, in order.
@@ -140,15 +103,15 @@ fn put_hits(
 pub(crate) fn hits(
     alloc: Global,
     criterion: &Criterion,
-    databases: &[&Indexed],
+    searched: &[Numbered<'_>],
 ) -> Result<Vec<Hit>, AllocError>
-    requires { length (entries_in (map (λ d. d.now) databases.now)) < 2 ^ 32 }
-    ensures { IfOk result (λ hits. hits.items ≡ kept_by (meets (asks criterion.now)) (map (λ d. d.now) databases.now)) }
+    requires { length (entries_in (databases_of searched.now)) < 2 ^ 32 }
+    ensures { IfOk result (λ hits. hits.items ≡ hits_by (meets (asks criterion.now)) searched.now) }
 {
     let mut hits = Vec::new(alloc);
-    let mut left = databases;
-    while let [database, others @ ..] = left {
-        put_hits(alloc, criterion, database, &mut hits)?;
+    let mut left = searched;
+    while let [numbered, others @ ..] = left {
+        put_hits(alloc, criterion, *numbered, &mut hits)?;
         left = others;
     }
     Ok(hits)

@@ -10,8 +10,8 @@ ghost use Rattle.ztarget.specs.Indexing.{looks_at, is_last, entries_at, begun, p
 
 use crate::database::{Entry, Field};
 use crate::matching::is_used;
+use crate::word::Word;
 use crate::words::words;
-use bytes::Bytes;
 use std::alloc::{AllocError, Global};
 use std::collections::BTreeMap;
 use std::marker::Model;
@@ -43,7 +43,7 @@ impl Model for Places {
 #[derive(Drop)]
 pub(crate) struct Index {
     alloc: Global,
-    words: BTreeMap<Bytes, Places, Global>,
+    words: BTreeMap<Word, Places, Global>,
 }
 
 impl Model for Index {
@@ -91,7 +91,7 @@ impl Index {
     }
 
     /// Adds a place of a word, behind those that the word has.
-    fn put(&mut self, word: &Bytes, place: Place) -> Result<(), AllocError>
+    fn put(&mut self, word: &Word, place: Place) -> Result<(), AllocError>
         ensures { OnOk result ((w : List ℕ) → standing self.new w ≡ standing self.old w ++ at_word w ((word.now, place) ∷ [])) }
     {
         if let Some(places) = self.words.get_mut(word) {
@@ -99,13 +99,13 @@ impl Index {
         }
         let mut places = Places::new(self.alloc);
         places.push(place)?;
-        let copy = word.clone()?;
+        let copy = word.again()?;
         self.words.insert(copy, places)?;
         Ok(())
     }
 
     /// The places of a word, in order.
-    pub(crate) fn places(&self, word: &Bytes) -> &[Place]
+    pub(crate) fn places(&self, word: &Word) -> &[Place]
         ensures { result.now ≡ standing self.now word.now }
     {
         match self.words.get(word) {
@@ -115,7 +115,7 @@ impl Index {
     }
 
     /// The places of the words that begin with this one, word by word.
-    pub(crate) fn beginning(&self, alloc: Global, word: &Bytes) -> Result<Vec<Place>, AllocError>
+    pub(crate) fn beginning(&self, alloc: Global, word: &Word) -> Result<Vec<Place>, AllocError>
         ensures places { IfOk result (λ found. found.items ≡ places_of (begun word.now self.now)) }
         ensures in_order { IsStrictlySortedBy (slice_cmp nat_cmp) (keys_of self.now) }
     {
@@ -132,7 +132,7 @@ impl Index {
 }
 
 /// Adds the words of a field.
-fn put_words(index: &mut Index, entry: u32, field: usize, words: &[Bytes]) -> Result<(), AllocError>
+fn put_words(index: &mut Index, entry: u32, field: usize, words: &[Word]) -> Result<(), AllocError>
     ensures { OnOk result ((w : List ℕ) → standing index.new w ≡ standing index.old w ++ at_word w (word_places entry field 0 words.now)) }
 {
     let mut word = 0;
@@ -178,7 +178,7 @@ pub(crate) fn index_of(alloc: Global, entries: &[Entry]) -> Result<Index, AllocE
 }
 
 /// Whether searches with this Use look at the place.
-fn looks_at(used: i64, entries: &[Entry], place: Place) -> bool
+pub(crate) fn looks_at(used: i64, entries: &[Entry], place: Place) -> bool
     ensures { result ≡ looks_at used entries.now place }
 {
     match entries.get(place.entry as usize) {

@@ -1,14 +1,15 @@
 //! A database with its index.
 ghost use Rattle.std.specs.Prelude.{◌≡◌, ◌<◌, ◌^◌, length, IfOk};
 ghost use Rattle.ztarget.specs.Asking.{meets};
+ghost use Rattle.ztarget.specs.Indexing.{IsIndexOf};
 ghost use Rattle.ztarget.specs.Searching.{entries_in, places_from};
 ghost use Rattle.ztarget.specs.Viewed.{asks};
 
 use crate::criterion::Criterion;
 use crate::database::{Database, Entry};
+use crate::evaluation::Evaluation;
 use crate::index::{Index, index_of};
-use crate::merging::{IN_BOTH, IN_EITHER, IN_FIRST_ALONE, merged};
-use crate::phrase::with_phrase;
+use crate::shared::SharedPlaces;
 use bytes::Bytes;
 use std::alloc::{AllocError, Global};
 use std::marker::Model;
@@ -53,42 +54,15 @@ impl Indexed {
     }
 
     /// The places of the entries that meet the criterion, in order.
-    #[tactic(auto, using(crate::proofs::Merges::both_places, crate::proofs::Merges::either_places, crate::proofs::Merges::without_places))]
-    pub(crate) fn found(&self, alloc: Global, criterion: &Criterion) -> Result<Vec<u32>, AllocError>
-        requires { length self.now.entries < 2 ^ 32 }
-        ensures { IfOk result (λ places. places.items ≡ places_from (meets (asks criterion.now)) 0 self.now.entries) }
+    pub(crate) fn found(
+        &self,
+        alloc: Global,
+        criterion: &Criterion,
+    ) -> Result<SharedPlaces, AllocError>
+        ensures { IfOk result (λ places. places ≡ places_from (meets (asks criterion.now)) 0 self.now.entries) }
     {
-        let entries = self.entries();
-        match criterion {
-            Criterion::Phrase {
-                used,
-                truncated,
-                asked,
-            } => with_phrase(
-                alloc,
-                &self.index,
-                entries,
-                *used,
-                *truncated,
-                asked.as_slice(),
-            ),
-            Criterion::Never => Ok(Vec::new(alloc)),
-            Criterion::And(left, right) => {
-                let left = self.found(alloc, left)?;
-                let right = self.found(alloc, right)?;
-                merged(alloc, IN_BOTH, &left, &right)
-            }
-            Criterion::Or(left, right) => {
-                let left = self.found(alloc, left)?;
-                let right = self.found(alloc, right)?;
-                merged(alloc, IN_EITHER, &left, &right)
-            }
-            Criterion::Not(left, right) => {
-                let left = self.found(alloc, left)?;
-                let right = self.found(alloc, right)?;
-                merged(alloc, IN_FIRST_ALONE, &left, &right)
-            }
-        }
+        let mut evaluation = Evaluation::new(alloc, &self.index, self.entries());
+        evaluation.found(criterion)
     }
 }
 

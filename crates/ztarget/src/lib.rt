@@ -1,11 +1,13 @@
 //! The other end of Z39.50, exact and in memory: databases, and a target that owes each request one stated reply.
 #![tactic(auto)]
 
+mod common;
 mod criterion;
 mod database;
 mod decimal;
 mod diagnostic;
 mod error;
+mod evaluation;
 mod fault;
 mod fits;
 mod found;
@@ -15,8 +17,11 @@ mod init;
 pub mod laws;
 mod matching;
 mod merging;
+mod narrowed;
+mod needed;
 mod phase;
 mod phrase;
+mod positions;
 mod present;
 mod query;
 mod record;
@@ -26,7 +31,9 @@ mod search_fault;
 mod searched;
 mod sets;
 mod settings;
+mod shared;
 mod target;
+mod word;
 mod words;
 
 pub use database::{Database, Entry, Field};

@@ -6,7 +6,7 @@ ghost use Rattle.ztarget.specs.Phrasing.{phrase_places, with_phrase, place_cmp, 
 
 use crate::database::Entry;
 use crate::index::{Index, Place, entries_at};
-use bytes::Bytes;
+use crate::word::Word;
 use std::alloc::{AllocError, Global};
 use std::cmp::Ordering;
 
@@ -62,7 +62,7 @@ fn truncated_places(
     alloc: Global,
     index: &Index,
     entries: &[Entry],
-    word: &Bytes,
+    word: &Word,
 ) -> Result<Vec<Place>, AllocError>
     requires { IsIndexOf entries.now index.now }
     ensures { IfOk result (λ found. found.items ≡ phrase_places true (word.now ∷ []) entries.now) }
@@ -79,7 +79,7 @@ fn last_places(
     index: &Index,
     entries: &[Entry],
     truncated: bool,
-    word: &Bytes,
+    word: &Word,
 ) -> Result<Vec<Place>, AllocError>
     requires { IsIndexOf entries.now index.now }
     ensures { IfOk result (λ found. found.items ≡ phrase_places truncated (word.now ∷ []) entries.now) }
@@ -98,7 +98,7 @@ fn phrase_places(
     index: &Index,
     entries: &[Entry],
     truncated: bool,
-    asked: &[Bytes],
+    asked: &[Word],
 ) -> Result<Vec<Place>, AllocError>
     requires index { IsIndexOf entries.now index.now }
     requires some { 0 < length asked.now }
@@ -119,7 +119,7 @@ fn with_words(
     entries: &[Entry],
     used: i64,
     truncated: bool,
-    asked: &[Bytes],
+    asked: &[Word],
 ) -> Result<Vec<u32>, AllocError>
     requires index { IsIndexOf entries.now index.now }
     requires some { 0 < length asked.now }
@@ -142,7 +142,7 @@ pub(crate) fn with_phrase(
     entries: &[Entry],
     used: i64,
     truncated: bool,
-    asked: &[Bytes],
+    asked: &[Word],
 ) -> Result<Vec<u32>, AllocError>
     requires { IsIndexOf entries.now index.now }
     ensures { IfOk result (λ found. found.items ≡ with_phrase used truncated asked.now entries.now) }

@@ -5,6 +5,7 @@ ghost use Rattle.ztarget.specs.Faults.{match_fault};
 ghost use Rattle.ztarget.specs.Matching.{matches};
 ghost use Rattle.ztarget.specs.Searching.{entries_in, found_places, result_set};
 ghost use Rattle.ztarget.specs.Counting.{places_in};
+ghost use Rattle.ztarget.specs.Keeping.{AreAt};
 ghost use Rattle.ztarget.specs.Replies.{found_by_query};
 ghost use Rattle.ztarget.specs.Receiving.{IsRefusal};
 
@@ -65,7 +66,7 @@ fn result_set(
     query: &Query,
 ) -> Result<Vec<Hit>, AllocError>
     requires { length (entries_in databases.now) < 2 ^ 32 }
-    ensures { IfOk result (λ hits. hits.items ≡ result_set databases.now names.now query.now.root) }
+    ensures { IfOk result (λ hits. AreAt databases.now hits.items (result_set databases.now names.now query.now.root)) }
 {
     let searched = searched(alloc, databases, names)?;
     let criterion = criterion_of(alloc, &query.root)?;
@@ -80,7 +81,7 @@ pub(crate) fn found(
     request: &SearchRequest,
 ) -> Result<Vec<Hit>, AllocError>
     requires { length (entries_in databases.now) < 2 ^ 32 }
-    ensures found { IfOk result (λ hits. hits.items ≡ found_by_query databases.now request.now request.now.query) }
+    ensures found { IfOk result (λ hits. AreAt databases.now hits.items (found_by_query databases.now request.now request.now.query)) }
     ensures few { IfOk result (λ hits. length hits.items < 2 ^ 32) }
 {
     match &request.query {

@@ -5,9 +5,10 @@ ghost use Rattle.zapdu.specs.declared.apdu.Apdu.{Apdu};
 ghost use Rattle.zapdu.specs.declared.apdu.Apdu.TheVariants as apdus;
 ghost use Rattle.ztarget.specs.Faults.{match_fault};
 ghost use Rattle.ztarget.specs.Searching.{entries_in, found_places};
+ghost use Rattle.ztarget.specs.Keeping.{AllStand, named_set};
 ghost use Rattle.ztarget.specs.Replies.{close_reply, to_init, to_close, to_search, to_search_unless, to_present, found_by_query};
-ghost use Rattle.ztarget.specs.Responding.{search_failed};
-ghost use Rattle.ztarget.specs.Standing.{Open, put_set};
+ghost use Rattle.ztarget.specs.Responding.{search_failed, presented};
+ghost use Rattle.ztarget.specs.Standing.{Open, put_set, set_named};
 ghost use Rattle.ztarget.specs.declared.database.Database.{Database};
 ghost use Rattle.ztarget.specs.declared.settings.TargetSettings.{TargetSettings};
 ghost use Rattle.ztarget.specs.Receiving.{new_target, answered, Receives, After, Answers, is_close, with_released, Releases, TakesOut, IsRefusal};
@@ -31,7 +32,9 @@ use bytes::Bytes;
 use std::alloc::{AllocError, Global};
 use std::collections::VecDeque;
 use std::marker::Model;
-use zapdu::{Apdu, Close, InitRequest, PresentRequest, SearchRequest, SearchResponse};
+use zapdu::{
+    Apdu, Close, InitRequest, PresentRequest, PresentResponse, SearchRequest, SearchResponse,
+};
 use zber::Duplicate;
 use zquery::Query;
 
@@ -62,11 +65,12 @@ impl Model for Target {
     ghost use Rattle.ztarget.specs.Searching.{entries_in};
     ghost use Rattle.ztarget.specs.Viewed.{state_of};
     ghost use Rattle.std.specs.List.{All};
+    ghost use Rattle.ztarget.specs.Keeping.{SetsStand, sets_of};
     ghost use Rattle.ztarget.specs.Levels.{HasElement};
 
-    ghost view = { λ t. record { databases = t.databases.items; settings = t.settings; standing = record { state = state_of t.phase; sets = t.sets }; pending = t.pending.items } };
+    ghost view = { λ t. record { databases = t.databases.items; settings = t.settings; standing = record { state = state_of t.phase; sets = sets_of t.databases.items t.sets }; pending = t.pending.items } };
 
-    ghost invariant = { λ t. (length (entries_in t.databases.items) < 2 ^ 32) × All HasElement t.pending.items };
+    ghost invariant = { λ t. (length (entries_in t.databases.items) < 2 ^ 32) × All HasElement t.pending.items × SetsStand t.databases.items t.sets };
 }
 
 /// The answer to a Close: reason 0, finished, and the same reference id.
@@ -166,9 +170,10 @@ impl Target {
         name: Bytes,
         set: ResultSet,
     ) -> Result<(), AllocError>
-        requires { HasElement (apdus.SearchResponse response) }
+        requires element { HasElement (apdus.SearchResponse response) }
+        requires stand { AllStand self.old.databases set }
         ensures ok { OnOk result (self.new ≡ record self.old {
-          standing = record { state = self.old.standing.state; sets = put_set self.old.standing.sets (record { name = name; found = set }) };
+          standing = record { state = self.old.standing.state; sets = put_set self.old.standing.sets (named_set self.old.databases (name, set)) };
           pending = self.old.pending ++ apdus.SearchResponse response ∷ [];
         }) }
         ensures err { OnErr result (self.new ≡ self.old) }
@@ -201,7 +206,7 @@ impl Target {
         ensures err { OnErr result (self.new ≡ self.old) }
     {
         let found = found(self.alloc, &self.databases, request)?;
-        let response = search_found(self.alloc, terms.size, request, &found)?;
+        let response = search_found(self.alloc, terms.size, request, &self.databases, &found)?;
         let name = request.result_set_name.clone()?;
         self.keep(response, name, ResultSet::new(found))
     }
@@ -218,14 +223,26 @@ impl Target {
         }
     }
 
+    /// The response to a request for records.
+    fn presented(
+        &self,
+        terms: Terms,
+        request: &PresentRequest,
+    ) -> Result<PresentResponse, AllocError>
+        ensures value { IfOk result (λ response. response ≡ presented (terms_of terms) request.now (set_named self.now.standing.sets request.now.result_set_id)) }
+        ensures element { IfOk result (λ response. HasElement (apdus.PresentResponse response)) }
+    {
+        let found = self.sets.named(&request.result_set_id);
+        presented(self.alloc, terms, request, &self.databases, found)
+    }
+
     /// Puts the response to a request for records last.
     fn present(&mut self, terms: Terms, request: &PresentRequest) -> Result<(), AllocError>
         requires { self.old.standing.state ≡ Open (terms_of terms) }
         ensures ok { OnOk result (self.new ≡ answered self.old (to_present (terms_of terms) self.old.standing.sets request.now)) }
         ensures err { OnErr result (self.new ≡ self.old) }
     {
-        let found = self.sets.named(&request.result_set_id);
-        let response = presented(self.alloc, terms.size, request, found)?;
+        let response = self.presented(terms, request)?;
         self.pending.push_back(Apdu::PresentResponse(response))?;
         Ok(())
     }

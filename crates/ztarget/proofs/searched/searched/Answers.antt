@@ -1,10 +1,11 @@
-use Rattle.std.proofs.Common.{◌≡◌, refl, ◌∙◌, ap, sym, ◌+◌, ◌++◌, ◌∷◌, [], Bool, true, false, not, drop, map, take, append_assoc}
+use Rattle.std.proofs.Common.{◌≡◌, refl, ◌∙◌, ap, sym, ◌+◌, ◌++◌, ◌∷◌, [], Bool, true, false, not, drop, take, append_assoc}
 use Rattle.std.proofs.lemmas.Bool.{true≢false}
 use Rattle.std.proofs.lemmas.List.{drop_more, take_more}
 use Rattle.std.specs.BTreeSet.{contains}
 use Rattle.std.specs.Cmp.Lexicographic.{slice_cmp}
 use Rattle.std.specs.List.{flat_map}
 use Rattle.std.specs.Ordering.{nat_cmp}
+use Rattle.ztarget.specs.Keeping.{databases_of}
 use Rattle.ztarget.specs.Searching.{called, each_once}
 use Rattle.ztarget.proofs.OnceNamed.{told_more, new_name, old_name}
 use Rattle.ztarget.proofs.searched.searched.Goals as goal
@@ -28,22 +29,26 @@ loop-name-preserved c =
     let after = take (i + 1) names in
     let left : drop i names ≡ name ∷ drop (i + 1) names = rw (← c.name-item.is) at (drop_more names i name c.loop-name-test.true) in
     let upto : after ≡ before ++ name ∷ [] = rw (← c.name-item.is) at (take_more names i name c.loop-name-test.true) in
-    let puts = rw c.in_ok-clone.ensures.cases at c.in_ok-insert.ensures.updates in
-    let added = rw c.in_ok-clone.ensures.cases at c.in_ok-insert.ensures.added in
+    let puts = c.in_ok-put_name.ensures.updates in
+    let added = c.in_ok-put_name.ensures.added in
     let told = c.loop-name.invariant.told name in
     let rest = flat_map (called ds) (each_once after (drop (i + 1) names)) in
     record {
-      told = λ q. told_more before after name q (contains (slice_cmp nat_cmp) c.loop-name.named q) (contains (slice_cmp nat_cmp) c.insert.new.self q) upto (c.loop-name.invariant.told q) (puts.0 q);
+      told = λ q. told_more before after name q (contains (slice_cmp nat_cmp) c.loop-name.named q) (contains (slice_cmp nat_cmp) c.put_name.new.named q) upto (c.loop-name.invariant.told q) (puts.0 q);
       found = elim c.if-branch.branch [
         | then-branch+in_ok-put_called w ↦
             rw w.searched-is
-            (ap (λ l. l ++ rest) w.in_ok-put_called.ensures
-            ∙ append_assoc (map (λ d. d.now) c.loop-name.searched.items) (called ds name) rest
-            ∙ ap (λ l. map (λ d. d.now) c.loop-name.searched.items ++ l) (sym (new_name ds before (drop i names) after (drop (i + 1) names) name left upto (sym told ∙ was_new _ _ added w.if-branch.true)))
+            (ap (λ l. l ++ rest) w.in_ok-put_called.ensures.called
+            ∙ append_assoc (databases_of c.loop-name.searched.items) (called ds name) rest
+            ∙ ap (λ l. databases_of c.loop-name.searched.items ++ l) (sym (new_name ds before (drop i names) after (drop (i + 1) names) name left upto (sym told ∙ was_new _ _ added w.if-branch.true)))
             ∙ c.loop-name.invariant.found)
         | else-branch w ↦
             rw w.searched-is
-            (ap (λ l. map (λ d. d.now) c.loop-name.searched.items ++ l) (sym (old_name ds before (drop i names) after (drop (i + 1) names) name left upto (sym told ∙ was_old _ _ added w.if-branch.false)))
+            (ap (λ l. databases_of c.loop-name.searched.items ++ l) (sym (old_name ds before (drop i names) after (drop (i + 1) names) name left upto (sym told ∙ was_old _ _ added w.if-branch.false)))
             ∙ c.loop-name.invariant.found)
+      ];
+      numbered = elim c.if-branch.branch [
+        | then-branch+in_ok-put_called w ↦ rw w.searched-is (w.in_ok-put_called.ensures.numbered c.loop-name.invariant.numbered)
+        | else-branch w ↦ rw w.searched-is c.loop-name.invariant.numbered
       ];
     }

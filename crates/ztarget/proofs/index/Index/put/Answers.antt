@@ -8,4 +8,4 @@ returns-in-Some c = rw (← c.self.view_is) (OnOk_map c.push.result _ _
 
 pub returns : goal.returns
 returns c = rw (← c.self.view_is) (put_fresh c.self.inside.words c.insert.new.self c.args.word.now c.args.place c.push-2.new.self c.in_default.ensures.value
-    (rw (c.in_ok-copy.ensures.cases, c.get_mut.follows.holds-at-none) at c.in_ok-insert.ensures.updates) (rw c.new-places.ensures at c.in_ok-push.ensures))
+    (rw (c.in_ok-copy.ensures, c.get_mut.follows.holds-at-none) at c.in_ok-insert.ensures.updates) (rw c.new-places.ensures at c.in_ok-push.ensures))

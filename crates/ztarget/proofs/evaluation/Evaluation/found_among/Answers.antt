@@ -1,0 +1,16 @@
+use Rattle.std.proofs.Common.{◌≡◌, false, rules}
+use Rattle.std.proofs.lemmas.Result.{IfOk-weaker}
+use Rattle.ztarget.specs.Asking.{HasPhrase, meets}
+use Rattle.ztarget.specs.Searching.{places_from}
+use Rattle.ztarget.specs.Viewed.{asks}
+use Rattle.ztarget.proofs.Needs.{kept_of_needed}
+use Rattle.ztarget.proofs.evaluation.Evaluation.found_among.Goals as goal
+
+pub returns-clause-places : goal.returns-clause-places
+returns-clause-places c =
+    let n = c.args.needed in
+    let entries = c.args.self.now in
+    let among : c.as_slice.result.now ≡ places_from (meets (HasPhrase n.used false n.asked.now)) 0 entries = search rules in
+    IfOk-weaker c.narrowed.result _ _
+    (λ found told. kept_of_needed (meets (asks c.args.criterion.now)) n entries c.as_slice.result.now found.items c.requires among (rw c.in_ok-among.ensures.same at told))
+    c.narrowed.ensures.narrows

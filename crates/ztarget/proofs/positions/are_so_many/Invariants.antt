@@ -1,0 +1,6 @@
+use Rattle.std.proofs.Common.{◌≡◌, ◌==◌, length, drop}
+use Rattle.ztarget.specs.Positions.{positions}
+use Rattle.ztarget.proofs.positions.are_so_many.Given as goal
+
+abbrev pub invariant-loop-range : goal.invariant-loop-range
+invariant-loop-range l = (l.left == length (positions (drop l.range-index l.ranges))) ≡ (l.fn.number == length (positions l.ranges))

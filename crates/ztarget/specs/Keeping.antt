@@ -1,0 +1,77 @@
+-- What a result set keeps: where each entry that a search found stands, by the number of its database among the target's
+-- and its own in that.
+use Rattle.std.specs.Prelude.{◌≡◌, ℕ, List, [], map, Bool, Option, Some, None, unwrap_or, slice_get}
+use Rattle.std.specs.List.{All, AllByRecursion, flat_map}
+use Rattle.std.specs.Map.{values_of}
+use Rattle.std.specs.Option.{IsSome, option_map}
+use Rattle.zapdu.specs.declared.record.Record.{Record}
+use Rattle.ztarget.specs.declared.database.Entry.{Entry}
+use Rattle.ztarget.specs.declared.database.Database.{Database}
+use Rattle.ztarget.specs.declared.found.Hit.{Hit}
+use Rattle.ztarget.specs.declared.searched.Numbered.{Numbered}
+use Rattle.ztarget.specs.Searching.{Found, found, places_from}
+use Rattle.ztarget.specs.Showing.{shown}
+use Rattle.ztarget.specs.Standing.{NamedSet}
+
+abbrev pub hit : ℕ → ℕ → Hit
+hit database entry = record { database = database; entry = entry }
+
+-- the entry of this number, as a search of the database finds it
+abbrev pub entry_in : Option Database → ℕ → Option Found
+entry_in None i = None
+entry_in (Some d) i = option_map (found d.name) (slice_get d.entries i)
+
+-- what stands at a hit
+abbrev pub entry_at : List Database → Hit → Option Found
+entry_at databases h = entry_in (slice_get databases h.database) h.entry
+
+-- something stands there
+abbrev pub Stands : List Database → Hit → Type 0
+Stands databases h = IsSome (entry_at databases h)
+
+abbrev pub AllStand : List Database → List Hit → Type 0
+AllStand databases hits = AllByRecursion (Stands databases) hits
+
+-- the sets of names
+abbrev pub SetsStand : List Database → List (List ℕ × List Hit) → Type 0
+SetsStand databases sets = All (AllStand databases) (values_of sets)
+
+-- where nothing stands
+abbrev pub nothing : Found
+nothing = record { database = []; syntax = []; octets = [] }
+
+abbrev pub found_at : List Database → Hit → Found
+found_at databases h = unwrap_or (entry_at databases h) nothing
+
+-- what a set of hits has
+abbrev pub all_found_at : List Database → List Hit → List Found
+all_found_at databases hits = map (found_at databases) hits
+
+-- what a response shows of them
+abbrev pub records_at : ℕ → Option (List ℕ) → List Database → List Hit → List Record
+records_at size asked databases hits = map (shown size asked) (all_found_at databases hits)
+
+-- what was found stands at the hits, one by one
+pub record AreAt (databases : List Database) (hits : List Hit) (founds : List Found) : Type 0 where
+  pub stand : AllStand databases hits
+  pub found : all_found_at databases hits ≡ founds
+
+abbrev pub named_set : List Database → List ℕ × List Hit → NamedSet
+named_set databases e = record { name = e.0; found = all_found_at databases e.1 }
+
+abbrev pub sets_of : List Database → List (List ℕ × List Hit) → List NamedSet
+sets_of databases sets = map (named_set databases) sets
+
+-- the database has this number
+abbrev pub IsNumbered : List Database → Numbered → Type 0
+IsNumbered databases n = slice_get databases n.number ≡ Some n.database.now
+
+abbrev pub databases_of : List Numbered → List Database
+databases_of numbered = map (λ n. n.database.now) numbered
+
+-- the hits of the entries of a database that pass
+abbrev pub hits_in : (Entry → Bool) → Numbered → List Hit
+hits_in p n = map (hit n.number) (places_from p 0 n.database.now.entries)
+
+abbrev pub hits_by : (Entry → Bool) → List Numbered → List Hit
+hits_by p numbered = flat_map (hits_in p) numbered

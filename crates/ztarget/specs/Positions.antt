@@ -1,0 +1,39 @@
+-- The positions of a result set that a request for records asks for, in the order sent (Z39.50-2003, 3.2.3.1).
+use Rattle.std.specs.Prelude.{ℕ, ◌+◌, ◌-◌, nat_le, List, [], ◌∷◌, take, drop, slice_index_or, Bool, ◌&&◌, Option, Some, None}
+use Rattle.std.specs.List.{range_with_len, flat_map, list_all}
+use Rattle.zapdu.specs.declared.range.Range.{Range}
+use Rattle.zapdu.specs.declared.present_request.PresentRequest.{PresentRequest}
+use Rattle.ztarget.specs.Initialising.{natural}
+
+abbrev pub additional : Option (List Range) → List Range
+additional None = []
+additional (Some ranges) = ranges
+
+-- the first range, then the additional ones
+abbrev pub ranges_of : PresentRequest → List Range
+ranges_of r =
+    record { starting_position = r.result_set_start_point; number_of_records = r.number_of_records_requested }
+    ∷ additional r.additional_ranges
+
+abbrev pub positions_of : Range → List ℕ
+positions_of range = range_with_len (natural range.starting_position) (natural range.number_of_records)
+
+-- those of all ranges
+abbrev pub positions : List Range → List ℕ
+positions ranges = flat_map positions_of ranges
+
+-- the positions are in a set of so many
+abbrev pub is_in_set : ℕ → ℕ → ℕ → Bool
+is_in_set start number count = (nat_le 1 start && nat_le 1 number) && nat_le (start + number) (count + 1)
+
+-- each range begins at 1 or later, has a position, and none past so many
+abbrev pub are_in_set : ℕ → List Range → Bool
+are_in_set count ranges = list_all (λ (r : Range). is_in_set (natural r.starting_position) (natural r.number_of_records) count) ranges
+
+-- what stands at the positions
+abbrev pub at_positions : {X : Type 0} → List X → List ℕ → List X
+at_positions found asked = flat_map (λ p. take 1 (drop (p - 1) found)) asked
+
+-- the last of the first so many positions, 0 where there is none
+abbrev pub last_of : List ℕ → ℕ → ℕ
+last_of asked k = slice_index_or asked (k - 1) 0

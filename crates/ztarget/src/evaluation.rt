@@ -1,0 +1,254 @@
+//! What a criterion finds among the entries of a database. The list of a phrase is made once, however often the
+//! criterion has it.
+ghost use Rattle.std.specs.Prelude.{◌≡◌, IfOk, IfSome};
+ghost use Rattle.ztarget.specs.Asking.{meets};
+ghost use Rattle.ztarget.specs.Evaluating.{has_sought};
+ghost use Rattle.ztarget.specs.Indexing.{IsIndexOf};
+ghost use Rattle.ztarget.specs.Narrowing.{Narrows, IsNeeded};
+ghost use Rattle.ztarget.specs.Searching.{places_from};
+ghost use Rattle.ztarget.specs.Viewed.{asks};
+
+use crate::common::{are_few, in_both};
+use crate::criterion::Criterion;
+use crate::database::Entry;
+use crate::index::Index;
+use crate::merging::{IN_EITHER, IN_FIRST_ALONE, merged};
+use crate::narrowed::having;
+use crate::needed::{Needed, needed_by, rarer};
+use crate::phrase::with_phrase;
+use crate::shared::SharedPlaces;
+use crate::word::Word;
+use std::alloc::{AllocError, Global};
+use std::collections::BTreeMap;
+use std::marker::Model;
+
+/// A phrase that is looked for: words that stand one after the other in a field of the Use. With truncation the last
+/// may be the beginning of a word.
+#[derive(Clone, Copy, PartialEq, Eq, PartialOrd, Ord)]
+pub(crate) struct Sought<'a> {
+    pub(crate) used: i64,
+    pub(crate) truncated: bool,
+    pub(crate) asked: &'a [Word],
+}
+
+/// The lists of phrases that were made. Contracts see the entries of the database.
+#[derive(Drop)]
+pub(crate) struct Evaluation<'a> {
+    alloc: Global,
+    index: &'a Index,
+    entries: &'a [Entry],
+    lists: BTreeMap<Sought<'a>, SharedPlaces, Global>,
+}
+
+impl<'a> Model for Evaluation<'a> {
+    ghost use Rattle.std.specs.Prelude.{List};
+    ghost use Rattle.ztarget.specs.declared.database.Entry.{Entry};
+    ghost use Rattle.ztarget.specs.Evaluating.{AreLists};
+    ghost use Rattle.ztarget.specs.Indexing.{IsIndexOf};
+
+    ghost Value = { List Entry };
+
+    ghost view = { λ e. e.entries.now };
+
+    ghost invariant = { λ e. IsIndexOf e.entries.now e.index.now × AreLists e.entries.now e.lists.entries };
+}
+
+impl<'a> Evaluation<'a> {
+    /// With no list.
+    pub(crate) fn new(alloc: Global, index: &'a Index, entries: &'a [Entry]) -> Evaluation<'a>
+        requires { IsIndexOf entries.now index.now }
+        ensures { result ≡ entries.now }
+    {
+        Evaluation {
+            alloc,
+            index,
+            entries,
+            lists: BTreeMap::new(alloc),
+        }
+    }
+
+    /// The places of the entries that have the phrase, in order.
+    fn list(&mut self, sought: Sought<'a>) -> Result<SharedPlaces, AllocError>
+        ensures same { self.new ≡ self.old }
+        ensures places { IfOk result (λ list. list ≡ places_from (has_sought sought.entry) 0 self.old) }
+    {
+        if let Some(list) = self.lists.get(&sought) {
+            return list.again();
+        }
+        let found = with_phrase(
+            self.alloc,
+            self.index,
+            self.entries,
+            sought.used,
+            sought.truncated,
+            sought.asked,
+        )?;
+        let list = SharedPlaces::new(self.alloc, found)?;
+        let copy = list.again()?;
+        self.lists.insert(sought, copy)?;
+        Ok(list)
+    }
+
+    /// The rarest word without which no entry meets the criterion, if there is one that is told with no search.
+    #[tactic(auto, using(crate::proofs::Needs::needed_for_both, crate::proofs::Needs::needed_for_without))]
+    fn rarest(&self, criterion: &'a Criterion) -> Option<Needed<'a>>
+        ensures { IfSome result (IsNeeded (meets (asks criterion.now))) }
+    {
+        match criterion {
+            Criterion::Phrase {
+                used,
+                truncated,
+                asked,
+            } => needed_by(self.index, *used, *truncated, asked.as_slice()),
+            Criterion::And(left, right) => rarer(self.rarest(left), self.rarest(right)),
+            Criterion::Not(left, _) => self.rarest(left),
+            Criterion::Never | Criterion::Or(..) => None,
+        }
+    }
+
+    /// The same where there may be one, and few of the entries have it: else a walk over all its places costs no more.
+    fn needed(&self, criterion: &'a Criterion, may_need: bool) -> Option<Needed<'a>>
+        ensures { IfSome result (IsNeeded (meets (asks criterion.now))) }
+    {
+        if !may_need {
+            return None;
+        }
+        match self.rarest(criterion) {
+            Some(needed) if are_few(needed.places, self.entries.len()) => Some(needed),
+            _ => None,
+        }
+    }
+
+    /// Those of the places whose entries have the phrase as well, in order.
+    fn having(&mut self, sought: Sought<'a>, among: &[u32]) -> Result<Vec<u32>, AllocError>
+        ensures same { self.new ≡ self.old }
+        ensures narrows { IfOk result (λ found. Narrows (has_sought sought.entry) self.old among.now found.items) }
+    {
+        match sought.asked {
+            [word] if !sought.truncated && are_few(among.len(), self.index.places(word).len()) => {
+                let places = self.index.places(word);
+                having(self.alloc, sought.used, self.entries, places, among)
+            }
+            _ => {
+                let alloc = self.alloc;
+                let list = self.list(sought)?;
+                in_both(alloc, among, list.as_slice())
+            }
+        }
+    }
+
+    /// Those of the places whose entries meet the criterion as well, in order.
+    #[tactic(auto, using(crate::proofs::Needs::kept_by_both))]
+    fn narrowed(&mut self, criterion: &'a Criterion, among: &[u32]) -> Result<Vec<u32>, AllocError>
+        ensures same { self.new ≡ self.old }
+        ensures narrows { IfOk result (λ found. Narrows (meets (asks criterion.now)) self.old among.now found.items) }
+    {
+        let alloc = self.alloc;
+        match criterion {
+            Criterion::Phrase {
+                used,
+                truncated,
+                asked,
+            } => {
+                let sought = Sought {
+                    used: *used,
+                    truncated: *truncated,
+                    asked: asked.as_slice(),
+                };
+                self.having(sought, among)
+            }
+            Criterion::Never => Ok(Vec::new(alloc)),
+            Criterion::And(left, right) => {
+                let kept = self.narrowed(left, among)?;
+                self.narrowed(right, &kept)
+            }
+            Criterion::Or(left, right) => {
+                let left = self.narrowed(left, among)?;
+                let right = self.narrowed(right, among)?;
+                merged(alloc, IN_EITHER, &left, &right)
+            }
+            Criterion::Not(left, right) => {
+                let kept = self.narrowed(left, among)?;
+                let dropped = self.narrowed(right, &kept)?;
+                merged(alloc, IN_FIRST_ALONE, &kept, &dropped)
+            }
+        }
+    }
+
+    /// The places of the entries that meet the criterion, in order, from a word that each of them has.
+    fn found_among(
+        &mut self,
+        needed: Needed<'a>,
+        criterion: &'a Criterion,
+    ) -> Result<Vec<u32>, AllocError>
+        requires { IsNeeded (meets (asks criterion.now)) needed }
+        ensures same { self.new ≡ self.old }
+        ensures places { IfOk result (λ places. places.items ≡ places_from (meets (asks criterion.now)) 0 self.old) }
+    {
+        let sought = Sought {
+            used: needed.used,
+            truncated: false,
+            asked: needed.asked,
+        };
+        let among = self.list(sought)?;
+        self.narrowed(criterion, among.as_slice())
+    }
+
+    /// The places of the entries that meet the criterion, in order. Where there may be a rare word that each of them
+    /// needs, it is looked for first.
+    fn found_by(
+        &mut self,
+        criterion: &'a Criterion,
+        may_need: bool,
+    ) -> Result<SharedPlaces, AllocError>
+        ensures same { self.new ≡ self.old }
+        ensures places { IfOk result (λ places. places ≡ places_from (meets (asks criterion.now)) 0 self.old) }
+    {
+        let alloc = self.alloc;
+        match criterion {
+            Criterion::Phrase {
+                used,
+                truncated,
+                asked,
+            } => {
+                let sought = Sought {
+                    used: *used,
+                    truncated: *truncated,
+                    asked: asked.as_slice(),
+                };
+                self.list(sought)
+            }
+            Criterion::Never => SharedPlaces::new(alloc, Vec::new(alloc)),
+            Criterion::And(left, right) => match self.needed(criterion, may_need) {
+                Some(needed) => {
+                    let found = self.found_among(needed, criterion)?;
+                    SharedPlaces::new(alloc, found)
+                }
+                None => {
+                    let kept = self.found_by(left, false)?;
+                    let found = self.narrowed(right, kept.as_slice())?;
+                    SharedPlaces::new(alloc, found)
+                }
+            },
+            Criterion::Or(left, right) => {
+                let left = self.found_by(left, true)?;
+                let right = self.found_by(right, true)?;
+                let found = merged(alloc, IN_EITHER, left.as_slice(), right.as_slice())?;
+                SharedPlaces::new(alloc, found)
+            }
+            Criterion::Not(left, right) => {
+                let left = self.found_by(left, may_need)?;
+                let right = self.narrowed(right, left.as_slice())?;
+                let found = merged(alloc, IN_FIRST_ALONE, left.as_slice(), &right)?;
+                SharedPlaces::new(alloc, found)
+            }
+        }
+    }
+
+    /// The places of the entries that meet the criterion, in order.
+    pub(crate) fn found(&mut self, criterion: &'a Criterion) -> Result<SharedPlaces, AllocError>
+        ensures { IfOk result (λ places. places ≡ places_from (meets (asks criterion.now)) 0 self.old) }
+    {
+        self.found_by(criterion, true)
+    }
+}

@@ -1,0 +1,54 @@
+//! Words without which no entry meets a criterion.
+ghost use Rattle.std.specs.Prelude.{◌≡◌, IfSome};
+ghost use Rattle.ztarget.specs.Asking.{HasPhrase, meets};
+ghost use Rattle.ztarget.specs.Narrowing.{IsNeeded, rarer};
+
+use crate::index::Index;
+use crate::word::Word;
+
+/// A word that an entry needs in a field of the Use, alone in its list, and at how many places it stands in any.
+#[derive(Clone, Copy)]
+pub(crate) struct Needed<'a> {
+    pub(crate) used: i64,
+    pub(crate) asked: &'a [Word],
+    pub(crate) places: usize,
+}
+
+/// The word of a phrase that is one whole word.
+pub(crate) fn needed_by<'a>(
+    index: &Index,
+    used: i64,
+    truncated: bool,
+    asked: &'a [Word],
+) -> Option<Needed<'a>>
+    ensures { IfSome result (IsNeeded (meets (HasPhrase used truncated asked.now))) }
+{
+    match asked {
+        [word] if !truncated => {
+            let places = index.places(word).len();
+            Some(Needed {
+                used,
+                asked,
+                places,
+            })
+        }
+        _ => None,
+    }
+}
+
+/// The one that stands at fewer places.
+pub(crate) fn rarer<'a>(first: Option<Needed<'a>>, second: Option<Needed<'a>>) -> Option<Needed<'a>>
+    ensures { result ≡ rarer first.entry second.entry }
+{
+    match (first, second) {
+        (None, second) => second,
+        (first, None) => first,
+        (Some(a), Some(b)) => {
+            if a.places <= b.places {
+                Some(a)
+            } else {
+                Some(b)
+            }
+        }
+    }
+}
