@@ -1,5 +1,6 @@
 -- One call more.
-use Rattle.std.proofs.Common.{◌≡◌, ℕ, Bool, true, false, cond, List, [], ◌∷◌, ◌++◌, Option, None, Some, Result, Ok, Err, refl, sym, ap, subst, ◌∙◌, append_assoc, append-nil}
+use Rattle.std.proofs.Common.{◌≡◌, ℕ, false, List, [], ◌∷◌, ◌++◌, Option, None, Some, Ok}
+use Rattle.std.proofs.Common.{Err, refl, sym, ap, subst, ◌∙◌, append_assoc, append-nil}
 use Rattle.std.specs.Prelude.{is_some}
 use Rattle.std.specs.List.{flat_map}
 use Rattle.std.proofs.lemmas.Grind.{flat_map-append}
@@ -7,24 +8,28 @@ use Rattle.zapdu.specs.declared.apdu.Apdu.{Apdu}
 use Rattle.zorigin.specs.declared.settings.Settings.{Settings}
 use Rattle.zorigin.specs.declared.answer.Sent.{Sent}
 use Rattle.zorigin.specs.declared.refusal.CallRefused.{CallRefused}
-use Rattle.zorigin.specs.Standings.{Call, Standing}
+use Rattle.zorigin.specs.Standings.{Call}
 use Rattle.zorigin.specs.Calls.{call_answer, answer_by, refusal}
 use Rattle.zorigin.specs.Sending.{encoding_of, request_of, sent_of}
-use Rattle.zorigin.specs.Log.{Made, Past, past, standing, request_list, admit_unless, After as OriginAfter}
+use Rattle.zorigin.specs.Log.{Made, Past, standing, request_list, admit_unless, After as OriginAfter}
 use Rattle.zoom.specs.Links.{Link}
-use Rattle.zoom.specs.Heard.{Heard, Deed, Calls, past_of, hears_call, given, joined, sent}
+use Rattle.zoom.specs.Heard.{Heard, Deed, Calls, past_of, hears_call, given, joined}
 use Rattle.zoom.specs.Leaving.{Matches, GivesAll, Leaves}
 
 no_err : {A E : Type 0} {x : A} {e : E} → Ok x ≡ Err e → ⊥
 no_err q = cc
 
-requested : (ss : List Apdu) (x : Sent) (o : Option Apdu) → Ok x ≡ answer_by None o → flat_map encoding_of (ss ++ request_list o) ≡ flat_map encoding_of ss ++ x.octets
+requested : (ss : List Apdu) (x : Sent) (o : Option Apdu) → Ok x ≡ answer_by None o
+    → flat_map encoding_of (ss ++ request_list o) ≡ flat_map encoding_of ss ++ x.octets
 requested ss x None q = absurd (no_err q)
 requested ss x (Some apdu) q =
     let same : x ≡ sent_of apdu = cc in
-    flat_map-append encoding_of ss (apdu ∷ []) ∙ ap (λ z. flat_map encoding_of ss ++ z) (append-nil (encoding_of apdu) ∙ ap (λ (z : Sent). z.octets) (sym same))
+    flat_map-append encoding_of ss (apdu ∷ []) ∙ ap (λ z. flat_map encoding_of ss ++ z) (append-nil (encoding_of apdu)
+    ∙ ap (λ (z : Sent). z.octets) (sym same))
 
-grown : (p : Past) (call : Call) (x : Sent) (r : Option CallRefused) → Ok x ≡ answer_by r (request_of (standing p) call) → flat_map encoding_of (admit_unless p call r).sent ≡ flat_map encoding_of p.sent ++ x.octets
+grown : (p : Past) (call : Call) (x : Sent) (r : Option CallRefused)
+    → Ok x ≡ answer_by r (request_of (standing p) call) → flat_map encoding_of (admit_unless p call r).sent
+    ≡ flat_map encoding_of p.sent ++ x.octets
 grown p call x (Some reason) q = absurd (no_err q)
 grown p call x None q = requested p.sent x (request_of (standing p) call) q
 
@@ -44,7 +49,13 @@ called settings deeds p c d call x l stopped answer after framer held ended stop
     let is : hears_call p call ≡ q = rw going refl in
     let matches : Matches q d = record {
       origin = after;
-      frames = rw (framer, held) (record { rest = m.frames.rest; behind = m.frames.behind; kept = m.frames.kept; limited = m.frames.limited; sound = m.frames.sound });
+      frames = rw (framer, held) (record {
+        rest = m.frames.rest;
+        behind = m.frames.behind;
+        kept = m.frames.kept;
+        limited = m.frames.limited;
+        sound = m.frames.sound;
+      });
       ended = ended ∙ m.ended;
       stop = stop ∙ m.stop;
     } in
@@ -53,4 +64,5 @@ called settings deeds p c d call x l stopped answer after framer held ended stop
     ∙ sym (append_assoc (given deeds) c.waiting x.octets)
     ∙ ap (λ z. z ++ x.octets) (l.waiting lost)
     ∙ sym (grown (past_of p) call x (refusal (standing (past_of p)) call) answer) in
-    subst (λ z. Leaves settings (Calls call ∷ deeds) z d) (sym is) (record { heard = (p, l.heard, sym is); matches = matches; waiting = waiting })
+    subst (λ z. Leaves settings (Calls call ∷ deeds) z d) (sym is)
+    (record { heard = (p, l.heard, sym is); matches = matches; waiting = waiting })

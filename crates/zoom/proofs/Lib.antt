@@ -3,8 +3,21 @@ pub mod Streams
 pub mod Calling
 pub mod Stopping
 pub mod Taking
+pub mod Told
 pub mod Meetings
+pub mod Metas
+pub mod Advancing
+pub mod Phases
+pub mod Nexts
+pub mod Kept
+pub mod Telling
+pub mod Wants
+pub mod Starts
 pub mod Pools
 pub mod Orders
 pub mod Steps
 pub mod Rows
+pub mod Hosts
+pub mod Served
+pub mod MetaLaws
+mod Drivings

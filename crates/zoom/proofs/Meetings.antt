@@ -1,5 +1,6 @@
 -- A Take meets one thing, and deeds amount to one.
-use Rattle.std.proofs.Common.{◌≡◌, ◌⊎◌, inl, inr, length-append, ℕ, suc, ◌<◌, Bool, true, false, List, [], ◌∷◌, ◌++◌, length, refl, sym, ap, subst, ◌∙◌, true≢false, arith}
+use Rattle.std.proofs.Common.{◌≡◌, ◌⊎◌, inl, inr, length-append, ℕ, ◌<◌, Bool, true, false, List, [], ◌∷◌, ◌++◌}
+use Rattle.std.proofs.Common.{length, refl, sym, ap, subst, ◌∙◌, true≢false, arith}
 use Rattle.zber.specs.declared.fault.FaultKind.{FaultKind}
 use Rattle.zber.specs.Elements.{Element}
 use Rattle.zber.specs.Names.{Name}
@@ -10,11 +11,12 @@ use Rattle.zber.specs.Laws.{OneAnswer, Gave, nothing, one}
 use Rattle.zapdu.specs.declared.apdu.Apdu.{Apdu}
 use Rattle.zapdu.specs.declared.apdu.ApduError.{ApduError}
 use Rattle.zapdu.specs.declared.apdu.ApduError.TheVariants as decode
-use Rattle.zapdu.specs.declared.apdu.Kind.{Kind}
 use Rattle.zapdu.specs.Writes.{Writes, OneRefusal}
 use Rattle.zorigin.specs.declared.settings.Settings.{Settings}
-use Rattle.zoom.specs.Coming.{limit, Met, Stopped, Message, Foreign, Fault, Rest, Nothing, IsForeign, IsReadAs, HasMessage, AreMetAs, IsBehind}
-use Rattle.zoom.specs.Heard.{Deed, Calls, Feeds, Takes, Ends, Gives, Stops, Heard, Hears, HasHeard, Meets, state_at, take_at, hears_call, hears_piece, stop_by}
+use Rattle.zoom.specs.Coming.{limit, Met, Stopped, Message, Foreign, Fault, Rest, Nothing, IsForeign, IsReadAs}
+use Rattle.zoom.specs.Coming.{HasMessage, AreMetAs, IsBehind}
+use Rattle.zoom.specs.Heard.{Deed, Calls, Feeds, Takes, Ends, Gives, Stops, Heard, Hears, HasHeard, Meets, state_at}
+use Rattle.zoom.specs.Heard.{take_at, hears_call, hears_piece, stop_by}
 use Rattle.zoom.specs.States.{is_stopped}
 use Rattle.zoom.specs.Laws.{OneMeeting}
 
@@ -24,13 +26,15 @@ pub record Laws : Type 0 where
   pub value : (v w : Apdu) (e : Element) → Writes v e → Writes w e → v ≡ w
   pub refusal : OneRefusal
 
-gave_once : (l : Laws) {xs r : List ℕ} {ds : List Element} (s : List ℕ) (es : List Element) → Gave limit xs ds r → Gave limit xs es s → length ds ≡ length es → r ≡ s
+gave_once : (l : Laws) {xs r : List ℕ} {ds : List Element} (s : List ℕ) (es : List Element) → Gave limit xs ds r
+    → Gave limit xs es s → length ds ≡ length es → r ≡ s
 gave_once l s es nothing nothing q = refl
 gave_once l s es nothing (one b g) q = absurd (omega (arith, q))
 gave_once l s es (one b g) nothing q = absurd (omega (arith, q))
 gave_once l s es (one {xs = xs} {rest = rest} {e = d} b g) (one {rest = other} {e = e} {es = more} c h) q =
     let same = l.answer.one_message limit xs d e rest other b c in
-    gave_once l s more g (subst (λ z. Gave limit z more s) (sym same.1) h) (let n : length _ ≡ length more = omega (arith, q) in n)
+    gave_once l s more g (subst (λ z. Gave limit z more s) (sym same.1) h) (let n : length _ ≡ length more =
+    omega (arith, q) in n)
 
 behind_once : (l : Laws) (stream r s : List ℕ) (k : ℕ) → IsBehind stream k r → IsBehind stream k s → r ≡ s
 behind_once l stream r s k a b = gave_once l s b.messages a.gave b.gave (a.count ∙ sym b.count)
@@ -39,7 +43,8 @@ foreign_once : (l : Laws) (e : Element) (a b : ApduError) → IsForeign e a → 
 foreign_once l e decode.NotApdu decode.NotApdu x y = refl
 foreign_once l e decode.NotApdu (decode.Malformed k n) x y = absurd (l.refusal.known k n e x y.1)
 foreign_once l e (decode.Malformed k n) decode.NotApdu x y = absurd (l.refusal.known k n e y x.1)
-foreign_once l e (decode.Malformed j n) (decode.Malformed k m) x y = let s = l.refusal.one_place j k n m e x.1 y.1 in λ i. decode.Malformed (s.0 i) (s.1 i)
+foreign_once l e (decode.Malformed j n) (decode.Malformed k m) x y = let s = l.refusal.one_place j k n m e x.1 y.1 in
+    λ i. decode.Malformed (s.0 i) (s.1 i)
 foreign_once l e decode.Memory b x y = absurd x
 foreign_once l e decode.NotApdu decode.Memory x y = absurd y
 foreign_once l e (decode.Malformed k n) decode.Memory x y = absurd y
@@ -86,7 +91,8 @@ shape xs (Rest n) a = halted (inside a.0 a.1 a.2)
 shape xs Nothing a = halted (at_end a)
 
 halts_once : (l : Laws) (xs : List ℕ) (m n : Met) → Halts xs m → Halts xs n → m ≡ n
-halts_once l xs m n (at_fault {k = j} {at = a} f) (at_fault {k = k} {at = b} g) = let s = l.answer.one_fault limit xs j k a b f g in λ i. Fault (s.0 i) (s.1 i)
+halts_once l xs m n (at_fault {k = j} {at = a} f) (at_fault {k = k} {at = b} g) = let s =
+    l.answer.one_fault limit xs j k a b f g in λ i. Fault (s.0 i) (s.1 i)
 halts_once l xs m n (at_fault {k = k} {at = at} f) (inside some is u) = absurd (u.no_fault k at f)
 halts_once l xs m n (at_fault f) (at_end q) = absurd (omega (arith, f.some, ap length q))
 halts_once l xs m n (inside some is u) (at_fault {k = k} {at = at} f) = absurd (u.no_fault k at f)
@@ -97,12 +103,14 @@ halts_once l xs m n (at_end q) (inside some is u) = absurd (omega (arith, some, 
 halts_once l xs m n (at_end q) (at_end r) = refl
 
 -- a message has octets, so nothing begins with one at the end
-never : (l : Laws) (xs : List ℕ) (m : Met) (e : Element) (rest : List ℕ) → ((d : Element) (other : List ℕ) → Begins limit [] d other → ⊥) → Begins limit xs e rest → Halts xs m → ⊥
+never : (l : Laws) (xs : List ℕ) (m : Met) (e : Element) (rest : List ℕ)
+    → ((d : Element) (other : List ℕ) → Begins limit [] d other → ⊥) → Begins limit xs e rest → Halts xs m → ⊥
 never l xs m e rest none b (at_fault {k = k} {at = at} f) = l.answer.either limit xs e rest k at b f
 never l xs m e rest none b (inside some is u) = u.no_message e rest b
 never l xs m e rest none b (at_end q) = none e rest (subst (λ z. Begins limit z e rest) q b)
 
-shape_once : (l : Laws) (xs : List ℕ) (m n : Met) → ((d : Element) (other : List ℕ) → Begins limit [] d other → ⊥) → Shape xs m → Shape xs n → m ≡ n
+shape_once : (l : Laws) (xs : List ℕ) (m n : Met) → ((d : Element) (other : List ℕ) → Begins limit [] d other → ⊥)
+    → Shape xs m → Shape xs n → m ≡ n
 shape_once l xs m n none (begun a) (begun b) =
     let same = l.answer.one_message limit xs a.element b.element a.rest b.rest a.begins b.begins in
     read_once l b.element m n (subst (λ z. IsReadAs z m) same.0 a.read) b.read
@@ -138,7 +146,8 @@ meets_so p Nothing x = inr x
 pub one_met : (l : Laws) (p : Heard) (m n : Met) → Meets p m → Meets p n → m ≡ n
 one_met l p m n a b = by (meets_so p m a) (meets_so p n b)
   where
-    by : ((m ≡ Stopped) × (is_stopped (state_at p) ≡ true)) ⊎ Going p m → ((n ≡ Stopped) × (is_stopped (state_at p) ≡ true)) ⊎ Going p n → m ≡ n
+    by : ((m ≡ Stopped) × (is_stopped (state_at p) ≡ true)) ⊎ Going p m
+        → ((n ≡ Stopped) × (is_stopped (state_at p) ≡ true)) ⊎ Going p n → m ≡ n
     by (inl x) (inl y) = x.0 ∙ sym y.0
     by (inl x) (inr y) = absurd (true≢false (sym x.1 ∙ y.0))
     by (inr x) (inl y) = absurd (true≢false (sym y.1 ∙ x.0))
@@ -158,6 +167,8 @@ hears_once meeting Ends p q r s e a b = a ∙ ap (λ (z : Heard). record z { end
 hears_once meeting (Gives octets) p q r s e a b = a ∙ e ∙ sym b
 hears_once meeting (Stops reason) p q r s e a b = a ∙ ap (λ z. stop_by z reason) e ∙ sym b
 
-pub one_heard : (meeting : OneMeeting) (settings : Settings) (deeds : List Deed) (p q : Heard) → HasHeard settings deeds p → HasHeard settings deeds q → p ≡ q
+pub one_heard : (meeting : OneMeeting) (settings : Settings) (deeds : List Deed) (p q : Heard)
+    → HasHeard settings deeds p → HasHeard settings deeds q → p ≡ q
 one_heard meeting settings [] p q a b = a ∙ sym b
-one_heard meeting settings (deed ∷ deeds) p q a b = hears_once meeting deed a.0 b.0 p q (one_heard meeting settings deeds a.0 b.0 a.1 b.1) a.2 b.2
+one_heard meeting settings (deed ∷ deeds) p q a b = hears_once meeting deed a.0 b.0 p q
+    (one_heard meeting settings deeds a.0 b.0 a.1 b.1) a.2 b.2

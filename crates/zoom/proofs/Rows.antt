@@ -1,5 +1,6 @@
 -- The records of a row are those that accepted replies show.
-use Rattle.std.proofs.Common.{◌≡◌, ◌↔◌, ⊎_elim, ℕ, ℤ, pos, ◌+◌, ◌+ℤ◌, Bool, true, false, cond, List, [], ◌∷◌, ◌++◌, map, refl, sym, ap, subst, ◌∙◌}
+use Rattle.std.proofs.Common.{◌≡◌, ◌↔◌, ⊎_elim, ℕ, ℤ, pos, ◌+◌, ◌+ℤ◌, Bool, true, false, cond, List, [], ◌∷◌, ◌++◌}
+use Rattle.std.proofs.Common.{map, refl, sym, ap, subst, ◌∙◌}
 use Rattle.std.specs.Prelude.{Contains}
 use Rattle.std.specs.List.{enumerate_from}
 use Rattle.std.proofs.lemmas.List.Elements.{Contains-append_cases}
@@ -14,14 +15,13 @@ use Rattle.zknow.specs.Facts.{target_of}
 use Rattle.zknow.specs.ListLaws.{PlaceLaws, ListLaws}
 use Rattle.zorigin.specs.declared.answer.What.{What}
 use Rattle.zorigin.specs.declared.answer.What.TheVariants as what
-use Rattle.zorigin.specs.declared.answer.Answer.{Answer}
 use Rattle.zorigin.specs.Fitting.{records_in, diagnostics_in}
-use Rattle.zorigin.specs.Facts.{seen_from, told_at, count_or_failed, init_facts, facts_by, facts_of}
+use Rattle.zorigin.specs.Ranges.{positions, first_of}
+use Rattle.zorigin.specs.Facts.{seen_at, told_at, count_or_failed, facts_by, facts_of}
 use Rattle.zorigin.specs.declared.settings.Settings.{Settings}
 use Rattle.zoom.specs.Heard.{Heard}
-use Rattle.zoom.specs.Links.{Links}
-use Rattle.zoom.specs.History.{History, accepted, IsKnown, After}
-use Rattle.zoom.specs.Conflicts.{IsShownBy, Differ, IsPrinted, ConflictLaw}
+use Rattle.zoom.specs.History.{accepted, IsKnown}
+use Rattle.zoom.specs.Conflicts.{IsShownBy, Differ, ConflictLaw}
 use Rattle.zoom.proofs.Orders.{from_answer, of_answer}
 
 -- all these facts are of the target
@@ -41,6 +41,11 @@ seen_of : (c set : ℕ) (first : ℤ) (n : ℕ) (records : List Record)
     → AreOf c (map (λ (e : ℕ × Record). Seen c set (first +ℤ pos e.0) e.1) (enumerate_from n records))
 seen_of c set first n [] = none_of c
 seen_of c set first n (r ∷ records) = one_of c _ _ refl (seen_of c set first (n + 1) records)
+
+there_of : (c set : ℕ) (asked : List ℕ) (records : List Record) → AreOf c (seen_at c set asked records)
+there_of c set [] records = none_of c
+there_of c set (p ∷ ps) [] = none_of c
+there_of c set (p ∷ ps) (r ∷ records) = one_of c _ _ refl (there_of c set ps records)
 
 told_of : (c set : ℕ) (place : ℤ) (diags : List DiagRec) → AreOf c (told_at c set place diags)
 told_of c set place [] = none_of c
@@ -71,14 +76,14 @@ by_of c set what.Search (apdus.SearchResponse v) =
 by_of c set what.Search (apdus.PresentRequest v) = none_of c
 by_of c set what.Search (apdus.PresentResponse v) = none_of c
 by_of c set what.Search (apdus.Close v) = none_of c
-by_of c set (what.Present start n) (apdus.InitRequest v) = none_of c
-by_of c set (what.Present start n) (apdus.InitResponse v) = none_of c
-by_of c set (what.Present start n) (apdus.SearchRequest v) = none_of c
-by_of c set (what.Present start n) (apdus.SearchResponse v) = none_of c
-by_of c set (what.Present start n) (apdus.PresentRequest v) = none_of c
-by_of c set (what.Present start n) (apdus.PresentResponse v) =
-    both_of c _ _ (seen_of c set start 0 (records_in v.records)) (told_of c set start (diagnostics_in v.records))
-by_of c set (what.Present start n) (apdus.Close v) = none_of c
+by_of c set (what.Present ranges) (apdus.InitRequest v) = none_of c
+by_of c set (what.Present ranges) (apdus.InitResponse v) = none_of c
+by_of c set (what.Present ranges) (apdus.SearchRequest v) = none_of c
+by_of c set (what.Present ranges) (apdus.SearchResponse v) = none_of c
+by_of c set (what.Present ranges) (apdus.PresentRequest v) = none_of c
+by_of c set (what.Present ranges) (apdus.PresentResponse v) =
+    both_of c _ _ (there_of c set (positions ranges) (records_in v.records)) (told_of c set (pos (first_of (positions ranges))) (diagnostics_in v.records))
+by_of c set (what.Present ranges) (apdus.Close v) = none_of c
 
 -- a record that is known is shown by an accepted reply of its connection
 shown : (heard : ℕ → Heard) (c set : ℕ) (position : ℤ) (r : Record)

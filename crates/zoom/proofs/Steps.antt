@@ -1,10 +1,8 @@
 -- When a Take answers Nothing, and when Stopped.
-use Rattle.std.proofs.Common.{◌≡◌, ◌↔◌, ◌⊎◌, inl, inr, ℕ, ◌<◌, Bool, true, false, cond, List, [], ◌∷◌, length, Result, Ok, Err, refl, sym, ap, subst, ◌∙◌, true≢false, arith}
-use Rattle.zber.specs.declared.fault.FaultKind.{FaultKind}
+use Rattle.std.proofs.Common.{◌≡◌, ◌⊎◌, inl, inr, ℕ, ◌<◌, Bool, true, false, cond, List, [], ◌∷◌, length, Result}
+use Rattle.std.proofs.Common.{Ok, Err, refl, ap, subst, arith}
 use Rattle.zber.specs.declared.fault.FaultKind.TheVariants as kinds
-use Rattle.zber.specs.Elements.{Element}
 use Rattle.zber.specs.Spelling.{Begins}
-use Rattle.zber.specs.Shown.{Shows}
 use Rattle.zber.specs.Unfinished.{IsUnfinished}
 use Rattle.zorigin.specs.declared.answer.Taken.{Taken}
 use Rattle.zorigin.specs.declared.answer.Taken.TheVariants as taken
@@ -44,11 +42,13 @@ empty_unfinished rest q = record {
   no_fault = λ k at f. absurd (omega (arith, f.some, ap length q));
 }
 
-rest_answer : (b : Bool) (n : ℕ) → cond b (Err (errors.Frame kinds.Truncated n)) (Ok steps.Nothing) ≡ Ok steps.Nothing → b ≡ false
+rest_answer : (b : Bool) (n : ℕ) → cond b (Err (errors.Frame kinds.Truncated n)) (Ok steps.Nothing) ≡ Ok steps.Nothing
+    → b ≡ false
 rest_answer true n e = absurd (cc)
 rest_answer false n e = refl
 
-end_answer : (b : Bool) → ◌≡◌ {A = Result Step TakeError} (Ok (cond b steps.Ended steps.Nothing)) (Ok steps.Nothing) → b ≡ false
+end_answer : (b : Bool) → ◌≡◌ {A = Result Step TakeError} (Ok (cond b steps.Ended steps.Nothing)) (Ok steps.Nothing)
+    → b ≡ false
 end_answer true e = absurd (cc)
 end_answer false e = refl
 
@@ -57,12 +57,37 @@ waits p Stopped m e = absurd (cc)
 waits p (Message v) m e = absurd (told_step (verdict (standing (past_of p)) v) steps.Nothing (inl refl) e)
 waits p (Foreign error) m e = absurd (cc)
 waits p (Fault k at) m e = absurd (cc)
-waits p (Rest n) m e = record { goes_on = m.0; more = rest_answer p.ended n e; rest = m.1; behind = m.2; unfinished = m.3.2 }
-waits p Nothing m e = record { goes_on = m.0; more = end_answer p.ended e; rest = m.1; behind = m.2; unfinished = empty_unfinished m.1 m.3 }
+waits p (Rest n) m e = record {
+  goes_on = m.0;
+  more = rest_answer p.ended n e;
+  rest = m.1;
+  behind = m.2;
+  unfinished =
+      m.3.2;
+}
+waits p Nothing m e = record {
+  goes_on = m.0;
+  more = end_answer p.ended e;
+  rest = m.1;
+  behind = m.2;
+  unfinished =
+      empty_unfinished m.1 m.3;
+}
 
-met_waiting : (p : Heard) (rest : List ℕ) → is_stopped (state_at p) ≡ false → p.ended ≡ false → IsBehind p.stream p.taken rest → IsUnfinished limit rest → (met : Met) × Meets p met × (took_as p met ≡ Ok steps.Nothing)
+met_waiting : (p : Heard) (rest : List ℕ) → is_stopped (state_at p) ≡ false → p.ended ≡ false
+    → IsBehind p.stream p.taken rest → IsUnfinished limit rest
+    → (met : Met) × Meets p met × (took_as p met ≡ Ok steps.Nothing)
 met_waiting p [] s e b u = (Nothing, (s, [], b, refl), rw e refl)
-met_waiting p (x ∷ xs) s e b u = (Rest (length (x ∷ xs)), (s, x ∷ xs, b, ((let n : 0 < length (x ∷ xs) = omega arith in n), refl, u)), rw e refl)
+met_waiting p (x ∷ xs) s e b u = (
+  Rest (length (x ∷ xs)),
+  (
+    s,
+    x ∷ xs,
+    b,
+    ((let n : 0 < length (x ∷ xs) = omega arith in n), refl, u),
+  ),
+  rw e refl,
+)
 
 stopped_so : (p : Heard) (met : Met) → Meets p met → took_as p met ≡ Ok steps.Stopped → is_stopped (state_at p) ≡ true
 stopped_so p Stopped m e = m
@@ -88,5 +113,9 @@ take_laws meeting = record {
         let other = met_waiting p w.rest w.goes_on w.more w.behind w.unfinished in
         subst (λ z. took_as p z ≡ Ok steps.Nothing) (meeting p other.0 met other.1 m) other.2),
   );
-  stopped = λ p met m. (stopped_so p met m, λ s. (let is : Stopped ≡ met = meeting p Stopped met s m in subst (λ z. took_as p z ≡ Ok steps.Stopped) is refl));
+  stopped = λ p met m. (
+    stopped_so p met m,
+    λ s. (let is : Stopped ≡ met = meeting p Stopped met s m in
+        subst (λ z. took_as p z ≡ Ok steps.Stopped) is refl),
+  );
 }

@@ -1,5 +1,5 @@
 -- A connection that its host stopped.
-use Rattle.std.proofs.Common.{◌≡◌, Bool, true, false, ◌||◌, List, [], ◌∷◌, ◌++◌, Some, refl}
+use Rattle.std.proofs.Common.{◌≡◌, Bool, true, false, ◌||◌, List, ◌∷◌, Some, refl}
 use Rattle.zorigin.specs.declared.settings.Settings.{Settings}
 use Rattle.zoom.specs.declared.state.Reason.{Reason}
 use Rattle.zoom.specs.declared.state.State.TheVariants as states
@@ -12,7 +12,8 @@ neither : (a b : Bool) → (a || b) ≡ false → b ≡ false
 neither true b e = absurd (cc)
 neither false b e = e
 
-pub stopped : (settings : Settings) (deeds : List Deed) (p : Heard) (c : Link) (reason : Reason) → Leaves settings deeds p c
+pub stopped : (settings : Settings) (deeds : List Deed) (p : Heard) (c : Link) (reason : Reason)
+    → Leaves settings deeds p c
     → Leaves settings (Stops reason ∷ deeds) (stop_by p reason) (record c { stop = Some (states.Failed reason) })
 stopped settings deeds p c reason l = record {
   heard = (p, l.heard, refl);

@@ -1,14 +1,16 @@
 -- What a pool's calls say, each for every history that can have left the pool.
-use Rattle.std.specs.Prelude.{◌≡◌, ℕ, false, List, [], ◌∷◌, Result, Ok}
+use Rattle.std.specs.Prelude.{◌≡◌, ◌↔◌, ℕ, ◌<◌, Bool, true, false, ◌∷◌, length, Result}
 use Rattle.zorigin.specs.declared.settings.Settings.{Settings}
 use Rattle.zorigin.specs.declared.refusal.CallRefused.{CallRefused}
 use Rattle.zorigin.specs.Standings.{Call}
 use Rattle.zorigin.specs.Log.{IsCalled}
 use Rattle.zoom.specs.declared.state.State.{State}
 use Rattle.zoom.specs.declared.answer.Step.{Step}
+use Rattle.zoom.specs.declared.answer.Told.{Told}
 use Rattle.zoom.specs.declared.answer.TakeError.{TakeError}
+use Rattle.zoom.specs.States.{is_stopped}
 use Rattle.zoom.specs.Coming.{Met}
-use Rattle.zoom.specs.Heard.{Deed, Takes, Meets, called_as, took_as, state_at, past_of, given, is_lost, sent, IsDone}
+use Rattle.zoom.specs.Heard.{Deed, Takes, Meets, called_as, took_as, told_as, state_at, past_of, given, is_lost, sent, IsDone}
 use Rattle.zoom.specs.Links.{Links}
 use Rattle.zoom.specs.History.{History, only, After, AfterUpTo}
 
@@ -33,6 +35,12 @@ IsTakeAnswer c pool answer =
     (settings : Settings) (h : History) (a : AfterUpTo settings c h pool) → IsDone answer
     → (met : Met) × Meets (a.heard c) met × (answer ≡ took_as (a.heard c) met)
 
+-- the same, with what the origin took
+abbrev pub IsToldAnswer : ℕ → Links → Result Told TakeError → Type 0
+IsToldAnswer c pool answer =
+    (settings : Settings) (h : History) (a : AfterUpTo settings c h pool) → IsDone answer
+    → (met : Met) × Meets (a.heard c) met × (answer ≡ told_as (a.heard c) met)
+
 -- a Take made this pool of that one
 abbrev pub Took : ℕ → Links → Links → Type 0
 Took c old new =
@@ -47,3 +55,9 @@ abbrev pub HasGivenAll : ℕ → Links → Type 0
 HasGivenAll c pool =
     (settings : Settings) (h : History) (a : After settings h pool) → is_lost (only c h) ≡ false
     → given (only c h) ≡ sent (past_of (a.heard c))
+
+-- each connection is Closed or Failed
+abbrev pub IsPoolFinished : Links → Bool → Type 0
+IsPoolFinished pool answer =
+    (settings : Settings) (h : History) (a : After settings h pool)
+    → (answer ≡ true) ↔ ((c : ℕ) → c < length pool.connections → is_stopped (state_at (a.heard c)) ≡ true)

@@ -1,10 +1,7 @@
 -- What one connection's deeds amount to (Z39.50-2003, 3.2 and 3.4).
-use Rattle.std.specs.Prelude.{◌≡◌, ◌≢◌, ◌⊎◌, ℕ, suc, Bool, true, false, ◌||◌, if◌then◌else◌, List, [], ◌∷◌, ◌++◌, is_some, Option, None, Some, Result, Ok, Err, Contains}
+use Rattle.std.specs.Prelude.{◌≡◌, ◌≢◌, ℕ, suc, Bool, true, false, ◌||◌, if◌then◌else◌, List, [], ◌∷◌, ◌++◌, is_some, Option, None, Some, Result, Ok, Err, Contains}
 use Rattle.std.specs.List.{flat_map}
-use Rattle.zber.specs.declared.fault.FaultKind.{FaultKind}
 use Rattle.zber.specs.declared.fault.FaultKind.TheVariants as kinds
-use Rattle.zber.specs.Elements.{Element}
-use Rattle.zapdu.specs.declared.apdu.Apdu.{Apdu}
 use Rattle.zknow.specs.declared.fact.Fact.{Fact}
 use Rattle.zorigin.specs.declared.settings.Settings.{Settings}
 use Rattle.zorigin.specs.declared.answer.Answer.{Answer}
@@ -26,10 +23,12 @@ use Rattle.zoom.specs.declared.state.Reason.{Reason}
 use Rattle.zoom.specs.declared.state.Reason.TheVariants as reasons
 use Rattle.zoom.specs.declared.answer.Step.{Step}
 use Rattle.zoom.specs.declared.answer.Step.TheVariants as steps
+use Rattle.zoom.specs.declared.answer.Told.{Told}
+use Rattle.zoom.specs.declared.answer.Told.TheVariants as told
 use Rattle.zoom.specs.declared.answer.TakeError.{TakeError}
 use Rattle.zoom.specs.declared.answer.TakeError.TheVariants as errors
 use Rattle.zoom.specs.States.{state_as, or_else, is_stopped, is_closing}
-use Rattle.zoom.specs.Coming.{Met, Stopped, Message, Foreign, Fault, Rest, Nothing, IsReadAs, AreMetAs, IsBehind}
+use Rattle.zoom.specs.Coming.{Met, Stopped, Message, Foreign, Fault, Rest, Nothing, AreMetAs, IsBehind}
 
 -- The stream, all pieces joined; how many messages of it were taken; what the origin was asked and given; whether the
 -- input ended; what stopped the connection.
@@ -109,6 +108,30 @@ took_as p (Foreign error) = Err (errors.Decode error)
 took_as p (Fault kind at) = Err (errors.Frame kind at)
 took_as p (Rest n) = if p.ended then Err (errors.Frame kinds.Truncated n) else Ok steps.Nothing
 took_as p Nothing = Ok (if p.ended then steps.Ended else steps.Nothing)
+
+-- the same, with what the origin took
+abbrev pub told_by : Result Taken Refused → Result Told TakeError
+told_by (Ok taken) = Ok (told.Took taken)
+told_by (Err reason) = Err (errors.Refused reason)
+
+abbrev pub told_as : Heard → Met → Result Told TakeError
+told_as p Stopped = Ok told.Stopped
+told_as p (Message v) = told_by (verdict (standing (past_of p)) v)
+told_as p (Foreign error) = Err (errors.Decode error)
+told_as p (Fault kind at) = Err (errors.Frame kind at)
+told_as p (Rest n) = if p.ended then Err (errors.Frame kinds.Truncated n) else Ok told.Nothing
+told_as p Nothing = Ok (if p.ended then told.Ended else told.Nothing)
+
+-- what a caller is told of it
+abbrev pub step_told : Told → Step
+step_told told.Nothing = steps.Nothing
+step_told (told.Took taken) = step_of taken
+step_told told.Ended = steps.Ended
+step_told told.Stopped = steps.Stopped
+
+abbrev pub stepped : Result Told TakeError → Result Step TakeError
+stepped (Ok told) = Ok (step_told told)
+stepped (Err error) = Err error
 
 -- what it makes known
 abbrev pub answer_in : Taken → Option Answer
@@ -198,6 +221,6 @@ reason_of errors.Memory = None
 
 -- ---- memory aside
 
-abbrev pub IsDone : Result Step TakeError → Type 0
-IsDone (Ok step) = Unit {0}
+abbrev pub IsDone : {A : Type 0} → Result A TakeError → Type 0
+IsDone (Ok answer) = Unit {0}
 IsDone (Err error) = error ≢ errors.Memory

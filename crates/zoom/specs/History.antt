@@ -1,5 +1,5 @@
 -- A history of a pool, and what it amounts to.
-use Rattle.std.specs.Prelude.{◌≡◌, ◌⊎◌, ◌↔◌, ℕ, ◌≤◌, ◌==◌, List, [], ◌∷◌, map, filter, length, slice_get, Option, Some, Contains}
+use Rattle.std.specs.Prelude.{◌≡◌, ◌⊎◌, ◌↔◌, ℕ, ◌≤◌, ◌==◌, List, [], map, filter, length, slice_get, Some, Contains}
 use Rattle.std.specs.List.{flat_map}
 use Rattle.zknow.specs.declared.fact.Fact.{Fact}
 use Rattle.zknow.specs.Facts.{AreFacts}

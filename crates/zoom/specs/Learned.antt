@@ -1,5 +1,5 @@
 -- What a reply that was read can add to what is known.
-use Rattle.std.specs.Prelude.{ℕ, List, Contains}
+use Rattle.std.specs.Prelude.{List, Contains}
 use Rattle.zber.specs.Elements.{Element}
 use Rattle.zapdu.specs.declared.apdu.Apdu.{Apdu}
 use Rattle.zapdu.specs.Writes.{Writes}

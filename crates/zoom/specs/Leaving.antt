@@ -1,5 +1,5 @@
 -- The deeds that can have left a connection.
-use Rattle.std.specs.Prelude.{◌≡◌, true, false, ℕ, List, [], ◌∷◌, ◌++◌, Option, None, Some}
+use Rattle.std.specs.Prelude.{◌≡◌, true, false, ℕ, List, ◌++◌, Option, None, Some}
 use Rattle.zber.specs.Elements.{Element}
 use Rattle.zber.specs.Spelling.{Begins}
 use Rattle.zber.specs.Stream.{Stream}

@@ -11,3 +11,10 @@ pub mod History
 pub mod Befalling
 pub mod Laws
 pub mod Conflicts
+pub mod Hosts
+pub mod HostSteps
+pub mod Driving
+pub mod Steering
+pub mod Drivers
+pub mod Metas
+pub mod MetaLaws

@@ -15,12 +15,12 @@ use Rattle.zorigin.specs.Log.{Log, Got, IsCalled, After as OriginAfter}
 use Rattle.zoom.specs.declared.state.Reason.{Reason}
 use Rattle.zoom.specs.declared.state.State.{State}
 use Rattle.zoom.specs.declared.state.State.TheVariants as states
-use Rattle.zoom.specs.declared.answer.Step.{Step}
+use Rattle.zoom.specs.declared.answer.Told.{Told}
 use Rattle.zoom.specs.declared.answer.TakeError.{TakeError}
 use Rattle.zoom.specs.declared.answer.TakeError.TheVariants as errors
 use Rattle.zoom.specs.Links.{Link}
 use Rattle.zoom.specs.Coming.{limit, Met, Message, IsReadAs}
-use Rattle.zoom.specs.Heard.{Heard, Deed, Meets, stop_by, take_at, took_as, called_as, news_at, reason_of, IsNews, IsDone}
+use Rattle.zoom.specs.Heard.{Heard, Deed, Meets, stop_by, take_at, told_as, called_as, news_at, reason_of, IsNews, IsDone}
 use Rattle.zoom.specs.Leaving.{Frames, Matches, Leaves}
 
 -- what the origin was asked and given then
@@ -30,15 +30,15 @@ log_after p _ = p.log
 
 -- What was met is taken: what is answered, where the origin stands then, and what is known.
 pub record HeedsAs
-    (target : ℕ) (p : Heard) (met : Met) (answer : Result Step TakeError) (origin : Standing) (old new : List Fact)
+    (target : ℕ) (p : Heard) (met : Met) (answer : Result Told TakeError) (origin : Standing) (old new : List Fact)
     : Type 0 where
-  pub answers : answer ≡ took_as p met
+  pub answers : answer ≡ told_as p met
   pub stands : OriginAfter p.settings (log_after p met) origin
   pub union : IsUnion (Contains old) (Contains (news_at target p met)) (Contains new)
 
 -- the message in this element is taken
 pub record Heeds
-    (target : ℕ) (p : Heard) (e : Element) (answer : Result Step TakeError) (origin : Standing) (old new : List Fact)
+    (target : ℕ) (p : Heard) (e : Element) (answer : Result Told TakeError) (origin : Standing) (old new : List Fact)
     : Type 0 where
   pub met : Met
   pub read : IsReadAs e met
@@ -50,18 +50,18 @@ IsTold target p e q = (met : Met) × IsReadAs e met × Contains (news_at target 
 
 -- A Take: what it met, what it answers, what it leaves and what is known.
 pub record TakesTo
-    (target : ℕ) (p : Heard) (answer : Result Step TakeError) (c : Link) (old new : List Fact) : Type 0 where
+    (target : ℕ) (p : Heard) (answer : Result Told TakeError) (c : Link) (old new : List Fact) : Type 0 where
   pub met : Met
   pub meets : Meets p met
-  pub answers : answer ≡ took_as p met
+  pub answers : answer ≡ told_as p met
   pub matches : Matches (take_at p met) c
   pub union : IsUnion (Contains old) (Contains (news_at target p met)) (Contains new)
 
 -- A Take that met no message: as above, and nothing is made known.
-pub record LacksTo (p : Heard) (answer : Result Step TakeError) (c : Link) : Type 0 where
+pub record LacksTo (p : Heard) (answer : Result Told TakeError) (c : Link) : Type 0 where
   pub met : Met
   pub meets : Meets p met
-  pub answers : answer ≡ took_as p met
+  pub answers : answer ≡ told_as p met
   pub matches : Matches (take_at p met) c
   pub silent : (target : ℕ) → news_at target p met ≡ []
 
@@ -79,40 +79,40 @@ abbrev pub stop_for : Option State → Option Reason → Option State
 stop_for stop None = stop
 stop_for stop (Some reason) = Some (states.Failed reason)
 
-abbrev pub stop_after : Option State → Result Step TakeError → Option State
-stop_after stop (Ok step) = stop
+abbrev pub stop_after : Option State → Result Told TakeError → Option State
+stop_after stop (Ok told) = stop
 stop_after stop (Err error) = stop_for stop (reason_of error)
 
 abbrev pub held_for : Option Reason → Element → Option Element → Option Element
 held_for None e old = Some e
 held_for (Some reason) e old = old
 
-abbrev pub held_after : Result Step TakeError → Element → Option Element → Option Element
-held_after (Ok step) e old = old
+abbrev pub held_after : Result Told TakeError → Element → Option Element → Option Element
+held_after (Ok told) e old = old
 held_after (Err error) e old = held_for (reason_of error) e old
 
 -- ---- clauses of the steps, for each list of deeds that can have left the connection
 
-abbrev pub HeedsOn : ℕ → Element → Result Step TakeError → Standing → Standing → List Fact → List Fact → Type 0
+abbrev pub HeedsOn : ℕ → Element → Result Told TakeError → Standing → Standing → List Fact → List Fact → Type 0
 HeedsOn target e answer old new knew knows =
     (p : Heard) → OriginAfter p.settings p.log old → IsDone answer → Heeds target p e answer new knew knows
 
-abbrev pub HeedsPart : ℕ → Element → Result Step TakeError → Standing → List Fact → List Fact → Type 0
+abbrev pub HeedsPart : ℕ → Element → Result Told TakeError → Standing → List Fact → List Fact → Type 0
 HeedsPart target e answer old knew knows =
     (p : Heard) → OriginAfter p.settings p.log old → answer ≡ Err errors.Memory
     → IsPartOfUnion (Contains knew) (IsTold target p e) (Contains knows)
 
-abbrev pub TakesOn : ℕ → Result Step TakeError → Link → Link → List Fact → List Fact → Type 0
+abbrev pub TakesOn : ℕ → Result Told TakeError → Link → Link → List Fact → List Fact → Type 0
 TakesOn target answer old new knew knows =
     (p : Heard) → Matches p old → IsDone answer → TakesTo target p answer new knew knows
 
-abbrev pub TakesPart : ℕ → Result Step TakeError → Link → List Fact → List Fact → Type 0
+abbrev pub TakesPart : ℕ → Result Told TakeError → Link → List Fact → List Fact → Type 0
 TakesPart target answer old knew knows =
     (p : Heard) → Matches p old → answer ≡ Err errors.Memory
     → IsPartOfUnion (Contains knew) (IsNews target p) (Contains knows)
 
 -- the connection is as it was, but that a message may be kept
-abbrev pub KeepsOn : Result Step TakeError → Link → Link → Type 0
+abbrev pub KeepsOn : Result Told TakeError → Link → Link → Type 0
 KeepsOn answer old new = (p : Heard) → Matches p old → answer ≡ Err errors.Memory → Matches p new
 
 -- each list of deeds that can have left the one, with this deed more, can have left the other

@@ -1,13 +1,13 @@
 //! What a take answers.
 ghost use Rattle.std.specs.Prelude.{◌≡◌};
-ghost use Rattle.zoom.specs.Heard.{reason_of};
+ghost use Rattle.zoom.specs.Heard.{reason_of, step_told};
 ghost use Rattle.zoom.specs.Reasons.{error_word};
 
-use crate::state::{Reason, decode_word};
+use crate::state::Reason;
 use thiserror::Error;
 use zapdu::ApduError;
 use zber::FaultKind;
-use zorigin::Refused;
+use zorigin::{Refused, Taken};
 
 /// What taking a message came to.
 #[derive(Clone, Copy, Debug, PartialEq, Eq)]
@@ -26,6 +26,36 @@ pub enum Step {
     Ended,
     /// The connection was Closed or Failed before.
     Stopped,
+}
+
+/// What taking a message came to, with what the origin took.
+#[derive(Drop)]
+pub(crate) enum Told {
+    /// No whole message is there yet.
+    Nothing,
+    /// The origin took a message.
+    Took(Taken),
+    /// The input ended, and nothing of it is left.
+    Ended,
+    /// The connection was Closed or Failed before.
+    Stopped,
+}
+
+/// What a caller is told of it.
+pub(crate) fn step_told(told: &Told) -> Step
+    ensures { result ≡ step_told told.now }
+{
+    match told {
+        Told::Nothing => Step::Nothing,
+        Told::Took(taken) => match taken {
+            Taken::Opened(_) => Step::Opened,
+            Taken::Rejected(_) => Step::Rejected,
+            Taken::Answered(_) => Step::Answered,
+            Taken::Closed => Step::Closed,
+        },
+        Told::Ended => Step::Ended,
+        Told::Stopped => Step::Stopped,
+    }
 }
 
 /// Why a message is not taken. But for `Memory` the connection has then failed for this reason, and what is known stays.
@@ -54,7 +84,7 @@ impl TakeError {
     {
         match self {
             TakeError::Frame { kind, .. } => kind.word(),
-            TakeError::Decode(error) => decode_word(*error),
+            TakeError::Decode(error) => error.word(),
             TakeError::Refused(reason) => reason.word(),
             TakeError::Memory => "Memory",
         }

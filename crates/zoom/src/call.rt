@@ -3,7 +3,8 @@ ghost use Rattle.std.specs.Prelude.{◌≡◌, OnErr};
 ghost use Rattle.zorigin.specs.Log.{AnswersCall, LeavesCall};
 ghost use Rattle.zoom.specs.CallsOf.{call_of};
 
-use zorigin::{Ask, CallRefused, Origin, Sent};
+use zber::Seq;
+use zorigin::{Ask, CallRefused, Origin, Range, Sent};
 
 /// A call on one connection.
 #[derive(Drop)]
@@ -30,6 +31,16 @@ pub enum Call {
         /// How many records, from 1 on.
         n: i64,
     },
+    /// Asks for the records of a set at the positions of all ranges, in their order (Z39.50-2003, 3.2.3.1).
+    PresentRanges {
+        /// The operation's number.
+        op: u32,
+        /// The result set's number.
+        set: u32,
+        /// The ranges: one at least, and two or more where version 3 is in force; each begins after the end of the one
+        /// before.
+        ranges: Seq<Range>,
+    },
     /// Ends the association (Z39.50-2003, 3.2.11.1).
     Close,
 }
@@ -44,6 +55,9 @@ pub(crate) fn sent_for(origin: &mut Origin, call: &Call) -> Result<Sent, CallRef
         Call::Init => origin.init(),
         Call::Search { op, set, ask } => origin.search(*op, *set, ask),
         Call::Present { op, set, start, n } => origin.present(*op, *set, *start, *n),
+        Call::PresentRanges { op, set, ranges } => {
+            origin.present_ranges(*op, *set, ranges.as_slice())
+        }
         Call::Close => origin.close(),
     }
 }

@@ -6,37 +6,26 @@ ghost use Rattle.zorigin.specs.Log.{Log, Got, past, standing, After};
 ghost use Rattle.zorigin.specs.Replies.{verdict};
 ghost use Rattle.zoom.specs.Coming.{Message};
 ghost use Rattle.zoom.specs.Learned.{IsRead};
-ghost use Rattle.zoom.specs.Heard.{Heard, step_of, told_of, news_at, IsDone};
+ghost use Rattle.zoom.specs.Heard.{Heard, told_by, news_at, IsDone};
 ghost use Rattle.zoom.specs.Steps.{HeedsAs, HeedsOn, HeedsPart};
 
-use crate::answer::{Step, TakeError};
+use crate::answer::{TakeError, Told};
 use crate::learning::learn_verdict;
 use std::alloc::Global;
 use zapdu::{Apdu, ApduError, from_node};
 use zber::Node;
 use zknow::Knowledge;
-use zorigin::{Origin, Refused, Taken};
+use zorigin::{Origin, Refused};
 
-fn step_of(taken: &Taken) -> Step
-    ensures { result ≡ step_of taken.now }
-{
-    match taken {
-        Taken::Opened(_) => Step::Opened,
-        Taken::Rejected(_) => Step::Rejected,
-        Taken::Answered(_) => Step::Answered,
-        Taken::Closed => Step::Closed,
-    }
-}
-
-fn take_reply(origin: &mut Origin, reply: &Apdu) -> Result<Step, TakeError>
+fn take_reply(origin: &mut Origin, reply: &Apdu) -> Result<Told, TakeError>
     ensures answer { (settings : Settings) (log : Log) → After settings log origin.old → IsDone result
-        → result ≡ told_of (verdict (standing (past settings log)) reply.now) }
+        → result ≡ told_by (verdict (standing (past settings log)) reply.now) }
     ensures after { (settings : Settings) (log : Log) → After settings log origin.old → IsDone result
         → After settings (Got reply.now ∷ log) origin.new }
     ensures memory { result ≡ Err TakeError.Memory → origin.new ≡ origin.old }
 {
     match origin.take(reply) {
-        Ok(taken) => Ok(step_of(&taken)),
+        Ok(taken) => Ok(Told::Took(taken)),
         Err(reason) => match reason {
             Refused::Memory => Err(TakeError::Memory),
             _ => Err(TakeError::Refused(reason)),
@@ -51,7 +40,7 @@ fn heed_reply(
     target: u32,
     knowledge: &mut Knowledge,
     reply: &Apdu,
-) -> Result<Step, TakeError>
+) -> Result<Told, TakeError>
     requires { IsRead reply.now }
     ensures done { (p : Heard) → After p.settings p.log origin.old → IsDone result
         → HeedsAs target p (Message reply.now) result origin.new knowledge.old knowledge.new }
@@ -74,7 +63,7 @@ pub(crate) fn heed(
     target: u32,
     knowledge: &mut Knowledge,
     node: &Node,
-) -> Result<Step, TakeError>
+) -> Result<Told, TakeError>
     ensures done { HeedsOn target node.now result origin.old origin.new knowledge.old knowledge.new }
     ensures memory { result ≡ Err TakeError.Memory → origin.new ≡ origin.old }
     ensures part { HeedsPart target node.now result origin.old knowledge.old knowledge.new }

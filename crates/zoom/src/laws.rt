@@ -1,7 +1,9 @@
 //! Laws of the definitions, each the contract of a function that does nothing.
 ghost use Rattle.zoom.specs.Laws.{OneMeeting, OneHearing, TakeLaws, UpToLaw, OrderLaw};
 ghost use Rattle.zoom.specs.Conflicts.{ConflictLaw};
+ghost use Rattle.zoom.specs.MetaLaws.{MetaLaws};
 
+use crate::driving::driven_laws;
 use zapdu::laws::{one_refusal, one_value};
 use zber::laws::one_answer;
 use zknow::laws::{list_laws, place_laws};
@@ -48,4 +50,13 @@ pub fn conflicts()
 {
     place_laws();
     list_laws();
+}
+
+/// Of connections that are driven: Close aside, each is asked two things at most, and one for each wanted position up to
+/// the number that its search found; and with the same accepted replies, reference ids aside, the same list is printed.
+pub fn meta_laws()
+    ensures { MetaLaws }
+{
+    driven_laws();
+    order_does_not_matter();
 }

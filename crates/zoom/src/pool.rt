@@ -5,13 +5,13 @@ ghost use Rattle.zoom.specs.CallsOf.{call_of};
 ghost use Rattle.zoom.specs.Heard.{Calls, Feeds, Ends, Gives, Stops, IsDone};
 ghost use Rattle.zoom.specs.Links.{waiting_at};
 ghost use Rattle.zoom.specs.History.{After};
-ghost use Rattle.zoom.specs.Befalling.{Befell, IsStateAt, IsCallAnswer, IsTakeAnswer, Took, Keeps, HasGivenAll};
+ghost use Rattle.zoom.specs.Befalling.{Befell, IsStateAt, IsCallAnswer, IsTakeAnswer, IsToldAnswer, Took, Keeps, HasGivenAll, IsPoolFinished};
 
-use crate::answer::{Step, TakeError};
+use crate::answer::{Step, TakeError, Told, step_told};
 use crate::call::Call;
 use crate::connection::Connection;
 use crate::laws::one_meeting;
-use crate::state::{Reason, State};
+use crate::state::{Reason, State, is_stopped};
 use bytes::Bytes;
 use std::alloc::{AllocError, Global};
 use std::marker::Model;
@@ -114,6 +114,20 @@ impl Pool {
         ensures memory { result ≡ Err TakeError.Memory → Keeps c self.old self.new }
         ensures size { length self.new.connections ≡ length self.old.connections }
     {
+        match self.told(c) {
+            Ok(told) => Ok(step_told(&told)),
+            Err(error) => Err(error),
+        }
+    }
+
+    /// Takes one message of a connection, as `take` does, and tells what the origin took.
+    pub(crate) fn told(&mut self, c: u32) -> Result<Told, TakeError>
+        requires { c < length self.old.connections }
+        ensures answer { IsToldAnswer c self.old result }
+        ensures after { IsDone result → Took c self.old self.new }
+        ensures memory { result ≡ Err TakeError.Memory → Keeps c self.old self.new }
+        ensures size { length self.new.connections ≡ length self.old.connections }
+    {
         one_meeting();
         let taken = self.connections[c as usize].take(c, &mut self.knowledge);
         self.knowledge.lawful();
@@ -151,6 +165,18 @@ impl Pool {
         ensures size { length self.new.connections ≡ length self.old.connections }
     {
         self.connections[c as usize].outgoing(out)
+    }
+
+    /// Whether every connection is Closed or Failed. It takes no memory.
+    pub(crate) fn is_finished(&self) -> bool
+        ensures { IsPoolFinished self.now result }
+    {
+        for connection in &self.connections {
+            if !is_stopped(connection.state()) {
+                return false;
+            }
+        }
+        true
     }
 
     /// What is known: the union of the facts of the accepted replies. It takes no memory.

@@ -2,6 +2,7 @@
 ghost use Rattle.std.specs.Prelude.{◌≡◌, ◌<◌, length, OnErr};
 ghost use Rattle.zknow.specs.Known.{Shows, counts_at, records_at};
 ghost use Rattle.zorigin.specs.Standings.{Present};
+ghost use Rattle.zorigin.specs.Ranges.{one_range};
 ghost use Rattle.zorigin.specs.Log.{IsCalled};
 ghost use Rattle.zoom.specs.CallsOf.{call_of};
 ghost use Rattle.zoom.specs.Heard.{Calls};
@@ -10,8 +11,9 @@ ghost use Rattle.zoom.specs.Befalling.{Befell, IsCallAnswer};
 use crate::call::Call;
 use crate::pool::Pool;
 use zapdu::Record;
+use zber::Seq;
 use zknow::Known;
-use zorigin::CallRefused;
+use zorigin::{CallRefused, Range};
 
 /// A result set of one connection (Z39.50-2003, 3.1.5). It is a name: making one asks for nothing.
 #[derive(Clone, Copy, Debug, PartialEq, Eq)]
@@ -23,9 +25,15 @@ pub struct ResultSet {
 }
 
 fn present_call(op: u32, set: u32, start: i64, n: i64) -> Call
-    ensures { call_of result ≡ Present op set start n }
+    ensures { call_of result ≡ Present op set (one_range start n) }
 {
     Call::Present { op, set, start, n }
+}
+
+fn ranges_call(op: u32, set: u32, ranges: Seq<Range>) -> Call
+    ensures { call_of result ≡ Present op set ranges }
+{
+    Call::PresentRanges { op, set, ranges }
 }
 
 impl ResultSet {
@@ -48,12 +56,31 @@ impl ResultSet {
     /// refused as that call is, and the pool is then as it was.
     pub fn present(self, pool: &mut Pool, op: u32, start: i64, n: i64) -> Result<(), CallRefused>
         requires { self.c < length pool.old.connections }
-        ensures answer { IsCallAnswer self.c (Present op self.set start n) pool.old result }
-        ensures after { IsCalled result → Befell self.c (Calls (Present op self.set start n)) pool.old pool.new }
+        ensures answer { IsCallAnswer self.c (Present op self.set (one_range start n)) pool.old result }
+        ensures after { IsCalled result
+            → Befell self.c (Calls (Present op self.set (one_range start n))) pool.old pool.new }
         ensures err { OnErr result (pool.new ≡ pool.old) }
         ensures size { length pool.new.connections ≡ length pool.old.connections }
     {
         let call = present_call(op, self.set, start, n);
+        pool.call(self.c, &call)
+    }
+
+    /// Asks for its records at the positions of all ranges, in their order, by a call with the operation's number `op`;
+    /// so it is refused as that call is, and the pool is then as it was.
+    pub fn present_ranges(
+        self,
+        pool: &mut Pool,
+        op: u32,
+        ranges: Seq<Range>,
+    ) -> Result<(), CallRefused>
+        requires { self.c < length pool.old.connections }
+        ensures answer { IsCallAnswer self.c (Present op self.set ranges) pool.old result }
+        ensures after { IsCalled result → Befell self.c (Calls (Present op self.set ranges)) pool.old pool.new }
+        ensures err { OnErr result (pool.new ≡ pool.old) }
+        ensures size { length pool.new.connections ≡ length pool.old.connections }
+    {
+        let call = ranges_call(op, self.set, ranges);
         pool.call(self.c, &call)
     }
 }

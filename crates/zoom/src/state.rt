@@ -1,7 +1,7 @@
 //! Where a connection stands.
 ghost use Rattle.std.specs.Prelude.{◌≡◌};
 ghost use Rattle.zoom.specs.States.{state_as, is_stopped, is_closing};
-ghost use Rattle.zoom.specs.Reasons.{decode_word, reason_word};
+ghost use Rattle.zoom.specs.Reasons.{reason_word};
 
 use zapdu::ApduError;
 use zber::FaultKind;
@@ -37,7 +37,7 @@ impl Reason {
     {
         match self {
             Reason::Frame { kind, .. } => kind.word(),
-            Reason::Decode(error) => decode_word(*error),
+            Reason::Decode(error) => error.word(),
             Reason::Refused(reason) => reason.word(),
             Reason::Ended => "Ended",
             Reason::Read => "Read",
@@ -45,17 +45,6 @@ impl Reason {
             Reason::Turns => "Turns",
             Reason::Memory => "Memory",
         }
-    }
-}
-
-/// The name of what a message is not.
-pub(crate) fn decode_word(error: ApduError) -> &'static str
-    ensures { result.now ≡ decode_word error }
-{
-    match error {
-        ApduError::NotApdu => "NotApdu",
-        ApduError::Malformed { .. } => "Malformed",
-        ApduError::Memory => "Memory",
     }
 }
 

@@ -9,7 +9,7 @@ ghost use Rattle.zoom.specs.Heard.{Heard, state_at, IsDone};
 ghost use Rattle.zoom.specs.Leaving.{Frames, Matches};
 ghost use Rattle.zoom.specs.Steps.{Draws, LacksTo, TakesOn, TakesPart, KeepsOn, stop_after, held_after};
 
-use crate::answer::{Step, TakeError, reason_of};
+use crate::answer::{TakeError, Told, reason_of};
 use crate::connection::Connection;
 use crate::heeding::heed;
 use crate::state::{Reason, State, is_closing, is_stopped};
@@ -19,14 +19,14 @@ use zknow::Knowledge;
 
 impl Connection {
     /// Takes one message, and adds to the knowledge what it says of this target.
-    pub(crate) fn take(&mut self, target: u32, knowledge: &mut Knowledge) -> Result<Step, TakeError>
+    pub(crate) fn take(&mut self, target: u32, knowledge: &mut Knowledge) -> Result<Told, TakeError>
         ensures done { TakesOn target result self.old self.new knowledge.old knowledge.new }
         ensures memory { KeepsOn result self.old self.new }
         ensures part { TakesPart target result self.old knowledge.old knowledge.new }
         ensures waiting { self.new.waiting ≡ self.old.waiting }
     {
         if is_stopped(self.state()) {
-            return Ok(Step::Stopped);
+            return Ok(Told::Stopped);
         }
         stream_laws();
         match next_message(&mut self.held, &mut self.framer) {
@@ -47,7 +47,7 @@ impl Connection {
     }
 
     /// No message is there.
-    fn lack(&mut self) -> Result<Step, TakeError>
+    fn lack(&mut self) -> Result<Told, TakeError>
         requires asked { self.old.framer.asked ≡ true }
         requires sound { self.old.framer.fault ≡ None }
         requires none { self.old.held ≡ None }
@@ -57,13 +57,13 @@ impl Connection {
         ensures waiting { self.new.waiting ≡ self.old.waiting }
     {
         if !self.ended {
-            return Ok(Step::Nothing);
+            return Ok(Told::Nothing);
         }
         match self.framer.finish() {
             Ok(_) => {
                 let closing = is_closing(self.state());
                 self.stop = Some(ended_state(closing));
-                Ok(Step::Ended)
+                Ok(Told::Ended)
             }
             Err(error) => match error {
                 FrameError::Fault { kind, at } => {
@@ -81,7 +81,7 @@ fn settle(
     stop: &mut Option<State>,
     held: &mut Option<Node>,
     node: Node,
-    answer: &Result<Step, TakeError>,
+    answer: &Result<Told, TakeError>,
 )
     ensures stopped { stop.new ≡ stop_after stop.old answer.now }
     ensures kept { held.new ≡ held_after answer.now node held.old }

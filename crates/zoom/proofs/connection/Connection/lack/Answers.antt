@@ -1,4 +1,4 @@
-use Rattle.std.proofs.Common.{refl, rules, ◌≡◌, true, false, sym, ap, subst, ◌∙◌}
+use Rattle.std.proofs.Common.{rules, ◌≡◌, false, sym, ap, subst, ◌∙◌}
 use Rattle.zber.specs.Unfinished.{IsUnfinished}
 use Rattle.zoom.specs.Coming.{limit}
 use Rattle.zoom.specs.Leaving.{Matches}
@@ -13,5 +13,7 @@ returns-then-not-self-clause-answer c = λ p m s u.
 
 pub returns-in-Fault-clause-answer : goal.returns-in-Fault-clause-answer
 returns-in-Fault-clause-answer c = λ p m s u.
-    truncated_at p _ c.in-Fault.kind c.in-Fault.at (subst (Matches p) (sym c.self.view_is) m) s (ap (λ (z : Link). z.held) c.self.view_is ∙ c.requires.none) (ap (λ (z : Link). z.framer.asked) c.self.view_is ∙ c.requires.asked) (ap (λ (z : Link). z.framer.fault) c.self.view_is ∙ c.requires.sound)
+    truncated_at p _ c.in-Fault.kind c.in-Fault.at (subst (Matches p) (sym c.self.view_is) m) s
+    (ap (λ (z : Link). z.held) c.self.view_is ∙ c.requires.none) (ap (λ (z : Link). z.framer.asked) c.self.view_is
+    ∙ c.requires.asked) (ap (λ (z : Link). z.framer.fault) c.self.view_is ∙ c.requires.sound)
     (subst (λ (z : Link). IsUnfinished limit z.framer.octets) (sym c.self.view_is) u) (search rules) (search rules)

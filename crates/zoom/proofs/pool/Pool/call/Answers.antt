@@ -6,5 +6,6 @@ use Rattle.zoom.proofs.pool.Pool.call.Goals as goal
 
 pub returns-clause-after : goal.returns-clause-after
 returns-clause-after c = rw (← c.self.view_is) (λ done.
-    gained c.args.c (Calls (call_of c.args.call.now)) (λ p. hears_call p (call_of c.args.call.now)) _ _ _ c.index_mut.result.now c.call.new.self (rw (← c.self.view_is) at c.requires)
+    gained c.args.c (Calls (call_of c.args.call.now)) (λ p. hears_call p (call_of c.args.call.now)) _ _ _
+    c.index_mut.result.now c.call.new.self (rw (← c.self.view_is) at c.requires)
     c.index_mut.ensures.value (c.call.ensures.after done) (λ p. accepts_call p (call_of c.args.call.now)) refl refl)

@@ -1,4 +1,5 @@
 use Rattle.std.proofs.Common.{◌≡◌, rules, subst}
+use Rattle.zorigin.specs.Ranges.{one_range}
 use Rattle.zorigin.specs.Standings.{Present}
 use Rattle.zoom.specs.CallsOf.{call_of}
 use Rattle.zoom.specs.Befalling.{IsCallAnswer}
@@ -6,5 +7,6 @@ use Rattle.zoom.proofs.result_set.ResultSet.present.Goals as goal
 
 pub returns-clause-answer : goal.returns-clause-answer
 returns-clause-answer c =
-    let asks : call_of c.present_call-call.result ≡ Present c.args.op c.args.self.set c.args.start c.args.n = search rules in
+    let asks : call_of c.present_call-call.result ≡ Present c.args.op c.args.self.set (one_range c.args.start c.args.n) =
+    search rules in
     subst (λ z. IsCallAnswer c.args.self.c z c.args.pool.now c.call.result) asks c.call.ensures.answer

@@ -1,0 +1,41 @@
+use Rattle.std.proofs.Common.{Ok, Err, refl, subst, sym, ap, slice_set}
+use Rattle.std.specs.declared.alloc.AllocError.{AllocError}
+use Rattle.zoom.specs.CallsOf.{call_of}
+use Rattle.zoom.specs.Metas.{MetaLinks, IssuesTo}
+use Rattle.zoom.proofs.Advancing.{admitted_to, refused_to, kept_to, driver_at}
+use Rattle.zoom.proofs.meta.Meta.issue.Goals as goal
+
+pub returns-in-Ok-clause-after : goal.returns-in-Ok-clause-after
+returns-in-Ok-clause-after c =
+    let old : MetaLinks = record { pool = c.self.inside.pool; drivers = c.self.inside.drivers.items } in
+    let lt = rw (← c.self.view_is) at c.requires in
+    let new : MetaLinks = record {
+      pool = c.call.new.self;
+      drivers = slice_set c.self.inside.drivers.items c.args.c c.sent.new.self;
+    } in
+    rw (← c.self.view_is) (admitted_to (Unit {0}) c.one_hearing.ensures c.args.c (call_of c.args.call.now) old new
+    c.index_mut.result.now c.sent.new.self lt (c.in-Ok.ensures.after tt) c.in-Ok.ensures.answer
+    (driver_at old.drivers old.pool.connections c.args.c _ c.index_mut.result.now c.self.invariant lt c.index_mut.ensures.value)
+    c.sent.ensures refl c.in-Ok.ensures.size)
+
+pub returns-in-Memory-clause-after : goal.returns-in-Memory-clause-after
+returns-in-Memory-clause-after c =
+    let old : MetaLinks = record { pool = c.self.inside.pool; drivers = c.self.inside.drivers.items } in
+    let new : MetaLinks = record { pool = c.call.new.self; drivers = c.self.inside.drivers.items } in
+    rw (← c.self.view_is) (kept_to (Unit {0}) c.one_hearing.ensures c.args.c (call_of c.args.call.now) old new tt
+    (ap (λ z. record { pool = z; drivers = c.self.inside.drivers.items }) c.in-Err.ensures.err))
+
+pub returns-in_default-clause-after : goal.returns-in_default-clause-after
+returns-in_default-clause-after c =
+    let old : MetaLinks = record { pool = c.self.inside.pool; drivers = c.self.inside.drivers.items } in
+    let lt = rw (← c.self.view_is) at c.requires in
+    let new : MetaLinks = record {
+      pool = c.call.new.self;
+      drivers = slice_set c.self.inside.drivers.items c.args.c c.refused-on.new.self;
+    } in
+    rw (← c.self.view_is) (subst (λ z. IssuesTo {E = AllocError} c.args.c (call_of c.args.call.now) (Ok z) old new) (sym c.turn_after.ensures)
+    (refused_to AllocError c.one_hearing.ensures c.sent_requests.ensures c.args.c (call_of c.args.call.now) c.in-Err.reason
+    c.refused-on.result old new c.index_mut-in_default.result.now c.refused-on.new.self c.in_default.not-Memory lt
+    (c.in-Err.ensures.after c.in_default.not-Memory) c.in-Err.ensures.answer
+    (driver_at old.drivers old.pool.connections c.args.c _ c.index_mut-in_default.result.now c.self.invariant lt c.index_mut-in_default.ensures.value)
+    c.refused-on.ensures refl c.in-Err.ensures.size))
