@@ -1,0 +1,17 @@
+pub mod WorldBounds
+pub mod WorldLast
+pub mod WorldPieces
+pub mod WorldSaid
+pub mod WorldLoop
+pub mod WorldReads
+pub mod WorldRanges
+pub mod RunGoes
+pub mod RunHalts
+pub mod RunCarries
+pub mod RunWorlds
+pub mod FitnessWants
+pub mod FitnessSizes
+pub mod FitnessLines
+pub mod FitnessLoads
+pub mod FitnessTargets
+pub mod FitnessLaw

@@ -1,0 +1,137 @@
+-- What each line adds, and that names stay known.
+use Rattle.std.proofs.Common.{◌≡◌, ◌∙◌, sym, ap, subst, ℕ, List, [], ◌∷◌, ◌++◌, map, Bool, true, false, ◌||◌, if◌then◌else◌, Option, Some, None, Result, Err, refl}
+use Rattle.std.specs.Option.{option_map}
+use Rattle.std.proofs.lemmas.Bool.{cond-true, cond-false}
+use Rattle.ztarget.specs.declared.database.Database.{Database}
+use Rattle.ztarget.specs.declared.database.Entry.{Entry}
+use Rattle.ztarget.specs.declared.database.Field.{Field}
+use Rattle.ztarget.specs.declared.settings.TargetSettings.{TargetSettings}
+use Rattle.zworld.specs.Worlds.{in_last, in_target, add_database, add_entry, add_entry_field, add_field, new_entry, change_target, with_targets, put_target, put_host, put_move, new_target, new_host, new_database, move_of, is_defined, is_among, place_of, target_names, host_names, asked_names, database_names}
+use Rattle.zworld.specs.declared.world.World.{World}
+use Rattle.zworld.specs.declared.world.NamedHost.{NamedHost}
+use Rattle.zworld.specs.declared.world.NamedTarget.{NamedTarget}
+use Rattle.zworld.specs.declared.world.line.Way.{Way}
+use Rattle.zworld.specs.World.{Answers}
+use Rattle.zworld.specs.WorldParts.{listed, target}
+use Rattle.zworld.specs.declared.world.fault.LineFault.{LineFault}
+use Rattle.zworld.specs.declared.world.fault.LineFault.TheVariants as faults
+use Rattle.zworld.proofs.WorldLast.{in_last_end}
+use Rattle.zworld.proofs.WorldSaid.{none_some, some_same}
+
+map_end : {A B : Type 0} (f : A → B) (xs : List A) (x : A) → map f (xs ++ x ∷ []) ≡ map f xs ++ f x ∷ []
+map_end f [] x = refl
+map_end f (y ∷ ys) x = ap (λ zs. f y ∷ zs) (map_end f ys x)
+
+-- the names with one more
+pub name_more : {A : Type 0} (name : A → List ℕ) (xs ys : List A) (x : A) (keys all : List (List ℕ)) → keys ≡ map name xs → all ≡ keys ++ name x ∷ [] → ys ≡ xs ++ x ∷ [] → all ≡ map name ys
+name_more name xs ys x keys all k a y = a ∙ ap (λ z. z ++ name x ∷ []) k ∙ sym (map_end name xs x) ∙ ap (map name) (sym y)
+
+-- a name that is neither a target's nor a host's
+neither : (a b : Bool) → (a || b) ≡ false → (a ≡ false) × (b ≡ false)
+neither true b e = absurd (Prim.cc e)
+neither false b e = (refl, e)
+
+pub fresh_target : (name : List ℕ) (targets : List NamedTarget) (hosts : List NamedHost) (keys : List (List ℕ)) → keys ≡ target_names targets → is_defined name targets hosts ≡ false → is_among name keys ≡ false
+fresh_target name targets hosts keys k e = ap (is_among name) k ∙ (neither (is_among name (target_names targets)) (is_among name (host_names hosts)) e).0
+
+pub fresh_host : (name : List ℕ) (targets : List NamedTarget) (hosts : List NamedHost) (keys : List (List ℕ)) → keys ≡ host_names hosts → is_defined name targets hosts ≡ false → is_among name keys ≡ false
+fresh_host name targets hosts keys k e = ap (is_among name) k ∙ (neither (is_among name (target_names targets)) (is_among name (host_names hosts)) e).1
+
+-- ---- a target and a host
+
+pub target_put : (name : List ℕ) (settings : TargetSettings) (w : World) (targets : List NamedTarget) → is_defined name w.targets w.hosts ≡ false → targets ≡ w.targets ++ new_target name settings ∷ [] → put_target name settings w ≡ Some (record w { targets = targets })
+target_put name settings w targets e t = cond-false _ _ _ e ∙ ap (λ z. Some (with_targets w z)) (sym t)
+
+pub target_defined : (name : List ℕ) (settings : TargetSettings) (w : World) → is_defined name w.targets w.hosts ≡ true → put_target name settings w ≡ None
+target_defined name settings w e = cond-true _ _ _ e
+
+pub host_put : (name address : List ℕ) (w : World) (hosts : List NamedHost) → is_defined name w.targets w.hosts ≡ false → hosts ≡ w.hosts ++ new_host name address ∷ [] → put_host name address w ≡ Some (record w { hosts = hosts })
+host_put name address w hosts e h = cond-false _ _ _ e ∙ ap (λ z. Some (record w { hosts = z })) (sym h)
+
+pub host_defined : (name address : List ℕ) (w : World) → is_defined name w.targets w.hosts ≡ true → put_host name address w ≡ None
+host_defined name address w e = cond-true _ _ _ e
+
+-- ---- the last target
+
+pub changed : (change : NamedTarget → Option NamedTarget) (w : World) (targets : List NamedTarget) → in_last change w.targets ≡ Some targets → change_target change w ≡ Some (record w { targets = targets })
+changed change w targets e = ap (option_map (with_targets w)) e
+
+pub unchanged : (change : NamedTarget → Option NamedTarget) (w : World) → in_last change w.targets ≡ None → change_target change w ≡ None
+unchanged change w e = ap (option_map (with_targets w)) e
+
+last_named : {A : Type 0} (name : A → List ℕ) (t : A) (o : Option A) (ys : List A) → ((u : A) → o ≡ Some u → name t ≡ name u) → option_map (λ y. y ∷ []) o ≡ Some ys → map name (t ∷ []) ≡ map name ys
+last_named name t None ys k e = absurd (none_some e)
+last_named name t (Some u) ys k e = ap (λ z. z ∷ []) (k u refl) ∙ ap (map name) (some_same (u ∷ []) ys e)
+
+rest_named : {A : Type 0} (name : A → List ℕ) (t : A) (xs : List A) (o : Option (List A)) (ys : List A) → ((zs : List A) → o ≡ Some zs → map name xs ≡ map name zs) → option_map (λ zs. t ∷ zs) o ≡ Some ys → map name (t ∷ xs) ≡ map name ys
+rest_named name t xs None ys k e = absurd (none_some e)
+rest_named name t xs (Some zs) ys k e = ap (λ z. name t ∷ z) (k zs refl) ∙ ap (map name) (some_same (t ∷ zs) ys e)
+
+-- names stay
+stay : {A : Type 0} (name : A → List ℕ) (change : A → Option A) (xs ys : List A) → ((t u : A) → change t ≡ Some u → name t ≡ name u) → in_last change xs ≡ Some ys → map name xs ≡ map name ys
+stay name change [] ys k e = absurd (none_some e)
+stay name change (x ∷ []) ys k e = last_named name x (change x) ys (k x) e
+stay name change (x ∷ y ∷ xs) ys k e = rest_named name x (y ∷ xs) (in_last change (y ∷ xs)) ys (λ zs f. stay name change (y ∷ xs) zs k f) e
+
+pub names_stay : (change : NamedTarget → Option NamedTarget) (xs ys : List NamedTarget) → ((t u : NamedTarget) → change t ≡ Some u → t.name ≡ u.name) → in_last change xs ≡ Some ys → target_names xs ≡ target_names ys
+names_stay change xs ys k e = stay (λ t. t.name) change xs ys k e
+
+pub databases_stay : (change : Database → Option Database) (xs ys : List Database) → ((d u : Database) → change d ≡ Some u → d.name ≡ u.name) → in_last change xs ≡ Some ys → database_names xs ≡ database_names ys
+databases_stay change xs ys k e = stay (λ d. d.name) change xs ys k e
+
+pub entry_keeps : (syntax octets : List ℕ) (d u : Database) → add_entry syntax octets d ≡ Some u → d.name ≡ u.name
+entry_keeps syntax octets d u e = ap (λ z. z.name) (some_same (record d { entries = d.entries ++ new_entry syntax octets ∷ [] }) u e)
+
+with_entries : (o : Option (List Entry)) (d u : Database) → option_map (λ entries. record d { entries = entries }) o ≡ Some u → d.name ≡ u.name
+with_entries None d u e = absurd (none_some e)
+with_entries (Some xs) d u e = ap (λ z. z.name) (some_same (record d { entries = xs }) u e)
+
+pub field_keeps : (field : Field) (d u : Database) → add_entry_field field d ≡ Some u → d.name ≡ u.name
+field_keeps field d u e = with_entries (in_last (add_field field) d.entries) d u e
+
+-- where the databases of the last target cannot be changed, it cannot
+last_kept : (change : Database → Option Database) (before : List NamedTarget) (t : NamedTarget) → in_last change t.databases ≡ None → in_last (in_target change) (before ++ t ∷ []) ≡ None
+last_kept change before t e =
+    in_last_end (in_target change) before t ∙ ap (λ z. option_map (λ y. before ++ y ∷ []) (option_map (λ databases. record t { databases = databases }) z)) e
+
+refused_by : (change : Database → Option Database) (before : List NamedTarget) (t : NamedTarget) (e : LineFault) → Answers {A = List Database} (in_last change t.databases) (Err e) → Answers {A = List NamedTarget} (in_last (in_target change) (before ++ t ∷ [])) (Err e)
+refused_by change before t faults.Refused h = last_kept change before t h
+refused_by change before t faults.Memory h = tt
+
+pub refused_in : (change : Database → Option Database) (before : List NamedTarget) (t : NamedTarget) (e f : LineFault) (r : Result (List NamedTarget) LineFault) → r ≡ Err f → f ≡ e → Answers {A = List Database} (in_last change t.databases) (Err e) → Answers (in_last (in_target change) (before ++ t ∷ [])) r
+refused_in change before t e f r is of h = rw (is, of) (refused_by change before t e h)
+
+chosen : (b : Bool) (t u v : NamedTarget) → t.name ≡ u.name → (if b then None else Some u) ≡ Some v → t.name ≡ v.name
+chosen true t u v k e = absurd (none_some e)
+chosen false t u v k e = k ∙ ap (λ z. z.name) (some_same u v e)
+
+pub database_keeps : (name : List ℕ) (t u : NamedTarget) → add_database name t ≡ Some u → t.name ≡ u.name
+database_keeps name t u e = chosen (is_among name (database_names t.databases)) t (record t { databases = t.databases ++ new_database name ∷ [] }) u refl e
+
+mapped : (o : Option (List Database)) (t u : NamedTarget) → option_map (λ databases. record t { databases = databases }) o ≡ Some u → t.name ≡ u.name
+mapped None t u e = absurd (none_some e)
+mapped (Some ds) t u e = ap (λ z. z.name) (some_same (record t { databases = ds }) u e)
+
+pub target_keeps : (change : Database → Option Database) (t u : NamedTarget) → in_target change t ≡ Some u → t.name ≡ u.name
+target_keeps change t u e = mapped (in_last change t.databases) t u e
+
+-- ---- a move
+
+pub moved : (way : Way) (name : List ℕ) (k c : ℕ) (w : World) → is_among name (target_names w.targets) ≡ true → place_of name (asked_names w.questions) ≡ Some c → put_move way name k w ≡ Some (record w { moves = w.moves ++ move_of way c k ∷ [] })
+moved way name k c w e p = cond-true _ _ _ e ∙ ap (option_map (λ c. record w { moves = w.moves ++ move_of way c k ∷ [] })) p
+
+pub no_target : (way : Way) (name : List ℕ) (k : ℕ) (w : World) → is_among name (target_names w.targets) ≡ false → put_move way name k w ≡ None
+no_target way name k w e = cond-false _ _ _ e
+
+pub not_asked : (way : Way) (name : List ℕ) (k : ℕ) (w : World) → is_among name (target_names w.targets) ≡ true → place_of name (asked_names w.questions) ≡ None → put_move way name k w ≡ None
+not_asked way name k w e p = cond-true _ _ _ e ∙ ap (option_map (λ c. record w { moves = w.moves ++ move_of way c k ∷ [] })) p
+
+-- ---- the databases of the last target
+
+pub still_named : (change : Database → Option Database) (keys : List (List ℕ)) (had : Option (List Database)) (ds es : List Database) → ((d u : Database) → change d ≡ Some u → d.name ≡ u.name) → keys ≡ database_names (listed had) → had ≡ Some ds → in_last change ds ≡ Some es → keys ≡ database_names es
+still_named change keys had ds es k n is e = n ∙ ap (λ z. database_names (listed z)) is ∙ databases_stay change ds es k e
+
+pub refused_last : (change : Database → Option Database) (before : List NamedTarget) (name : List ℕ) (settings : TargetSettings) (had : Option (List Database)) (ds : List Database) (whole : Option (List NamedTarget)) (last : List NamedTarget) (e f : LineFault) (r : Result (List NamedTarget) LineFault) → whole ≡ Some last → before ++ target name settings (listed had) ∷ [] ≡ last → had ≡ Some ds → r ≡ Err f → f ≡ e → Answers {A = List Database} (in_last change ds) (Err e) → Answers (in_last (in_target change) (listed whole)) r
+refused_last change before name settings had ds whole last e f r some view is err of h =
+    let same : before ++ target name settings ds ∷ [] ≡ listed whole = ap (λ z. before ++ target name settings (listed z) ∷ []) (sym is) ∙ view ∙ sym (ap listed some) in
+    subst (λ z. Answers {A = List NamedTarget} (in_last (in_target change) z) r) same (refused_in change before (target name settings ds) e f r err of h)

@@ -1,0 +1,9 @@
+pub mod World
+pub mod WorldLines
+pub mod WorldWants
+pub mod Worlds
+pub mod WorldParts
+pub mod WorldReading
+pub mod Run
+pub mod RunSteps
+pub mod Fitness

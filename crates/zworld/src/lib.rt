@@ -1,0 +1,6 @@
+//! Worlds.
+#![tactic(auto)]
+
+pub mod fitness;
+pub mod run;
+pub mod world;

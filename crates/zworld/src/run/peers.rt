@@ -1,0 +1,161 @@
+//! Targets in memory, each at the other end of a connection.
+ghost use Rattle.std.specs.Prelude.{◌≡◌, ◌<◌, [], length, OnOk, IfOk};
+ghost use Rattle.zworld.specs.Run.{IsNew, AreNew};
+ghost use Rattle.zworld.specs.RunSteps.{GoesOn, Carries, ReleasesReplies, IsPeerOf, ArePeersOf};
+
+use crate::run::pipes::Pipe;
+use crate::run::turns::take_all;
+use std::alloc::{AllocError, Global};
+use zoom::{Host, Meta, Move};
+use ztarget::Target;
+
+/// A target in memory at the other end of a connection, with the octets that go to it and come from it.
+#[derive(Drop)]
+pub(crate) struct Peer {
+    host: Host,
+    to: Pipe,
+    from: Pipe,
+}
+
+/// The number of the connection that a move is made on.
+pub(crate) fn connection_of(step: Move) -> u32 {
+    match step {
+        Move::To { c, .. } => c,
+        Move::Release { c, .. } => c,
+        Move::From { c, .. } => c,
+    }
+}
+
+impl Peer {
+    /// Of a host. Nothing is on its way. It takes no memory.
+    pub(crate) fn new(alloc: Global, host: Host) -> Peer
+        ensures host { result.host ≡ host }
+        ensures to { result.to ≡ [] }
+        ensures from { result.from ≡ [] }
+    {
+        Peer {
+            host,
+            to: Pipe::new(alloc),
+            from: Pipe::new(alloc),
+        }
+    }
+
+    /// Carries up to `k` octets of what waits on the connection to the target; whether there were any.
+    fn carry_to(&mut self, meta: &mut Meta, c: u32, k: usize) -> Result<bool, AllocError>
+        requires { c < length meta.old.pool.connections }
+        ensures carries { OnOk result (Carries c meta.old meta.new self.old self.new) }
+        ensures size { length meta.new.pool.connections ≡ length meta.old.pool.connections }
+    {
+        self.to.take_in_sent(meta, c)?;
+        let piece = self.to.next(k);
+        let n = piece.len();
+        self.host.feed(piece)?;
+        self.to.pass(n);
+        Ok(n > 0)
+    }
+
+    /// Carries up to `k` octets of what waits at the target to the connection; whether there were any.
+    fn feed_from(&mut self, meta: &mut Meta, c: u32, k: usize) -> Result<bool, AllocError>
+        requires { c < length meta.old.pool.connections }
+        ensures carries { OnOk result (Carries c meta.old meta.new self.old self.new) }
+        ensures size { length meta.new.pool.connections ≡ length meta.old.pool.connections }
+    {
+        self.from.take_in_replies(&mut self.host)?;
+        let piece = self.from.next(k);
+        let n = piece.len();
+        meta.feed(c, piece)?;
+        self.from.pass(n);
+        Ok(n > 0)
+    }
+
+    /// Ends the input of the connection, where its target stopped and nothing more comes of it.
+    fn end_where_stopped(&self, meta: &mut Meta, c: u32)
+        requires { c < length meta.old.pool.connections }
+        ensures on { GoesOn meta.old meta.new }
+        ensures size { length meta.new.pool.connections ≡ length meta.old.pool.connections }
+    {
+        if self.host.stopped() && self.from.is_empty() {
+            meta.end(c);
+        }
+    }
+
+    /// Carries up to `k` octets of what waits at the target to the connection, which takes each whole message; whether
+    /// there were any.
+    fn carry_from(&mut self, meta: &mut Meta, c: u32, k: usize) -> Result<bool, AllocError>
+        requires { c < length meta.old.pool.connections }
+        ensures carries { OnOk result (Carries c meta.old meta.new self.old self.new) }
+        ensures size { length meta.new.pool.connections ≡ length meta.old.pool.connections }
+    {
+        let carried = self.feed_from(meta, c, k)?;
+        self.end_where_stopped(meta, c);
+        take_all(meta, c)?;
+        Ok(carried)
+    }
+
+    /// Releases pending reply `k`; whether there was one.
+    fn release(&mut self, k: usize) -> Result<bool, AllocError>
+        ensures { OnOk result (ReleasesReplies self.old self.new) }
+    {
+        self.host.release(k)
+    }
+
+    /// Releases the first pending reply until none can be released; whether there was one.
+    fn release_all(&mut self) -> Result<bool, AllocError>
+        ensures { OnOk result (ReleasesReplies self.old self.new) }
+    {
+        let mut released = false;
+        for _ in 0..u64::MAX {
+            if !self.release(0)? {
+                return Ok(released);
+            }
+            released = true;
+        }
+        Ok(released)
+    }
+
+    /// Makes a move on this connection.
+    pub(crate) fn make(&mut self, meta: &mut Meta, c: u32, step: Move) -> Result<bool, AllocError>
+        requires { c < length meta.old.pool.connections }
+        ensures carries { OnOk result (Carries c meta.old meta.new self.old self.new) }
+        ensures size { length meta.new.pool.connections ≡ length meta.old.pool.connections }
+    {
+        match step {
+            Move::To { k, .. } => self.carry_to(meta, c, k as usize),
+            Move::Release { k, .. } => self.release(k as usize),
+            Move::From { k, .. } => self.carry_from(meta, c, k as usize),
+        }
+    }
+
+    /// Carries everything to the target, releases all replies in order, and carries everything to the connection;
+    /// whether there was anything.
+    pub(crate) fn go_round(&mut self, meta: &mut Meta, c: u32) -> Result<bool, AllocError>
+        requires { c < length meta.old.pool.connections }
+        ensures carries { OnOk result (Carries c meta.old meta.new self.old self.new) }
+        ensures size { length meta.new.pool.connections ≡ length meta.old.pool.connections }
+    {
+        let sent = self.carry_to(meta, c, usize::MAX)?;
+        let released = self.release_all()?;
+        let came = self.carry_from(meta, c, usize::MAX)?;
+        Ok(sent | released | came)
+    }
+}
+
+/// Of a target that has received nothing yet. It takes no memory.
+fn peer_of(alloc: Global, target: Target) -> Peer
+    requires { IsNew target }
+    ensures { IsPeerOf target result }
+{
+    Peer::new(alloc, Host::new(alloc, target))
+}
+
+/// One for each target, in order.
+pub(crate) fn peers_of(alloc: Global, targets: Vec<Target>) -> Result<Vec<Peer>, AllocError>
+    requires { AreNew targets.items }
+    ensures { IfOk result (λ peers. ArePeersOf targets.items peers.items) }
+{
+    let mut peers = Vec::new(alloc);
+    for target in targets {
+        peers.push(peer_of(alloc, target))?;
+    }
+    Ok(peers)
+}
