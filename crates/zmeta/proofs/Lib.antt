@@ -4,3 +4,5 @@ pub mod Joining
 mod Querying
 pub mod DeviceSteps
 pub mod Reading
+pub mod Troubles
+pub mod Running

@@ -4,6 +4,7 @@ use Rattle.std.specs.Fmt.{decimal}
 use Rattle.zber.specs.Faults.{kind_word as fault_word}
 use Rattle.zber.specs.declared.fault.FrameError.{FrameError}
 use Rattle.zber.specs.declared.fault.FrameError.TheVariants as frames
+use Rattle.zapdu.specs.Apdus.{kind_word}
 use Rattle.zapdu.specs.declared.apdu.ApduError.{ApduError}
 use Rattle.zapdu.specs.declared.apdu.ApduError.TheVariants as apdus
 use Rattle.zasn.specs.declared.error.BuildError.{BuildError}
@@ -16,9 +17,11 @@ use Rattle.zquery.specs.declared.print.PrintError.{PrintError}
 use Rattle.zquery.specs.declared.print.PrintError.TheVariants as prints
 use Rattle.zknow.specs.declared.loading.LoadError.{LoadError}
 use Rattle.zknow.specs.declared.loading.LoadError.TheVariants as loads
-use Rattle.zmeta.specs.Fields.{apdu_word}
+use Rattle.zknow.specs.Refusals.{load_word}
+use Rattle.zworld.specs.declared.world.WorldError.{WorldError}
+use Rattle.zworld.specs.declared.world.WorldError.TheVariants as worlds
 use Rattle.zmeta.specs.declared.fault.Fault.{Fault}
-use Rattle.zmeta.specs.declared.fault.Fault.TheVariants.{Read, Write, Hex, Frame, NotApdu, Malformed, Query, NotPrintable, NotKnowledge, NotCanonical, NamesDiffer, Memory}
+use Rattle.zmeta.specs.declared.fault.Fault.TheVariants.{Read, Write, Hex, Frame, NotApdu, Malformed, Query, NotPrintable, NotKnowledge, NotCanonical, NamesDiffer, Line, Memory}
 use Rattle.zmeta.specs.declared.fault.Status.{Status}
 use Rattle.zmeta.specs.declared.fault.Status.TheVariants as statuses
 
@@ -37,12 +40,13 @@ fault_text (Write path) = codes "cannot write " ++ path.now
 fault_text Hex = codes "hex refused"
 fault_text (Frame kind at) = fault_word kind ++ codes " at " ++ decimal at
 fault_text NotApdu = codes "not an APDU"
-fault_text (Malformed kind at) = apdu_word kind ++ codes " malformed at " ++ decimal at
+fault_text (Malformed kind at) = kind_word kind ++ codes " malformed at " ++ decimal at
 fault_text (Query kind at) = query_word kind ++ codes " at " ++ decimal at
 fault_text NotPrintable = codes "not printable"
-fault_text (NotKnowledge at) = codes "knowledge refused: NotKnowledge at " ++ decimal at
-fault_text (NotCanonical at) = codes "knowledge refused: NotCanonical at " ++ decimal at
+fault_text (NotKnowledge at) = codes "knowledge refused: " ++ load_word (loads.NotKnowledge at) ++ codes " at " ++ decimal at
+fault_text (NotCanonical at) = codes "knowledge refused: " ++ load_word (loads.NotCanonical at) ++ codes " at " ++ decimal at
 fault_text NamesDiffer = codes "names differ"
+fault_text (Line number) = codes "line " ++ decimal number ++ codes " refused"
 fault_text Memory = codes "out of memory"
 
 abbrev pub of_frame : FrameError → Fault
@@ -75,6 +79,10 @@ abbrev pub of_load : LoadError → Fault
 of_load (loads.NotKnowledge at) = NotKnowledge at
 of_load (loads.NotCanonical at) = NotCanonical at
 of_load loads.Memory = Memory
+
+abbrev pub of_world : WorldError → Fault
+of_world (worlds.Refused line) = Line line
+of_world worlds.Memory = Memory
 
 -- the status of a command that a fault stopped
 abbrev pub status_of : Fault → Status

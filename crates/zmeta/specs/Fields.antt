@@ -5,16 +5,7 @@ use Rattle.std.specs.Fmt.{signed_decimal}
 use Rattle.hex.specs.Hex.{encode_lower}
 use Rattle.zapdu.specs.Text.{quoted_or_dash}
 use Rattle.zapdu.specs.declared.apdu.Kind.{Kind}
-use Rattle.zapdu.specs.declared.apdu.Kind.TheVariants as kinds
-
-abbrev pub apdu_word : Kind → List ℕ
-apdu_word kinds.InitRequest = codes "initRequest"
-apdu_word kinds.InitResponse = codes "initResponse"
-apdu_word kinds.SearchRequest = codes "searchRequest"
-apdu_word kinds.SearchResponse = codes "searchResponse"
-apdu_word kinds.PresentRequest = codes "presentRequest"
-apdu_word kinds.PresentResponse = codes "presentResponse"
-apdu_word kinds.Close = codes "close"
+use Rattle.zapdu.specs.Apdus.{kind_word}
 
 -- a reference id in hexadecimal, or a dash
 abbrev pub reference_text : Option (List ℕ) → List ℕ
@@ -42,7 +33,7 @@ abbrev pub name_text : Option (List ℕ) → List ℕ
 name_text name = codes " " ++ quoted_or_dash name
 
 unfoldable pub start_text : Kind → Option (List ℕ) → List ℕ
-start_text kind reference = apdu_word kind ++ codes " " ++ reference_text reference
+start_text kind reference = kind_word kind ++ codes " " ++ reference_text reference
 
 unfoldable pub head_line : Kind → Option (List ℕ) → List ℤ → List ℕ
-head_line kind reference ns = apdu_word kind ++ codes " " ++ reference_text reference ++ numbers_text ns ++ codes "\n"
+head_line kind reference ns = kind_word kind ++ codes " " ++ reference_text reference ++ numbers_text ns ++ codes "\n"

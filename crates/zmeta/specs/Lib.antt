@@ -7,6 +7,7 @@ pub mod Join
 pub mod Lines
 pub mod Pieces
 pub mod Pqf
+pub mod Run
 pub mod Searches
 pub mod Show
 pub mod Steps

@@ -1,5 +1,6 @@
 -- What the words of a command line ask for.
 use Rattle.std.specs.Prelude.{◌≡◌, ◌⊎◌, ℕ, List, [], Option, Some, None, true, codes, unwrap_or}
+use Rattle.std.specs.Option.{option_map}
 use Rattle.clap.specs.Words.{first_value, one_text, kind_of}
 use Rattle.clap.specs.declared.error.Error.{Error}
 use Rattle.clap.specs.declared.error.kind.ErrorKind.{ErrorKind}
@@ -9,13 +10,14 @@ use Rattle.zknow.specs.declared.fact.Mode.{Mode}
 use Rattle.zknow.specs.declared.fact.Mode.TheVariants as modes
 use Rattle.zmeta.specs.Join.{DoesJoin}
 use Rattle.zmeta.specs.Pqf.{DoesPqf}
+use Rattle.zmeta.specs.Run.{DoesRun}
 use Rattle.zmeta.specs.Show.{DoesShow}
 use Rattle.zmeta.specs.Devices.{Device, Tells}
 use Rattle.zmeta.specs.declared.fault.Fault.TheVariants as faults
 use Rattle.zmeta.specs.declared.fault.Status.{Status}
 use Rattle.zmeta.specs.declared.fault.Status.TheVariants as statuses
 use Rattle.zmeta.specs.declared.words.Words.{Words}
-use Rattle.zmeta.specs.declared.words.Words.TheVariants.{Show, Pqf, Join}
+use Rattle.zmeta.specs.declared.words.Words.TheVariants.{Show, Pqf, Join, Run}
 
 -- the value that a command's words give to an argument
 abbrev pub value_of : Found → List ℕ → List ℕ
@@ -32,6 +34,8 @@ Asks name found Show = name ≡ codes "show"
 Asks name found (Pqf text) = (name ≡ codes "pqf") × (text.now ≡ value_of found (codes "TEXT"))
 Asks name found (Join first second mode) = (name ≡ codes "join") × (first.now ≡ value_of found (codes "A"))
     × (second.now ≡ value_of found (codes "B")) × HasMode found mode
+Asks name found (Run world saved mode) = (name ≡ codes "run") × (world.now ≡ value_of found (codes "FILE"))
+    × (option_map (λ path. path.now) saved ≡ first_value found (codes "save")) × HasMode found mode
 
 -- what is done for the words: their command, with these arguments and none other
 abbrev pub Does : (List ℕ → Option (List ℕ)) → Words → Device → Device → Device → Device → Device → Device → Status → Type 0
@@ -39,6 +43,8 @@ Does octets Show input rest output printed errors told status = DoesShow input r
 Does octets (Pqf text) input rest output printed errors told status = (rest ≡ input) × DoesPqf text.now output printed errors told status
 Does octets (Join first second mode) input rest output printed errors told status =
     (rest ≡ input) × DoesJoin mode first.now second.now (octets first.now) (octets second.now) output printed errors told status
+Does octets (Run world saved mode) input rest output printed errors told status =
+    (rest ≡ input) × DoesRun mode world.now (option_map (λ path. path.now) saved) (octets world.now) output printed errors told status
 
 -- help was asked for
 abbrev pub IsHelp : ErrorKind → Type 0

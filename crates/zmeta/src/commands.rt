@@ -9,6 +9,7 @@ use crate::input::Source;
 use crate::join::join_named;
 use crate::output::Sink;
 use crate::pqf::pqf;
+use crate::run::{Paths, run_named};
 use crate::show::show;
 use crate::words;
 use crate::words::Words;
@@ -104,5 +105,8 @@ fn call<'a, F: Folder, R: Read, W: Write, E: Write>(
             second,
             mode,
         } => join_named(alloc, files, (first, second), mode, output, errors),
+        Words::Run { world, saved, mode } => {
+            run_named(alloc, files, Paths { world, saved }, mode, output, errors)
+        }
     }
 }

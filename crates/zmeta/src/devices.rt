@@ -72,6 +72,8 @@ pub(crate) struct Shelf<'a> {
 impl<'a> Folder for Shelf<'a> {
     type File = Broken<'a>;
 
+    type Made = Full;
+
     fn open(&self, path: &str) -> io::Result<Broken<'a>> {
         for file in self.files {
             if file.path == path {
@@ -83,6 +85,15 @@ impl<'a> Folder for Shelf<'a> {
             }
         }
         Err(io::Error::from(ErrorKind::NotFound))
+    }
+
+    /// A writer that keeps nothing: at `full` its second write fails, and nothing is made at `none`.
+    fn create(&self, path: &str) -> io::Result<Full> {
+        if path == "none" {
+            return Err(io::Error::from(ErrorKind::NotFound));
+        }
+        let fails_at = if path == "full" { 2 } else { 0 };
+        Ok(Full { calls: 0, fails_at })
     }
 }
 

@@ -1,11 +1,9 @@
 //! Why a command stopped, and the status that it ends with.
 ghost use Rattle.std.specs.Prelude.{◌≡◌, Some};
-ghost use Rattle.zmeta.specs.Faults.{code_of, status_of, fault_text, of_frame, of_apdu, of_query, of_print, of_build, of_load};
-ghost use Rattle.zmeta.specs.Fields.{apdu_word};
+ghost use Rattle.zmeta.specs.Faults.{code_of, status_of, fault_text, of_frame, of_apdu, of_query, of_print, of_build, of_load, of_world};
 ghost use Rattle.zmeta.specs.Devices.{held, Tells};
 ghost use Rattle.zmeta.specs.declared.fault.Fault.TheVariants.{Memory};
 
-use crate::lines::apdu_word;
 use crate::output::Sink;
 use std::alloc::AllocError;
 use std::fmt;
@@ -14,6 +12,7 @@ use zapdu::{ApduError, Kind};
 use zber::{FaultKind, FrameError};
 use zknow::LoadError;
 use zquery::{BuildError, PqfError, PqfErrorKind, PrintError};
+use zworld::world::WorldError;
 
 /// How a command ends. Where several hold, `Memory` comes before `Refused`, and that before `Failed`.
 #[derive(Clone, Copy, Debug, PartialEq, Eq)]
@@ -70,6 +69,8 @@ pub enum Fault<'a> {
     NotCanonical { at: usize },
     /// Two saved files name their targets differently.
     NamesDiffer,
+    /// The line of a world file, from 1, says nothing, or cannot stand where it does, or asks whom the command does not.
+    Line(u64),
     /// No memory was found.
     Memory,
 }
@@ -88,7 +89,7 @@ impl fmt::Display for Fault<'_> {
             }
             Fault::NotApdu => write!(f, "not an APDU"),
             Fault::Malformed { kind, at } => {
-                let word = apdu_word(*kind);
+                let word = kind.word();
                 write!(f, "{word} malformed at {at}")
             }
             Fault::Query { kind, at } => {
@@ -96,9 +97,16 @@ impl fmt::Display for Fault<'_> {
                 write!(f, "{word} at {at}")
             }
             Fault::NotPrintable => write!(f, "not printable"),
-            Fault::NotKnowledge { at } => write!(f, "knowledge refused: NotKnowledge at {at}"),
-            Fault::NotCanonical { at } => write!(f, "knowledge refused: NotCanonical at {at}"),
+            Fault::NotKnowledge { at } => {
+                let word = LoadError::NotKnowledge { at: *at }.word();
+                write!(f, "knowledge refused: {word} at {at}")
+            }
+            Fault::NotCanonical { at } => {
+                let word = LoadError::NotCanonical { at: *at }.word();
+                write!(f, "knowledge refused: {word} at {at}")
+            }
             Fault::NamesDiffer => write!(f, "names differ"),
+            Fault::Line(number) => write!(f, "line {number} refused"),
             Fault::Memory => write!(f, "out of memory"),
         }
     }
@@ -176,6 +184,17 @@ impl From<LoadError> for Fault<'_> {
             LoadError::NotKnowledge { at } => Fault::NotKnowledge { at },
             LoadError::NotCanonical { at } => Fault::NotCanonical { at },
             LoadError::Memory => Fault::Memory,
+        }
+    }
+}
+
+impl From<WorldError> for Fault<'_> {
+    ghost from_gives = { λ e f. f ≡ of_world e };
+
+    fn from(error: WorldError) -> Self {
+        match error {
+            WorldError::Refused { line } => Fault::Line(line),
+            WorldError::Memory => Fault::Memory,
         }
     }
 }
@@ -294,6 +313,7 @@ mod tests {
                 b"zmeta: knowledge refused: NotCanonical at 2\n",
             ),
             (Fault::NamesDiffer, b"zmeta: names differ\n"),
+            (Fault::Line(12), b"zmeta: line 12 refused\n"),
             (Fault::Memory, b"zmeta: out of memory\n"),
         ] {
             let mut told = Vec::new(rt.alloc());

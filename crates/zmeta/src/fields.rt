@@ -2,7 +2,6 @@
 ghost use Rattle.std.specs.Prelude.{◌≡◌, ◌++◌, OnOk};
 ghost use Rattle.zmeta.specs.Fields.{reference_text, numbers_text, number_text, bits_text, truth_text, name_text, start_text};
 
-use crate::lines::apdu_word;
 use bytes::Bytes;
 use std::alloc::{AllocError, Global};
 use zapdu::{Kind, quote};
@@ -18,7 +17,7 @@ pub(crate) fn put_start(
 ) -> Result<(), AllocError>
     ensures { OnOk result (text.new.items ≡ text.old.items ++ start_text kind reference.now) }
 {
-    text.extend_from_slice(apdu_word(kind).as_bytes())?;
+    text.extend_from_slice(kind.word().as_bytes())?;
     text.extend_from_slice(b" ")?;
     put_reference(alloc, reference, text)
 }

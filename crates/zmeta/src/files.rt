@@ -1,16 +1,18 @@
 //! Files by their names. They open when they are first read, so that a file that cannot be opened is one that cannot be
 //! read.
-ghost use Rattle.std.specs.Prelude.{◌≡◌, ℕ, List, Option, None, IfOk};
+ghost use Rattle.std.specs.Prelude.{◌≡◌, ℕ, List, [], Option, None, IfOk, IfSome};
 ghost use Rattle.zmeta.specs.Files.{opened_left};
 
 use crate::input::Source;
 use std::fs::File;
 use std::io;
-use std::io::{ErrorKind, Read};
+use std::io::{ErrorKind, Read, Write};
 
 /// Where files are found by their paths.
 pub(crate) trait Folder {
     type File: Read + Drop;
+
+    type Made: Write + Drop;
 
     /// The octets of the file at a path, where they are known.
     ghost octets: { Self → List ℕ → Option (List ℕ) } = { λ _ _. None };
@@ -18,13 +20,23 @@ pub(crate) trait Folder {
     /// Opens the file at a path, at its first octet.
     fn open(&self, path: &str) -> io::Result<Self::File>
         ensures { IfOk result (λ file. Self.File.remaining file ≡ octets self.now path.now) };
+
+    /// Makes the file at a path, without an octet.
+    fn create(&self, path: &str) -> io::Result<Self::Made>
+        ensures { IfOk result (λ file. IfSome (Self.Made.contents file) (λ octets. octets ≡ [])) };
 }
 
 impl Folder for HostRuntime {
     type File = File;
 
+    type Made = File;
+
     fn open(&self, path: &str) -> io::Result<File> {
         File::open(self, path)
+    }
+
+    fn create(&self, path: &str) -> io::Result<File> {
+        File::create(self, path)
     }
 }
 

@@ -1,6 +1,6 @@
 //! The lines of an APDU, as `show` prints them.
 ghost use Rattle.std.specs.Prelude.{◌≡◌, ◌++◌, OnOk, OnErr};
-ghost use Rattle.zmeta.specs.Fields.{apdu_word, head_line};
+ghost use Rattle.zmeta.specs.Fields.{head_line};
 ghost use Rattle.zmeta.specs.Lines.{apdu_text, init_request_text, init_response_text, search_response_text, present_request_text, range_line, range_lines, response_text, close_text, records_text, record_lines, record_line, nonsurrogate, default_line, diag_lines, diag_line, info_text};
 
 use crate::fields::{put_bits, put_name, put_numbers, put_reference, put_start, put_truth};
@@ -10,41 +10,33 @@ use std::alloc::{AllocError, Global};
 use zapdu::{
     Apdu, Close, DefaultDiag, DiagRec, InitRequest, InitResponse, Kind, PresentRequest,
     PresentResponse, Range, Record, Records, SearchResponse, print_default_diag, print_diag,
-    print_record, quote,
+    print_given_record, quote,
 };
-
-/// The word of a kind of APDU.
-pub(crate) fn apdu_word(kind: Kind) -> &'static str
-    ensures { result.now ≡ apdu_word kind }
-{
-    match kind {
-        Kind::InitRequest => "initRequest",
-        Kind::InitResponse => "initResponse",
-        Kind::SearchRequest => "searchRequest",
-        Kind::SearchResponse => "searchResponse",
-        Kind::PresentRequest => "presentRequest",
-        Kind::PresentResponse => "presentResponse",
-        Kind::Close => "close",
-    }
-}
+use zber::Seq;
 
 /// Appends the lines of an APDU: its word and its fields in their order, and an indented line for each record or text.
 /// A reference id is hexadecimal, and what is absent is `-`. After a failure the text is unchanged.
-pub(crate) fn print_apdu(alloc: Global, apdu: &Apdu, text: &mut Vec<u8>) -> Result<(), AllocError>
-    ensures ok { OnOk result (text.new.items ≡ text.old.items ++ apdu_text apdu.now) }
+pub(crate) fn print_apdu(alloc: Global, apdu: Apdu, text: &mut Vec<u8>) -> Result<(), AllocError>
+    ensures ok { OnOk result (text.new.items ≡ text.old.items ++ apdu_text apdu) }
     ensures err { OnErr result (text.new.items ≡ text.old.items) }
 {
     let mut lines = Vec::new(alloc);
-    match apdu {
-        Apdu::InitRequest(request) => put_init_request(alloc, request, &mut lines)?,
-        Apdu::InitResponse(response) => put_init_response(alloc, response, &mut lines)?,
-        Apdu::SearchRequest(request) => put_search_request(alloc, request, &mut lines)?,
-        Apdu::SearchResponse(response) => put_search_response(alloc, response, &mut lines)?,
-        Apdu::PresentRequest(request) => put_present_request(alloc, request, &mut lines)?,
-        Apdu::PresentResponse(response) => put_response(alloc, response, &mut lines)?,
-        Apdu::Close(close) => put_close(alloc, close, &mut lines)?,
-    }
+    put_apdu(alloc, apdu, &mut lines)?;
     text.extend_from_slice(&lines)
+}
+
+fn put_apdu(alloc: Global, apdu: Apdu, text: &mut Vec<u8>) -> Result<(), AllocError>
+    ensures { OnOk result (text.new.items ≡ text.old.items ++ apdu_text apdu) }
+{
+    match apdu {
+        Apdu::InitRequest(request) => put_init_request(alloc, &request, text),
+        Apdu::InitResponse(response) => put_init_response(alloc, &response, text),
+        Apdu::SearchRequest(request) => put_search_request(alloc, &request, text),
+        Apdu::SearchResponse(response) => put_search_response(alloc, response, text),
+        Apdu::PresentRequest(request) => put_present_request(alloc, &request, text),
+        Apdu::PresentResponse(response) => put_response(alloc, response, text),
+        Apdu::Close(close) => put_close(alloc, &close, text),
+    }
 }
 
 fn put_init_request(
@@ -88,10 +80,10 @@ fn put_init_response(
 
 fn put_search_response(
     alloc: Global,
-    response: &SearchResponse,
+    response: SearchResponse,
     text: &mut Vec<u8>,
 ) -> Result<(), AllocError>
-    ensures { OnOk result (text.new.items ≡ text.old.items ++ search_response_text response.now) }
+    ensures { OnOk result (text.new.items ≡ text.old.items ++ search_response_text response) }
 {
     let numbers = [
         response.result_count,
@@ -102,7 +94,8 @@ fn put_search_response(
     put_numbers(alloc, &numbers, text)?;
     put_truth(response.search_status, text)?;
     text.extend_from_slice(b"\n")?;
-    match &response.records {
+    let records = response.records;
+    match records {
         None => Ok(()),
         Some(records) => put_records(alloc, records, text),
     }
@@ -150,10 +143,10 @@ fn put_range(alloc: Global, range: &Range, text: &mut Vec<u8>) -> Result<(), All
 
 fn put_response(
     alloc: Global,
-    response: &PresentResponse,
+    response: PresentResponse,
     text: &mut Vec<u8>,
 ) -> Result<(), AllocError>
-    ensures { OnOk result (text.new.items ≡ text.old.items ++ response_text response.now) }
+    ensures { OnOk result (text.new.items ≡ text.old.items ++ response_text response) }
 {
     let numbers = [
         response.number_of_records_returned,
@@ -167,7 +160,8 @@ fn put_response(
         &numbers,
         text,
     )?;
-    match &response.records {
+    let records = response.records;
+    match records {
         None => Ok(()),
         Some(records) => put_records(alloc, records, text),
     }
@@ -200,7 +194,7 @@ fn put_head(
 ) -> Result<(), AllocError>
     ensures { OnOk result (text.new.items ≡ text.old.items ++ head_line kind reference.now numbers.now) }
 {
-    text.extend_from_slice(apdu_word(kind).as_bytes())?;
+    text.extend_from_slice(kind.word().as_bytes())?;
     text.extend_from_slice(b" ")?;
     put_reference(alloc, reference, text)?;
     put_numbers(alloc, numbers, text)?;
@@ -215,30 +209,30 @@ fn put_information(alloc: Global, information: &Bytes, text: &mut Vec<u8>) -> Re
     text.extend_from_slice(b"\n")
 }
 
-fn put_records(alloc: Global, records: &Records, text: &mut Vec<u8>) -> Result<(), AllocError>
-    ensures { OnOk result (text.new.items ≡ text.old.items ++ records_text records.now) }
+fn put_records(alloc: Global, records: Records, text: &mut Vec<u8>) -> Result<(), AllocError>
+    ensures { OnOk result (text.new.items ≡ text.old.items ++ records_text records) }
 {
     match records {
-        Records::List(list) => put_list(alloc, list.as_slice(), text),
-        Records::OneDiag(diag) => put_default(alloc, diag, text),
+        Records::List(list) => put_list(alloc, list, text),
+        Records::OneDiag(diag) => put_default(alloc, &diag, text),
         Records::ManyDiags(diags) => put_diags(alloc, diags.as_slice(), text),
     }
 }
 
-fn put_list(alloc: Global, records: &[Record], text: &mut Vec<u8>) -> Result<(), AllocError>
-    ensures { OnOk result (text.new.items ≡ text.old.items ++ record_lines records.now) }
+fn put_list(alloc: Global, records: Seq<Record>, text: &mut Vec<u8>) -> Result<(), AllocError>
+    ensures { OnOk result (text.new.items ≡ text.old.items ++ record_lines records) }
 {
-    for record in records {
+    for record in records.into_vec() {
         put_record(alloc, record, text)?;
     }
     Ok(())
 }
 
-fn put_record(alloc: Global, value: &Record, text: &mut Vec<u8>) -> Result<(), AllocError>
-    ensures { OnOk result (text.new.items ≡ text.old.items ++ record_line value.now) }
+fn put_record(alloc: Global, value: Record, text: &mut Vec<u8>) -> Result<(), AllocError>
+    ensures { OnOk result (text.new.items ≡ text.old.items ++ record_line value) }
 {
     text.extend_from_slice(b"  ")?;
-    print_record(alloc, value, false, text)?;
+    print_given_record(alloc, value, false, text)?;
     text.extend_from_slice(b"\n")
 }
 

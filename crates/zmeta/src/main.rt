@@ -9,6 +9,7 @@ mod commands;
 #[cfg(test)]
 mod devices;
 mod digits;
+mod failures;
 mod fault;
 mod fields;
 mod files;
@@ -19,10 +20,12 @@ mod output;
 mod pqf;
 #[cfg(test)]
 mod rows;
+mod run;
 mod search;
 mod show;
 #[cfg(test)]
 mod table;
+mod trouble;
 mod words;
 
 use crate::commands::run;

@@ -65,6 +65,11 @@ fn prints_each_message(rt: HostRuntime) {
             b"B921 820400000002 980100 990100 9B0105 BF81020E 06072A8648CE130401 02010D 1A00",
             b"presentResponse 00000002 0 0 5\n  nonsurrogate 1.2.840.10003.4.1 13 \"\"\n",
         ),
+        (
+            b"BF300B 9F81530100 A304 04026F6B",
+            b"close - 0\n  info \"ok\"\n",
+        ),
+        (b"BF3007 9F81530100 A300", b"close - 0\n  info \"\"\n"),
     ] {
         let run = run_of(rt.alloc(), input);
         assert_eq!(rt; run.printed.as_slice(), printed, "{input:?}");

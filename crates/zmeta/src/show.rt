@@ -11,7 +11,7 @@ use crate::lines::print_apdu;
 use crate::output::Sink;
 use std::alloc::Global;
 use std::io::{Read, Write};
-use zapdu::from_node;
+use zapdu::from_element;
 use zapdu::laws::{one_refusal, one_value};
 use zber::Framer;
 use zber::laws::one_answer;
@@ -100,8 +100,8 @@ fn show_next(alloc: Global, framer: &mut Framer, text: &mut Vec<u8>) -> Result<b
     let Some(message) = framer.next()? else {
         return Ok(false);
     };
-    let apdu = from_node(alloc, &message)?;
-    print_apdu(alloc, &apdu, text)?;
+    let apdu = from_element(alloc, message)?;
+    print_apdu(alloc, apdu, text)?;
     Ok(true)
 }
 

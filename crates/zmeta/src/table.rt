@@ -15,7 +15,112 @@ const FAILED: &[u8] = b"\xa4\x03\x80\x01a\xa1\x06\x80\x01\x00\x81\x01\x02";
 const RECORD: &[u8] =
     b"\xa4\x03\x80\x01a\xa2\x1e\x80\x01\x00\x81\x01\x01\x82\x01\x01\x30\x13\xa1\x11\xa1\x0f\x28\x0d\x06\x07\x2a\x86\x48\xce\x13\x05\x0a\x81\x02r1";
 
-const FILES: [Kept<'static>; 6] = [
+/// Three catalogues, of which the last answers in several requests.
+const WORLD: &[u8] = b"step 3
+window 4
+target a 48 cn
+db d
+rec 1.2.840.10003.5.10 a1
+field 4 emma
+target b 48 c
+db d
+rec 1.2.840.10003.5.10 b1
+field 4 dune
+target c 48 cn
+db d
+rec 1.2.840.10003.5.10 c1
+field 4 dune
+rec 1.2.840.10003.5.10 c2
+field 4 dune
+rec 1.2.840.10003.5.10 c3
+field 4 dune
+rec 1.2.840.10003.5.10 c4
+field 4 dune
+rec 1.2.840.10003.5.10 c5
+field 4 dune
+rec 1.2.840.10003.5.10 c6
+field 4 dune
+rec 1.2.840.10003.5.10 c7
+field 4 dune
+ask a d - 10 \"@attr 1=4 dune\"
+ask b d - 10 \"@attr 1=4 dune\"
+ask c d - 1-2,5-7 \"@attr 1=4 dune\"
+to c 100000
+rel c 0
+from c 1
+";
+
+const WORLD_LIST: &[u8] = b"target \"a\" set 1 count 0
+target \"b\" set 1 count 1
+target \"c\" set 1 count 7
+1 \"b\" 1 rec 1.2.840.10003.5.10 \"d\" \"b1\"
+1 \"c\" 1 rec 1.2.840.10003.5.10 \"d\" \"c1\"
+2 \"c\" 1 rec 1.2.840.10003.5.10 \"d\" \"c2\"
+5 \"c\" 1 rec 1.2.840.10003.5.10 \"d\" \"c5\"
+6 \"c\" 1 rec 1.2.840.10003.5.10 \"d\" \"c6\"
+7 \"c\" 1 rec 1.2.840.10003.5.10 \"d\" \"c7\"
+";
+
+const HEX_LIST: &[u8] = b"target \"a\" set 1 count 0
+target \"b\" set 1 count 1
+target \"c\" set 1 count 7
+1 \"b\" 1 rec 1.2.840.10003.5.10 \"d\" 6231
+1 \"c\" 1 rec 1.2.840.10003.5.10 \"d\" 6331
+2 \"c\" 1 rec 1.2.840.10003.5.10 \"d\" 6332
+5 \"c\" 1 rec 1.2.840.10003.5.10 \"d\" 6335
+6 \"c\" 1 rec 1.2.840.10003.5.10 \"d\" 6336
+7 \"c\" 1 rec 1.2.840.10003.5.10 \"d\" 6337
+";
+
+/// A search that fails, a catalogue that refuses, and one that answers.
+const REFUSING: &[u8] = b"target a 4096 cn
+db d
+rec 1.2.840.10003.5.10 a1
+field 4 dune
+target b 4096 r
+db d
+rec 1.2.840.10003.5.10 b1
+field 4 dune
+target c 4096 cn
+db d
+rec 1.2.840.10003.5.10 c1
+field 4 dune
+ask a d - 10 \"@attr 1=5 dune\"
+ask b d - 10 \"@attr 1=4 dune\"
+ask c d - 10 \"@attr 1=4 dune\"
+";
+
+const REFUSING_LIST: &[u8] = b"target \"a\" set 1 failed
+target \"a\" set 1 diag 0 1.2.840.10003.4.1 114 \"5\"
+target \"b\" set 0 failed
+target \"c\" set 1 count 1
+1 \"c\" 1 rec 1.2.840.10003.5.10 \"d\" \"c1\"
+";
+
+/// The second question is put to a catalogue at an address.
+const HOSTED: &[u8] = b"target a 1 -\nhost b h:210\nask a d - 1 dune\nask b d - 1 dune\n";
+
+const FILES: [Kept<'static>; 10] = [
+    Kept {
+        path: "world",
+        octets: WORLD,
+        fails_at: 0,
+    },
+    Kept {
+        path: "refusing",
+        octets: REFUSING,
+        fails_at: 0,
+    },
+    Kept {
+        path: "hosted",
+        octets: HOSTED,
+        fails_at: 0,
+    },
+    Kept {
+        path: "step",
+        octets: b"step 0",
+        fails_at: 0,
+    },
     Kept {
         path: "count",
         octets: COUNT,
@@ -65,7 +170,7 @@ type Row = (
     u8,
 );
 
-const ROWS: [Row; 17] = [
+const ROWS: [Row; 30] = [
     ("zmeta|show", CLOSE, b"close - 0\n", b"", 0),
     ("zmeta|show", b"", b"", b"", 0),
     ("zmeta|show", b"BF300", b"", b"zmeta: hex refused\n", 3),
@@ -143,6 +248,49 @@ const ROWS: [Row; 17] = [
         b"zmeta: cannot read broken\n",
         3,
     ),
+    ("zmeta|run|world", CLOSE, WORLD_LIST, b"", 0),
+    ("zmeta|run|world|--save|out", b"", WORLD_LIST, b"", 0),
+    ("zmeta|run|refusing", b"", REFUSING_LIST, b"", 1),
+    ("zmeta|run|empty", b"", b"", b"", 0),
+    (
+        "zmeta|run|--hex|world|--save|none",
+        b"",
+        HEX_LIST,
+        b"zmeta: cannot write none\n",
+        3,
+    ),
+    (
+        "zmeta|run|world|--save|full",
+        b"",
+        WORLD_LIST,
+        b"zmeta: cannot write full\n",
+        3,
+    ),
+    (
+        "zmeta|run|refusing|--save|none",
+        b"",
+        REFUSING_LIST,
+        b"zmeta: cannot write none\n",
+        3,
+    ),
+    ("zmeta|run|step", b"", b"", b"zmeta: line 1 refused\n", 3),
+    ("zmeta|run|hosted", b"", b"", b"zmeta: line 4 refused\n", 3),
+    (
+        "zmeta|run|step|--save|out",
+        b"",
+        b"",
+        b"zmeta: line 1 refused\n",
+        3,
+    ),
+    ("zmeta|run|none", b"", b"", b"zmeta: cannot read none\n", 3),
+    (
+        "zmeta|run|broken",
+        b"",
+        b"",
+        b"zmeta: cannot read broken\n",
+        3,
+    ),
+    ("zmeta|run|count", b"", b"", b"zmeta: line 1 refused\n", 3),
 ];
 
 #[test]
@@ -159,7 +307,7 @@ fn each_command_by_its_words(rt: HostRuntime) -> Result<(), Fail> {
 }
 
 /// Help is printed and wrong words are told: each line, how its text begins, and the status.
-const TEXTS: [(&str, &[u8], u8); 10] = [
+const TEXTS: [(&str, &[u8], u8); 14] = [
     ("zmeta|--help", b"Asks library catalogues over Z39.50", 0),
     ("zmeta|-h", b"Asks library catalogues over Z39.50", 0),
     (
@@ -168,6 +316,14 @@ const TEXTS: [(&str, &[u8], u8); 10] = [
         0,
     ),
     ("zmeta|join|--help", b"Puts together what two searches", 0),
+    (
+        "zmeta|help|run",
+        b"Runs searches against catalogues in memory",
+        0,
+    ),
+    ("zmeta|run", b"error: ", 2),
+    ("zmeta|run|world|--save", b"error: ", 2),
+    ("zmeta|run|world|world", b"error: ", 2),
     ("zmeta", b"error: ", 2),
     ("zmeta|shew", b"error: ", 2),
     ("zmeta|show|x", b"error: ", 2),
@@ -204,7 +360,7 @@ fn help_is_printed_and_wrong_words_are_told(rt: HostRuntime) -> Result<(), Fail>
 }
 
 /// Each line, the call at which its input, its output or its errors fail, none being 0, and what is told.
-const FAILURES: [(&str, u32, u32, u32, &[u8]); 8] = [
+const FAILURES: [(&str, u32, u32, u32, &[u8]); 10] = [
     ("zmeta|show", 1, 0, 0, b"zmeta: cannot read -\n"),
     ("zmeta|show", 4, 0, 0, b"zmeta: cannot read -\n"),
     ("zmeta|show", 0, 1, 0, b"zmeta: cannot write -\n"),
@@ -214,6 +370,14 @@ const FAILURES: [(&str, u32, u32, u32, &[u8]); 8] = [
         "zmeta|join|count|record",
         0,
         3,
+        0,
+        b"zmeta: cannot write -\n",
+    ),
+    ("zmeta|run|world", 0, 1, 0, b"zmeta: cannot write -\n"),
+    (
+        "zmeta|run|world|--save|out",
+        0,
+        5,
         0,
         b"zmeta: cannot write -\n",
     ),

@@ -29,6 +29,12 @@ pub(crate) enum Words<'a> {
         second: &'a str,
         mode: Mode,
     },
+    /// Print the list of what the targets of a world file answer, and save what is known then, if it is to be.
+    Run {
+        world: &'a str,
+        saved: Option<&'a str>,
+        mode: Mode,
+    },
 }
 
 /// A command: its name, what it is for, an example for its help, the words that it wants, and its options.
@@ -39,6 +45,7 @@ struct Form {
     example: &'static str,
     wants: &'static [Word],
     has_hex: bool,
+    has_save: bool,
 }
 
 /// A word that a command wants, under the name that help gives it.
@@ -67,6 +74,7 @@ prints
   close - 0",
     wants: &[],
     has_hex: false,
+    has_save: false,
 };
 
 const PQF: Form = Form {
@@ -85,6 +93,7 @@ prints first
         has_hyphen: true,
     }],
     has_hex: false,
+    has_save: false,
 };
 
 const JOIN: Form = Form {
@@ -112,9 +121,39 @@ prints lines as
         },
     ],
     has_hex: true,
+    has_save: false,
 };
 
-const FORMS: [Form; 3] = [SHOW, PQF, JOIN];
+const RUN: Form = Form {
+    name: "run",
+    about: "Runs searches against catalogues in memory",
+    example: "FILE describes the catalogues, what each is asked, and in which order octets are carried, a
+line each:
+  step N, window N            positions that one request asks for, requests that may wait
+  target NAME SIZE FLAGS      a catalogue; FLAGS are of c concurrent, n named, r refuse, or -
+  db NAME                     a database of it
+  rec OID OCTETS              a record of that
+  field USE TEXT              a text that the record is found by
+  ask NAME DB SYNTAX WANT QUERY
+                              SYNTAX may be -; WANT is a number, or as 1-3,10-12
+  to NAME K, from NAME K      octets carried; rel NAME K releases reply K
+Prints one list of all that they answer.
+
+Example:
+  zmeta run world
+prints lines as
+  target \"city library\" set 1 count 2
+  1 \"city library\" 1 rec 1.2.840.10003.5.10 \"books\" \"first record\"",
+    wants: &[Word {
+        id: "FILE",
+        help: "A file of catalogues and questions",
+        has_hyphen: false,
+    }],
+    has_hex: true,
+    has_save: true,
+};
+
+const FORMS: [Form; 4] = [SHOW, PQF, RUN, JOIN];
 
 fn argument(alloc: Global, word: &Word) -> Arg<'static> {
     Arg::new(alloc, word.id)
@@ -131,6 +170,14 @@ fn hex_option(alloc: Global) -> Arg<'static> {
         .action(ArgAction::SetTrue)
 }
 
+fn save_option(alloc: Global) -> Arg<'static> {
+    Arg::new(alloc, "save")
+        .long("save")
+        .value_name("OUT")
+        .help("Saves what was brought in the file OUT")
+        .action(ArgAction::Set)
+}
+
 fn subcommand<'a>(alloc: Global, form: &Form) -> Result<Command<'a>, AllocError> {
     let mut command = Command::new(alloc, form.name)
         .about(form.about)
@@ -140,6 +187,9 @@ fn subcommand<'a>(alloc: Global, form: &Form) -> Result<Command<'a>, AllocError>
     }
     if form.has_hex {
         command = command.arg(hex_option(alloc))?;
+    }
+    if form.has_save {
+        command = command.arg(save_option(alloc))?;
     }
     Ok(command)
 }
@@ -180,6 +230,11 @@ fn words_of<'a>(name: &str, found: &ArgMatches<'a>) -> Option<Words<'a>>
         "join" => Some(Words::Join {
             first: found.get_str("A").unwrap_or(""),
             second: found.get_str("B").unwrap_or(""),
+            mode: mode_of(found),
+        }),
+        "run" => Some(Words::Run {
+            world: found.get_str("FILE").unwrap_or(""),
+            saved: found.get_str("save"),
             mode: mode_of(found),
         }),
         _ => None,
@@ -258,6 +313,20 @@ mod tests {
             mode: Mode::Hex,
         };
         assert_eq!(rt; parse(rt.alloc(), words.as_slice())?, due);
+        let words = words_of(rt.alloc(), "zmeta run w --save s")?;
+        let due = Words::Run {
+            world: "w",
+            saved: Some("s"),
+            mode: Mode::Text,
+        };
+        assert_eq!(rt; parse(rt.alloc(), words.as_slice())?, due);
+        let words = words_of(rt.alloc(), "zmeta run --hex w")?;
+        let due = Words::Run {
+            world: "w",
+            saved: None,
+            mode: Mode::Hex,
+        };
+        assert_eq!(rt; parse(rt.alloc(), words.as_slice())?, due);
         let words = words_of(rt.alloc(), "zmeta join a b")?;
         let due = Words::Join {
             first: "a",
@@ -281,6 +350,9 @@ mod tests {
             ("zmeta join -a b", 2),
             ("zmeta join a", 2),
             ("zmeta join a b --save c", 2),
+            ("zmeta run", 2),
+            ("zmeta run w --save", 2),
+            ("zmeta run w x", 2),
             ("zmeta --version", 2),
             ("zmeta --help", 0),
             ("zmeta help show", 0),

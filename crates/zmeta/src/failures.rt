@@ -1,0 +1,94 @@
+//! What is told of connections that failed.
+ghost use Rattle.std.specs.Prelude.{◌≡◌, ◌<◌, ◌^◌, ◌++◌, length, OnOk, IfOk};
+ghost use Rattle.zmeta.specs.Run.{failure_line, AreLinesFrom};
+
+use bytes::Bytes;
+use std::alloc::{AllocError, Global};
+use zapdu::quote;
+use zoom::{Meta, State};
+
+/// Appends the line of a connection, where it failed: the name of its target, and why.
+fn put_failure(
+    alloc: Global,
+    name: &Bytes,
+    state: State,
+    text: &mut Vec<u8>,
+) -> Result<(), AllocError>
+    ensures { OnOk result (text.new.items ≡ text.old.items ++ failure_line name.now state) }
+{
+    let State::Failed(reason) = state else {
+        return Ok(());
+    };
+    text.extend_from_slice(b"zmeta: target ")?;
+    quote(alloc, name.as_slice(), text)?;
+    text.extend_from_slice(b": ")?;
+    text.extend_from_slice(reason.word().as_bytes())?;
+    text.extend_from_slice(b"\n")
+}
+
+/// The lines of the connections that failed, in order, by the names of their targets.
+pub(crate) fn failure_lines(
+    alloc: Global,
+    meta: &Meta,
+    names: &[Bytes],
+) -> Result<Vec<u8>, AllocError>
+    requires few { length meta.now.pool.connections < 2 ^ 32 }
+    requires named { length names.now ≡ length meta.now.pool.connections }
+    ensures { IfOk result (λ text. AreLinesFrom meta.now 0 names.now text.items) }
+{
+    let mut text = Vec::new(alloc);
+    for (c, name) in names.iter().enumerate() {
+        put_failure(alloc, name, meta.state(c as u32), &mut text)?;
+    }
+    Ok(text)
+}
+
+#[cfg(test)]
+mod tests {
+    use super::*;
+    use std::test::Fail;
+    use zapdu::{ApduError, Kind};
+    use zber::FaultKind;
+    use zoom::Reason;
+    use zorigin::Refused;
+
+    /// The line of a target of this name.
+    fn line_of(alloc: Global, name: &'static [u8], state: State) -> Result<Vec<u8>, AllocError> {
+        let mut text = Vec::new(alloc);
+        put_failure(alloc, &Bytes::from_static(name), state, &mut text)?;
+        Ok(text)
+    }
+
+    #[test]
+    fn each_failure_has_its_line(rt: HostRuntime) -> Result<(), Fail> {
+        let kind = Kind::Close;
+        for (state, line) in [
+            (State::Fresh, b"".as_slice()),
+            (State::Closing, b""),
+            (State::Closed, b""),
+            (
+                State::Failed(Reason::Ended),
+                b"zmeta: target \"a \\\"b\": Ended\n",
+            ),
+            (
+                State::Failed(Reason::Frame {
+                    kind: FaultKind::Truncated,
+                    at: 20,
+                }),
+                b"zmeta: target \"a \\\"b\": Truncated\n",
+            ),
+            (
+                State::Failed(Reason::Decode(ApduError::Malformed { kind, at: 1 })),
+                b"zmeta: target \"a \\\"b\": Malformed\n",
+            ),
+            (
+                State::Failed(Reason::Refused(Refused::BadShape)),
+                b"zmeta: target \"a \\\"b\": BadShape\n",
+            ),
+        ] {
+            let text = line_of(rt.alloc(), b"a \"b", state)?;
+            assert_eq!(rt; text.as_slice(), line);
+        }
+        Ok(())
+    }
+}
