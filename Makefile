@@ -1,10 +1,15 @@
-# make show: builds zmeta and prints the records of an example. make test: passes the tests.
+# make quick: prints the records of an example by a build that nothing was proved of, in about a minute.
+# make show: proves and builds zmeta, and prints them. make test: passes the tests.
 
-.PHONY: show test
+.PHONY: quick show test
+
+quick:
+	cd crates/zmeta && rt try -- show < ../../examples/present-response.hex
 
 show:
 	cd crates/zmeta && rt run -- show < ../../examples/present-response.hex
 
+# Four checks at a time: they take 21 GB at most. Left to itself rt ci reserves more for each, and has processors stand idle.
 test:
-	rt ci
+	RT_JOBS=4 rt ci
 	python3 refused-memory/check.py

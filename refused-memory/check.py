@@ -1,5 +1,5 @@
 #!/usr/bin/env python3
-"""Refuses each allocation of the program's runs, and of a test's, in turn, and looks at what they answer then.
+"""Refuses each allocation of the program's runs, and of tests, in turn, and looks at what they answer then.
 
 A run has to end with status 4 and `out of memory`, or as it does with ample memory. A test has to tell that it wants memory while it
 makes itself ready, and from then on to pass: what it tests asks again where memory was refused, and has to answer the same.
@@ -8,21 +8,27 @@ makes itself ready, and from then on to pass: what it tests asks again where mem
 """
 
 import os
+import re
 import subprocess
 import sys
 import tempfile
 
 ROOT = os.path.dirname(os.path.dirname(os.path.abspath(__file__)))
 ZMETA = os.path.join(ROOT, "crates/zmeta/out/zmeta")
-VECTORS = os.path.join(ROOT, "crates/zvectors/out/zvectors_tests")
+VECTORS = os.path.join(ROOT, "crates/{0}/out/{0}_tests")
 
 RUNS = [
     (["show"], "examples/present-response.hex"),
     (["pqf", "@attr 1=4 @and dune @attr 1=1003 herbert"], None),
+    (["run", "examples/libraries.world"], None),
     (["join", "examples/monday.saved", "examples/tuesday.saved"], None),
 ]
-TESTS = ["pieces::a_session_goes_on_where_memory_was_refused"]
-WANTS = ("error: AllocError", "error: Memory", "error: OutOfMemory")
+TESTS = [
+    ("zencodings", "pieces::a_session_goes_on_where_memory_was_refused"),
+    ("zvectors", "pool::memory::a_session_goes_on_where_memory_was_refused"),
+]
+# what a test says that could not make itself ready: `Unread` is what reading its rows says
+WANTS = re.compile(r"error: (Unread|AllocError|AllocFailed|Memory|OutOfMemory|PqfError \{ at: \d+, kind: Memory \})")
 
 
 def run(room, words, file, number):
@@ -45,14 +51,15 @@ def look_at_run(room, words, file):
     return None
 
 
-def look_at_test(room, name):
-    ample, count = run(room, [VECTORS, name], None, 0)
+def look_at_test(room, crate, name):
+    tests = VECTORS.format(crate)
+    ample, count = run(room, [tests, name], None, 0)
     if ample[0]:
         return f"{name}: fails with ample memory: {ample}"
     passed = 0
     for number in range(1, count + 1):
-        answer, _ = run(room, [VECTORS, name], None, number)
-        wants = answer[2].decode(errors="replace").startswith(WANTS)
+        answer, _ = run(room, [tests, name], None, number)
+        wants = WANTS.match(answer[2].decode(errors="replace"))
         if answer[0] and (passed or not wants):
             return f"{name}: allocation {number} of {count} refused: {answer}"
         passed += not answer[0]
@@ -65,7 +72,7 @@ def main():
     with tempfile.TemporaryDirectory() as room:
         source = os.path.join(ROOT, "refused-memory/refuse.c")
         subprocess.run(["cc", "-O2", "-shared", "-fPIC", "-o", os.path.join(room, "refuse.so"), source, "-ldl"], check=True)
-        for fault in [look_at_run(room, *it) for it in RUNS] + [look_at_test(room, it) for it in TESTS]:
+        for fault in [look_at_run(room, *it) for it in RUNS] + [look_at_test(room, *it) for it in TESTS]:
             if fault:
                 print(fault)
                 failed += 1

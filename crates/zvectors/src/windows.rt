@@ -1,11 +1,12 @@
 // Windows of up to 64 outstanding operations (Z39.50-2003, 3.4), and names that are too long to be sent.
-use crate::plain::boxed;
-use crate::sessions::{answer, apdu, origin};
+use crate::sessions::{answer, origin};
 use bytes::Bytes;
 use std::alloc::Global;
 use std::process::Abort;
 use std::test::Fail;
 use zapdu::Apdu;
+use zencodings::boxes::{apdu, boxed};
+use zencodings::unread::Unread;
 use zorigin::{CallRefused, Origin, Settings, Taken};
 
 // An association with concurrent operations, and a set of 100 records.
@@ -16,7 +17,7 @@ search 1 1
 take b7128204000000019701649801009901009601ff
 ";
 
-fn ready(alloc: Global) -> Result<Box<Origin>, Fail> {
+fn ready(alloc: Global) -> Result<Box<Origin>, Unread> {
     let mut origin = origin(alloc)?;
     for row in READY.lines() {
         answer(alloc, &mut origin, row)?;
@@ -45,7 +46,7 @@ fn are_asked(origin: &mut Origin, window: u8) -> bool {
 }
 
 // A reply with one record to this operation.
-fn reply(alloc: Global, op: u32) -> Result<Box<Apdu>, Fail> {
+fn reply(alloc: Global, op: u32) -> Result<Box<Apdu>, Unread> {
     let id = hex::encode(alloc, &op.to_be_bytes())?;
     let digits = format!(in alloc;
         "b9268204{id}9801019901009b0100bc153013a111a10f280d06072a8648ce13050a81026869"
@@ -61,13 +62,13 @@ fn answered(origin: &mut Origin, reply: &Apdu) -> Option<u32> {
     }
 }
 
-fn is_answered(alloc: Global, origin: &mut Origin, place: u8) -> Result<bool, Fail> {
+fn is_answered(alloc: Global, origin: &mut Origin, place: u8) -> Result<bool, Unread> {
     let op = operation(place);
     let reply = reply(alloc, op)?;
     Ok(answered(origin, &reply) == Some(op))
 }
 
-fn are_answered(alloc: Global, origin: &mut Origin, from: u8, to: u8) -> Result<bool, Fail> {
+fn are_answered(alloc: Global, origin: &mut Origin, from: u8, to: u8) -> Result<bool, Unread> {
     for place in from..to {
         if !is_answered(alloc, origin, place)? {
             return Ok(false);
@@ -77,7 +78,7 @@ fn are_answered(alloc: Global, origin: &mut Origin, from: u8, to: u8) -> Result<
 }
 
 // Whether the replies from this place on come first, and then the others.
-fn is_window(alloc: Global, window: u8, first: u8) -> Result<bool, Fail> {
+fn is_window(alloc: Global, window: u8, first: u8) -> Result<bool, Unread> {
     let mut origin = ready(alloc)?;
     let asked = are_asked(&mut origin, window);
     let first_half = are_answered(alloc, &mut origin, first, window)?;
@@ -102,7 +103,7 @@ fn windows_are_answered_in_any_order(rt: HostRuntime) -> Result<(), Fail> {
 }
 
 // Whether Init is refused for a name of so many octets.
-fn is_unsendable(alloc: Global, len: usize) -> Result<bool, Fail> {
+fn is_unsendable(alloc: Global, len: usize) -> Result<bool, Unread> {
     let name = Bytes::from_vec(vec![in alloc; b'a'; len]?)?;
     let mut origin = boxed(alloc, Origin::new(alloc, Settings { name }))?;
     Ok(matches!(origin.init(), Err(CallRefused::Unsendable)))

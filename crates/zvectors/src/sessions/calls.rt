@@ -1,5 +1,6 @@
 // Which calls an origin admits, and which association stands after Init (Z39.50-2003, 3.2.1 and 3.4).
 use crate::sessions::go_as_told;
+use crate::sessions::pooled::go_through_pool;
 use std::test::Fail;
 
 const SESSIONS: &str = "\
@@ -120,8 +121,6 @@ new
 search 1 1 = WrongState
 present 1 1 1 1 = WrongState
 close - = WrongState
-take b51c820400000000830205e0840301c006850310000086031000008c01ff = WrongState
-take bf30059f81530100 = WrongState
 state - = Fresh
 init - = sent
 init - = WrongState
@@ -188,7 +187,22 @@ take b7128204000000029701029801009901009601ff = Answered
 present 3 1 1 1 = sent
 ";
 
+// An origin that has made no call takes no reply, and stays Fresh.
+const FRESH: &str = "\
+new
+take b51c820400000000830205e0840301c006850310000086031000008c01ff = WrongState
+take bf30059f81530100 = WrongState
+state - = Fresh
+init - = sent
+";
+
 #[test]
 fn calls_are_answered_as_told(rt: HostRuntime) -> Result<(), Fail> {
-    go_as_told(&rt, SESSIONS)
+    go_as_told(&rt, SESSIONS)?;
+    go_as_told(&rt, FRESH)
+}
+
+#[test]
+fn calls_of_a_pool_are_answered_as_told(rt: HostRuntime) -> Result<(), Fail> {
+    go_through_pool(&rt, SESSIONS)
 }

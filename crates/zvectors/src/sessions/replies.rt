@@ -1,5 +1,6 @@
 // Which replies an origin accepts (Z39.50-2003, 3.2.2, 3.2.3 and 3.4).
 use crate::sessions::go_as_told;
+use crate::sessions::pooled::go_through_pool;
 use std::test::Fail;
 
 const SESSIONS: &str = "\
@@ -266,4 +267,9 @@ take b9268204000000029801019901009b0100bc153013a111a10f280d06072a8648ce13050a810
 #[test]
 fn replies_are_answered_as_told(rt: HostRuntime) -> Result<(), Fail> {
     go_as_told(&rt, SESSIONS)
+}
+
+#[test]
+fn replies_to_a_pool_are_answered_as_told(rt: HostRuntime) -> Result<(), Fail> {
+    go_through_pool(&rt, SESSIONS)
 }

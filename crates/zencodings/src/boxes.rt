@@ -1,0 +1,45 @@
+//! Calls of the layers below that tests of several crates make, without their contracts and with large values in boxes: no test
+//! needs the contracts, and what is proved of a function is dear where it owns a large value.
+use crate::rows::element;
+use crate::unread::Unread;
+use std::alloc::{AllocError, Global};
+use zapdu::{Apdu, BuildError, DiagRec, Record};
+use zber::Node;
+use zquery::Query;
+
+/// A value in a box.
+pub fn boxed<T: Drop>(alloc: Global, value: T) -> Result<Box<T>, AllocError> {
+    Ok(Box::new(alloc, value)?)
+}
+
+/// The query of a text in prefix notation.
+pub fn parse(alloc: Global, text: &[u8]) -> Result<Box<Query>, Unread> {
+    let query = zquery::parse_pqf(alloc, text)?;
+    Ok(boxed(alloc, query)?)
+}
+
+/// The element of an APDU.
+pub fn apdu_node(alloc: Global, apdu: &Apdu) -> Result<Node, BuildError> {
+    zapdu::to_node(alloc, apdu)
+}
+
+/// The APDU of an element.
+pub fn apdu_of(alloc: Global, node: &Node) -> Result<Box<Apdu>, Unread> {
+    let apdu = zapdu::from_node(alloc, node)?;
+    Ok(boxed(alloc, apdu)?)
+}
+
+/// The APDU that digits spell.
+pub fn apdu(alloc: Global, digits: &str) -> Result<Box<Apdu>, Unread> {
+    apdu_of(alloc, &element(alloc, digits)?)
+}
+
+/// The element of a record.
+pub fn record_node(alloc: Global, record: &Record) -> Result<Node, BuildError> {
+    zapdu::record_node(alloc, record)
+}
+
+/// The element of a diagnostic.
+pub fn diag_node(alloc: Global, diag: &DiagRec) -> Result<Node, BuildError> {
+    zapdu::diag_node(alloc, diag)
+}

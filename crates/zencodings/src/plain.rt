@@ -1,0 +1,83 @@
+//! Further calls of the layers below, without their contracts and with large values in boxes.
+use crate::boxes::boxed;
+use crate::unread::Unread;
+use std::alloc::{AllocError, Global};
+use zapdu::{Apdu, ApduError, BuildError, DiagRec, Record};
+use zber::Node;
+use zquery::{PqfError, PrintError, Query};
+
+pub(crate) fn parse_refusal(alloc: Global, text: &[u8]) -> Option<PqfError> {
+    zquery::parse_pqf(alloc, text).err()
+}
+
+pub(crate) fn print(alloc: Global, query: &Query, out: &mut Vec<u8>) -> Result<(), PrintError> {
+    zquery::print_pqf(alloc, query, out)
+}
+
+pub(crate) fn query_node(alloc: Global, query: &Query) -> Result<Node, BuildError> {
+    zquery::to_node(alloc, query)
+}
+
+pub(crate) fn query_of(alloc: Global, node: &Node) -> Result<Box<Query>, Unread> {
+    let query = zquery::from_node(alloc, node)?.ok_or(Unread)?;
+    Ok(boxed(alloc, query)?)
+}
+
+pub(crate) fn is_query(alloc: Global, node: &Node) -> Result<bool, AllocError> {
+    let absent = zquery::from_node(alloc, node)?.ok_or(()).err();
+    Ok(absent.is_none())
+}
+
+pub(crate) fn query_copy(alloc: Global, query: &Query) -> Result<Box<Query>, AllocError> {
+    let copy = query.copy(alloc)?;
+    boxed(alloc, copy)
+}
+
+pub(crate) fn apdu_refusal(alloc: Global, node: &Node) -> Option<ApduError> {
+    zapdu::from_node(alloc, node).err()
+}
+
+pub(crate) fn apdu_copy(alloc: Global, apdu: &Apdu) -> Result<Box<Apdu>, AllocError> {
+    let copy = apdu.copy(alloc)?;
+    boxed(alloc, copy)
+}
+
+pub(crate) fn record_of(alloc: Global, node: &Node) -> Result<Box<Record>, Unread> {
+    let record = zapdu::record_of(alloc, node)?.ok_or(Unread)?;
+    Ok(boxed(alloc, record)?)
+}
+
+pub(crate) fn is_record(alloc: Global, node: &Node) -> Result<bool, AllocError> {
+    let absent = zapdu::record_of(alloc, node)?.ok_or(()).err();
+    Ok(absent.is_none())
+}
+
+pub(crate) fn record_text(
+    alloc: Global,
+    record: &Record,
+    hex: bool,
+) -> Result<Vec<u8>, AllocError> {
+    let mut out = Vec::new(alloc);
+    zapdu::print_record(alloc, record, hex, &mut out)?;
+    Ok(out)
+}
+
+pub(crate) fn record_copy(alloc: Global, record: &Record) -> Result<Box<Record>, AllocError> {
+    let copy = record.copy(alloc)?;
+    boxed(alloc, copy)
+}
+
+pub(crate) fn diag_of(alloc: Global, node: &Node) -> Result<Box<DiagRec>, Unread> {
+    let diag = zapdu::diag_of(alloc, node)?.ok_or(Unread)?;
+    Ok(boxed(alloc, diag)?)
+}
+
+pub(crate) fn is_diag(alloc: Global, node: &Node) -> Result<bool, AllocError> {
+    let absent = zapdu::diag_of(alloc, node)?.ok_or(()).err();
+    Ok(absent.is_none())
+}
+
+pub(crate) fn diag_copy(alloc: Global, diag: &DiagRec) -> Result<Box<DiagRec>, AllocError> {
+    let copy = diag.copy(alloc)?;
+    boxed(alloc, copy)
+}

@@ -1,0 +1,85 @@
+// Hosts, from the octets that they are fed to those that they hand out.
+use std::alloc::{AllocError, Global};
+use std::process::Abort;
+use std::test::Fail;
+use zencodings::boxes::boxed;
+use zencodings::rows::{digits, each_row, octets, pair};
+use zencodings::unread::Unread;
+use zoom::Host;
+use ztarget::{Target, TargetSettings};
+
+// Two pieces, and then how many replies are released one by one, what is handed out, and whether the host stopped.
+const FED: &str = "\
+# Init of an origin named `zmeta`, and its answer by a target of size 1,048,576 that offers concurrent operations and names.
+b421820400000000830205e0840301c006850310000086031000009f6f057a6d657461 -: 1 b51c820400000000830205e0840301c006850310000086031000008c01ff false
+b42182040000000083 0205e0840301c006850310000086031000009f6f057a6d657461: 1 b51c820400000000830205e0840301c006850310000086031000008c01ff false
+b42182040000000083 -: 0 - false
+# Close, reason finished.
+bf30059f81530100 -: 1 bf30059f81530100 false
+# An element that is no message, and Init behind it; a length that has no form; Init twice; an answer.
+0400 -: 0 - true
+0400 b421820400000000830205e0840301c006850310000086031000009f6f057a6d657461: 0 - true
+04ff -: 0 - true
+b421820400000000830205e0840301c006850310000086031000009f6f057a6d657461 b421820400000000830205e0840301c006850310000086031000009f6f057a6d657461: 0 - true
+b51c820400000000830205e0840301c006850310000086031000008c01ff -: 0 - true
+";
+
+fn host(alloc: Global) -> Result<Box<Host>, AllocError> {
+    let settings = TargetSettings {
+        size: 1_048_576,
+        concurrent: true,
+        named: true,
+        refuse: false,
+    };
+    let target = Target::new(alloc, Vec::new(alloc), settings)?;
+    boxed(alloc, Host::new(alloc, target))
+}
+
+fn feed(alloc: Global, host: &mut Host, digits: &str) -> Result<(), Unread> {
+    let piece = octets(alloc, digits)?;
+    Ok(host.feed(piece.as_slice())?)
+}
+
+// Whether so many replies are pending, and no more.
+fn releases(host: &mut Host, count: u32) -> Result<bool, AllocError> {
+    for _ in 0..count {
+        if !host.release(0)? {
+            return Ok(false);
+        }
+    }
+    Ok(!host.release(0)?)
+}
+
+// What is handed out, by two calls.
+fn out(alloc: Global, host: &mut Host) -> Result<String, AllocError> {
+    let mut out = Vec::new(alloc);
+    host.outgoing(&mut out)?;
+    host.outgoing(&mut out)?;
+    digits(alloc, out.as_slice())
+}
+
+fn has(alloc: Global, host: &mut Host, due: &str) -> Result<bool, Unread> {
+    let out = out(alloc, host)?;
+    let stopped = host.stopped();
+    let found = format!(in alloc; "{out} {stopped}")?;
+    Ok(found.as_str() == due)
+}
+
+fn answers(alloc: Global, host: &mut Host, row: &str) -> Result<bool, Unread> {
+    let (count, due) = pair(row)?;
+    Ok(releases(host, count.parse::<u32>()?)? && has(alloc, host, due)?)
+}
+
+fn is_fed(alloc: Global, row: &str) -> Result<bool, Unread> {
+    let (pieces, due) = row.split_once(": ").ok_or(Unread)?;
+    let (first, second) = pair(pieces)?;
+    let mut host = host(alloc)?;
+    feed(alloc, &mut host, first)?;
+    feed(alloc, &mut host, second)?;
+    answers(alloc, &mut host, due)
+}
+
+#[test]
+fn a_host_answers_what_it_is_fed(rt: HostRuntime) -> Result<(), Fail> {
+    each_row(rt.alloc(), FED, &is_fed)
+}

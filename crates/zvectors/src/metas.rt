@@ -1,0 +1,134 @@
+// Connections that are driven for a question, from the octets that come to those that are sent.
+ghost use Rattle.std.specs.Prelude.{◌<◌, length, IfOk};
+ghost use Rattle.zoom.specs.Steering.{IsAskable};
+
+use bytes::Bytes;
+use std::alloc::{AllocError, Global};
+use std::process::Abort;
+use std::test::Fail;
+use zber::Seq;
+use zencodings::boxes::{boxed, parse};
+use zencodings::rows::{digits, each_row, octets, pair};
+use zencodings::unread::{Unread, read};
+use zoom::{Meta, MetaSettings, Question};
+use zorigin::Range;
+
+// Steps of one connection: what is fed, what a take answers then, how many calls a drive makes, and what is handed out; and
+// at last whether the question was skipped, and the connection is complete and finished.
+const DRIVEN: &str = "\
+# One record is found, and asked for.
+- Nothing 1 b421820400000000830205e0840301c006850310000086031000009f6f057a6d657461 | b51c820400000000830205e0840301c006850310000086031000008c01ff Opened 1 b6418204000000018d01008e01018f01009001ff910131b2049f690164b524a12206072a8648ce130301a017bf6614bf2c0a30089f7801019f7901049f2d0464756e65 | b7128204000000019701019801009901019601ff Answered 1 b8108204000000029f1f01319e01019d0101 | b9268204000000029801019901029b0100bc153013a111a10f280d06072a8648ce13050a81026869 Answered 1 bf30059f81530100 | bf30059f81530100 Closed 0 - | false true true
+# None is found.
+- Nothing 1 b421820400000000830205e0840301c006850310000086031000009f6f057a6d657461 | b51c820400000000830205e0840301c006850310000086031000008c01ff Opened 1 b6418204000000018d01008e01018f01009001ff910131b2049f690164b524a12206072a8648ce130301a017bf6614bf2c0a30089f7801019f7901049f2d0464756e65 | b7128204000000019701009801009901009601ff Answered 1 bf30059f81530100 | - Nothing 0 - | false true false
+# The target offers no search.
+- Nothing 1 b421820400000000830205e0840301c006850310000086031000009f6f057a6d657461 | b51c820400000000830205e08403010000850310000086031000008c01ff Opened 1 bf30059f81530100 | true true false
+# The target closes.
+- Nothing 1 b421820400000000830205e0840301c006850310000086031000009f6f057a6d657461 | bf30059f81530100 Closed 0 - | false false true
+";
+
+// The first ten records of a database `d` that match.
+fn question(alloc: Global) -> Result<Question, Unread>
+    ensures { IfOk result IsAskable }
+{
+    let databases = vec![in alloc; Bytes::from_static(b"d")]?;
+    let query = parse(alloc, b"@attr 1=4 dune")?;
+    let wanted = vec![in alloc; Range { start: 1, n: 10 }]?;
+    Ok(Question {
+        databases: Seq::from_vec(databases),
+        query: Box::into_inner(query),
+        syntax: None,
+        elements: None,
+        wanted: Seq::from_vec(wanted),
+    })
+}
+
+fn asked(alloc: Global) -> Result<Box<Meta>, Unread> {
+    let question = question(alloc)?;
+    let questions = vec![in alloc; question]?;
+    let settings = MetaSettings {
+        name: Bytes::from_static(b"zmeta"),
+        step: 3,
+        window: 4,
+    };
+    let meta = Meta::new(alloc, Seq::from_vec(questions), settings)?;
+    Ok(boxed(alloc, meta)?)
+}
+
+fn has(meta: &Meta) -> Result<(), Unread>
+    ensures { IfOk result (λ _. 0 < length meta.now.pool.connections) }
+{
+    if 0 < meta.connections() {
+        Ok(())
+    } else {
+        Err(Unread)
+    }
+}
+
+fn feed(alloc: Global, meta: &mut Meta, digits: &str) -> Result<(), Unread> {
+    has(meta)?;
+    if digits == "-" {
+        return Ok(());
+    }
+    let piece = octets(alloc, digits)?;
+    Ok(meta.feed(0, piece.as_slice())?)
+}
+
+fn taken(alloc: Global, meta: &mut Meta) -> Result<String, Unread> {
+    has(meta)?;
+    let step = read(meta.take(0))?;
+    Ok(format!(in alloc; "{step:?}")?)
+}
+
+fn driven(meta: &mut Meta) -> Result<u32, Unread> {
+    has(meta)?;
+    Ok(meta.drive(0)?)
+}
+
+fn sent(alloc: Global, meta: &mut Meta) -> Result<String, Unread> {
+    has(meta)?;
+    let mut out = Vec::new(alloc);
+    meta.outgoing(0, &mut out)?;
+    Ok(digits(alloc, out.as_slice())?)
+}
+
+fn ended(alloc: Global, meta: &Meta) -> Result<String, Unread> {
+    has(meta)?;
+    let skipped = meta.skipped(0);
+    let complete = meta.complete(0);
+    let finished = meta.finished();
+    Ok(format!(in alloc; "{skipped} {complete} {finished}")?)
+}
+
+// Whether the step answers as told.
+fn goes(alloc: Global, meta: &mut Meta, fed: &str, due: &str) -> Result<bool, Unread> {
+    feed(alloc, meta, fed)?;
+    let step = taken(alloc, meta)?;
+    let count = driven(meta)?;
+    let sent = sent(alloc, meta)?;
+    let found = format!(in alloc; "{step} {count} {sent}")?;
+    Ok(found.as_str() == due)
+}
+
+// A step, or the end.
+fn part(alloc: Global, meta: &mut Meta, part: &str) -> Result<bool, Unread> {
+    if part.starts_with("true ") || part.starts_with("false ") {
+        return Ok(ended(alloc, meta)?.as_str() == part);
+    }
+    let (fed, due) = pair(part)?;
+    goes(alloc, meta, fed, due)
+}
+
+fn is_driven(alloc: Global, row: &str) -> Result<bool, Unread> {
+    let mut meta = asked(alloc)?;
+    for text in row.split(" | ") {
+        if !part(alloc, &mut meta, text)? {
+            return Ok(false);
+        }
+    }
+    Ok(true)
+}
+
+#[test]
+fn a_connection_is_driven_as_told(rt: HostRuntime) -> Result<(), Fail> {
+    each_row(rt.alloc(), DRIVEN, &is_driven)
+}

@@ -1,0 +1,215 @@
+//! Pools of connections over octets: the steps of a session, and what each answers.
+ghost use Rattle.std.specs.Prelude.{◌<◌, length, IfOk};
+
+mod cuts;
+mod ends;
+mod histories;
+mod memory;
+
+use crate::sessions::call;
+use bytes::Bytes;
+use std::alloc::{AllocError, Global};
+use std::process::Abort;
+use std::test::Fail;
+use zencodings::boxes::boxed;
+use zencodings::rows::{digits, octets, pair, unescaped};
+use zencodings::unread::Unread;
+use zholdings::shown::{has_list, is_listed, put_counts, put_known};
+use zknow::Mode;
+use zoom::{Call, Pool, Reason, ResultSet, Step, TakeError};
+use zorigin::CallRefused;
+
+/// So many connections in state Fresh.
+pub(crate) fn pool(alloc: Global, n: u32) -> Result<Box<Pool>, AllocError> {
+    let pool = Pool::new(alloc, n, &Bytes::from_static(b"zmeta"))?;
+    boxed(alloc, pool)
+}
+
+fn has(pool: &Pool, c: u32) -> Result<(), Unread>
+    ensures { IfOk result (λ _. c < length pool.now.connections) }
+{
+    if (c as usize) < pool.connections() {
+        Ok(())
+    } else {
+        Err(Unread)
+    }
+}
+
+/// Makes a call; a Present by its result set.
+pub(crate) fn make(
+    pool: &mut Pool,
+    c: u32,
+    call: &Call,
+) -> Result<Result<(), CallRefused>, Unread> {
+    has(pool, c)?;
+    match call {
+        Call::Present { op, set, start, n } => {
+            Ok(ResultSet { c, set: *set }.present(pool, *op, *start, *n))
+        }
+        _ => Ok(pool.call(c, call)),
+    }
+}
+
+/// Feeds a piece, and tells whether memory was found for it.
+pub(crate) fn feed(
+    pool: &mut Pool,
+    c: u32,
+    piece: &[u8],
+) -> Result<Result<(), AllocError>, Unread> {
+    has(pool, c)?;
+    Ok(pool.feed(c, piece))
+}
+
+/// Takes a message.
+pub(crate) fn take(pool: &mut Pool, c: u32) -> Result<Result<Step, TakeError>, Unread> {
+    has(pool, c)?;
+    Ok(pool.take(c))
+}
+
+fn end(pool: &mut Pool, c: u32) -> Result<(), Unread> {
+    has(pool, c)?;
+    pool.end(c);
+    Ok(())
+}
+
+fn stop(pool: &mut Pool, c: u32) -> Result<(), Unread> {
+    has(pool, c)?;
+    pool.stop(c, Reason::Read);
+    Ok(())
+}
+
+fn outgoing(pool: &mut Pool, c: u32, out: &mut Vec<u8>) -> Result<(), Unread> {
+    has(pool, c)?;
+    Ok(pool.outgoing(c, out)?)
+}
+
+fn state(alloc: Global, pool: &Pool, c: u32) -> Result<String, Unread> {
+    has(pool, c)?;
+    let state = pool.state(c);
+    Ok(format!(in alloc; "{state:?}")?)
+}
+
+// What waits to go out.
+fn out(alloc: Global, pool: &mut Pool, c: u32) -> Result<String, Unread> {
+    let mut out = Vec::new(alloc);
+    outgoing(pool, c, &mut out)?;
+    Ok(digits(alloc, out.as_slice())?)
+}
+
+fn made(alloc: Global, pool: &mut Pool, c: u32, step: &str) -> Result<String, Unread> {
+    let call = call(alloc, step)?;
+    match make(pool, c, &call)? {
+        Ok(()) => Ok(String::from_str(alloc, "ok")?),
+        Err(reason) => Ok(format!(in alloc; "{reason:?}")?),
+    }
+}
+
+fn taken(alloc: Global, pool: &mut Pool, c: u32) -> Result<String, Unread> {
+    match take(pool, c)? {
+        Ok(step) => Ok(format!(in alloc; "{step:?}")?),
+        Err(error) => Ok(format!(in alloc; "{error:?}")?),
+    }
+}
+
+/// What a step of a connection answers: `out -`, `take -`, `state -`, or a call.
+pub(crate) fn answer(alloc: Global, pool: &mut Pool, c: u32, step: &str) -> Result<String, Unread> {
+    let (word, _) = pair(step)?;
+    match word {
+        "out" => out(alloc, pool, c),
+        "take" => taken(alloc, pool, c),
+        "state" => state(alloc, pool, c),
+        _ => made(alloc, pool, c, step),
+    }
+}
+
+/// Feeds the octets that digits spell.
+pub(crate) fn feed_row(alloc: Global, pool: &mut Pool, c: u32, digits: &str) -> Result<(), Unread> {
+    let piece = octets(alloc, digits)?;
+    Ok(feed(pool, c, piece.as_slice())??)
+}
+
+// `feed DIGITS`, `end -` or `stop -`.
+fn befall(alloc: Global, pool: &mut Pool, c: u32, event: &str) -> Result<(), Unread> {
+    let (word, row) = pair(event)?;
+    match word {
+        "feed" => feed_row(alloc, pool, c, row),
+        "end" => end(pool, c),
+        "stop" => stop(pool, c),
+        _ => Err(Unread),
+    }
+}
+
+// Whether this is known of the number of records of set 1.
+fn is_size(alloc: Global, pool: &Pool, c: u32, due: &str) -> Result<bool, Unread> {
+    let mut out = Vec::new(alloc);
+    put_counts(alloc, ResultSet { c, set: 1 }.size(pool), &mut out)?;
+    Ok(out.as_slice() == due.as_bytes())
+}
+
+// Whether this is known of the record at a position of set 1.
+fn is_row(alloc: Global, pool: &Pool, c: u32, position: i64, due: &str) -> Result<bool, Unread> {
+    let mut out = Vec::new(alloc);
+    put_known(alloc, ResultSet { c, set: 1 }.row(pool, position), &mut out)?;
+    Ok(out.as_slice() == due.as_bytes())
+}
+
+fn is_answer(
+    alloc: Global,
+    pool: &mut Pool,
+    c: u32,
+    step: &str,
+    due: &str,
+) -> Result<bool, Unread> {
+    let (word, row) = pair(step)?;
+    match word {
+        "size" => is_size(alloc, pool, c, due),
+        "row" => is_row(alloc, pool, c, row.parse::<i64>()?, due),
+        _ => Ok(answer(alloc, pool, c, step)?.as_str() == due),
+    }
+}
+
+/// Whether this is the printed list of what a pool knows.
+pub(crate) fn lists(alloc: Global, pool: &Pool, names: &str, due: &str) -> Result<bool, Unread> {
+    is_listed(alloc, pool.knowledge(), names, Mode::Text, due)
+}
+
+// An event, or a question or call and behind `=` its answer.
+fn goes_on(alloc: Global, pool: &mut Pool, c: u32, row: &str) -> Result<bool, Unread> {
+    match row.split_once(" = ") {
+        Some((step, due)) => is_answer(alloc, pool, c, step, due),
+        None => {
+            befall(alloc, pool, c, row)?;
+            Ok(true)
+        }
+    }
+}
+
+fn is_list(alloc: Global, pool: &Pool, row: &str) -> Result<bool, Unread> {
+    let (names, due) = row.split_once(" = ").ok_or(Unread)?;
+    let due = unescaped(alloc, due)?;
+    has_list(alloc, pool.knowledge(), names, Mode::Text, due.as_slice())
+}
+
+fn goes(alloc: Global, pool: &mut Pool, row: &str) -> Result<bool, Unread> {
+    let (word, rest) = pair(row)?;
+    if word == "list" {
+        is_list(alloc, pool, rest)
+    } else {
+        goes_on(alloc, pool, word.parse::<u32>()?, rest)
+    }
+}
+
+// Sessions, each `new` with the number of its connections and then its steps, a row for each: the connection's number and an
+// event; or a question or a call, and behind `=` its answer; or `list`, the names and the printed list.
+pub(crate) fn go_as_told(rt: &(impl Abort + AllocGlobal), sessions: &str) -> Result<(), Fail> {
+    let mut current = pool(rt.alloc(), 0)?;
+    for row in sessions.lines() {
+        if let Some(n) = row.strip_prefix("new ") {
+            current = pool(rt.alloc(), n.parse::<u32>()?)?;
+        } else if !row.starts_with('#') {
+            let held = goes(rt.alloc(), &mut current, row).unwrap_or(false);
+            assert!(rt; held, "{row}");
+        }
+    }
+    Ok(())
+}
