@@ -9,7 +9,7 @@ quick:
 show:
 	cd crates/zmeta && rt run -- show < ../../examples/present-response.hex
 
-# Four checks at a time: they take 21 GB at most. Left to itself rt ci reserves more for each, and has processors stand idle.
+# Three checks at a time: each takes 6 GB at most, of 24. Left to itself rt ci reserves more, and has processors stand idle.
 test:
-	RT_JOBS=4 rt ci
+	RT_JOBS=3 rt ci
 	python3 refused-memory/check.py
