@@ -1,6 +1,7 @@
 -- What a host receives and puts, step by step.
 use Rattle.std.proofs.Common.{◌≡◌, ◌≢◌, ◌⊎◌, inl, inr, ℕ, ◌<◌, ◌≤◌, Bool, true, false, List, [], ◌∷◌, ◌++◌, length, None, Some, Result, Ok, Err, refl, sym, ap, subst, ◌∙◌, append_assoc, length-append, true≢false, arith}
 use Rattle.zber.specs.declared.fault.FaultKind.{FaultKind}
+use Rattle.zber.specs.declared.fault.FrameError.{FrameError}
 use Rattle.zber.specs.declared.fault.FrameError.TheVariants as frames
 use Rattle.zber.specs.Elements.{Element, height}
 use Rattle.zber.specs.Canonical.{canonical}
@@ -19,7 +20,9 @@ use Rattle.ztarget.specs.Replies.{reply_of}
 use Rattle.ztarget.specs.Receiving.{TargetState, IsAnswered, After as TargetAfter}
 use Rattle.zoom.specs.Coming.{limit, Met, Message, Foreign, Fault, Rest, Nothing, Stopped, IsReadAs, AreMetAs}
 use Rattle.zoom.specs.Hosts.{HostState, IsLong, IsShort, Holdings, Received, nothing, message, ArePutLast, IsAt, replies_to}
-use Rattle.zoom.specs.HostSteps.{Leads, Follows, FollowsPiece, Rests, Anywhere, TakesIn, StopsAt, ReceivesApdu, HeedsMessage, ReceivesMessage, ReceivesAll, ReceivesPiece}
+use Rattle.zoom.specs.HostSteps.{Leads, Follows, FollowsPiece, Rests, Anywhere, TakesIn, StopsAt, ReceivesApdu}
+use Rattle.zoom.specs.declared.receiving.Turn.{Turn}
+use Rattle.zoom.specs.HostSteps.{TurnsTo, IsTurnAt, HeedsMessage, ReceivesMessage, ReceivesAll, KeepsPut, ReceivesPiece}
 use Rattle.zoom.proofs.Streams.{begins_longer}
 use Rattle.zoom.proofs.Taking.{foreign}
 
@@ -137,6 +140,15 @@ next_fault framer later target kind at a = led (Follows framer) (Rests later tru
 pub next_memory : (framer : Stream) (target : TargetState) → Leads (Follows framer) Anywhere target target
 next_memory framer target = led (Follows framer) Anywhere target (λ holdings received rest is. tt)
 
+-- the framer answered an error
+pub next_error : (E : Type 0) (framer later : Stream) (target : TargetState) (error : FrameError) (turn : Result Turn E)
+    → Answers framer (Err error) later → IsTurnAt error turn → TurnsTo turn framer later target target
+next_error E framer later target (frames.Fault kind at) (Ok turn) a is =
+    subst (λ z. TurnsTo {E = E} (Ok z) framer later target target) (sym is) (next_fault framer later target kind at a)
+next_error E framer later target (frames.Fault kind at) (Err e) a is = absurd is
+next_error E framer later target frames.Memory (Ok turn) a is = absurd is
+next_error E framer later target frames.Memory (Err e) a is = next_memory framer target
+
 -- a message takes octets away
 pub next_shorter : (framer later : Stream) (e : Element) → Answers framer (Ok (Some e)) later → length later.octets < length framer.octets
 next_shorter framer later e a = omega (arith, spells_some a.1.is.spelled, ap length a.1.cut, length-append a.1.message later.octets)
@@ -164,7 +176,8 @@ pub then_leads : (A B C : Holdings → List Apdu → List ℕ → Type 0) (old m
 then_leads A B C old mid new f g holdings stream released received pending r = g holdings stream released received pending (f holdings stream released received pending r)
 
 -- a piece was fed, and all whole messages were received
-pub piece_done : {E : Type 0} (piece : List ℕ) (r : Result Bool E) (old new : HostState) (fed : Stream) → new.waiting ≡ old.waiting → IsFedTo old.framer piece fed
+pub piece_done : {E : Type 0} (piece : List ℕ) (r : Result Bool E) (old new : HostState) (fed : Stream)
+    → KeepsPut old new → IsFedTo old.framer piece fed
     → ReceivesAll r fed new.framer old.target new.target → ReceivesPiece piece r old new
 piece_done piece (Ok stopped) old new fed same f l = (same, then_leads (FollowsPiece old.framer piece) (Follows fed) (Rests new.framer stopped) old.target old.target new.target (piece_follows old.framer fed piece old.target f) l)
 piece_done piece (Err e) old new fed same f l = (same, then_leads (FollowsPiece old.framer piece) (Follows fed) Anywhere old.target old.target new.target (piece_follows old.framer fed piece old.target f) l)

@@ -24,7 +24,8 @@ use Rattle.zorigin.specs.Replies.{verdict}
 use Rattle.zorigin.specs.Facts.{facts_of}
 use Rattle.zorigin.specs.Sending.{encoding_of}
 use Rattle.zorigin.specs.Log.{Made, Got, Past, standing, state_of, admit_unless, after_verdict}
-use Rattle.zoom.specs.Links.{Link, Links, waiting_in, waiting_at}
+use Rattle.zoom.specs.declared.state.State.{State}
+use Rattle.zoom.specs.Links.{Link, Links, waiting_in, waiting_at, stop_in, stop_at}
 use Rattle.zoom.specs.declared.answer.Told.{Told}
 use Rattle.zoom.specs.declared.answer.TakeError.{TakeError}
 use Rattle.zoom.specs.Coming.{Met, Stopped, Message, Foreign, Fault, Rest, Nothing}
@@ -185,6 +186,15 @@ slice_got : (cs : List Link) (c : ℕ) (x : Link) → c < length cs → slice_ge
 slice_got [] c x lt = absurd (omega arith)
 slice_got (y ∷ cs) zero x lt = refl
 slice_got (y ∷ cs) (suc c) x lt = slice_got cs c x (omega arith)
+
+-- what waits on the connection that was put, and what stopped it
+pub waits_put : (old new : Links) (c : ℕ) (x : Link) → c < length old.connections
+    → new.connections ≡ slice_set old.connections c x → waiting_at new c ≡ x.waiting
+waits_put old new c x lt cs = ap waiting_in (ap (λ z. slice_get z c) cs ∙ slice_got old.connections c x lt)
+
+pub stops_put : (old new : Links) (c : ℕ) (x : Link) → c < length old.connections
+    → new.connections ≡ slice_set old.connections c x → stop_at new c ≡ x.stop
+stops_put old new c x lt cs = ap stop_in (ap (λ z. slice_get z c) cs ∙ slice_got old.connections c x lt)
 
 -- where nothing waits all was handed out
 pub given_all : (c : ℕ) (old new : Links) (x : Link) → c < length old.connections

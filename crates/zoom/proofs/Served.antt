@@ -1,25 +1,33 @@
 -- What a host served, with one event more.
 use Rattle.std.proofs.Common.{◌≡◌, inl, inr, ℕ, Bool, true, false, List, [], ◌∷◌, ◌++◌, None, Some, Result, Ok, Err, refl, sym, ap, subst, ◌∙◌, append_assoc, append-nil, true≢false}
-use Rattle.std.specs.Prelude.{remove}
-use Rattle.std.specs.List.{flat_map}
+use Rattle.std.proofs.Math.Bool.{or-false}
+use Rattle.std.specs.Prelude.{remove, not, ◌&&◌, ◌||◌}
+use Rattle.std.specs.List.{flat_map, list_any}
 use Rattle.std.proofs.lemmas.Grind.{flat_map-append}
+use Rattle.std.proofs.lemmas.List.Folds.{list_any-append}
 use Rattle.zber.specs.Stream.{Stream}
 use Rattle.zapdu.specs.declared.apdu.Apdu.{Apdu}
 use Rattle.zorigin.specs.Sending.{encoding_of}
 use Rattle.ztarget.specs.declared.database.Database.{Database}
 use Rattle.ztarget.specs.declared.settings.TargetSettings.{TargetSettings}
-use Rattle.ztarget.specs.Receiving.{TargetState, new_target, without, Releases, After as TargetAfter}
+use Rattle.ztarget.specs.Receiving.{TargetState, new_target, is_close, without, Releases, After as TargetAfter}
 use Rattle.ztarget.proofs.Histories.{at_first}
 use Rattle.zoom.specs.Coming.{limit}
 use Rattle.zoom.specs.Hosts.{HostState, Holdings, holdings_of, Event, Fed, FedPart, Released, Lost, HandedOut, Served, unserved, nothing, EndsAt, IsDue, IsShort, IsAt, Waits, HostAfter, Underwent, ReleasesAs, handed_out}
 use Rattle.zoom.specs.Heard.{joined}
-use Rattle.zoom.specs.HostSteps.{Reaches, Leads, FollowsPiece, Rests, Anywhere, PutsReply, is_unput}
+use Rattle.zoom.specs.HostSteps.{Reaches, Leads, FollowsPiece, Rests, Anywhere, KeepsPut, PutsReply, is_unput}
 use Rattle.zoom.proofs.Hosts.{messages_longer}
 
 -- a target that has received nothing
 pub at_start : (target : TargetState) (framer : Stream) (waiting : List ℕ) → target ≡ new_target target.databases target.settings
     → framer.octets ≡ [] → framer.limit ≡ limit → framer.fault ≡ None → waiting ≡ []
-    → HostAfter (holdings_of target) [] (record { target = target; framer = framer; waiting = waiting; stopped = false })
+    → HostAfter (holdings_of target) [] (record {
+      target = target;
+      framer = framer;
+      waiting = waiting;
+      stopped = false;
+      closed = false;
+    })
 at_start target framer waiting fresh none limited sound empty = record {
   served = unserved;
   happened = refl;
@@ -27,6 +35,7 @@ at_start target framer waiting fresh none limited sound empty = record {
   pending = ap (λ t. t.pending) fresh;
   waiting = empty;
   stopped = refl;
+  closed = refl;
   framer = λ g. ([], nothing, record { rest_is = sym none; limited = limited; sound = sound });
 }
 
@@ -56,11 +65,18 @@ module _ (holdings : Holdings) (events : List Event) (old new : HostState) (a : 
   waits_still : new.waiting ≡ old.waiting → handed_out events ++ new.waiting ≡ flat_map encoding_of a.served.sent
   waits_still same = ap (λ z. handed_out events ++ z) same ∙ a.waiting
 
+  -- one reply more was put
+  closed_more : (reply : Apdu) → new.closed ≡ (old.closed || is_close reply)
+      → new.closed ≡ list_any is_close (a.served.sent ++ reply ∷ [])
+  closed_more reply is = is ∙ ap (λ z. z || is_close reply) a.closed
+      ∙ ap (λ z. list_any is_close a.served.sent || z) (sym (or-false (is_close reply)))
+      ∙ sym (list_any-append is_close a.served.sent (reply ∷ []))
+
   -- a piece was received
-  pub piece_received : (piece : List ℕ) (b : Bool) → old.stopped ≡ false → new.stopped ≡ b → new.waiting ≡ old.waiting
+  pub piece_received : (piece : List ℕ) (b : Bool) → old.stopped ≡ false → new.stopped ≡ b → KeepsPut old new
       → Reaches holdings (a.served.stream ++ piece) a.served.released a.served.received a.served.pending new.target (Rests new.framer b)
       → HostAfter holdings (Fed piece ∷ events) new
-  piece_received piece b going stopped waiting r =
+  piece_received piece b going stopped same r =
       let q : Served = record a.served { stream = a.served.stream ++ piece; received = r.now; pending = new.target.pending; stopped = b } in
       record {
         served = q;
@@ -76,24 +92,26 @@ module _ (holdings : Holdings) (events : List Event) (old new : HostState) (a : 
         );
         target = r.target_is;
         pending = refl;
-        waiting = waits_still waiting;
+        waiting = waits_still same.0;
         stopped = stopped;
+        closed = same.1 ∙ a.closed;
         framer = λ g. (r.rest, r.messages, at_of new.framer b holdings r.now r.rest r.then g);
       }
 
   -- memory was wanting
-  pub piece_part : (piece : List ℕ) → old.stopped ≡ false → new.stopped ≡ true → new.waiting ≡ old.waiting
+  pub piece_part : (piece : List ℕ) → old.stopped ≡ false → new.stopped ≡ true → KeepsPut old new
       → Reaches holdings (a.served.stream ++ piece) a.served.released a.served.received a.served.pending new.target Anywhere
       → HostAfter holdings (FedPart piece ∷ events) new
-  piece_part piece going stopped waiting r =
+  piece_part piece going stopped same r =
       let q : Served = record a.served { stream = a.served.stream ++ piece; received = r.now; pending = new.target.pending; stopped = true } in
       record {
         served = q;
         happened = (a.served, a.happened, record { going = sym a.stopped ∙ going; rest = r.rest; messages = r.messages; replies = r.replies; is = refl });
         target = r.target_is;
         pending = refl;
-        waiting = waits_still waiting;
+        waiting = waits_still same.0;
         stopped = stopped;
+        closed = same.1 ∙ a.closed;
         framer = λ g. absurd (true≢false g);
       }
 
@@ -107,8 +125,9 @@ module _ (holdings : Holdings) (events : List Event) (old new : HostState) (a : 
   pub reply_put : (k : ℕ) (reply : Apdu) → old.stopped ≡ false → IsDue old.target.pending k reply → IsShort reply → new.target ≡ without old.target k
       → ((databases : List Database) (settings : TargetSettings) (received released : List Apdu) → TargetAfter databases settings received released old.target → TargetAfter databases settings received (released ++ reply ∷ []) new.target)
       → new.waiting ≡ old.waiting ++ encoding_of reply → new.framer ≡ old.framer → new.stopped ≡ false
+      → new.closed ≡ (old.closed || is_close reply)
       → HostAfter holdings (Released k ∷ events) new
-  reply_put k reply going due short is t waiting framer goes =
+  reply_put k reply going due short is t waiting framer goes closed =
       let p = a.served in
       let q : Served = record p { pending = remove p.pending k; released = p.released ++ reply ∷ []; sent = p.sent ++ reply ∷ [] } in
       record {
@@ -122,15 +141,16 @@ module _ (holdings : Holdings) (events : List Event) (old new : HostState) (a : 
             ∙ ap (λ z. z ++ encoding_of reply) a.waiting
             ∙ sym (flat_map-append encoding_of p.sent (reply ∷ []) ∙ ap (λ z. flat_map encoding_of p.sent ++ z) (append-nil (encoding_of reply)));
         stopped = goes ∙ sym going ∙ a.stopped;
+        closed = closed_more reply closed;
         framer = λ g. subst (Waits holdings q) (sym framer) (a.framer g);
       }
 
   -- a reply was lost
   pub reply_lost : (k : ℕ) (reply : Apdu) → old.stopped ≡ false → IsDue old.target.pending k reply → new.target ≡ without old.target k
       → ((databases : List Database) (settings : TargetSettings) (received released : List Apdu) → TargetAfter databases settings received released old.target → TargetAfter databases settings received (released ++ reply ∷ []) new.target)
-      → new.waiting ≡ old.waiting → new.stopped ≡ true
+      → new.waiting ≡ old.waiting → new.stopped ≡ true → new.closed ≡ old.closed
       → HostAfter holdings (Lost k ∷ events) new
-  reply_lost k reply going due is t waiting stopped =
+  reply_lost k reply going due is t waiting stopped closed =
       let p = a.served in
       let q : Served = record p { pending = remove p.pending k; released = p.released ++ reply ∷ []; stopped = true } in
       record {
@@ -140,6 +160,7 @@ module _ (holdings : Holdings) (events : List Event) (old new : HostState) (a : 
         pending = left_served k is;
         waiting = waits_still waiting;
         stopped = stopped;
+        closed = closed ∙ a.closed;
         framer = λ g. absurd (true≢false g);
       }
 
@@ -152,6 +173,7 @@ piece_ignored holdings events host piece stopped a = record {
   pending = a.pending;
   waiting = a.waiting;
   stopped = a.stopped;
+  closed = a.closed;
   framer = a.framer;
 }
 
@@ -164,34 +186,47 @@ handed holdings events host a = record {
   pending = a.pending;
   waiting = append-nil (handed_out events ++ host.waiting) ∙ a.waiting;
   stopped = a.stopped;
+  closed = a.closed;
   framer = a.framer;
 }
 
 -- a reply was released
 pub released_as : {E : Type 0} (k : ℕ) (reply : Apdu) (answer : Result Bool E) (old new : HostState) (ws now : List (List ℕ)) → old.stopped ≡ false → old.waiting ≡ joined ws → new.waiting ≡ joined now
-    → new.framer ≡ old.framer → new.stopped ≡ is_unput answer → Releases old.target k (Some reply) new.target
+    → new.framer ≡ old.framer → new.stopped ≡ is_unput answer
+    → new.closed ≡ (old.closed || (not (is_unput answer) && is_close reply))
+    → Releases old.target k (Some reply) new.target
     → ((databases : List Database) (settings : TargetSettings) (received released : List Apdu) → TargetAfter databases settings received released old.target → TargetAfter databases settings received (released ++ reply ∷ []) new.target)
     → PutsReply reply answer ws now → ReleasesAs k answer old new
-released_as k reply (Ok true) old new ws now going waited waits framer stopped r t p =
-    (going, λ holdings events a. reply_put holdings events old new a k reply going (record { may = r.0; there = r.1 }) p.1 r.2 t (waits ∙ p.0 ∙ ap (λ z. z ++ encoding_of reply) (sym waited)) framer stopped)
-released_as k reply (Ok false) old new ws now going waited waits framer stopped r t p =
+released_as k reply (Ok true) old new ws now going waited waits framer stopped closed r t p = (
+  going,
+  λ holdings events a. reply_put holdings events old new a k reply going
+      (record { may = r.0; there = r.1 }) p.1 r.2 t (waits ∙ p.0 ∙ ap (λ z. z ++ encoding_of reply) (sym waited)) framer
+      stopped closed,
+)
+released_as k reply (Ok false) old new ws now going waited waits framer stopped closed r t p =
     inr (
       record { reply = reply; due = record { may = r.0; there = r.1 }; long = p.1; stopped = stopped },
-      λ holdings events a. reply_lost holdings events old new a k reply going (record { may = r.0; there = r.1 }) r.2 t (waits ∙ ap joined p.0 ∙ sym waited) stopped,
+      λ holdings events a. reply_lost holdings events old new a k reply going (record { may = r.0; there = r.1 }) r.2 t
+          (waits ∙ ap joined p.0 ∙ sym waited) stopped (closed ∙ or-false old.closed),
     )
-released_as k reply (Err e) old new ws now going waited waits framer stopped r t p =
-    (stopped, λ holdings events a. reply_lost holdings events old new a k reply going (record { may = r.0; there = r.1 }) r.2 t (waits ∙ ap joined p ∙ sym waited) stopped)
+released_as k reply (Err e) old new ws now going waited waits framer stopped closed r t p = (
+  stopped,
+  λ holdings events a. reply_lost holdings events old new a k reply going
+      (record { may = r.0; there = r.1 }) r.2 t (waits ∙ ap joined p ∙ sym waited) stopped
+      (closed ∙ or-false old.closed),
+)
 
 -- all whole messages of a piece were received
-pub fed_by : (piece : List ℕ) (b : Bool) (old new : HostState) → old.stopped ≡ false → new.stopped ≡ b → new.waiting ≡ old.waiting
+pub fed_by : (piece : List ℕ) (b : Bool) (old new : HostState) → old.stopped ≡ false → new.stopped ≡ b
+    → KeepsPut old new
     → Leads (FollowsPiece old.framer piece) (Rests new.framer b) old.target new.target → Underwent (Fed piece) old new
-fed_by piece b old new going stopped waiting l holdings events a =
-    piece_received holdings events old new a piece b going stopped waiting
+fed_by piece b old new going stopped same l holdings events a =
+    piece_received holdings events old new a piece b going stopped same
     (l holdings (a.served.stream ++ piece) a.served.released a.served.received a.served.pending (before_piece holdings events old new a piece going))
 
 -- memory was wanting
-pub part_by : (piece : List ℕ) (old new : HostState) → old.stopped ≡ false → new.stopped ≡ true → new.waiting ≡ old.waiting
+pub part_by : (piece : List ℕ) (old new : HostState) → old.stopped ≡ false → new.stopped ≡ true → KeepsPut old new
     → Leads (FollowsPiece old.framer piece) Anywhere old.target new.target → Underwent (FedPart piece) old new
-part_by piece old new going stopped waiting l holdings events a =
-    piece_part holdings events old new a piece going stopped waiting
+part_by piece old new going stopped same l holdings events a =
+    piece_part holdings events old new a piece going stopped same
     (l holdings (a.served.stream ++ piece) a.served.released a.served.received a.served.pending (before_piece holdings events old new a piece going))

@@ -194,6 +194,12 @@ given [] = []
 given (Gives octets ∷ deeds) = given deeds ++ octets
 given (_ ∷ deeds) = given deeds
 
+-- the octets that came to a connection, joined
+abbrev pub fed : List Deed → List ℕ
+fed [] = []
+fed (Feeds piece ∷ deeds) = fed deeds ++ piece
+fed (_ ∷ deeds) = fed deeds
+
 -- a write has failed: how much of what was given went out is not known
 abbrev pub is_write : Reason → Bool
 is_write reasons.Write = true

@@ -1,5 +1,7 @@
 -- What the steps of receiving and of putting a reply do.
 use Rattle.std.specs.Prelude.{◌≡◌, ℕ, ◌<◌, Bool, true, false, not, List, ◌∷◌, ◌++◌, length, Option, None, Some, Result, Ok, Err}
+use Rattle.zber.specs.declared.fault.FrameError.{FrameError}
+use Rattle.zber.specs.declared.fault.FrameError.TheVariants as frames
 use Rattle.zber.specs.Elements.{Element}
 use Rattle.zber.specs.Stream.{Stream}
 use Rattle.zapdu.specs.declared.apdu.Apdu.{Apdu}
@@ -57,6 +59,13 @@ TurnsTo (Ok turns.Waits) framer later old new = Leads (Follows framer) (Rests la
 TurnsTo (Ok turns.Stops) framer later old new = Leads (Follows framer) (Rests later true) old new
 TurnsTo (Err e) framer later old new = Leads (Follows framer) Anywhere old new
 
+-- what an error of the framer comes to
+abbrev pub IsTurnAt : {E : Type 0} → FrameError → Result Turn E → Type 0
+IsTurnAt (frames.Fault kind at) (Ok turn) = turn ≡ turns.Stops
+IsTurnAt (frames.Fault kind at) (Err e) = ⊥
+IsTurnAt frames.Memory (Ok turn) = ⊥
+IsTurnAt frames.Memory (Err e) = Unit {0}
+
 -- what all messages do
 abbrev pub ReceivesAll : {E : Type 0} → Result Bool E → Stream → Stream → TargetState → TargetState → Type 0
 ReceivesAll (Ok stopped) framer later old new = Leads (Follows framer) (Rests later stopped) old new
@@ -113,13 +122,16 @@ PutsReply reply (Err e) old new = new ≡ old
 abbrev pub FollowsPiece : Stream → List ℕ → Holdings → List Apdu → List ℕ → Type 0
 FollowsPiece framer piece holdings received rest = (before : List ℕ) × (rest ≡ before ++ piece) × IsAt framer before
 
+-- what waits to go out stays, and whether a Close was put
+abbrev pub KeepsPut : HostState → HostState → Type 0
+KeepsPut old new = (new.waiting ≡ old.waiting) × (new.closed ≡ old.closed)
+
 -- what a piece does
 abbrev pub ReceivesPiece : {E : Type 0} → List ℕ → Result Bool E → HostState → HostState → Type 0
 ReceivesPiece piece (Ok stopped) old new =
-    (new.waiting ≡ old.waiting)
-    × Leads (FollowsPiece old.framer piece) (Rests new.framer stopped) old.target new.target
+    KeepsPut old new × Leads (FollowsPiece old.framer piece) (Rests new.framer stopped) old.target new.target
 ReceivesPiece piece (Err e) old new =
-    (new.waiting ≡ old.waiting) × Leads (FollowsPiece old.framer piece) Anywhere old.target new.target
+    KeepsPut old new × Leads (FollowsPiece old.framer piece) Anywhere old.target new.target
 
 -- whether a reply was not put
 abbrev pub is_unput : {E : Type 0} → Result Bool E → Bool

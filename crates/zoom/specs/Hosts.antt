@@ -1,6 +1,6 @@
 -- A target behind a stream of octets: what befalls it, and what that amounts to (Z39.50-2003, 3.2; X.690, 8.1).
 use Rattle.std.specs.Prelude.{◌≡◌, ◌⊎◌, ℕ, ◌<◌, Bool, true, false, List, [], ◌∷◌, ◌++◌, length, remove, slice_get, None, Some, Result, Ok, Err}
-use Rattle.std.specs.List.{flat_map}
+use Rattle.std.specs.List.{flat_map, list_any}
 use Rattle.zber.specs.Elements.{Element}
 use Rattle.zber.specs.Spelling.{Begins}
 use Rattle.zber.specs.Stream.{Stream}
@@ -12,16 +12,17 @@ use Rattle.ztarget.specs.declared.database.Database.{Database}
 use Rattle.ztarget.specs.declared.settings.TargetSettings.{TargetSettings}
 use Rattle.ztarget.specs.declared.error.TargetError.{TargetError}
 use Rattle.ztarget.specs.Replies.{Answer, owed, replies}
-use Rattle.ztarget.specs.Receiving.{TargetState, may_release, After as TargetAfter}
+use Rattle.ztarget.specs.Receiving.{TargetState, is_close, may_release, After as TargetAfter}
 use Rattle.zoom.specs.Coming.{limit, Met, Message, Foreign, Fault, AreMetAs}
 
 -- A host, for every contract: its target; the octets that came and were not yet given out in a message; the octets that
--- wait to go out; whether it stopped.
+-- wait to go out; whether it stopped; whether a Close was put to go out.
 pub record HostState : Type 0 where
   pub target : TargetState
   pub framer : Stream
   pub waiting : List ℕ
   pub stopped : Bool
+  pub closed : Bool
 
 -- what a target has
 pub record Holdings : Type 0 where
@@ -190,6 +191,7 @@ pub record HostAfter (holdings : Holdings) (events : List Event) (host : HostSta
   pub pending : host.target.pending ≡ served.pending
   pub waiting : handed_out events ++ host.waiting ≡ flat_map encoding_of served.sent
   pub stopped : host.stopped ≡ served.stopped
+  pub closed : host.closed ≡ list_any is_close served.sent
   pub framer : served.stopped ≡ false → Waits holdings served host.framer
 
 -- ---- what the calls say, each for every history that can have left the host

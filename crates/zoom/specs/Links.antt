@@ -28,3 +28,11 @@ waiting_in (Some link) = link.waiting
 -- the octets that wait to go out on a connection
 abbrev pub waiting_at : Links → ℕ → List ℕ
 waiting_at pool c = waiting_in (slice_get pool.connections c)
+
+abbrev pub stop_in : Option Link → Option State
+stop_in None = None
+stop_in (Some link) = link.stop
+
+-- what stopped a connection
+abbrev pub stop_at : Links → ℕ → Option State
+stop_at pool c = stop_in (slice_get pool.connections c)

@@ -14,6 +14,7 @@ reason_word (reasons.Frame kind at) = kind_word kind
 reason_word (reasons.Decode error) = apdu_word error
 reason_word (reasons.Refused reason) = reply_word reason
 reason_word reasons.Ended = codes "Ended"
+reason_word reasons.Connect = codes "Connect"
 reason_word reasons.Read = codes "Read"
 reason_word reasons.Write = codes "Write"
 reason_word reasons.Turns = codes "Turns"

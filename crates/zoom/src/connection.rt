@@ -1,6 +1,7 @@
 //! One connection.
-ghost use Rattle.std.specs.Prelude.{◌≡◌, true, [], ◌++◌, OnOk, OnErr};
+ghost use Rattle.std.specs.Prelude.{◌≡◌, true, [], ◌++◌, Some, OnOk, OnErr};
 ghost use Rattle.zorigin.specs.Log.{IsCalled};
+ghost use Rattle.zoom.specs.declared.state.State.TheVariants as states;
 ghost use Rattle.zoom.specs.CallsOf.{call_of};
 ghost use Rattle.zoom.specs.Heard.{Heard, Calls, Feeds, Ends, Gives, Stops, silence, hears_call, hears_piece, stop_by, state_at};
 ghost use Rattle.zoom.specs.Leaving.{Matches, Leaves};
@@ -119,7 +120,8 @@ impl Connection {
 
     /// It has failed for the reason. It takes no memory.
     pub(crate) fn stop(&mut self, reason: Reason)
-        ensures { Gains (Stops reason) (λ p. stop_by p reason) self.old self.new }
+        ensures after { Gains (Stops reason) (λ p. stop_by p reason) self.old self.new }
+        ensures stop { self.new.stop ≡ Some (states.Failed reason) }
     {
         self.stop = Some(State::Failed(reason));
     }

@@ -1,6 +1,6 @@
 //! A target behind a stream of octets.
-ghost use Rattle.std.specs.Prelude.{◌≡◌, ◌++◌, [], true, OnOk, OnErr};
-ghost use Rattle.ztarget.specs.Receiving.{new_target};
+ghost use Rattle.std.specs.Prelude.{◌≡◌, ◌++◌, ◌&&◌, ◌||◌, not, [], true, OnOk, OnErr};
+ghost use Rattle.ztarget.specs.Receiving.{new_target, is_close};
 ghost use Rattle.ztarget.specs.Levels.{HasElement};
 ghost use Rattle.zoom.specs.Hosts.{Fed, FedPart, HandedOut, holdings_of, HostAfter, Underwent, ReleasesAs};
 ghost use Rattle.zoom.specs.HostSteps.{EncodesReply, PutsReply, ReceivesPiece, is_unput};
@@ -65,6 +65,16 @@ fn is_unput(put: &Result<bool, AllocError>) -> bool
     }
 }
 
+/// Whether a Close was put, once it was tried to put a reply.
+fn has_closed(closed: bool, unput: bool, reply: &Apdu) -> bool
+    ensures { result ≡ (closed || (not unput && is_close reply.now)) }
+{
+    match reply {
+        Apdu::Close(_) => closed || !unput,
+        _ => closed,
+    }
+}
+
 /// A target in memory behind a stream of octets: it receives the messages of the octets that it is fed, and hands out
 /// the encodings of the replies that it is asked to release (Z39.50-2003, 3.2). It sends and receives nothing itself.
 ///
@@ -82,6 +92,8 @@ pub struct Host {
     /// What waits to go out, a reply each.
     waiting: Vec<Bytes>,
     stopped: bool,
+    /// A Close was put to go out.
+    closed: bool,
 }
 
 impl Model for Host {
@@ -101,6 +113,7 @@ impl Model for Host {
       framer = h.framer.stream;
       waiting = joined h.waiting.items;
       stopped = h.stopped;
+      closed = h.closed;
     } };
 }
 
@@ -116,6 +129,7 @@ impl Host {
             framer: Framer::new(alloc, MESSAGE_LIMIT),
             waiting: Vec::new(alloc),
             stopped: false,
+            closed: false,
         }
     }
 
@@ -124,6 +138,13 @@ impl Host {
         ensures { result ≡ self.now.stopped }
     {
         self.stopped
+    }
+
+    /// Whether its Close was put to go out (Z39.50-2003, 3.2.11.1). It takes no memory.
+    pub fn closed(&self) -> bool
+        ensures { result ≡ self.now.closed }
+    {
+        self.closed
     }
 
     /// Takes the next piece of octets, cut anywhere: the target receives all messages that are whole now, and the
@@ -175,6 +196,7 @@ impl Host {
         };
         let put = put_reply(self.alloc, &mut self.waiting, &reply);
         self.stopped = is_unput(&put);
+        self.closed = has_closed(self.closed, self.stopped, &reply);
         put
     }
 

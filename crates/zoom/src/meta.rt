@@ -1,9 +1,10 @@
 //! Connections that are driven, each for one question.
-ghost use Rattle.std.specs.Prelude.{◌≡◌, ◌<◌, ◌^◌, [], ◌++◌, length, OnOk, OnErr, IfOk, if◌then◌else◌, Err};
+ghost use Rattle.std.specs.Prelude.{◌≡◌, ◌<◌, ◌^◌, [], ◌++◌, length, OnOk, OnErr, IfOk, if◌then◌else◌, Some, Err};
 ghost use Rattle.zoom.specs.declared.meta.Turn.TheVariants as turns;
+ghost use Rattle.zoom.specs.declared.state.State.TheVariants as states;
 ghost use Rattle.zoom.specs.CallsOf.{call_of};
 ghost use Rattle.zoom.specs.Heard.{Feeds, Ends, Gives, Stops, IsDone};
-ghost use Rattle.zoom.specs.Links.{waiting_at};
+ghost use Rattle.zoom.specs.Links.{waiting_at, stop_at};
 ghost use Rattle.zoom.specs.Befalling.{IsStateAt, IsTakeAnswer, HasGivenAll};
 ghost use Rattle.zoom.specs.Steering.{AreFit};
 ghost use Rattle.zoom.specs.Metas.{AreAskable, MetaAfter, MetaBefell, MetaTook, MetaKeeps, DrivesTo, AdvancesTo, IssuesTo, LearnsTold, Tells, StandFor, is_skipped, is_complete, IsFinished};
@@ -172,6 +173,7 @@ impl Meta {
         ensures answer { IsTakeAnswer c self.old.pool result }
         ensures after { IsDone result → MetaTook c self.old self.new }
         ensures memory { result ≡ Err TakeError.Memory → MetaKeeps c self.old self.new }
+        ensures waiting { waiting_at self.new.pool c ≡ waiting_at self.old.pool c }
         ensures size { length self.new.pool.connections ≡ length self.old.pool.connections }
     {
         one_meeting();
@@ -199,6 +201,7 @@ impl Meta {
     pub fn stop(&mut self, c: u32, reason: Reason)
         requires { c < length self.old.pool.connections }
         ensures after { MetaBefell c (Stops reason) self.old self.new }
+        ensures stopped { stop_at self.new.pool c ≡ Some (states.Failed reason) }
         ensures size { length self.new.pool.connections ≡ length self.old.pool.connections }
     {
         self.pool.stop(c, reason);
@@ -210,6 +213,7 @@ impl Meta {
         ensures gives { OnOk result (out.new.items ≡ out.old.items ++ waiting_at self.old.pool c) }
         ensures after { OnOk result (MetaBefell c (Gives (waiting_at self.old.pool c)) self.old self.new) }
         ensures all { OnOk result (HasGivenAll c self.new.pool) }
+        ensures none { OnOk result (waiting_at self.new.pool c ≡ []) }
         ensures err { OnErr result (self.new ≡ self.old) }
         ensures out { OnErr result (out.new.items ≡ out.old.items) }
         ensures size { length self.new.pool.connections ≡ length self.old.pool.connections }

@@ -1,9 +1,10 @@
 //! A pool of connections, and what is known from them.
-ghost use Rattle.std.specs.Prelude.{◌≡◌, ◌<◌, [], ◌++◌, length, OnOk, OnErr, IfOk, Err};
+ghost use Rattle.std.specs.Prelude.{◌≡◌, ◌<◌, [], ◌++◌, length, OnOk, OnErr, IfOk, Some, Err};
 ghost use Rattle.zorigin.specs.Log.{IsCalled};
+ghost use Rattle.zoom.specs.declared.state.State.TheVariants as states;
 ghost use Rattle.zoom.specs.CallsOf.{call_of};
 ghost use Rattle.zoom.specs.Heard.{Calls, Feeds, Ends, Gives, Stops, IsDone};
-ghost use Rattle.zoom.specs.Links.{waiting_at};
+ghost use Rattle.zoom.specs.Links.{waiting_at, stop_at};
 ghost use Rattle.zoom.specs.History.{After};
 ghost use Rattle.zoom.specs.Befalling.{Befell, IsStateAt, IsCallAnswer, IsTakeAnswer, IsToldAnswer, Took, Keeps, HasGivenAll, IsPoolFinished};
 
@@ -112,6 +113,7 @@ impl Pool {
         ensures answer { IsTakeAnswer c self.old result }
         ensures after { IsDone result → Took c self.old self.new }
         ensures memory { result ≡ Err TakeError.Memory → Keeps c self.old self.new }
+        ensures waiting { waiting_at self.new c ≡ waiting_at self.old c }
         ensures size { length self.new.connections ≡ length self.old.connections }
     {
         match self.told(c) {
@@ -126,6 +128,7 @@ impl Pool {
         ensures answer { IsToldAnswer c self.old result }
         ensures after { IsDone result → Took c self.old self.new }
         ensures memory { result ≡ Err TakeError.Memory → Keeps c self.old self.new }
+        ensures waiting { waiting_at self.new c ≡ waiting_at self.old c }
         ensures size { length self.new.connections ≡ length self.old.connections }
     {
         one_meeting();
@@ -148,6 +151,7 @@ impl Pool {
     pub fn stop(&mut self, c: u32, reason: Reason)
         requires { c < length self.old.connections }
         ensures after { Befell c (Stops reason) self.old self.new }
+        ensures stopped { stop_at self.new c ≡ Some (states.Failed reason) }
         ensures size { length self.new.connections ≡ length self.old.connections }
     {
         self.connections[c as usize].stop(reason);
@@ -160,6 +164,7 @@ impl Pool {
         ensures gives { OnOk result (out.new.items ≡ out.old.items ++ waiting_at self.old c) }
         ensures after { OnOk result (Befell c (Gives (waiting_at self.old c)) self.old self.new) }
         ensures all { OnOk result (HasGivenAll c self.new) }
+        ensures none { OnOk result (waiting_at self.new c ≡ []) }
         ensures err { OnErr result (self.new ≡ self.old) }
         ensures out { OnErr result (out.new.items ≡ out.old.items) }
         ensures size { length self.new.connections ≡ length self.old.connections }

@@ -1,5 +1,5 @@
 //! The messages of a host's octets, received one by one.
-ghost use Rattle.zoom.specs.HostSteps.{TurnsTo, ReceivesAll, ReceivesApdu, ReceivesMessage};
+ghost use Rattle.zoom.specs.HostSteps.{TurnsTo, IsTurnAt, ReceivesAll, ReceivesApdu, ReceivesMessage};
 
 use std::alloc::{AllocError, Global};
 use zapdu::{Apdu, ApduError, from_node};
@@ -43,6 +43,16 @@ fn receive_message(alloc: Global, target: &mut Target, node: &Node) -> Result<bo
     }
 }
 
+/// What an error of the framer comes to: a fault stops the host.
+fn turn_at(error: FrameError) -> Result<Turn, AllocError>
+    ensures { IsTurnAt error result }
+{
+    match error {
+        FrameError::Fault { .. } => Ok(Turn::Stops),
+        FrameError::Memory => Err(AllocError),
+    }
+}
+
 /// Receives the next message, where one is whole.
 fn receive_next(alloc: Global, framer: &mut Framer, target: &mut Target) -> Result<Turn, AllocError>
     ensures { TurnsTo result framer.old.stream framer.new.stream target.old target.new }
@@ -56,10 +66,7 @@ fn receive_next(alloc: Global, framer: &mut Framer, target: &mut Target) -> Resu
             }
         }
         Ok(None) => Ok(Turn::Waits),
-        Err(error) => match error {
-            FrameError::Fault { .. } => Ok(Turn::Stops),
-            FrameError::Memory => Err(AllocError),
-        },
+        Err(error) => turn_at(error),
     }
 }
 

@@ -19,6 +19,8 @@ pub enum Reason {
     Refused(Refused),
     /// Its input ended while it was not Closing.
     Ended,
+    /// Its host's: no way to the target was found.
+    Connect,
     /// Its host's: octets could not be read.
     Read,
     /// Its host's: octets could not be written. How many of those that were handed out went out is not known.
@@ -40,6 +42,7 @@ impl Reason {
             Reason::Decode(error) => error.word(),
             Reason::Refused(reason) => reason.word(),
             Reason::Ended => "Ended",
+            Reason::Connect => "Connect",
             Reason::Read => "Read",
             Reason::Write => "Write",
             Reason::Turns => "Turns",

@@ -4,13 +4,13 @@ use Rattle.std.proofs.Common.{Result, Ok, Err, refl, append_assoc, append-nil}
 use Rattle.std.specs.Prelude.{OnOk}
 use Rattle.zoom.specs.declared.question.Question.{Question}
 use Rattle.zoom.specs.declared.question.MetaSettings.{MetaSettings}
-use Rattle.zoom.specs.Heard.{Deed, Feeds, Gives, given}
+use Rattle.zoom.specs.Heard.{Deed, Feeds, Gives, given, fed}
 use Rattle.zoom.specs.History.{History, only}
 use Rattle.zoom.specs.Hosts.{HostState, HostAfter, Holdings, Event, Fed, FedPart, Released, Lost, HandedOut, Underwent, ReleasesAs, HasNone, IsTooLong, handed_out}
 use Rattle.zoom.specs.Metas.{MetaLinks, MetaAfter, MetaBefell}
 use Rattle.zoom.proofs.Pools.{only_same, only_other}
 use Rattle.zworld.specs.declared.run.peers.Peer.{Peer}
-use Rattle.zworld.specs.Run.{fed, fed_to}
+use Rattle.zworld.specs.Run.{fed_to}
 use Rattle.zworld.specs.RunSteps.{IsSilent, GoesOn, Went, Carried, Carries, ReleasesReplies}
 use Rattle.zworld.proofs.RunGoes.{only_append, given_append, fed_append, silent_more}
 

@@ -6,11 +6,10 @@ use Rattle.std.proofs.lemmas.List.Elements.{filter-append}
 use Rattle.zorigin.specs.Standings.{Call}
 use Rattle.zoom.specs.declared.question.Question.{Question}
 use Rattle.zoom.specs.declared.question.MetaSettings.{MetaSettings}
-use Rattle.zoom.specs.Heard.{Deed, Calls, Feeds, Takes, Ends, Gives, Stops, given}
+use Rattle.zoom.specs.Heard.{Deed, Calls, Feeds, Takes, Ends, Gives, Stops, given, fed}
 use Rattle.zoom.specs.History.{History, only}
 use Rattle.zoom.specs.Laws.{UpToLaw}
 use Rattle.zoom.specs.Metas.{MetaLinks, MetaAfter, MetaAfterUpTo, MetaBefell, MetaTook, DrivesTo, Progress, settings_of, made}
-use Rattle.zworld.specs.Run.{fed}
 use Rattle.zworld.specs.RunSteps.{IsSilent, AreSilent, Went, GoesOn}
 
 -- ---- what was carried by deeds one after the other

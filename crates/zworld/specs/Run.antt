@@ -5,7 +5,7 @@ use Rattle.ztarget.specs.Receiving.{TargetState, new_target}
 use Rattle.zoom.specs.declared.question.Question.{Question}
 use Rattle.zoom.specs.declared.question.MetaSettings.{MetaSettings}
 use Rattle.zoom.specs.States.{is_stopped}
-use Rattle.zoom.specs.Heard.{Deed, Feeds, Heard, HasHeard, given, state_at}
+use Rattle.zoom.specs.Heard.{Deed, Heard, HasHeard, given, fed, state_at}
 use Rattle.zoom.specs.History.{History, only}
 use Rattle.zoom.specs.Hosts.{HostState, HostAfter, Event, Fed, FedPart, holdings_of, handed_out}
 use Rattle.zoom.specs.Metas.{MetaLinks, MetaAfter, settings_of}
@@ -17,12 +17,6 @@ IsNew t = t ≡ new_target t.databases t.settings
 abbrev pub AreNew : List TargetState → Type 0
 AreNew [] = Unit {0}
 AreNew (t ∷ ts) = IsNew t × AreNew ts
-
--- the octets that came to a connection, joined
-abbrev pub fed : List Deed → List ℕ
-fed [] = []
-fed (Feeds piece ∷ deeds) = fed deeds ++ piece
-fed (_ ∷ deeds) = fed deeds
 
 -- the octets that came to a host, joined
 abbrev pub fed_to : List Event → List ℕ

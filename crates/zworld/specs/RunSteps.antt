@@ -4,12 +4,12 @@ use Rattle.ztarget.specs.Receiving.{TargetState}
 use Rattle.zoom.specs.declared.question.Question.{Question}
 use Rattle.zoom.specs.declared.question.MetaSettings.{MetaSettings}
 use Rattle.zoom.specs.declared.state.Reason.{Reason}
-use Rattle.zoom.specs.Heard.{Deed, Stops, Heard, HasHeard, given}
+use Rattle.zoom.specs.Heard.{Deed, Stops, Heard, HasHeard, given, fed}
 use Rattle.zoom.specs.History.{History, only}
 use Rattle.zoom.specs.Hosts.{HostState, HostAfter, Holdings, Event, holdings_of, handed_out}
 use Rattle.zoom.specs.Metas.{MetaLinks, MetaAfter, MetaBefell, Tells, settings_of}
 use Rattle.zworld.specs.declared.run.peers.Peer.{Peer}
-use Rattle.zworld.specs.Run.{fed, fed_to, is_over, Ran}
+use Rattle.zworld.specs.Run.{fed_to, is_over, Ran}
 
 -- ---- connections
 

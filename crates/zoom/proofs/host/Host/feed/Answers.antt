@@ -1,7 +1,7 @@
 use Rattle.std.proofs.Common.{◌≡◌, true, false, refl, sym, ap, subst, ◌∙◌}
 use Rattle.zoom.specs.Heard.{joined}
 use Rattle.zoom.specs.Hosts.{HostState}
-use Rattle.zoom.specs.HostSteps.{Leads, FollowsPiece, Rests, Anywhere}
+use Rattle.zoom.specs.HostSteps.{Leads, FollowsPiece, Rests, Anywhere, KeepsPut}
 use Rattle.zoom.proofs.Served.{fed_by, part_by}
 use Rattle.zoom.proofs.host.Host.feed.Goals as goal
 
@@ -11,9 +11,17 @@ returns-in-Ok-clause-fed c =
     let piece = c.args.piece.now in
     let b = c.in-Ok.stopped in
     let inside = c.self-2.inside in
-    let new : HostState = record { target = inside.target; framer = inside.framer.stream; waiting = joined inside.waiting.items; stopped = b } in
+    let new : HostState = record {
+      target = inside.target;
+      framer = inside.framer.stream;
+      waiting = joined inside.waiting.items;
+      stopped = b;
+      closed = inside.closed;
+    } in
     let going : old.stopped ≡ false = sym (ap (λ (z : HostState). z.stopped) c.self.view_is) ∙ c.if-self.false in
-    let did = subst (λ (z : HostState). (z.waiting ≡ old.waiting) × Leads (FollowsPiece old.framer piece) (Rests z.framer b) old.target z.target) (sym c.self-2.view_is) c.in-Ok.ensures in
+    let did = subst (λ (z : HostState).
+    KeepsPut old z × Leads (FollowsPiece old.framer piece) (Rests z.framer b) old.target z.target)
+    (sym c.self-2.view_is) c.in-Ok.ensures in
     fed_by piece b old new going refl did.0 did.1
 
 pub returns-in-Err-clause-part : goal.returns-in-Err-clause-part
@@ -21,7 +29,15 @@ returns-in-Err-clause-part c =
     let old : HostState = c.args.self.now in
     let piece = c.args.piece.now in
     let inside = c.self-2.inside in
-    let new : HostState = record { target = inside.target; framer = inside.framer.stream; waiting = joined inside.waiting.items; stopped = true } in
+    let new : HostState = record {
+      target = inside.target;
+      framer = inside.framer.stream;
+      waiting = joined inside.waiting.items;
+      stopped = true;
+      closed = inside.closed;
+    } in
     let going : old.stopped ≡ false = sym (ap (λ (z : HostState). z.stopped) c.self.view_is) ∙ c.if-self.false in
-    let did = subst (λ (z : HostState). (z.waiting ≡ old.waiting) × Leads (FollowsPiece old.framer piece) Anywhere old.target z.target) (sym c.self-2.view_is) c.in-Err.ensures in
+    let did = subst (λ (z : HostState).
+    KeepsPut old z × Leads (FollowsPiece old.framer piece) Anywhere old.target z.target)
+    (sym c.self-2.view_is) c.in-Err.ensures in
     part_by piece old new going refl did.0 did.1

@@ -37,3 +37,9 @@ returns-in-Err-clause-after c =
     let new : MetaLinks = record { pool = c.told.new.self; drivers = c.self.inside.drivers.items } in
     rw (← c.self.view_is) (λ done. refused_meta c.one_meeting.ensures c.one_hearing.ensures c.refused_law.ensures c.args.c
     old new c.in-Err.error c.in-Err.ensures.answer done (c.in-Err.ensures.after done) lt refl c.in-Err.ensures.size)
+
+pub returns-in-Ok-clause-waiting : goal.returns-in-Ok-clause-waiting
+returns-in-Ok-clause-waiting c = rw (← c.self.view_is) c.in-Ok.ensures.waiting
+
+pub returns-in-Err-clause-waiting : goal.returns-in-Err-clause-waiting
+returns-in-Err-clause-waiting c = rw (← c.self.view_is) c.in-Err.ensures.waiting

@@ -1,10 +1,10 @@
-use Rattle.std.proofs.Common.{◌≡◌, ◌++◌, refl, subst, slice_set}
+use Rattle.std.proofs.Common.{◌≡◌, ◌++◌, refl, subst, ◌∙◌, slice_set}
 use Rattle.std.specs.Prelude.{OnOk}
 use Rattle.std.proofs.lemmas.Result.{IfOk-weaker}
 use Rattle.zoom.specs.Heard.{Gives}
 use Rattle.zoom.specs.Links.{Links}
 use Rattle.zoom.specs.Befalling.{Befell}
-use Rattle.zoom.proofs.Pools.{gained, given_all, waits_at}
+use Rattle.zoom.proofs.Pools.{gained, given_all, waits_at, waits_put}
 use Rattle.zoom.proofs.pool.Pool.outgoing.Goals as goal
 
 pub returns-clause-gives : goal.returns-clause-gives
@@ -37,3 +37,13 @@ returns-clause-all c =
     } in
     IfOk-weaker c.outgoing.result _ _ (λ _ none. given_all c.args.c old new c.outgoing.new.self
     (rw (← c.self.view_is) at c.requires) refl none) c.outgoing.ensures.all
+
+pub returns-clause-none : goal.returns-clause-none
+returns-clause-none c =
+    let old : Links = record { connections = c.self.inside.connections.items; knowledge = c.self.inside.knowledge } in
+    let new : Links = record {
+      connections = slice_set c.self.inside.connections.items c.args.c c.outgoing.new.self;
+      knowledge = c.self.inside.knowledge;
+    } in
+    IfOk-weaker c.outgoing.result _ _ (λ _ none. waits_put old new c.args.c c.outgoing.new.self
+    (rw (← c.self.view_is) at c.requires) refl ∙ none) c.outgoing.ensures.all

@@ -1,10 +1,20 @@
-use Rattle.std.proofs.Common.{refl}
+use Rattle.std.proofs.Common.{refl, ◌∙◌, slice_set}
 use Rattle.zoom.specs.Heard.{Stops, stop_by}
-use Rattle.zoom.proofs.Pools.{gained}
+use Rattle.zoom.specs.Links.{Links}
+use Rattle.zoom.proofs.Pools.{gained, stops_put}
 use Rattle.zoom.proofs.pool.Pool.stop.Goals as goal
 
 pub returns-clause-after : goal.returns-clause-after
 returns-clause-after c = rw (← c.self.view_is) (
     gained c.args.c (Stops c.args.reason) (λ p. stop_by p c.args.reason) _ _ _ c.index_mut.result.now c.stop.new.self
     (rw (← c.self.view_is) at c.requires)
-    c.index_mut.ensures.value c.stop.ensures (λ p. refl) refl refl)
+    c.index_mut.ensures.value c.stop.ensures.after (λ p. refl) refl refl)
+
+pub returns-clause-stopped : goal.returns-clause-stopped
+returns-clause-stopped c =
+    let old : Links = record { connections = c.self.inside.connections.items; knowledge = c.self.inside.knowledge } in
+    let new : Links = record {
+      connections = slice_set c.self.inside.connections.items c.args.c c.stop.new.self;
+      knowledge = c.self.inside.knowledge;
+    } in
+    stops_put old new c.args.c c.stop.new.self (rw (← c.self.view_is) at c.requires) refl ∙ c.stop.ensures.stop

@@ -1,5 +1,6 @@
-use Rattle.std.proofs.Common.{refl}
-use Rattle.zoom.proofs.Pools.{at_index, taken_after, kept_up_to}
+use Rattle.std.proofs.Common.{refl, ◌∙◌, slice_set}
+use Rattle.zoom.specs.Links.{Links}
+use Rattle.zoom.proofs.Pools.{at_index, taken_after, kept_up_to, waits_at, waits_put}
 use Rattle.zoom.proofs.pool.Pool.told.Goals as goal
 
 pub returns-clause-answer : goal.returns-clause-answer
@@ -24,3 +25,14 @@ returns-clause-memory c = rw (← c.self.view_is) (λ e settings h a.
     kept_up_to settings h _ _ c.args.c c.index_mut.result.now c.take-taken.new.self lt a l
     (c.take-taken.ensures.memory (a.heard c.args.c) l.matches e) c.take-taken.ensures.waiting
     (c.take-taken.ensures.part (a.heard c.args.c) l.matches e) c.lawful.ensures refl)
+
+pub returns-clause-waiting : goal.returns-clause-waiting
+returns-clause-waiting c =
+    let old : Links = record { connections = c.self.inside.connections.items; knowledge = c.self.inside.knowledge } in
+    let new : Links = record {
+      connections = slice_set c.self.inside.connections.items c.args.c c.take-taken.new.self;
+      knowledge = c.take-taken.new.knowledge;
+    } in
+    let lt = rw (← c.self.view_is) at c.requires in
+    rw (← c.self.view_is) (waits_put old new c.args.c c.take-taken.new.self lt refl ∙ c.take-taken.ensures.waiting
+    ∙ waits_at old c.args.c _ c.index_mut.result.now lt c.index_mut.ensures.value)
