@@ -1,0 +1,5 @@
+pub mod Hearing
+pub mod Speaking
+pub mod Devices
+pub mod Ending
+pub mod Answering

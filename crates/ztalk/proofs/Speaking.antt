@@ -1,0 +1,178 @@
+-- What making the calls that are due, and writing what waits, does to a talk; and talks that go on.
+use Rattle.std.proofs.Common.{◌≡◌, ◌∙◌, sym, ap, subst, ℕ, suc, ◌<◌, ◌≤◌, Bool, true, false, List, [], ◌∷◌, ◌++◌, length, None, Some, Result, Ok, Err, refl, append_assoc}
+use Rattle.std.specs.Io.KnownBytes.{Keeps, Appends, Consumes}
+use Rattle.std.proofs.KnownBytes.{Appends-trans, Appends-nil, Consumes-trans, Consumes-nil}
+use Rattle.zorigin.specs.Standings.{Call}
+use Rattle.zoom.specs.declared.question.Question.{Question}
+use Rattle.zoom.specs.declared.question.MetaSettings.{MetaSettings}
+use Rattle.zoom.specs.declared.state.Reason.{Reason}
+use Rattle.zoom.specs.declared.state.Reason.TheVariants as reasons
+use Rattle.zoom.specs.Heard.{Feeds, Gives, Stops}
+use Rattle.zoom.specs.History.{History}
+use Rattle.zoom.specs.Metas.{MetaLinks, MetaAfter, MetaBefell, DrivesTo, Drives, made}
+use Rattle.ztalk.specs.Devices.{DeviceState, AppendsFront, HasFailed}
+use Rattle.ztalk.specs.declared.outgoing.PushError.{PushError}
+use Rattle.ztalk.specs.declared.outgoing.PushError.TheVariants as pushes
+use Rattle.ztalk.specs.declared.turns.Turn.{Turn}
+use Rattle.ztalk.specs.declared.turns.Turn.TheVariants as turns
+use Rattle.ztalk.specs.Pushes.{MetaBroke, Pushes}
+use Rattle.ztalk.specs.Talks.{Stage, Due, Listening, Waiting, Over, Ended, StandsAt, Talk, GoesOn, Broken, Stopped, Follows, begins, speaks, reads, same}
+use Rattle.zoom.specs.Links.{waiting_at}
+use Rattle.ztalk.specs.Talking.{Settles}
+use Rattle.ztalk.specs.Turns.{GoesAlone, BreaksOff, Speaks, Hears, TakesTurn}
+
+-- ---- speaking
+
+module _ (E : Type 0) (c n : ℕ) (old mid new : MetaLinks) (drove : DrivesTo {E = E} c (Ok n) old mid) where
+  -- the history with the calls and what was handed out
+  spoken : (q : List Question) (s : MetaSettings) (h more : History) (calls : List Call) (octets : List ℕ)
+      → MetaAfter q s ((c, Gives octets) ∷ (made c calls ++ (more ++ h))) new
+      → MetaAfter q s ((c, Gives octets) ∷ (made c calls ++ more) ++ h) new
+  spoken q s h more calls octets a =
+      subst (λ z. MetaAfter q s ((c, Gives octets) ∷ z) new) (sym (append_assoc (made c calls) more h)) a
+
+  pub speaks_on : (octets : List ℕ) (sink held : DeviceState) → MetaBefell c (Gives octets) mid new
+      → Appends sink.octets held.octets octets → held.failures ≡ sink.failures
+      → (left : DeviceState) → GoesOn c Due Listening same old new left left sink held
+  speaks_on octets sink held befell went sound left = record {
+    on = λ q s h reads source first t.
+        let d : Drives q s c (t.more ++ h) n mid = drove q s (t.more ++ h) t.after in
+        let calls = d.progress.calls in
+        record {
+          more = (c, Gives octets) ∷ (made c calls ++ t.more);
+          read = t.read;
+          written = t.written ++ octets;
+          follows = speaks calls octets t.follows d.rests;
+          after = spoken q s h t.more calls octets
+              (befell q s (made c calls ++ (t.more ++ h)) d.progress.after);
+          stands = tt;
+          came = t.came;
+          went = Appends-trans first.octets sink.octets held.octets t.written octets t.went went;
+        };
+    reader = refl;
+    writer = sound;
+  }
+
+  pub speaks_broken : (octets : List ℕ) (sink held : DeviceState) → MetaBroke c octets mid new
+      → AppendsFront sink.octets held.octets octets → HasFailed sink.failures held.failures
+      → BreaksOff c Due old new sink held
+  speaks_broken octets sink held broke front failed = record {
+    on = λ q s h reads source left first t.
+        let d : Drives q s c (t.more ++ h) n mid = drove q s (t.more ++ h) t.after in
+        let calls = d.progress.calls in
+        record {
+          reads = reads;
+          more = made c calls ++ t.more;
+          read = t.read;
+          written = t.written;
+          octets = octets;
+          follows = speaks calls octets t.follows d.rests;
+          after = subst (λ z. MetaAfter q s ((c, Stops reasons.Write) ∷ (c, Gives octets) ∷ z) new)
+              (sym (append_assoc (made c calls) t.more h))
+              (broke q s (made c calls ++ (t.more ++ h)) d.progress.after);
+          came = t.came;
+          before = sink;
+          went = t.went;
+          front = front;
+        };
+    failed = failed;
+  }
+
+-- ---- one after the other
+
+pub goes_same : (c : ℕ) (stage : Stage) (m : MetaLinks) (left held : DeviceState)
+    → GoesOn c stage stage same m m left left held held
+goes_same c stage m left held = record { on = λ q s h reads source sink t. t; reader = refl; writer = refl }
+
+pub goes_trans : (c : ℕ) (from mid to : Stage) (f g : ℕ → ℕ) (a b d : MetaLinks) (l l2 l3 k k2 k3 : DeviceState)
+    → GoesOn c from mid f a b l l2 k k2 → GoesOn c mid to g b d l2 l3 k2 k3
+    → GoesOn c from to (λ n. g (f n)) a d l l3 k k3
+goes_trans c from mid to f g a b d l l2 l3 k k2 k3 one two = record {
+  on = λ q s h reads source sink t. two.on q s h (f reads) source sink (one.on q s h reads source sink t);
+  reader = two.reader ∙ one.reader;
+  writer = two.writer ∙ one.writer;
+}
+
+pub breaks_after : (c : ℕ) (from : Stage) (a b d : MetaLinks) (k k2 k3 : DeviceState)
+    → ((left : DeviceState) → GoesOn c from Due same a b left left k k2)
+    → BreaksOff c Due b d k2 k3 → BreaksOff c from a d k k3
+breaks_after c from a b d k k2 k3 one off = record {
+  on = λ q s h reads source left first t.
+      off.on q s h reads source left first ((one left).on q s h reads source first t);
+  failed = subst (λ z. HasFailed z k3.failures) (one k).writer off.failed;
+}
+
+-- ---- from the start
+
+-- after each history that can have left the connections, there is a talk
+pub record Begun
+    (c reads : ℕ) (stage : Stage) (old new : MetaLinks) (source left sink held : DeviceState)
+    : Type 0 where
+  pub on : (q : List Question) (s : MetaSettings) (h : History) → MetaAfter q s h old
+      → Talk q s c h reads stage new source left sink held
+  pub reader : left.failures ≡ source.failures
+  pub writer : held.failures ≡ sink.failures
+
+pub begun : (c : ℕ) (m : MetaLinks) (source sink : DeviceState) → Begun c 0 Due m m source source sink sink
+begun c m source sink = record {
+  on = λ q s h a. record {
+    more = [];
+    read = [];
+    written = [];
+    follows = begins;
+    after = a;
+    stands = tt;
+    came = Consumes-nil source.octets;
+    went = Appends-nil sink.octets;
+  };
+  reader = refl;
+  writer = refl;
+}
+
+pub begun_on : (c n : ℕ) (from to : Stage) (f : ℕ → ℕ) (a b d : MetaLinks) (l l2 l3 k k2 k3 : DeviceState)
+    → Begun c n from a b l l2 k k2 → GoesOn c from to f b d l2 l3 k2 k3 → Begun c (f n) to a d l l3 k k3
+begun_on c n from to f a b d l l2 l3 k k2 k3 one two = record {
+  on = λ q s h x. two.on q s h n l k (one.on q s h x);
+  reader = two.reader ∙ one.reader;
+  writer = two.writer ∙ one.writer;
+}
+
+-- ---- the functions
+
+-- what waited was handed out, and a write failed
+pub broke : (c : ℕ) (octets : List ℕ) (old mid new : MetaLinks) → MetaBefell c (Gives octets) old mid
+    → MetaBefell c (Stops reasons.Write) mid new → MetaBroke c octets old new
+broke c octets old mid new one two q s h a = two q s ((c, Gives octets) ∷ h) (one q s h a)
+
+-- calls were made, and what waited was written or not
+pub speaks_by : (E : Type 0) (c n : ℕ) (old mid new : MetaLinks) (sink held : DeviceState) (r : Result (Unit {0}) PushError)
+    → DrivesTo {E = E} c (Ok n) old mid → Pushes c r mid new sink held → Speaks c r old new sink held
+speaks_by E c n old mid new sink held (Ok u) d p =
+    speaks_on E c n old mid new d (waiting_at mid.pool c) sink held p.0 p.1 p.2
+speaks_by E c n old mid new sink held (Err pushes.Write) d p =
+    speaks_broken E c n old mid new d (waiting_at mid.pool c) sink held p.0 p.1 p.2
+speaks_by E c n old mid new sink held (Err pushes.Memory) d p = tt
+
+-- and then a message was taken
+pub turned : (c : ℕ) (turn : Turn) (old mid new : MetaLinks) (sink held : DeviceState)
+    → ((left : DeviceState) → GoesOn c Due Listening same old mid left left sink held) → Hears c turn mid new
+    → TakesTurn c (Ok turn) old new sink held
+turned c turns.Message old mid new sink held one two = λ left.
+    goes_trans c Due Listening Due same same old mid new left left left sink held held (one left) (two left held)
+turned c turns.Nothing old mid new sink held one two = λ left.
+    goes_trans c Due Listening Waiting same same old mid new left left left sink held held (one left) (two left held)
+turned c turns.Over old mid new sink held one two = λ left.
+    goes_trans c Due Listening Over same same old mid new left left left sink held held (one left) (two left held)
+
+pub unturned : (c : ℕ) (e : PushError) (old new : MetaLinks) (sink held : DeviceState) → Speaks c (Err e) old new sink held
+    → TakesTurn c (Err e) old new sink held
+unturned c pushes.Write old new sink held s = s
+unturned c pushes.Memory old new sink held s = tt
+
+-- a turn failed behind others
+pub unsettled : (c : ℕ) (e : PushError) (old mid new : MetaLinks) (sink held then_held : DeviceState)
+    → ((left : DeviceState) → GoesOn c Due Due same old mid left left sink held)
+    → TakesTurn c (Err e) mid new held then_held → Settles c (Err e) old new sink then_held
+unsettled c pushes.Write old mid new sink held then_held one two =
+    breaks_after c Due old mid new sink held then_held one two
+unsettled c pushes.Memory old mid new sink held then_held one two = tt

@@ -1,0 +1,10 @@
+use Rattle.std.proofs.Common.{◌≡◌, length}
+use Rattle.ztalk.specs.Talks.{Due}
+use Rattle.ztalk.proofs.Speaking.{Begun}
+use Rattle.ztalk.proofs.conversation.converse.Given as goal
+
+abbrev pub invariant-loop : goal.invariant-loop
+invariant-loop g l =
+    Begun l.c l.counter Due l.initial.meta l.meta (g.R.Source.state l.initial.source) (g.R.Source.state l.source)
+    (g.W.Sink.state l.initial.sink) (g.W.Sink.state l.sink)
+    × (length l.meta.pool.connections ≡ length l.initial.meta.pool.connections)

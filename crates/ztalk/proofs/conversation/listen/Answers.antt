@@ -1,0 +1,13 @@
+use Rattle.std.proofs.Common.{◌≡◌, ◌<◌, ◌≤◌, length, subst, sym, ◌∙◌, rules, arith}
+use Rattle.ztalk.proofs.Ending.{fed_on}
+use Rattle.ztalk.proofs.conversation.listen.Goals as goal
+
+pub returns-in_ok-feed-in-Ok-clause-listens : goal.returns-in_ok-feed-in-Ok-clause-listens
+returns-in_ok-feed-in-Ok-clause-listens g c =
+    let some : 0 < c.in-Ok.count = search rules in
+    let whole : length c.read.new.piece ≡ 4096 = search rules in
+    let front = c.in-Ok.ensures.bound in
+    let few : c.in-Ok.count ≤ 4096 = omega (arith, front.0, whole) in
+    fed_on c.args.c c.args.meta.now c.feed.new.self _ _ _ c.in_ok-feed-in-Ok.ensures.after
+    c.in-Ok.ensures.reads.octets.0 c.in-Ok.ensures.reads.count (subst (λ n. 0 < n) front.1 some)
+    (subst (λ n. n ≤ 4096) front.1 few)

@@ -1,0 +1,14 @@
+use Rattle.std.proofs.Common.{◌≡◌, ◌∙◌, ◌++◌, ap, subst}
+use Rattle.std.specs.Io.KnownBytes.{Appends}
+use Rattle.ztalk.proofs.Answering.{on_handed}
+use Rattle.ztalk.proofs.replies.write_replies.Goals as goal
+
+pub returns-in-Ok : goal.returns-in-Ok
+returns-in-Ok g c left =
+    let waiting = c.args.host.now.waiting in
+    let all : c.deref.result.now ≡ waiting =
+    c.deref.ensures.value ∙ c.in_ok-outgoing.ensures.gives ∙ ap (λ z. z ++ waiting) c.new-octets.ensures.items in
+    let sink = g.W.Sink.state c.args.sink.now in
+    let held = g.W.Sink.state c.write_all.new.sink in
+    on_handed c.args.host.now c.outgoing.new.self waiting left sink held c.in_ok-outgoing.ensures.after
+    (subst (λ z. Appends sink.octets held.octets z) all c.in-Ok.ensures.0) c.in-Ok.ensures.1

@@ -1,0 +1,51 @@
+-- What reading and writing does to a device.
+use Rattle.std.specs.Prelude.{◌≡◌, ◌⊎◌, ℕ, ◌+◌, ◌-◌, ◌^◌, ◌<◌, min, List, ◌++◌, Option, Result, Ok, Err}
+use Rattle.std.specs.Io.KnownBytes.{Keeps, Appends, ReadConsumes, WriteAppends}
+
+-- The octets that a device has left or holds, where they are known, and how many calls of it failed.
+pub record DeviceState : Type 0 where
+  pub octets : Option (List ℕ)
+  pub failures : ℕ
+
+abbrev pub most_failures : ℕ
+most_failures = 2 ^ 64 - 1
+
+-- one more, until the count stands at its largest value
+abbrev pub raised : ℕ → ℕ
+raised n = min (n + 1) most_failures
+
+-- a call that failed is counted
+abbrev pub Counts : {A E : Type 0} → ℕ → ℕ → Result A E → Type 0
+Counts old new (Ok _) = new ≡ old
+Counts old new (Err _) = new ≡ raised old
+
+-- what a read gave is no longer left, and it gave none only at the end or with no room; one that failed is counted
+pub record Reads {E : Type 0} (old new : DeviceState) (answer : Result ℕ E) (piece : List ℕ) : Type 0 where
+  pub octets : ReadConsumes old.octets new.octets answer piece
+  pub count : Counts old.failures new.failures answer
+
+-- what a write took is held; one that failed is counted
+pub record Writes {E : Type 0} (old new : DeviceState) (answer : Result ℕ E) (piece : List ℕ) : Type 0 where
+  pub octets : WriteAppends old.octets new.octets answer piece
+  pub count : Counts old.failures new.failures answer
+
+-- a call failed, by the count, or the count stands at its largest value
+abbrev pub HasFailed : ℕ → ℕ → Type 0
+HasFailed old new = (old < new) ⊎ (new ≡ most_failures)
+
+-- known octets grow by a front of these
+pub record AppendsFront (old new : Option (List ℕ)) (octets : List ℕ) : Type 0 where
+  pub front : List ℕ
+  pub rest : List ℕ
+  pub cut : octets ≡ front ++ rest
+  pub written : Appends old new front
+
+-- all the octets were written, or a front of them where the device failed
+abbrev pub WritesAll : {E : Type 0} → DeviceState → DeviceState → List ℕ → Result (Unit {0}) E → Type 0
+WritesAll old new octets (Ok _) = Appends old.octets new.octets octets × (new.failures ≡ old.failures)
+WritesAll old new octets (Err _) = AppendsFront old.octets new.octets octets × HasFailed old.failures new.failures
+
+-- nothing was read or written
+pub record Rests (old new : DeviceState) : Type 0 where
+  pub octets : Keeps old.octets new.octets
+  pub failures : new.failures ≡ old.failures

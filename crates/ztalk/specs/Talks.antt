@@ -1,0 +1,198 @@
+-- A connection that is driven over devices: in which order its deeds follow one another, and what was read and written
+-- (Z39.50-2003, 3.2).
+use Rattle.std.specs.Prelude.{◌≡◌, ◌⊎◌, ℕ, suc, ◌<◌, ◌≤◌, Bool, true, false, List, [], ◌∷◌, ◌++◌, length, slice_get, Some, Result, Ok, Err}
+use Rattle.std.specs.Io.KnownBytes.{Appends, Consumes, IsAtEnd}
+use Rattle.zorigin.specs.Standings.{Call}
+use Rattle.zoom.specs.declared.question.Question.{Question}
+use Rattle.zoom.specs.declared.question.MetaSettings.{MetaSettings}
+use Rattle.zoom.specs.declared.state.State.TheVariants as states
+use Rattle.zoom.specs.declared.state.Reason.{Reason}
+use Rattle.zoom.specs.declared.state.Reason.TheVariants as reasons
+use Rattle.zoom.specs.declared.answer.Step.{Step}
+use Rattle.zoom.specs.declared.answer.Step.TheVariants as steps
+use Rattle.zoom.specs.States.{is_stopped}
+use Rattle.zoom.specs.Coming.{Met}
+use Rattle.zoom.specs.Heard.{Heard, HasHeard, Feeds, Takes, Ends, Gives, Stops, Meets, took_as, state_at}
+use Rattle.zoom.specs.History.{History, only}
+use Rattle.zoom.specs.Links.{stop_at}
+use Rattle.zoom.specs.Steering.{errand_of}
+use Rattle.zoom.specs.Metas.{MetaLinks, MetaAfter, NoneIsNext, IsRefusedNext, made, settings_of}
+use Rattle.ztalk.specs.Devices.{DeviceState, AppendsFront, HasFailed}
+use Rattle.ztalk.specs.declared.conversation.TalkError.{TalkError}
+use Rattle.ztalk.specs.declared.conversation.TalkError.TheVariants as errors
+
+-- Where a talk stands: calls that are due are made next, and what waits is written; a message is taken next; none is
+-- there, and octets are read next; the connection was stopped; the input ended, and what was left of it was taken.
+pub data Stage : Type 0 where
+  Due : Stage
+  Listening : Stage
+  Waiting : Stage
+  Over : Stage
+  Ended : Stage
+
+-- no call of the connection is next, or the origin refused the one that is
+abbrev pub IsIdle : List Question → MetaSettings → ℕ → History → Type 0
+IsIdle questions s c h =
+    (question : Question) (p : Heard) → slice_get questions c ≡ Some question → HasHeard (settings_of s) (only c h) p
+    → NoneIsNext (errand_of s question) p ⊎ IsRefusedNext (errand_of s question) p
+
+-- the next Take of the connection answers this
+abbrev pub AnswersNext : MetaSettings → ℕ → History → Step → Type 0
+AnswersNext s c h step =
+    (p : Heard) → HasHeard (settings_of s) (only c h) p → (met : Met) × Meets p met × (took_as p met ≡ Ok step)
+
+-- each thing that the deeds of the connection amount to has it Closed or Failed
+abbrev pub IsStoppedAt : MetaSettings → ℕ → History → Type 0
+IsStoppedAt s c h = (p : Heard) → HasHeard (settings_of s) (only c h) p → is_stopped (state_at p) ≡ true
+
+-- what a stage says of the connection
+abbrev pub StandsAt : Stage → MetaSettings → ℕ → History → Type 0
+StandsAt Over s c h = IsStoppedAt s c h
+StandsAt _ s c h = Unit {0}
+
+-- a message was taken and accepted
+abbrev pub is_message : Step → Bool
+is_message steps.Opened = true
+is_message steps.Rejected = true
+is_message steps.Answered = true
+is_message steps.Closed = true
+is_message _ = false
+
+-- These deeds of the connection, the newest first, follow the history in this order: what is due is called and what waits
+-- is written, first and after each message; a piece is read only where no message was there; the input ends only there.
+-- What was read, what was written, how many reads gave octets, and where it stands then.
+pub data Follows (questions : List Question) (s : MetaSettings) (c : ℕ) (h : History)
+    : History → List ℕ → List ℕ → ℕ → Stage → Type 0 where
+  begins : Follows questions s c h [] [] [] 0 Due
+  speaks : {more : History} {read written : List ℕ} {reads : ℕ} (calls : List Call) (octets : List ℕ)
+      → Follows questions s c h more read written reads Due → IsIdle questions s c (made c calls ++ (more ++ h))
+      → Follows questions s c h ((c, Gives octets) ∷ (made c calls ++ more)) read (written ++ octets) reads Listening
+  hears : {more : History} {read written : List ℕ} {reads : ℕ} (step : Step)
+      → Follows questions s c h more read written reads Listening
+      → AnswersNext s c (more ++ h) step → is_message step ≡ true
+      → Follows questions s c h ((c, Takes) ∷ more) read written reads Due
+  lacks : {more : History} {read written : List ℕ} {reads : ℕ}
+      → Follows questions s c h more read written reads Listening → AnswersNext s c (more ++ h) steps.Nothing
+      → Follows questions s c h ((c, Takes) ∷ more) read written reads Waiting
+  stops : {more : History} {read written : List ℕ} {reads : ℕ}
+      → Follows questions s c h more read written reads Listening
+      → Follows questions s c h ((c, Takes) ∷ more) read written reads Over
+  reads : {more : History} {read written : List ℕ} {reads : ℕ} (piece : List ℕ)
+      → Follows questions s c h more read written reads Waiting → 0 < length piece → length piece ≤ 4096
+      → Follows questions s c h ((c, Feeds piece) ∷ more) (read ++ piece) written (suc reads) Due
+  ends : {more : History} {read written : List ℕ} {reads : ℕ}
+      → Follows questions s c h more read written reads Waiting
+      → Follows questions s c h ((c, Takes) ∷ (c, Ends) ∷ more) read written reads Ended
+
+-- A talk so far: deeds that follow the history, what its devices gave and took, and what can be left.
+pub record Talk
+    (questions : List Question) (s : MetaSettings) (c : ℕ) (h : History) (reads : ℕ) (stage : Stage)
+    (meta : MetaLinks) (source left sink held : DeviceState)
+    : Type 0 where
+  pub more : History
+  pub read : List ℕ
+  pub written : List ℕ
+  pub follows : Follows questions s c h more read written reads stage
+  pub after : MetaAfter questions s (more ++ h) meta
+  pub stands : StandsAt stage s c (more ++ h)
+  pub came : Consumes source.octets left.octets read
+  pub went : Appends sink.octets held.octets written
+
+-- a talk goes on so, from one stage to another, whatever went before, and no device fails
+pub record GoesOn
+    (c : ℕ) (from to : Stage) (more : ℕ → ℕ) (old new : MetaLinks) (left then_left held then_held : DeviceState)
+    : Type 0 where
+  pub on : (questions : List Question) (s : MetaSettings) (h : History) (reads : ℕ) (source sink : DeviceState)
+      → Talk questions s c h reads from old source left sink held
+      → Talk questions s c h (more reads) to new source then_left sink then_held
+  pub reader : then_left.failures ≡ left.failures
+  pub writer : then_held.failures ≡ held.failures
+
+abbrev pub same : ℕ → ℕ
+same n = n
+
+-- ---- how it ends
+
+-- a talk came to this stage, and its host then stopped the connection
+pub record Stopped
+    (questions : List Question) (s : MetaSettings) (c : ℕ) (h : History) (reads : ℕ) (stage : Stage) (reason : Reason)
+    (new : MetaLinks) (source left sink held : DeviceState)
+    : Type 0 where
+  pub meta : MetaLinks
+  pub talk : Talk questions s c h reads stage meta source left sink held
+  pub after : MetaAfter questions s ((c, Stops reason) ∷ (talk.more ++ h)) new
+
+-- A write failed: of the octets that were to go out then, a front went.
+pub record Broken
+    (questions : List Question) (s : MetaSettings) (c : ℕ) (h : History) (new : MetaLinks)
+    (source left sink held : DeviceState)
+    : Type 0 where
+  pub reads : ℕ
+  pub more : History
+  pub read : List ℕ
+  pub written : List ℕ
+  pub octets : List ℕ
+  pub follows : Follows questions s c h ((c, Gives octets) ∷ more) read (written ++ octets) reads Listening
+  pub after : MetaAfter questions s ((c, Stops reasons.Write) ∷ (c, Gives octets) ∷ (more ++ h)) new
+  pub came : Consumes source.octets left.octets read
+  pub before : DeviceState
+  pub went : Appends sink.octets before.octets written
+  pub front : AppendsFront before.octets held.octets octets
+
+-- it ended by itself: the connection was stopped, or its input ended
+pub record EndsItself
+    (questions : List Question) (s : MetaSettings) (c : ℕ) (h : History) (meta : MetaLinks)
+    (source left sink held : DeviceState)
+    : Type 0 where
+  pub reads : ℕ
+  pub stage : Stage
+  pub talk : Talk questions s c h reads stage meta source left sink held
+  pub at : (stage ≡ Over) ⊎ ((stage ≡ Ended) × IsAtEnd left.octets)
+  pub over : IsStoppedAt s c (talk.more ++ h)
+
+-- What a talk did after each history that can have left the connections before it: it ended by itself; a read or a write
+-- failed; the input ended and the connection was not Closing; so many reads gave octets, and the connection was not
+-- stopped after them. Where memory was wanting, nothing is told.
+abbrev pub TalkedBy
+    : List Question → MetaSettings → ℕ → History → ℕ → Result (Unit {0}) TalkError → MetaLinks
+    → DeviceState → DeviceState → DeviceState → DeviceState → Type 0
+TalkedBy questions s c h turns (Ok _) new source left sink held = EndsItself questions s c h new source left sink held
+TalkedBy questions s c h turns (Err errors.Read) new source left sink held =
+    (reads : ℕ) × Stopped questions s c h reads Waiting reasons.Read new source left sink held
+TalkedBy questions s c h turns (Err errors.Write) new source left sink held =
+    Broken questions s c h new source left sink held
+TalkedBy questions s c h turns (Err errors.Ended) new source left sink held =
+    (reads : ℕ) × Stopped questions s c h reads Ended reasons.Ended new source left sink held
+TalkedBy questions s c h turns (Err errors.Turns) new source left sink held =
+    Stopped questions s c h turns Waiting reasons.Turns new source left sink held
+TalkedBy questions s c h turns (Err errors.Memory) new source left sink held = Unit {0}
+
+-- what a refusal tells of the devices: a call of one failed, or the reader has no octet left
+abbrev pub IsBlamed : Result (Unit {0}) TalkError → DeviceState → DeviceState → DeviceState → DeviceState → Type 0
+IsBlamed (Err errors.Read) source left sink held = HasFailed source.failures left.failures
+IsBlamed (Err errors.Write) source left sink held = HasFailed sink.failures held.failures
+IsBlamed (Err errors.Ended) source left sink held = IsAtEnd left.octets
+IsBlamed _ source left sink held = Unit {0}
+
+-- the reason that a refusal leaves the connection failed with
+abbrev pub reason_of : TalkError → Reason
+reason_of errors.Read = reasons.Read
+reason_of errors.Write = reasons.Write
+reason_of errors.Ended = reasons.Ended
+reason_of errors.Turns = reasons.Turns
+reason_of errors.Memory = reasons.Memory
+
+-- memory aside, a refusal leaves the connection failed for its reason
+abbrev pub IsStoppedFor : ℕ → Result (Unit {0}) TalkError → MetaLinks → Type 0
+IsStoppedFor c (Ok _) new = Unit {0}
+IsStoppedFor c (Err errors.Memory) new = Unit {0}
+IsStoppedFor c (Err e) new = stop_at new.pool c ≡ Some (states.Failed (reason_of e))
+
+-- What a talk of at most so many reads did.
+pub record Talks
+    (c turns : ℕ) (answer : Result (Unit {0}) TalkError) (old new : MetaLinks) (source left sink held : DeviceState)
+    : Type 0 where
+  pub on : (questions : List Question) (s : MetaSettings) (h : History) → MetaAfter questions s h old
+      → TalkedBy questions s c h turns answer new source left sink held
+  pub blamed : IsBlamed answer source left sink held
+  pub stopped : IsStoppedFor c answer new
