@@ -3,38 +3,15 @@
 
 ghost use Rattle.std.specs.Prelude.{◌≡◌};
 ghost use Rattle.std.specs.Process.{exit_status};
-ghost use Rattle.zmeta.specs.Faults.{code_of};
+ghost use Rattle.zcommands.specs.Faults.{code_of};
 
-mod commands;
-#[cfg(test)]
-mod devices;
-mod digits;
-mod failures;
-mod fault;
-mod fields;
-mod files;
-mod input;
-mod join;
-mod lines;
-mod output;
-mod pqf;
-#[cfg(test)]
-mod rows;
-mod run;
-mod search;
-mod show;
-#[cfg(test)]
-mod table;
-mod trouble;
-mod words;
-
-use crate::commands::run;
-use crate::fault::Status;
-use crate::input::Source;
-use crate::output::Sink;
 use std::io::ErrorKind;
 use std::process::ExitCode;
 use std::{env, io};
+use zcommands::commands::run;
+use zcommands::fault::Status;
+use zcommands::input::Source;
+use zcommands::output::Sink;
 
 fn main(rt: HostRuntime) -> ExitCode {
     let words = arguments(&rt);

@@ -6,9 +6,6 @@ ghost use Rattle.ztarget.specs.Searching.{entries_in};
 ghost use Rattle.zworld.specs.declared.world.NamedTarget.{NamedTarget};
 ghost use Rattle.zworld.specs.Fitness.{AreSmall, IsFit, IsArranged, IsPutToNone, target_at, state_of, AsksOne, AreParts, PutsOne, IsOneMore, IsFirstAtNone};
 
-#[cfg(test)]
-mod samples;
-
 use crate::world::{End, Inquiry, NamedTarget, World, WorldError};
 use bytes::Bytes;
 use std::alloc::{AllocError, Global};

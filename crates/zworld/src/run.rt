@@ -5,12 +5,10 @@ ghost use Rattle.zoom.specs.Steering.{AreFit};
 ghost use Rattle.zoom.specs.Metas.{AreAskable};
 ghost use Rattle.zworld.specs.Run.{AreNew, Ran};
 
-mod peers;
-mod pipes;
-mod rounds;
-#[cfg(test)]
-mod samples;
-mod turns;
+pub mod peers;
+pub mod pipes;
+pub mod rounds;
+pub mod turns;
 
 use crate::run::peers::peers_of;
 use crate::run::rounds::carry_out;

@@ -14,8 +14,6 @@ mod names;
 mod number;
 mod reader;
 mod said;
-#[cfg(test)]
-mod samples;
 mod targets;
 mod wanted;
 mod word;

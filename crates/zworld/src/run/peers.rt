@@ -11,10 +11,10 @@ use ztarget::Target;
 
 /// A target in memory at the other end of a connection, with the octets that go to it and come from it.
 #[derive(Drop)]
-pub(crate) struct Peer {
-    host: Host,
-    to: Pipe,
-    from: Pipe,
+pub struct Peer {
+    pub host: Host,
+    pub to: Pipe,
+    pub from: Pipe,
 }
 
 /// The number of the connection that a move is made on.
@@ -28,7 +28,7 @@ pub(crate) fn connection_of(step: Move) -> u32 {
 
 impl Peer {
     /// Of a host. Nothing is on its way. It takes no memory.
-    pub(crate) fn new(alloc: Global, host: Host) -> Peer
+    pub fn new(alloc: Global, host: Host) -> Peer
         ensures host { result.host ≡ host }
         ensures to { result.to ≡ [] }
         ensures from { result.from ≡ [] }
@@ -128,7 +128,7 @@ impl Peer {
 
     /// Carries everything to the target, releases all replies in order, and carries everything to the connection;
     /// whether there was anything.
-    pub(crate) fn go_round(&mut self, meta: &mut Meta, c: u32) -> Result<bool, AllocError>
+    pub fn go_round(&mut self, meta: &mut Meta, c: u32) -> Result<bool, AllocError>
         requires { c < length meta.old.pool.connections }
         ensures carries { OnOk result (Carries c meta.old meta.new self.old self.new) }
         ensures size { length meta.new.pool.connections ≡ length meta.old.pool.connections }
@@ -149,7 +149,7 @@ fn peer_of(alloc: Global, target: Target) -> Peer
 }
 
 /// One for each target, in order.
-pub(crate) fn peers_of(alloc: Global, targets: Vec<Target>) -> Result<Vec<Peer>, AllocError>
+pub fn peers_of(alloc: Global, targets: Vec<Target>) -> Result<Vec<Peer>, AllocError>
     requires { AreNew targets.items }
     ensures { IfOk result (λ peers. ArePeersOf targets.items peers.items) }
 {

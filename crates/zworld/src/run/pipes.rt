@@ -13,7 +13,7 @@ use zoom::{Host, Meta};
 ///
 /// Contracts see the octets that wait.
 #[derive(Drop)]
-pub(crate) struct Pipe {
+pub struct Pipe {
     octets: Vec<u8>,
     /// How many of them were carried.
     carried: usize,

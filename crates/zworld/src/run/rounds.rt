@@ -27,11 +27,7 @@ fn make_move(peers: &mut [Peer], meta: &mut Meta, step: Move) -> Result<(), Allo
 }
 
 /// Makes the moves, in order.
-pub(crate) fn make_moves(
-    peers: &mut [Peer],
-    meta: &mut Meta,
-    moves: &[Move],
-) -> Result<(), AllocError>
+pub fn make_moves(peers: &mut [Peer], meta: &mut Meta, moves: &[Move]) -> Result<(), AllocError>
     requires few { length meta.old.pool.connections < 2 ^ 32 }
     requires equal { length peers.old ≡ length meta.old.pool.connections }
     ensures goes { OnOk result (WorldGoes meta.old meta.new peers.old peers.new) }

@@ -59,7 +59,7 @@ pub(crate) fn take_all(meta: &mut Meta, c: u32) -> Result<(), AllocError>
 }
 
 /// Drives each connection.
-pub(crate) fn drive_all(meta: &mut Meta) -> Result<(), AllocError>
+pub fn drive_all(meta: &mut Meta) -> Result<(), AllocError>
     requires { length meta.old.pool.connections < 2 ^ 32 }
     ensures on { OnOk result (GoesOn meta.old meta.new) }
     ensures size { length meta.new.pool.connections ≡ length meta.old.pool.connections }

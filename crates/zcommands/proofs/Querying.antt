@@ -1,0 +1,29 @@
+-- A query that a text stands for is printed, and has an element, unless memory runs out.
+use Rattle.std.proofs.Common.{◌≡◌, ℕ, List, true, false, Result, Ok, Err, IfErr, refl}
+use Rattle.zber.specs.Elements.{Element}
+use Rattle.zasn.specs.declared.error.BuildError.{BuildError}
+use Rattle.zasn.specs.declared.error.BuildError.TheVariants as builds
+use Rattle.zasn.specs.Answers.{IsWritten}
+use Rattle.zquery.specs.declared.print.PrintError.{PrintError}
+use Rattle.zquery.specs.declared.print.PrintError.TheVariants as prints
+use Rattle.zquery.specs.Trees.{RpnQuery}
+use Rattle.zquery.specs.Printing.{printable}
+use Rattle.zquery.specs.Type1.{WritesQuery}
+use Rattle.zquery.specs.Laws.{TextPrintable, TextSpellable}
+use Rattle.zcommands.specs.Pqf.{IsQueryOf}
+
+memory_or_no_text : (q : RpnQuery) (r : Result (Unit {0}) PrintError) → printable q ≡ true → (r ≡ Err prints.NotPrintable → printable q ≡ false) → IfErr r (λ e. e ≡ prints.Memory)
+memory_or_no_text q (Ok u) is none = tt
+memory_or_no_text q (Err prints.NotPrintable) is none = let other : printable q ≡ false = none refl in absurd cc
+memory_or_no_text q (Err prints.Memory) is none = refl
+
+pub printed : (q : RpnQuery) (r : Result (Unit {0}) PrintError) → TextPrintable → ((text : List ℕ) × IsQueryOf text q) → (r ≡ Err prints.NotPrintable → printable q ≡ false) → IfErr r (λ e. e ≡ prints.Memory)
+printed q r law known none = memory_or_no_text q r (law known.0 q known.1.0 known.1.1) none
+
+memory_or_no_element : (q : RpnQuery) (r : Result Element BuildError) → ((n : Element) × WritesQuery q n) → IsWritten (WritesQuery q) r → IfErr r (λ e. e ≡ builds.Memory)
+memory_or_no_element q (Ok n) some is = tt
+memory_or_no_element q (Err builds.NotSpellable) some none = absurd (none some.0 some.1)
+memory_or_no_element q (Err builds.Memory) some is = refl
+
+pub built : (q : RpnQuery) (r : Result Element BuildError) → TextSpellable → ((text : List ℕ) × IsQueryOf text q) → IsWritten (WritesQuery q) r → IfErr r (λ e. e ≡ builds.Memory)
+built q r law known is = memory_or_no_element q r (law known.0 q known.1.0) is

@@ -1,0 +1,48 @@
+-- Connections that have trouble, and the lines of those that failed.
+use Rattle.std.proofs.Common.{◌≡◌, ◌∙◌, sym, ap, subst, refl, ℕ, ◌+◌, ◌<◌, ◌≤◌, Bool, true, false, not, ◌||◌, List, [], ◌∷◌, ◌++◌, length, take, get_or, arith, append-nil, append_assoc}
+use Rattle.std.proofs.lemmas.List.{take_more, length-take-le}
+use Rattle.zoom.specs.declared.state.State.{State}
+use Rattle.zoom.specs.Heard.{Heard, HasHeard, state_at}
+use Rattle.zoom.specs.History.{only, AfterUpTo}
+use Rattle.zoom.specs.Befalling.{IsStateAt}
+use Rattle.zoom.specs.Laws.{OneHearing, UpToLaw}
+use Rattle.zoom.specs.Metas.{MetaLinks, MetaAfter, Tells, is_skipped, is_complete, settings_of}
+use Rattle.zoom.proofs.Metas.{heard_at}
+use Rattle.zcommands.specs.Run.{is_failed, has_failed, is_troubled, failure_line, AreLinesFrom}
+
+-- what is told of a connection's state
+failed_tells : UpToLaw → OneHearing → (c : ℕ) (meta : MetaLinks) (state : State) → c < length meta.pool.connections
+    → IsStateAt c meta.pool state → Tells c meta has_failed (is_failed state)
+failed_tells law hearing c meta state lt is q s h p a heard =
+    let up : AfterUpTo (settings_of s) c h meta.pool = law (settings_of s) c h meta.pool a.pool in
+    let now = heard_at (settings_of s) h up.heard meta.pool.connections c up.stands lt in
+    let same : up.heard c ≡ p = hearing (settings_of s) (only c h) (up.heard c) p now heard in
+    ap is_failed (is (settings_of s) c h up ∙ ap state_at same)
+
+pub trouble_tells : UpToLaw → OneHearing → (c : ℕ) (meta : MetaLinks) (state : State) (failed complete skipped answer : Bool) → c < length meta.pool.connections
+    → IsStateAt c meta.pool state → failed ≡ is_failed state → Tells c meta is_complete complete → Tells c meta is_skipped skipped → answer ≡ (failed || not complete || skipped)
+    → Tells c meta is_troubled answer
+trouble_tells law hearing c meta state failed complete skipped answer lt is f k n e q s h p a heard =
+    e ∙ ap (λ z. z || not complete || skipped) (f ∙ failed_tells law hearing c meta state lt is q s h p a heard)
+    ∙ ap (λ z. has_failed p || not z || skipped) (k q s h p a heard)
+    ∙ ap (λ z. has_failed p || not (is_complete p) || z) (n q s h p a heard)
+
+-- ---- lines
+
+-- the lines with those of one connection more
+pub one_line : (meta : MetaLinks) (c at : ℕ) (front : List (List ℕ)) (name : List ℕ) (state : State) (text : List ℕ) → AreLinesFrom meta c front text → at ≡ c + length front → IsStateAt at meta.pool state
+    → AreLinesFrom meta c (front ++ name ∷ []) (text ++ failure_line name state)
+one_line meta c at [] name state text h e is =
+    let here : at ≡ c = omega (arith, e) in
+    (state, [], subst (λ z. IsStateAt z meta.pool state) here is, refl, ap (λ z. z ++ failure_line name state) h ∙ sym (append-nil (failure_line name state)))
+one_line meta c at (n ∷ front) name state text h e is =
+    let rest = one_line meta (c + 1) at front name state h.1 h.3 (omega (arith, e)) is in
+    (h.0, h.1 ++ failure_line name state, h.2, rest, ap (λ z. z ++ failure_line name state) h.4 ∙ append_assoc (failure_line n h.0) h.1 (failure_line name state))
+
+pub next_line : (meta : MetaLinks) (names : List (List ℕ)) (at : ℕ) (name : List ℕ) (state : State) (text new : List ℕ) → at < length names → name ≡ get_or names at name → AreLinesFrom meta 0 (take at names) text → IsStateAt at meta.pool state → new ≡ text ++ failure_line name state
+    → AreLinesFrom meta 0 (take (at + 1) names) new
+next_line meta names at name state text new lt is h stands e =
+    let one : take (at + 1) names ≡ take at names ++ name ∷ [] = take_more names at name lt ∙ ap (λ z. take at names ++ z ∷ []) (sym is) in
+    let size : length (take at names) ≡ at = length-take-le at names (omega (arith, lt)) in
+    let more : AreLinesFrom meta 0 (take at names ++ name ∷ []) (text ++ failure_line name state) = one_line meta 0 at (take at names) name state text h (omega (arith, size)) stands in
+    subst (λ z. AreLinesFrom meta 0 z new) (sym one) (subst (AreLinesFrom meta 0 (take at names ++ name ∷ [])) (sym e) more)

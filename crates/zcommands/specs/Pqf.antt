@@ -1,0 +1,51 @@
+-- What `pqf` prints of a text.
+use Rattle.std.specs.Prelude.{◌≡◌, ◌≤◌, ℕ, List, [], ◌∷◌, ◌++◌, Result, Ok, Err, codes}
+use Rattle.hex.specs.Hex.{encode_lower}
+use Rattle.zber.specs.Names.{context}
+use Rattle.zber.specs.Elements.{Element, cons}
+use Rattle.zber.specs.Canonical.{canonical}
+use Rattle.zquery.specs.Trees.{RpnQuery, height}
+use Rattle.zquery.specs.Texts.{IsText, IsFault}
+use Rattle.zquery.specs.Printing.{query_text}
+use Rattle.zquery.specs.Type1.{WritesQuery}
+use Rattle.zcommands.specs.Faults.{answer_status}
+use Rattle.zcommands.specs.Devices.{Device, Stays, Gains, Stops, TellsAnswer}
+use Rattle.zcommands.specs.declared.fault.Fault.{Fault}
+use Rattle.zcommands.specs.declared.fault.Fault.TheVariants.{Write, Query, Memory}
+use Rattle.zcommands.specs.declared.fault.Status.{Status}
+
+-- the element [21] of a SearchRequest around the query's, in hexadecimal
+abbrev pub element_text : Element → List ℕ
+element_text n = encode_lower (canonical (cons (context 21) (n ∷ [])))
+
+-- the query of a text, with at most 31 operators above an operand
+abbrev pub IsQueryOf : List ℕ → RpnQuery → Type 0
+IsQueryOf text q = IsText text q × (height q.root ≤ 32)
+
+-- the printed query, and its element
+unfoldable pub query_lines : RpnQuery → Element → List ℕ
+query_lines q n = query_text q ++ codes "\n" ++ element_text n ++ codes "\n"
+
+-- what an answer of `pqf` says of the text, and of what was written: each query of a text can be printed, and has an element
+abbrev pub TellsQuery : List ℕ → List ℕ → List ℕ → Result (Unit {0}) Fault → Type 0
+TellsQuery text old new (Ok _) = (q : RpnQuery) × (n : Element) × IsQueryOf text q × WritesQuery q n × (new ≡ old ++ query_lines q n)
+TellsQuery text old new (Err (Query kind at)) = IsFault text (record { at = at; kind = kind })
+TellsQuery text old new (Err Memory) = Unit {0}
+TellsQuery text old new (Err _) = ⊥
+
+-- the text has a query, and these are its lines
+abbrev pub AreLinesOf : List ℕ → List ℕ → Type 0
+AreLinesOf text lines = (q : RpnQuery) × (n : Element) × IsQueryOf text q × WritesQuery q n × (lines ≡ query_lines q n)
+
+-- what an answer of `pqf` says of the text, and of what was written to a stream
+abbrev pub PrintsQuery : List ℕ → Device → Device → Result (Unit {0}) Fault → Type 0
+PrintsQuery text old new (Ok _) = (lines : List ℕ) × AreLinesOf text lines × Gains old new lines
+PrintsQuery text old new (Err (Query kind at)) = IsFault text (record { at = at; kind = kind }) × Stays old new
+PrintsQuery text old new (Err Memory) = Stays old new
+PrintsQuery text old new (Err (Write path)) = (path.now ≡ old.path) × ((lines : List ℕ) × AreLinesOf text lines × Stops old new lines)
+PrintsQuery text old new (Err _) = ⊥
+
+-- what `pqf` does: what it writes and tells, and its status
+abbrev pub DoesPqf : List ℕ → Device → Device → Device → Device → Status → Type 0
+DoesPqf text output printed errors told status =
+    (answer : Result (Unit {0}) Fault) × (status ≡ answer_status answer) × PrintsQuery text output printed answer × TellsAnswer errors told answer

@@ -1,0 +1,19 @@
+//! The commands over readers, writers and folders: what they read, print, tell and answer.
+#![tactic(auto)]
+
+pub mod commands;
+mod digits;
+pub mod failures;
+pub mod fault;
+mod fields;
+pub mod files;
+pub mod input;
+pub mod join;
+mod lines;
+pub mod output;
+pub mod pqf;
+pub mod run;
+mod search;
+pub mod show;
+mod trouble;
+pub mod words;

@@ -1,0 +1,169 @@
+// What a command prints, tells and answers by its words.
+use crate::shelf::SHELF;
+use std::alloc::{AllocError, Global};
+use std::io::{ErrorKind, Write};
+use zcommands::commands::run;
+use zcommands::fault::Status;
+use zcommands::files::Folder;
+use zcommands::input::Source;
+use zcommands::output::Sink;
+use zencodings::rows::{halves, parted, unescaped};
+use zencodings::unread::Unread;
+
+/// What a command answered, printed and told.
+#[derive(Drop)]
+pub(crate) struct Outcome {
+    pub status: Status,
+    pub printed: Vec<u8>,
+    pub told: Vec<u8>,
+}
+
+// What is answered where the input is read without a failure.
+fn status<'a, F: Folder, W: Write, E: Write>(
+    alloc: Global,
+    files: &F,
+    words: Result<&[String], ErrorKind>,
+    input: &'a [u8],
+    output: &mut Sink<'a, W>,
+    errors: &mut Sink<'a, E>,
+) -> Status {
+    let mut input = Source::new("-", input);
+    run(alloc, files, words, &mut input, output, errors)
+}
+
+/// What the words of a command line do, on an input that is read without a failure.
+pub(crate) fn ran<F: Folder>(
+    alloc: Global,
+    files: &F,
+    words: Result<&[String], ErrorKind>,
+    input: &[u8],
+) -> Outcome {
+    let mut printed = Vec::new(alloc);
+    let mut told = Vec::new(alloc);
+    let status = status(
+        alloc,
+        files,
+        words,
+        input,
+        &mut Sink::new("-", &mut printed),
+        &mut Sink::new("-", &mut told),
+    );
+    Outcome {
+        status,
+        printed,
+        told,
+    }
+}
+
+/// The words of a line, with `|` between them.
+pub(crate) fn words_of(alloc: Global, line: &str) -> Result<Vec<String>, AllocError> {
+    let mut words = Vec::new(alloc);
+    for word in line.split('|') {
+        words.push(String::from_str(alloc, word)?)?;
+    }
+    Ok(words)
+}
+
+/// What the words of a line do.
+pub(crate) fn ran_line<F: Folder>(
+    alloc: Global,
+    files: &F,
+    line: &str,
+    input: &[u8],
+) -> Result<Outcome, AllocError> {
+    let words = words_of(alloc, line)?;
+    Ok(ran(alloc, files, Ok(words.as_slice()), input))
+}
+
+// What is printed of the worlds on the shelf.
+const WORLD_LIST: &str = "\
+target \"a\" set 1 count 0
+target \"b\" set 1 count 1
+target \"c\" set 1 count 7
+1 \"b\" 1 rec 1.2.840.10003.5.10 \"d\" \"b1\"
+1 \"c\" 1 rec 1.2.840.10003.5.10 \"d\" \"c1\"
+2 \"c\" 1 rec 1.2.840.10003.5.10 \"d\" \"c2\"
+5 \"c\" 1 rec 1.2.840.10003.5.10 \"d\" \"c5\"
+6 \"c\" 1 rec 1.2.840.10003.5.10 \"d\" \"c6\"
+7 \"c\" 1 rec 1.2.840.10003.5.10 \"d\" \"c7\"
+";
+
+const HEX_LIST: &str = "\
+target \"a\" set 1 count 0
+target \"b\" set 1 count 1
+target \"c\" set 1 count 7
+1 \"b\" 1 rec 1.2.840.10003.5.10 \"d\" 6231
+1 \"c\" 1 rec 1.2.840.10003.5.10 \"d\" 6331
+2 \"c\" 1 rec 1.2.840.10003.5.10 \"d\" 6332
+5 \"c\" 1 rec 1.2.840.10003.5.10 \"d\" 6335
+6 \"c\" 1 rec 1.2.840.10003.5.10 \"d\" 6336
+7 \"c\" 1 rec 1.2.840.10003.5.10 \"d\" 6337
+";
+
+const REFUSING_LIST: &str = "\
+target \"a\" set 1 failed
+target \"a\" set 1 diag 0 1.2.840.10003.4.1 114 \"5\"
+target \"b\" set 0 failed
+target \"c\" set 1 count 1
+1 \"c\" 1 rec 1.2.840.10003.5.10 \"d\" \"c1\"
+";
+
+// What a text of a row stands for.
+fn meant(text: &str) -> &str {
+    match text {
+        "-" => "",
+        "WORLD_LIST" => WORLD_LIST,
+        "HEX_LIST" => HEX_LIST,
+        "REFUSING_LIST" => REFUSING_LIST,
+        text => text,
+    }
+}
+
+fn text(alloc: Global, text: &str) -> Result<Vec<u8>, Unread> {
+    unescaped(alloc, meant(text))
+}
+
+fn is_text(alloc: Global, found: &[u8], due: &str) -> Result<bool, Unread> {
+    let due = text(alloc, due)?;
+    Ok(found == due.as_slice())
+}
+
+/// Whether this was answered, printed and told: a status, and two texts.
+pub(crate) fn is_due(alloc: Global, ran: &Outcome, due: &str) -> Result<bool, Unread> {
+    let (status, texts) = parted(due, " > ");
+    let (printed, told) = parted(texts, " > ");
+    let is_status = ran.status.code() == status.parse::<u8>()?;
+    let is_printed = is_text(alloc, ran.printed.as_slice(), printed)?;
+    let is_told = is_text(alloc, ran.told.as_slice(), told)?;
+    Ok(is_status && is_printed && is_told)
+}
+
+/// Whether the words of a line do on these files what is due.
+pub(crate) fn does<F: Folder>(
+    alloc: Global,
+    files: &F,
+    line: &str,
+    input: &str,
+    due: &str,
+) -> Result<bool, Unread> {
+    let input = text(alloc, input)?;
+    let ran = ran_line(alloc, files, line, input.as_slice())?;
+    is_due(alloc, &ran, due)
+}
+
+/// A row of a line, and what is due of it.
+pub(crate) fn is_done_in<F: Folder>(alloc: Global, files: &F, row: &str) -> Result<bool, Unread> {
+    let (line, due) = halves(row);
+    does(alloc, files, line, "-", due)
+}
+
+/// The same on the shelf.
+pub(crate) fn is_done(alloc: Global, row: &str) -> Result<bool, Unread> {
+    is_done_in(alloc, &SHELF, row)
+}
+
+/// A row of the input of `show`, and what is due of it.
+pub(crate) fn is_shown(alloc: Global, row: &str) -> Result<bool, Unread> {
+    let (input, due) = halves(row);
+    does(alloc, &SHELF, "zmeta|show", input, due)
+}
