@@ -1,0 +1,106 @@
+//! A TCP stream as the devices of a conversation, with time limits.
+
+use bytes::Bytes;
+use std::io;
+use std::io::{ErrorKind, Read, Write};
+use std::net::{Net, OpenStream, SocketAddr, TcpStream, ToSocketAddrs};
+use std::time::{Clock, Duration, Instant};
+use ztalk::Device;
+
+/// How long a host may take to answer a connection, and to give or take octets, in seconds.
+pub const PATIENCE: u64 = 30;
+
+/// How long a conversation may take in all, in seconds.
+pub const HOUR: u64 = 3600;
+
+/// A stream that fails once its conversation has taken an hour.
+#[derive(Drop)]
+pub struct Timed<'a, C, S> {
+    clock: &'a C,
+    begun: Instant,
+    stream: S,
+}
+
+impl<'a, C: Clock, S> Timed<'a, C, S> {
+    /// An error where the time is up, or the clock fails.
+    fn check(&self) -> io::Result<()> {
+        let taken = self.begun.elapsed(self.clock)?;
+        if taken < Duration::from_secs(HOUR) {
+            Ok(())
+        } else {
+            Err(io::Error::from(ErrorKind::TimedOut))
+        }
+    }
+}
+
+impl<'a, C: Clock, S: Read> Read for Timed<'a, C, S> {
+    fn read(&mut self, buf: &mut [u8]) -> io::Result<usize> {
+        self.check()?;
+        self.stream.read(buf)
+    }
+}
+
+impl<'a, C: Clock, S: Write> Write for Timed<'a, C, S> {
+    fn write(&mut self, buf: &[u8]) -> io::Result<usize> {
+        self.check()?;
+        self.stream.write(buf)
+    }
+
+    fn flush(&mut self) -> io::Result<()> {
+        self.stream.flush()
+    }
+}
+
+/// Both ways of a stream.
+#[derive(Drop)]
+pub struct Line<'a, C, S> {
+    pub source: Device<Timed<'a, C, S>>,
+    pub sink: Device<Timed<'a, C, S>>,
+}
+
+impl<'a, C: Clock, S: OpenStream + Drop> Line<'a, C, S> {
+    /// Of a stream, with limits of 30 seconds for a read and for a write, and of an hour for all of them.
+    pub fn new(clock: &'a C, stream: S) -> io::Result<Line<'a, C, S>> {
+        let patience = Duration::from_secs(PATIENCE);
+        stream.set_read_timeout(Some(patience))?;
+        stream.set_write_timeout(Some(patience))?;
+        stream.set_nodelay(true)?;
+        let begun = Instant::now(clock)?;
+        let other = stream.try_clone()?;
+        Ok(Line {
+            source: limited(clock, begun, stream),
+            sink: limited(clock, begun, other),
+        })
+    }
+}
+
+fn limited<C, S>(clock: &C, begun: Instant, stream: S) -> Device<Timed<'_, C, S>> {
+    Device::new(Timed {
+        clock,
+        begun,
+        stream,
+    })
+}
+
+/// Connects to the first address that answers within 30 seconds.
+fn stream_to<N: Net>(net: &N, address: &str) -> io::Result<N::Stream> {
+    let patience = Duration::from_secs(PATIENCE);
+    let mut last = io::Error::from(ErrorKind::InvalidInput);
+    for found in address.to_socket_addrs(net)? {
+        match TcpStream::connect_timeout(net, &found, patience) {
+            Ok(stream) => return Ok(stream),
+            Err(error) => last = error,
+        }
+    }
+    Err(last)
+}
+
+/// A line to a host at an address of the form `host:port`; `None` where there is no way to it.
+pub(crate) fn line_to<'a, N: Net + Clock>(
+    net: &'a N,
+    address: &Bytes,
+) -> Option<Line<'a, N, N::Stream>> {
+    let text = str::from_utf8(address.as_slice()).ok()?;
+    let stream = stream_to(net, text).ok()?;
+    Line::new(net, stream).ok()
+}
