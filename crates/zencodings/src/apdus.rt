@@ -2,9 +2,10 @@
 // they stand for. Of each kind one has all parts that may be absent, and one has none.
 use crate::boxes::{apdu_node, apdu_of};
 use crate::encodings::{PRESENT_RESPONSE, PRESENT_RESPONSE_INDEFINITE};
+use crate::parts::Line;
 use crate::plain::apdu_copy;
 use crate::printed::put_apdu;
-use crate::rows::{each_row, element, encoding, message, octets, pair};
+use crate::rows::{each_row, element, encoding, message, octets, pair, spells};
 use crate::unread::Unread;
 use std::alloc::{AllocError, Global};
 use std::process::Abort;
@@ -50,17 +51,13 @@ fn apdu_encoding(alloc: Global, apdu: &Apdu) -> Result<String, Unread> {
     Ok(encoding(alloc, &node)?)
 }
 
-fn put_encoding(alloc: Global, apdu: &Apdu, out: &mut Vec<u8>) -> Result<(), Unread> {
-    let text = apdu_encoding(alloc, apdu)?;
-    Ok(out.extend_from_slice(text.as_bytes())?)
-}
-
 // Whether this is an APDU's canonical encoding and its fields.
 fn has_line(alloc: Global, apdu: &Apdu, due: &str) -> Result<bool, Unread> {
-    let mut out = Vec::new(alloc);
-    put_encoding(alloc, apdu, &mut out)?;
-    put_apdu(alloc, apdu, &mut out)?;
-    Ok(out.as_slice() == due.as_bytes())
+    let encoding = apdu_encoding(alloc, apdu)?;
+    let mut line = Line::new(alloc);
+    line.put(encoding.as_bytes());
+    put_apdu(alloc, apdu, &mut line);
+    Ok(line.is(due.as_bytes()))
 }
 
 fn has_line_copied(alloc: Global, apdu: &Apdu, due: &str) -> Result<bool, Unread> {
@@ -86,7 +83,7 @@ pub(crate) fn is_line(alloc: Global, octets: &[u8], due: &str) -> Result<bool, U
 }
 
 fn is_read(alloc: Global, row: &str) -> Result<bool, Unread> {
-    let (digits, _) = pair(row)?;
+    let (digits, _) = pair(row);
     let octets = octets(alloc, digits)?;
     is_line(alloc, octets.as_slice(), row)
 }
@@ -127,8 +124,8 @@ fn texts(alloc: Global, digits: &str) -> Result<Vec<u8>, Unread> {
 #[test]
 fn both_spellings_print_one_record(rt: HostRuntime) -> Result<(), Fail> {
     let due = b"rec 1.2.840.10003.5.10 - \"hi\"".as_slice();
-    assert!(rt; texts(rt.alloc(), PRESENT_RESPONSE)?.as_slice() == due);
-    assert!(rt; texts(rt.alloc(), PRESENT_RESPONSE_INDEFINITE)?.as_slice() == due);
+    assert!(rt; spells(texts(rt.alloc(), PRESENT_RESPONSE), due));
+    assert!(rt; spells(texts(rt.alloc(), PRESENT_RESPONSE_INDEFINITE), due));
     Ok(())
 }
 
@@ -178,10 +175,9 @@ bf814900 bf8149800000
 ";
 
 fn is_respelled(alloc: Global, row: &str) -> Result<bool, Unread> {
-    let (definite, due) = pair(row)?;
-    let found = indefinite(alloc, definite)?;
+    let (definite, due) = pair(row);
     let due = octets(alloc, due)?;
-    Ok(found.as_slice() == due.as_slice())
+    Ok(spells(indefinite(alloc, definite), due.as_slice()))
 }
 
 #[test]
@@ -190,7 +186,7 @@ fn lengths_are_made_indefinite(rt: HostRuntime) -> Result<(), Fail> {
 }
 
 fn is_read_indefinite(alloc: Global, row: &str) -> Result<bool, Unread> {
-    let (digits, _) = pair(row)?;
+    let (digits, _) = pair(row);
     let octets = indefinite(alloc, digits)?;
     is_line(alloc, octets.as_slice(), row)
 }

@@ -2,7 +2,7 @@
 use crate::apdus::APDUS;
 use crate::framing::answers;
 use crate::plain::apdu_refusal;
-use crate::rows::{LIMIT, each_row, octets, pair};
+use crate::rows::{LIMIT, cut, each_row, held, octets, pair, tells};
 use crate::unread::Unread;
 use std::alloc::Global;
 use std::process::Abort;
@@ -12,16 +12,16 @@ use zber::{FrameError, Framer, Node};
 
 // Whether the first so many octets are told to be cut off there.
 fn is_truncated(alloc: Global, digits: &str, at: usize) -> Result<bool, Unread> {
-    let (first, _) = digits.split_at_checked(at.saturating_mul(2)).ok_or(Unread)?;
+    let (first, _) = cut(digits, at.saturating_mul(2));
     let script = format!(in alloc; "{first} next finish")?;
     let due = format!(in alloc; "nothing;Truncated at {at};")?;
-    Ok(answers(alloc, LIMIT, script.as_str())? == due)
+    Ok(tells(answers(alloc, LIMIT, script.as_str()), due.as_str()))
 }
 
 fn is_truncated_anywhere(alloc: Global, row: &str) -> Result<bool, Unread> {
-    let (digits, _) = pair(row)?;
+    let (digits, _) = pair(row);
     for at in 1..digits.len() / 2 {
-        if !is_truncated(alloc, digits, at)? {
+        if !held(is_truncated(alloc, digits, at)) {
             return Ok(false);
         }
     }
@@ -120,7 +120,7 @@ fn counted(alloc: Global, digits: &str) -> Result<Tally, Unread> {
 }
 
 fn has_tally(alloc: Global, row: &str) -> Result<bool, Unread> {
-    let (digits, due) = pair(row)?;
+    let (digits, due) = pair(row);
     let of = counted(alloc, digits)?;
     let told = format!(in alloc;
         "{} {} {} {} {} {}",

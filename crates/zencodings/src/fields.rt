@@ -4,100 +4,81 @@
 //! Of each element, object identifier and query a copy is printed, and of each record and diagnostic a copy of the one
 //! that comes back from its element. So where the text is the due one, both are equal to what was there.
 use crate::boxes::{diag_node, record_node};
-use crate::parts::{put_node, put_number, put_word};
-use crate::plain::{diag_copy, diag_of, print, query_copy, record_copy, record_of};
-use crate::rows::{digits, encoding};
+use crate::parts::{Line, put_node, put_number, put_word};
+use crate::plain::{diag_copy, diag_of, query_copy, record_copy, record_of};
+use crate::queries::printed;
+use crate::rows::digits;
 use crate::unread::Unread;
 use crate::values::bit_digits;
 use bytes::Bytes;
 use std::alloc::{AllocError, Global};
 use zapdu::{
     Content, DefaultDiag, DiagRec, ElementSetNames, External, Info, Range, Record, RecordBody,
-    RecordComposition, Records, SearchQuery, quote,
+    RecordComposition, Records, SearchQuery,
 };
 use zber::{Bits, Node, Oid};
 use zquery::Query;
 
-pub(crate) fn put_some_number(
-    alloc: Global,
-    number: &Option<i64>,
-    out: &mut Vec<u8>,
-) -> Result<(), AllocError> {
+pub(crate) fn put_some_number(alloc: Global, number: &Option<i64>, out: &mut Line) {
     match number {
         None => put_word("-", out),
         Some(number) => put_number(alloc, *number, out),
     }
 }
 
-pub(crate) fn put_truth(value: bool, out: &mut Vec<u8>) -> Result<(), AllocError> {
+pub(crate) fn put_truth(value: bool, out: &mut Line) {
     put_word(if value { "true" } else { "false" }, out)
 }
 
-pub(crate) fn put_text(alloc: Global, text: &Bytes, out: &mut Vec<u8>) -> Result<(), AllocError> {
-    out.push(b' ')?;
-    quote(alloc, text.as_slice(), out)
+pub(crate) fn put_text(alloc: Global, text: &Bytes, out: &mut Line) {
+    out.quoted(alloc, text.as_slice())
 }
 
-pub(crate) fn put_some_text(
-    alloc: Global,
-    text: &Option<Bytes>,
-    out: &mut Vec<u8>,
-) -> Result<(), AllocError> {
+pub(crate) fn put_some_text(alloc: Global, text: &Option<Bytes>, out: &mut Line) {
     match text {
         None => put_word("-", out),
         Some(text) => put_text(alloc, text, out),
     }
 }
 
-pub(crate) fn put_reference(
-    alloc: Global,
-    octets: &Option<Bytes>,
-    out: &mut Vec<u8>,
-) -> Result<(), AllocError> {
+pub(crate) fn put_reference(alloc: Global, octets: &Option<Bytes>, out: &mut Line) {
     match octets {
         None => put_word("-", out),
         Some(octets) => {
-            let text = digits(alloc, octets.as_slice())?;
-            put_word("#", out)?;
-            out.extend_from_slice(text.as_bytes())
+            put_word("#", out);
+            out.joined(digits(alloc, octets.as_slice()))
         }
     }
 }
 
-pub(crate) fn put_bits(alloc: Global, bits: &Bits, out: &mut Vec<u8>) -> Result<(), AllocError> {
-    let text = bit_digits(alloc, bits, bits.len())?;
-    put_word(text.as_str(), out)
+pub(crate) fn put_bits(alloc: Global, bits: &Bits, out: &mut Line) {
+    out.told(bit_digits(alloc, bits, bits.len()))
 }
 
-pub(crate) fn put_some_node(
-    alloc: Global,
-    node: &Option<Node>,
-    out: &mut Vec<u8>,
-) -> Result<(), AllocError> {
+pub(crate) fn put_some_node(alloc: Global, node: &Option<Node>, out: &mut Line) {
     match node {
         None => put_word("-", out),
         Some(node) => put_node(alloc, node, out),
     }
 }
 
-fn put_oid(alloc: Global, oid: &Oid, out: &mut Vec<u8>) -> Result<(), AllocError> {
+fn oid_text(alloc: Global, oid: &Oid) -> Result<String, AllocError> {
     let copy = oid.copy(alloc)?;
-    let text = copy.text(alloc)?;
-    put_word(text.as_str(), out)
+    copy.text(alloc)
 }
 
-pub(crate) fn put_some_oid(
-    alloc: Global,
-    oid: &Option<Oid>,
-    out: &mut Vec<u8>,
-) -> Result<(), AllocError> {
+fn put_oid(alloc: Global, oid: &Oid, out: &mut Line) {
+    out.told(oid_text(alloc, oid))
+}
+
+pub(crate) fn put_some_oid(alloc: Global, oid: &Option<Oid>, out: &mut Line) {
     match oid {
         None => put_word("-", out),
         Some(oid) => put_oid(alloc, oid, out),
     }
 }
 
-fn put_content(alloc: Global, content: &Content, out: &mut Vec<u8>) -> Result<(), AllocError> {
+fn put_content(alloc: Global, content: &Content, out: &mut Line) {
     match content {
         Content::Single(node) => put_node(alloc, node, out),
         Content::Aligned(octets) => put_text(alloc, octets, out),
@@ -105,46 +86,38 @@ fn put_content(alloc: Global, content: &Content, out: &mut Vec<u8>) -> Result<()
     }
 }
 
-fn put_external(alloc: Global, external: &External, out: &mut Vec<u8>) -> Result<(), AllocError> {
-    put_word("external", out)?;
-    put_some_oid(alloc, &external.direct, out)?;
-    put_some_number(alloc, &external.indirect, out)?;
-    put_some_text(alloc, &external.descriptor, out)?;
+fn put_external(alloc: Global, external: &External, out: &mut Line) {
+    put_word("external", out);
+    put_some_oid(alloc, &external.direct, out);
+    put_some_number(alloc, &external.indirect, out);
+    put_some_text(alloc, &external.descriptor, out);
     put_content(alloc, &external.content, out)
 }
 
-pub(crate) fn put_some_external(
-    alloc: Global,
-    external: &Option<External>,
-    out: &mut Vec<u8>,
-) -> Result<(), AllocError> {
+pub(crate) fn put_some_external(alloc: Global, external: &Option<External>, out: &mut Line) {
     match external {
         None => put_word("-", out),
         Some(external) => put_external(alloc, external, out),
     }
 }
 
-fn put_info(alloc: Global, info: &Info, out: &mut Vec<u8>) -> Result<(), AllocError> {
+fn put_info(alloc: Global, info: &Info, out: &mut Line) {
     match info {
         Info::V2(text) => {
-            put_word("v2", out)?;
+            put_word("v2", out);
             put_text(alloc, text, out)
         }
         Info::V3(text) => {
-            put_word("v3", out)?;
+            put_word("v3", out);
             put_text(alloc, text, out)
         }
     }
 }
 
-fn put_default_diag(
-    alloc: Global,
-    diag: &DefaultDiag,
-    out: &mut Vec<u8>,
-) -> Result<(), AllocError> {
-    put_word("diag", out)?;
-    put_oid(alloc, &diag.diag_set, out)?;
-    put_number(alloc, diag.condition, out)?;
+fn put_default_diag(alloc: Global, diag: &DefaultDiag, out: &mut Line) {
+    put_word("diag", out);
+    put_oid(alloc, &diag.diag_set, out);
+    put_number(alloc, diag.condition, out);
     put_info(alloc, &diag.info, out)
 }
 
@@ -154,28 +127,32 @@ fn again_diag(alloc: Global, diag: &DiagRec) -> Result<Box<DiagRec>, Unread> {
     diag_of(alloc, &node)
 }
 
-fn put_same_diag(alloc: Global, diag: &DiagRec, out: &mut Vec<u8>) -> Result<(), AllocError> {
+fn put_same_diag(alloc: Global, diag: &DiagRec, out: &mut Line) {
     match diag {
         DiagRec::Default(diag) => put_default_diag(alloc, diag, out),
         DiagRec::Ext(external) => put_external(alloc, external, out),
     }
 }
 
-fn put_diag_copy(alloc: Global, diag: &DiagRec, out: &mut Vec<u8>) -> Result<(), Unread> {
-    let copy = diag_copy(alloc, diag)?;
-    Ok(put_same_diag(alloc, &copy, out)?)
+fn put_diag_copy(alloc: Global, diag: &DiagRec, out: &mut Line) {
+    match diag_copy(alloc, diag) {
+        Ok(copy) => put_same_diag(alloc, &copy, out),
+        Err(_) => out.fail(),
+    }
 }
 
-pub(crate) fn put_diag(alloc: Global, diag: &DiagRec, out: &mut Vec<u8>) -> Result<(), Unread> {
-    let again = again_diag(alloc, diag)?;
-    put_diag_copy(alloc, &again, out)
+pub(crate) fn put_diag(alloc: Global, diag: &DiagRec, out: &mut Line) {
+    match again_diag(alloc, diag) {
+        Ok(again) => put_diag_copy(alloc, &again, out),
+        Err(_) => out.fail(),
+    }
 }
 
-fn put_body(alloc: Global, body: &RecordBody, out: &mut Vec<u8>) -> Result<(), Unread> {
+fn put_body(alloc: Global, body: &RecordBody, out: &mut Line) {
     match body {
-        RecordBody::Retrieval(external) => Ok(put_external(alloc, external, out)?),
+        RecordBody::Retrieval(external) => put_external(alloc, external, out),
         RecordBody::Surrogate(diag) => put_diag(alloc, diag, out),
-        RecordBody::Fragment(node) => Ok(put_node(alloc, node, out)?),
+        RecordBody::Fragment(node) => put_node(alloc, node, out),
     }
 }
 
@@ -185,99 +162,83 @@ fn again_record(alloc: Global, record: &Record) -> Result<Box<Record>, Unread> {
     record_of(alloc, &node)
 }
 
-fn put_same_record(alloc: Global, record: &Record, out: &mut Vec<u8>) -> Result<(), Unread> {
-    put_word("record", out)?;
-    put_some_text(alloc, &record.name, out)?;
+fn put_same_record(alloc: Global, record: &Record, out: &mut Line) {
+    put_word("record", out);
+    put_some_text(alloc, &record.name, out);
     put_body(alloc, &record.body, out)
 }
 
-fn put_record_copy(alloc: Global, record: &Record, out: &mut Vec<u8>) -> Result<(), Unread> {
-    let copy = record_copy(alloc, record)?;
-    put_same_record(alloc, &copy, out)
+fn put_record_copy(alloc: Global, record: &Record, out: &mut Line) {
+    match record_copy(alloc, record) {
+        Ok(copy) => put_same_record(alloc, &copy, out),
+        Err(_) => out.fail(),
+    }
 }
 
-fn put_record(alloc: Global, record: &Record, out: &mut Vec<u8>) -> Result<(), Unread> {
-    let again = again_record(alloc, record)?;
-    put_record_copy(alloc, &again, out)
+fn put_record(alloc: Global, record: &Record, out: &mut Line) {
+    match again_record(alloc, record) {
+        Ok(again) => put_record_copy(alloc, &again, out),
+        Err(_) => out.fail(),
+    }
 }
 
-fn put_each_record(alloc: Global, records: &[Record], out: &mut Vec<u8>) -> Result<(), Unread> {
+fn put_each_record(alloc: Global, records: &[Record], out: &mut Line) {
     for record in records {
-        put_record(alloc, record, out)?;
+        put_record(alloc, record, out);
     }
-    Ok(())
 }
 
-fn put_each_diag(alloc: Global, diags: &[DiagRec], out: &mut Vec<u8>) -> Result<(), Unread> {
+fn put_each_diag(alloc: Global, diags: &[DiagRec], out: &mut Line) {
     for diag in diags {
-        put_diag(alloc, diag, out)?;
+        put_diag(alloc, diag, out);
     }
-    Ok(())
 }
 
-fn put_these_records(alloc: Global, records: &Records, out: &mut Vec<u8>) -> Result<(), Unread> {
+fn put_these_records(alloc: Global, records: &Records, out: &mut Line) {
     match records {
         Records::List(records) => {
-            put_word("list", out)?;
+            put_word("list", out);
             put_each_record(alloc, records.as_slice(), out)
         }
         Records::OneDiag(diag) => {
-            put_word("one", out)?;
-            Ok(put_default_diag(alloc, diag, out)?)
+            put_word("one", out);
+            put_default_diag(alloc, diag, out)
         }
         Records::ManyDiags(diags) => {
-            put_word("many", out)?;
+            put_word("many", out);
             put_each_diag(alloc, diags.as_slice(), out)
         }
     }
 }
 
-pub(crate) fn put_records(
-    alloc: Global,
-    records: &Option<Records>,
-    out: &mut Vec<u8>,
-) -> Result<(), Unread> {
+pub(crate) fn put_records(alloc: Global, records: &Option<Records>, out: &mut Line) {
     match records {
-        None => Ok(put_word("-", out)?),
+        None => put_word("-", out),
         Some(records) => put_these_records(alloc, records, out),
     }
 }
 
-pub(crate) fn put_texts(
-    alloc: Global,
-    texts: &[Bytes],
-    out: &mut Vec<u8>,
-) -> Result<(), AllocError> {
-    put_word("names", out)?;
+pub(crate) fn put_texts(alloc: Global, texts: &[Bytes], out: &mut Line) {
+    put_word("names", out);
     for text in texts {
-        put_text(alloc, text, out)?;
+        put_text(alloc, text, out);
     }
-    Ok(())
 }
 
-fn put_element_set(
-    alloc: Global,
-    names: &ElementSetNames,
-    out: &mut Vec<u8>,
-) -> Result<(), AllocError> {
+fn put_element_set(alloc: Global, names: &ElementSetNames, out: &mut Line) {
     match names {
         ElementSetNames::Generic(name) => put_text(alloc, name, out),
         ElementSetNames::DatabaseSpecific(names) => {
-            put_word("specific", out)?;
+            put_word("specific", out);
             for name in names.as_slice() {
-                put_text(alloc, &name.database_name, out)?;
-                put_text(alloc, &name.element_set_name, out)?;
+                put_text(alloc, &name.database_name, out);
+                put_text(alloc, &name.element_set_name, out);
             }
-            Ok(())
         }
     }
 }
 
-pub(crate) fn put_some_element_set(
-    alloc: Global,
-    names: &Option<ElementSetNames>,
-    out: &mut Vec<u8>,
-) -> Result<(), AllocError> {
+pub(crate) fn put_some_element_set(alloc: Global, names: &Option<ElementSetNames>, out: &mut Line) {
     match names {
         None => put_word("-", out),
         Some(names) => put_element_set(alloc, names, out),
@@ -287,8 +248,8 @@ pub(crate) fn put_some_element_set(
 pub(crate) fn put_composition(
     alloc: Global,
     composition: &Option<RecordComposition>,
-    out: &mut Vec<u8>,
-) -> Result<(), AllocError> {
+    out: &mut Line,
+) {
     match composition {
         None => put_word("-", out),
         Some(RecordComposition::Simple(names)) => put_element_set(alloc, names, out),
@@ -296,32 +257,27 @@ pub(crate) fn put_composition(
     }
 }
 
-pub(crate) fn put_ranges(
-    alloc: Global,
-    ranges: &[Range],
-    out: &mut Vec<u8>,
-) -> Result<(), AllocError> {
-    put_word("ranges", out)?;
+pub(crate) fn put_ranges(alloc: Global, ranges: &[Range], out: &mut Line) {
+    put_word("ranges", out);
     for range in ranges {
-        put_number(alloc, range.starting_position, out)?;
-        put_number(alloc, range.number_of_records, out)?;
+        put_number(alloc, range.starting_position, out);
+        put_number(alloc, range.number_of_records, out);
     }
-    Ok(())
 }
 
-fn put_rpn(alloc: Global, query: &Query, out: &mut Vec<u8>) -> Result<(), Unread> {
-    put_word("query ", out)?;
+fn copy_text(alloc: Global, query: &Query) -> Result<Vec<u8>, Unread> {
     let copy = query_copy(alloc, query)?;
-    Ok(print(alloc, &copy, out)?)
+    printed(alloc, &copy)
 }
 
-pub(crate) fn put_query(
-    alloc: Global,
-    query: &SearchQuery,
-    out: &mut Vec<u8>,
-) -> Result<(), Unread> {
+fn put_rpn(alloc: Global, query: &Query, out: &mut Line) {
+    put_word("query ", out);
+    out.given(copy_text(alloc, query))
+}
+
+pub(crate) fn put_query(alloc: Global, query: &SearchQuery, out: &mut Line) {
     match query {
         SearchQuery::Rpn(query) => put_rpn(alloc, query, out),
-        SearchQuery::Other(node) => Ok(put_node(alloc, node, out)?),
+        SearchQuery::Other(node) => put_node(alloc, node, out),
     }
 }

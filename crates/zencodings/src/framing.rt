@@ -1,6 +1,6 @@
 // Messages and faults of a stream of octets, worked out from X.690, 8.1.
 use crate::encodings::PRESENT_RESPONSE;
-use crate::rows::{LIMIT, each_row, element, encoding, octets, pair};
+use crate::rows::{LIMIT, each_row, element, encoding, held, octets, pair, parted, tells};
 use crate::unread::Unread;
 use std::alloc::{AllocError, Global};
 use std::process::Abort;
@@ -102,14 +102,14 @@ ffffffffffff TagTooLarge at 0
 fn stays(alloc: Global, digits: &str, due: &str) -> Result<bool, Unread> {
     let script = format!(in alloc; "{digits} next {PRESENT_RESPONSE} next finish")?;
     let due = format!(in alloc; "{due};{due};{due};")?;
-    Ok(answers(alloc, LIMIT, script.as_str())? == due)
+    Ok(tells(answers(alloc, LIMIT, script.as_str()), due.as_str()))
 }
 
 // It comes after the messages before it, and its place counts from the message at fault.
 fn comes_after(alloc: Global, digits: &str, due: &str) -> Result<bool, Unread> {
     let script = format!(in alloc; "{PRESENT_RESPONSE} {digits} next next")?;
     let due = format!(in alloc; "elements 5;{due};")?;
-    Ok(answers(alloc, LIMIT, script.as_str())? == due)
+    Ok(tells(answers(alloc, LIMIT, script.as_str()), due.as_str()))
 }
 
 fn feed_each(framer: &mut Framer, octets: &[u8], trace: &mut String) -> Result<(), AllocError> {
@@ -131,18 +131,17 @@ fn by_octet(alloc: Global, octets: &[u8]) -> Result<String, AllocError> {
 // It comes with the last octet and not before.
 fn comes_last(alloc: Global, digits: &str, due: &str) -> Result<bool, Unread> {
     let octets = octets(alloc, digits)?;
-    let trace = by_octet(alloc, octets.as_slice())?;
     let before = "nothing;".repeat(alloc, octets.len().saturating_sub(1))?;
     let due = format!(in alloc; "{before}{due};")?;
-    Ok(trace == due)
+    Ok(tells(by_octet(alloc, octets.as_slice()), due.as_str()))
 }
 
 fn is_fault(alloc: Global, row: &str) -> Result<bool, Unread> {
-    let (digits, due) = pair(row)?;
+    let (digits, due) = pair(row);
     Ok(
-        stays(alloc, digits, due)?
-            && comes_last(alloc, digits, due)?
-            && comes_after(alloc, digits, due)?,
+        held(stays(alloc, digits, due))
+            && held(comes_last(alloc, digits, due))
+            && held(comes_after(alloc, digits, due)),
     )
 }
 
@@ -169,8 +168,8 @@ b9268204000000029801019901029b0100bc1530 - finish next - finish: false;nothing;T
 ";
 
 fn is_accepted(alloc: Global, row: &str) -> Result<bool, Unread> {
-    let (script, due) = row.split_once(": ").ok_or(Unread)?;
-    Ok(answers(alloc, LIMIT, script)?.as_str() == due)
+    let (script, due) = parted(row, ": ");
+    Ok(tells(answers(alloc, LIMIT, script), due))
 }
 
 #[test]
@@ -195,16 +194,16 @@ const NESTED: &str = "\
 ";
 
 fn is_nested(alloc: Global, row: &str) -> Result<bool, Unread> {
-    let (opens, rest) = pair(row)?;
-    let (within, rest) = pair(rest)?;
-    let (ends, due) = pair(rest)?;
+    let (opens, rest) = pair(row);
+    let (within, rest) = pair(rest);
+    let (ends, due) = pair(rest);
     let trace = nested(
         alloc,
         opens.parse::<usize>()?,
         within,
         ends.parse::<usize>()?,
-    )?;
-    Ok(trace.as_str() == due)
+    );
+    Ok(tells(trace, due))
 }
 
 #[test]
@@ -215,20 +214,24 @@ fn sixty_four_levels_are_read(rt: HostRuntime) -> Result<(), Fail> {
 // One octet more of an indefinite length passes the limit where the octets reach it.
 #[test]
 fn a_message_ends_at_the_limit(rt: HostRuntime) -> Result<(), Fail> {
-    let trace = answers(rt.alloc(), 8, "30800403010203 next 05 next")?;
-    assert!(rt; trace.as_str() == "nothing;TooLong at 7;");
+    let trace = answers(rt.alloc(), 8, "30800403010203 next 05 next");
+    assert!(rt; tells(trace, "nothing;TooLong at 7;"));
     Ok(())
 }
 
-// A copy of the message that octets spell, which is gone by then.
+// A copy of the message that digits spell, which is gone by then.
 fn copied(alloc: Global, digits: &str) -> Result<Node, Unread> {
     let node = element(alloc, digits)?;
     Ok(node.copy(alloc)?)
 }
 
+fn is_copied(alloc: Global, digits: &str) -> Result<bool, Unread> {
+    let copy = copied(alloc, digits)?;
+    Ok(tells(encoding(alloc, &copy), digits))
+}
+
 #[test]
 fn a_copy_is_kept_apart(rt: HostRuntime) -> Result<(), Fail> {
-    let copy = copied(rt.alloc(), PRESENT_RESPONSE)?;
-    assert!(rt; encoding(rt.alloc(), &copy)?.as_str() == PRESENT_RESPONSE);
+    assert!(rt; held(is_copied(rt.alloc(), PRESENT_RESPONSE)));
     Ok(())
 }

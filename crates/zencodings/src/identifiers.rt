@@ -1,5 +1,5 @@
 // Texts of object identifiers, worked out from X.690, 8.19, and X.660.
-use crate::rows::{each_row, pair};
+use crate::rows::{each_row, pair, parted, tells};
 use crate::unread::Unread;
 use std::alloc::{AllocError, Global};
 use std::process::Abort;
@@ -23,7 +23,7 @@ fn text(alloc: Global, text: &str) -> Result<String, Unread> {
 }
 
 fn is_text(alloc: Global, row: &str) -> Result<bool, Unread> {
-    Ok(text(alloc, row)?.as_str() == row)
+    Ok(tells(text(alloc, row), row))
 }
 
 #[test]
@@ -62,9 +62,9 @@ fn told(alloc: Global, oid: Result<Oid, OidError>) -> Result<String, AllocError>
 }
 
 fn is_refused(alloc: Global, row: &str) -> Result<bool, Unread> {
-    let (due, text) = pair(row)?;
-    let refused = told(alloc, Oid::parse_dotted(alloc, text.as_bytes()))?;
-    Ok(refused.as_str() == due)
+    let (due, text) = pair(row);
+    let refused = told(alloc, Oid::parse_dotted(alloc, text.as_bytes()));
+    Ok(tells(refused, due))
 }
 
 #[test]
@@ -90,9 +90,9 @@ fn arcs(alloc: Global, row: &str) -> Result<Vec<u32>, Unread> {
 }
 
 fn are_arcs(alloc: Global, row: &str) -> Result<bool, Unread> {
-    let (row, due) = row.split_once(": ").ok_or(Unread)?;
+    let (row, due) = parted(row, ": ");
     let arcs = arcs(alloc, row)?;
-    Ok(told(alloc, Oid::from_arcs(alloc, arcs.as_slice()))?.as_str() == due)
+    Ok(tells(told(alloc, Oid::from_arcs(alloc, arcs.as_slice())), due))
 }
 
 #[test]

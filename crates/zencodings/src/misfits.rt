@@ -1,6 +1,6 @@
 // Elements that are no APDUs, and where they misfit, worked out from Z39.50-2003, 4.1.
 use crate::plain::apdu_refusal;
-use crate::rows::{each_row, element, pair};
+use crate::rows::{each_row, element, pair, tells};
 use crate::unread::Unread;
 use std::alloc::Global;
 use std::process::Abort;
@@ -84,8 +84,8 @@ fn refusal(alloc: Global, digits: &str) -> Result<String, Unread> {
 }
 
 fn is_refused(alloc: Global, row: &str) -> Result<bool, Unread> {
-    let (digits, due) = pair(row)?;
-    Ok(refusal(alloc, digits)?.as_str() == due)
+    let (digits, due) = pair(row);
+    Ok(tells(refusal(alloc, digits), due))
 }
 
 #[test]

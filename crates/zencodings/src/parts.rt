@@ -1,23 +1,107 @@
-//! The parts of a line, each with a space before it.
+//! Lines of parts, each with a space before it.
 use crate::rows::encoding;
+use crate::unread::Unread;
 use std::alloc::{AllocError, Global};
+use zapdu::quote;
 use zber::Node;
 
+/// A line that parts are put to. Once memory was refused for one, it is not whole.
+#[derive(Drop)]
+pub struct Line {
+    octets: Vec<u8>,
+    is_whole: bool,
+}
+
+impl Line {
+    /// The line of no part.
+    pub fn new(alloc: Global) -> Line {
+        Line {
+            octets: Vec::new(alloc),
+            is_whole: true,
+        }
+    }
+
+    /// Says that a part is lacking.
+    pub fn fail(&mut self) {
+        self.is_whole = false;
+    }
+
+    /// Appends octets, with no space before them.
+    pub fn put(&mut self, octets: &[u8]) {
+        if self.octets.extend_from_slice(octets).is_err() {
+            self.is_whole = false;
+        }
+    }
+
+    /// Appends a word.
+    pub fn word(&mut self, word: &str) {
+        self.put(b" ");
+        self.put(word.as_bytes());
+    }
+
+    /// Appends a word that there was memory for.
+    pub fn told(&mut self, word: Result<String, AllocError>) {
+        match word {
+            Ok(word) => self.word(word.as_str()),
+            Err(_) => self.fail(),
+        }
+    }
+
+    /// Appends a text that there was memory for, with no space before it.
+    pub fn joined(&mut self, text: Result<String, AllocError>) {
+        match text {
+            Ok(text) => self.put(text.as_bytes()),
+            Err(_) => self.fail(),
+        }
+    }
+
+    /// Appends octets that are there, with no space before them.
+    pub fn given<E: Drop>(&mut self, octets: Result<Vec<u8>, E>) {
+        match octets {
+            Ok(octets) => self.put(octets.as_slice()),
+            Err(_) => self.fail(),
+        }
+    }
+
+    /// Appends octets in quotes.
+    pub fn quoted(&mut self, alloc: Global, octets: &[u8]) {
+        self.put(b" ");
+        if quote(alloc, octets, &mut self.octets).is_err() {
+            self.fail();
+        }
+    }
+
+    /// The octets of a whole line.
+    pub fn whole(self) -> Result<Vec<u8>, Unread> {
+        if self.is_whole {
+            Ok(self.octets)
+        } else {
+            Err(Unread)
+        }
+    }
+
+    /// Whether these are all octets of a whole line.
+    pub fn is(&self, due: &[u8]) -> bool {
+        self.is_whole && self.octets.as_slice() == due
+    }
+}
+
 /// Appends a word.
-pub fn put_word(word: &str, out: &mut Vec<u8>) -> Result<(), AllocError> {
-    out.push(b' ')?;
-    out.extend_from_slice(word.as_bytes())
+pub fn put_word(word: &str, out: &mut Line) {
+    out.word(word)
 }
 
 /// Appends a number in decimal.
-pub fn put_number(alloc: Global, number: i64, out: &mut Vec<u8>) -> Result<(), AllocError> {
-    let text = number.to_string(alloc)?;
-    put_word(text.as_str(), out)
+pub fn put_number(alloc: Global, number: i64, out: &mut Line) {
+    out.told(number.to_string(alloc))
+}
+
+fn copied(alloc: Global, node: &Node) -> Result<String, AllocError> {
+    let copy = node.copy(alloc)?;
+    encoding(alloc, &copy)
 }
 
 /// Appends the digits of the canonical encoding of an element's copy.
-pub fn put_node(alloc: Global, node: &Node, out: &mut Vec<u8>) -> Result<(), AllocError> {
-    let copy = node.copy(alloc)?;
-    let text = encoding(alloc, &copy)?;
-    put_word(text.as_str(), out)
+pub fn put_node(alloc: Global, node: &Node, out: &mut Line) {
+    out.told(copied(alloc, node))
 }

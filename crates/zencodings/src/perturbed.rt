@@ -1,7 +1,7 @@
 // APDUs of which one element is changed, and where each is refused, worked out from Z39.50-2003, 4.1.
 use crate::boxes::apdu_of;
 use crate::plain::apdu_refusal;
-use crate::rows::{each_row, element, pair};
+use crate::rows::{each_row, element, pair, tells};
 use crate::unread::Unread;
 use bytes::Bytes;
 use std::alloc::{AllocError, Global};
@@ -171,7 +171,7 @@ fn are_marks(alloc: Global, node: &Node, kind: &str, due: &str) -> Result<bool, 
     };
     let mut same = 0usize;
     for (number, due) in due.split(' ').enumerate() {
-        if marks(alloc, node.tag, nodes, number, kind)?.as_str() == due {
+        if tells(marks(alloc, node.tag, nodes, number, kind), due) {
             same = same.saturating_add(1);
         }
     }
@@ -179,8 +179,8 @@ fn are_marks(alloc: Global, node: &Node, kind: &str, due: &str) -> Result<bool, 
 }
 
 fn is_row(alloc: Global, row: &str) -> Result<bool, Unread> {
-    let (kind, rest) = pair(row)?;
-    let (digits, due) = pair(rest)?;
+    let (kind, rest) = pair(row);
+    let (digits, due) = pair(rest);
     let node = element(alloc, digits)?;
     are_marks(alloc, &node, kind, due)
 }

@@ -1,6 +1,6 @@
 // Octets in pieces: a cut changes no answer, and each octet is looked at once (X.690, 8.1).
 use crate::framing::{FAULTS, answers};
-use crate::rows::{LIMIT, each_row, octets, pair};
+use crate::rows::{LIMIT, cut, each_row, held, octets, pair, parted, tells};
 use crate::unread::Unread;
 use std::alloc::Global;
 use std::process::Abort;
@@ -9,8 +9,8 @@ use zber::{Body, FrameError, Framer, Node};
 
 // Octets, and behind them others so many times: `OCTETS COUNT OCTETS`.
 fn stream(alloc: Global, row: &str) -> Result<Vec<u8>, Unread> {
-    let (digits, rest) = pair(row)?;
-    let (count, more) = pair(rest)?;
+    let (digits, rest) = pair(row);
+    let (count, more) = pair(rest);
     let mut stream = octets(alloc, digits)?;
     let more = octets(alloc, more)?;
     for _ in 0..count.parse::<u32>()? {
@@ -38,8 +38,8 @@ fn ends(alloc: Global, framer: &mut Framer, stream: &[u8]) -> Result<Vec<usize>,
 
 // Whether it has looked at a number of octets between the first two, and passed over so many as the third.
 fn has_counts(framer: &Framer, due: &str) -> Result<bool, Unread> {
-    let (least, rest) = pair(due)?;
-    let (most, skipped) = pair(rest)?;
+    let (least, rest) = pair(due);
+    let (most, skipped) = pair(rest);
     let counts = least.parse::<u64>()?..=most.parse::<u64>()?;
     Ok(counts.contains(&framer.examined()) && framer.skipped() == skipped.parse::<u64>()?)
 }
@@ -54,12 +54,12 @@ b9808204000000029801019901029b0100bc803015a113a1112882000d06072a8648ce13050a8102
 ";
 
 fn is_counted(alloc: Global, row: &str) -> Result<bool, Unread> {
-    let (octets, due) = row.split_once(": ").ok_or(Unread)?;
+    let (octets, due) = parted(row, ": ");
     let stream = stream(alloc, octets)?;
     let mut framer = Framer::new(alloc, LIMIT);
     let ends = ends(alloc, &mut framer, stream.as_slice())?;
     let is_one = ends.as_slice() == [stream.len().saturating_sub(1)].as_slice();
-    Ok(is_one && has_counts(&framer, due)?)
+    Ok(is_one && held(has_counts(&framer, due)))
 }
 
 #[test]
@@ -78,27 +78,31 @@ fn gives(framer: &mut Framer, count: u32) -> Result<bool, FrameError> {
 }
 
 // Two megabytes; a framer that moved what is left at each message would move 262 gigabytes.
+fn come_in_one_piece(alloc: Global, row: &str, count: u32) -> Result<bool, Unread> {
+    let stream = stream(alloc, row)?;
+    let mut framer = Framer::new(alloc, LIMIT);
+    framer.feed(stream.as_slice())?;
+    Ok(held(gives(&mut framer, count)))
+}
+
 #[test]
 fn many_messages_come_in_one_piece(rt: HostRuntime) -> Result<(), Fail> {
-    let stream = stream(rt.alloc(), "- 250000 bf30059f81530100")?;
-    let mut framer = Framer::new(rt.alloc(), LIMIT);
-    framer.feed(stream.as_slice())?;
-    assert!(rt; gives(&mut framer, 250_000)?);
+    assert!(rt; held(come_in_one_piece(rt.alloc(), "- 250000 bf30059f81530100", 250_000)));
     Ok(())
 }
 
 // Whether it comes with the second of two pieces, the first of which has so many digits.
 fn comes_behind(alloc: Global, digits: &str, due: &str, place: usize) -> Result<bool, Unread> {
-    let (first, second) = digits.split_at_checked(place).ok_or(Unread)?;
+    let (first, second) = cut(digits, place);
     let script = format!(in alloc; "{first} next {second} next")?;
     let due = format!(in alloc; "nothing;{due};")?;
-    Ok(answers(alloc, LIMIT, script.as_str())? == due)
+    Ok(tells(answers(alloc, LIMIT, script.as_str()), due.as_str()))
 }
 
 fn comes_behind_each_cut(alloc: Global, row: &str) -> Result<bool, Unread> {
-    let (digits, due) = pair(row)?;
+    let (digits, due) = pair(row);
     for place in 0..digits.len() {
-        if place % 2 == 0 && !comes_behind(alloc, digits, due, place)? {
+        if place % 2 == 0 && !held(comes_behind(alloc, digits, due, place)) {
             return Ok(false);
         }
     }

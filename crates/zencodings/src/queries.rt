@@ -1,7 +1,7 @@
 // Queries in the prefix notation and in octets, worked out from Z39.50-2003, 4.1, and X.690.
 use crate::boxes::parse;
 use crate::plain::{parse_refusal, print, query_node, query_of};
-use crate::rows::{each_row, element, encoding, halves, unescaped};
+use crate::rows::{each_row, element, encoding, halves, held, spells, tells, unescaped};
 use crate::unread::Unread;
 use std::alloc::{AllocError, Global};
 use std::process::Abort;
@@ -86,9 +86,8 @@ pub(crate) fn printed(alloc: Global, query: &Query) -> Result<Vec<u8>, Unread> {
 }
 
 // Whether this is the query's text.
-pub(crate) fn is_printed(alloc: Global, query: &Query, due: &[u8]) -> Result<bool, Unread> {
-    let text = printed(alloc, query)?;
-    Ok(text.as_slice() == due)
+pub(crate) fn is_printed(alloc: Global, query: &Query, due: &[u8]) -> bool {
+    spells(printed(alloc, query), due)
 }
 
 fn encoded(alloc: Global, query: &Query) -> Result<String, Unread> {
@@ -96,41 +95,38 @@ fn encoded(alloc: Global, query: &Query) -> Result<String, Unread> {
     Ok(encoding(alloc, &node)?)
 }
 
-fn is_encoded(alloc: Global, query: &Query, digits: &str) -> Result<bool, Unread> {
-    let text = encoded(alloc, query)?;
-    Ok(text.as_str() == digits)
+fn is_encoded(alloc: Global, query: &Query, digits: &str) -> bool {
+    tells(encoded(alloc, query), digits)
 }
 
 // Whether a query has this text and this element.
-fn is_both(alloc: Global, query: &Query, text: &[u8], digits: &str) -> Result<bool, Unread> {
-    Ok(is_printed(alloc, query, text)? && is_encoded(alloc, query, digits)?)
+fn is_both(alloc: Global, query: &Query, text: &[u8], digits: &str) -> bool {
+    is_printed(alloc, query, text) && is_encoded(alloc, query, digits)
 }
 
 fn parses(alloc: Global, text: &[u8], due: &[u8], digits: &str) -> Result<bool, Unread> {
     let query = parse(alloc, text)?;
-    is_both(alloc, &query, due, digits)
+    Ok(is_both(alloc, &query, due, digits))
 }
 
 fn decodes(alloc: Global, due: &[u8], digits: &str) -> Result<bool, Unread> {
     let query = read(alloc, digits)?;
-    is_both(alloc, &query, due, digits)
+    Ok(is_both(alloc, &query, due, digits))
 }
 
 // The text, the printed text and the element are one query's.
-fn are_one(alloc: Global, text: &[u8], due: &[u8], digits: &str) -> Result<bool, Unread> {
-    Ok(
-        parses(alloc, text, due, digits)?
-            && parses(alloc, due, due, digits)?
-            && decodes(alloc, due, digits)?,
-    )
+fn are_one(alloc: Global, text: &[u8], due: &[u8], digits: &str) -> bool {
+    held(parses(alloc, text, due, digits))
+        && held(parses(alloc, due, due, digits))
+        && held(decodes(alloc, due, digits))
 }
 
 fn is_query(alloc: Global, row: &str) -> Result<bool, Unread> {
-    let (text, rest) = halves(row)?;
-    let (printed, digits) = halves(rest)?;
+    let (text, rest) = halves(row);
+    let (printed, digits) = halves(rest);
     let text = unescaped(alloc, text)?;
     let due = unescaped(alloc, printed)?;
-    are_one(alloc, text.as_slice(), due.as_slice(), digits)
+    Ok(are_one(alloc, text.as_slice(), due.as_slice(), digits))
 }
 
 #[test]
@@ -168,7 +164,7 @@ fn again(alloc: Global, query: &Query) -> Result<Box<Query>, Unread> {
 
 fn has_text_of(alloc: Global, query: &Query, other: &Query) -> Result<bool, Unread> {
     let text = printed(alloc, other)?;
-    is_printed(alloc, query, text.as_slice())
+    Ok(is_printed(alloc, query, text.as_slice()))
 }
 
 fn comes_back(alloc: Global, query: &Query) -> Result<bool, Unread> {
@@ -185,9 +181,9 @@ fn is_read(alloc: Global, text: &[u8]) -> Result<bool, Unread> {
 #[test]
 fn operands_stand_on_32_levels(rt: HostRuntime) -> Result<(), Fail> {
     let highest = twice(rt.alloc(), 31, b"@and ", 32, b"x ")?;
-    assert!(rt; is_read(rt.alloc(), highest.as_slice())?);
+    assert!(rt; held(is_read(rt.alloc(), highest.as_slice())));
     let longest = after(rt.alloc(), 31, b"@or x ", b"@attr 1=4 @set x")?;
-    assert!(rt; is_read(rt.alloc(), longest.as_slice())?);
+    assert!(rt; held(is_read(rt.alloc(), longest.as_slice())));
     Ok(())
 }
 
@@ -201,7 +197,7 @@ pub(crate) fn refusal(alloc: Global, text: &[u8]) -> Result<String, AllocError> 
 #[test]
 fn the_33rd_level_is_refused(rt: HostRuntime) -> Result<(), Fail> {
     let lower = twice(rt.alloc(), 32, b"@and ", 33, b"x ")?;
-    assert!(rt; refusal(rt.alloc(), lower.as_slice())?.as_str() == "TooDeep at 160");
+    assert!(rt; tells(refusal(rt.alloc(), lower.as_slice()), "TooDeep at 160"));
     Ok(())
 }
 
@@ -218,9 +214,9 @@ const LAST: &str = "\
 ";
 
 fn is_last(alloc: Global, row: &str) -> Result<bool, Unread> {
-    let (last, due) = halves(row)?;
+    let (last, due) = halves(row);
     let text = after(alloc, 31, b"@or x ", last.as_bytes())?;
-    Ok(refusal(alloc, text.as_slice())?.as_str() == due)
+    Ok(tells(refusal(alloc, text.as_slice()), due))
 }
 
 #[test]

@@ -3,7 +3,7 @@
 use crate::boxes::{boxed, record_node};
 use crate::headers::nested;
 use crate::plain::{is_diag, is_record, record_of, record_text};
-use crate::rows::{each_row, element, encoding, halves, pair};
+use crate::rows::{each_row, element, encoding, halves, pair, parted, spells, tells};
 use crate::unread::Unread;
 use std::alloc::{AllocError, Global};
 use std::process::Abort;
@@ -81,7 +81,7 @@ diag 280482020800
 ";
 
 fn is_other(alloc: Global, row: &str) -> Result<bool, Unread> {
-    let (kind, digits) = pair(row)?;
+    let (kind, digits) = pair(row);
     let node = element(alloc, digits)?;
     if kind == "record" {
         Ok(!is_record(alloc, &node)?)
@@ -131,11 +131,10 @@ hex 300b800164a106a5041a026869 => ber 300b800164a106a5041a026869
 "#;
 
 fn is_printed(alloc: Global, row: &str) -> Result<bool, Unread> {
-    let (mode, rest) = pair(row)?;
-    let (digits, due) = halves(rest)?;
+    let (mode, rest) = pair(row);
+    let (digits, due) = halves(rest);
     let record = record_of(alloc, &element(alloc, digits)?)?;
-    let text = record_text(alloc, &record, mode == "hex")?;
-    Ok(text.as_slice() == due.as_bytes())
+    Ok(spells(record_text(alloc, &record, mode == "hex"), due.as_bytes()))
 }
 
 #[test]
@@ -174,15 +173,16 @@ fn spelling(alloc: Global, record: &Record) -> Result<String, Unread> {
 }
 
 fn is_spelt(alloc: Global, record: &Record, due: &str) -> Result<bool, Unread> {
-    let text = record_text(alloc, record, true)?;
-    let spelling = spelling(alloc, record)?;
     let line = format!(in alloc; "ber {due}")?;
-    Ok(text.as_slice() == line.as_bytes() && spelling.as_str() == due)
+    Ok(
+        spells(record_text(alloc, record, true), line.as_bytes())
+            && tells(spelling(alloc, record), due),
+    )
 }
 
 fn is_made(alloc: Global, row: &str) -> Result<bool, Unread> {
-    let (place, due) = row.split_once('=').ok_or(Unread)?;
-    let (tag, levels) = pair(place)?;
+    let (place, due) = parted(row, "=");
+    let (tag, levels) = pair(place);
     let record = fragment(alloc, tag.parse::<u32>()?, levels.parse::<u32>()?)?;
     is_spelt(alloc, &record, due)
 }

@@ -16,23 +16,52 @@ pub fn each_row<F: Fn(Global, &str) -> Result<bool, Unread>>(
     requires { F.IsAlwaysCallable holds.now }
 {
     for row in rows.lines() {
-        if !row.starts_with('#') && !holds(alloc, row).unwrap_or(false) {
+        if !row.starts_with('#') && !held(holds(alloc, row)) {
             return Err(Fail::new(row));
         }
     }
     Ok(())
 }
 
+/// The two parts of a row, which a mark divides; the second is empty where there is none.
+pub fn parted<'a>(row: &'a str, mark: &str) -> (&'a str, &'a str) {
+    row.split_once(mark).unwrap_or((row, ""))
+}
+
+/// The first so many octets of a text, and the others.
+pub fn cut(text: &str, at: usize) -> (&str, &str) {
+    text.split_at_checked(at).unwrap_or((text, ""))
+}
+
 /// The two parts of a row, which its first space divides.
-pub fn pair(row: &str) -> Result<(&str, &str), Unread> {
-    let parts = row.split_once(' ').ok_or(Unread)?;
-    Ok(parts)
+pub fn pair(row: &str) -> (&str, &str) {
+    row.split_once(' ').unwrap_or((row, ""))
 }
 
 /// The two parts of a row, which an arrow divides.
-pub fn halves(row: &str) -> Result<(&str, &str), Unread> {
-    let parts = row.split_once(" => ").ok_or(Unread)?;
-    Ok(parts)
+pub fn halves(row: &str) -> (&str, &str) {
+    parted(row, " => ")
+}
+
+/// Whether it was found to hold.
+pub fn held<E: Drop>(answer: Result<bool, E>) -> bool {
+    answer.unwrap_or(false)
+}
+
+/// Whether a text is there, and is the due one.
+pub fn tells<E: Drop>(text: Result<String, E>, due: &str) -> bool {
+    match text {
+        Ok(text) => text.as_str() == due,
+        Err(_) => false,
+    }
+}
+
+/// Whether octets are there, and are the due ones.
+pub fn spells<E: Drop>(octets: Result<Vec<u8>, E>, due: &[u8]) -> bool {
+    match octets {
+        Ok(octets) => octets.as_slice() == due,
+        Err(_) => false,
+    }
 }
 
 /// The octets that digits spell; `-` stands for none.
@@ -79,7 +108,7 @@ pub fn unescaped(alloc: Global, text: &str) -> Result<Vec<u8>, Unread> {
     let mut out = Vec::new(alloc);
     let mut digits = 0u8;
     for part in text.split('%') {
-        let (escaped, plain) = part.split_at_checked(digits as usize).ok_or(Unread)?;
+        let (escaped, plain) = cut(part, digits as usize);
         put_octets(alloc, escaped, &mut out)?;
         out.extend_from_slice(plain.as_bytes())?;
         digits = 2;

@@ -4,14 +4,14 @@ ghost use Rattle.std.specs.Prelude.{◌<◌};
 use crate::apdus::{APDUS, put_indefinite};
 use crate::boxes::{apdu_node, apdu_of, record_node};
 use crate::plain::{query_node, query_of, record_of};
-use crate::rows::{each_row, element, encoding, message, pair};
+use crate::rows::{each_row, element, encoding, held, message, pair, tells};
 use crate::unread::Unread;
 use crate::values::string;
 use bytes::Bytes;
 use std::alloc::{AllocError, Global};
 use std::process::Abort;
 use std::test::Fail;
-use zber::{Body, Node, Oid, Tag};
+use zber::{Body, Node, Oid, Tag, ValueError};
 
 // Elements, and the octets of the strings that they are, or why they are none; a line with `#` says what those below it have.
 const STRINGS: &str = "\
@@ -49,9 +49,9 @@ a10a240304016824031a0169 WrongForm
 ";
 
 fn is_string(alloc: Global, row: &str) -> Result<bool, Unread> {
-    let (digits, due) = pair(row)?;
+    let (digits, due) = pair(row);
     let node = element(alloc, digits)?;
-    Ok(string(alloc, &node)?.as_str() == due)
+    Ok(tells(string(alloc, &node), due))
 }
 
 #[test]
@@ -73,9 +73,9 @@ bf30079f81530100a300 bf30079f815301008300
 ";
 
 fn is_spelled(alloc: Global, row: &str) -> Result<bool, Unread> {
-    let (digits, due) = pair(row)?;
+    let (digits, due) = pair(row);
     let node = element(alloc, digits)?;
-    Ok(apdu_encoding(alloc, &node)?.as_str() == due)
+    Ok(tells(apdu_encoding(alloc, &node), due))
 }
 
 #[test]
@@ -172,12 +172,12 @@ fn is_one_value<F: Fn(Global, &Node) -> Result<String, Unread>>(
 {
     let due = encoding(alloc, node)?;
     for form in [Form::One, Form::Three, Form::Nested] {
-        if said(alloc, node, place, form, says)? != due {
+        if !tells(said(alloc, node, place, form, says), due.as_str()) {
             return Ok(false);
         }
     }
     let none = said(alloc, node, place, Form::Bare, says)?;
-    Ok(none == said(alloc, node, place, Form::Empty, says)?)
+    Ok(tells(said(alloc, node, place, Form::Empty, says), none.as_str()))
 }
 
 // The same of all places in a text; `-` stands for none.
@@ -192,7 +192,7 @@ fn are_one_value<F: Fn(Global, &Node) -> Result<String, Unread>>(
     let node = element(alloc, digits)?;
     if places != "-" {
         for place in places.split(' ') {
-            if !is_one_value(alloc, &node, place.parse::<usize>()?, says)? {
+            if !held(is_one_value(alloc, &node, place.parse::<usize>()?, says)) {
                 return Ok(false);
             }
         }
@@ -236,9 +236,9 @@ const PLACES: &str = "\
 #[test]
 fn each_string_of_an_apdu_has_either_form(rt: HostRuntime) -> Result<(), Fail> {
     for (row, places) in APDUS.lines().zip(PLACES.lines()) {
-        let (digits, _) = pair(row)?;
+        let (digits, _) = pair(row);
         assert!(rt;
-            are_one_value(rt.alloc(), digits, places, &apdu_encoding)?,
+            held(are_one_value(rt.alloc(), digits, places, &apdu_encoding)),
             "{row}"
         );
     }
@@ -261,7 +261,7 @@ a13b06072a8648ce130301a130a00abf6607bf2c009f2d0161a11da00abf6607bf2c009f2d0162a0
 ";
 
 fn is_query(alloc: Global, row: &str) -> Result<bool, Unread> {
-    let (digits, places) = pair(row)?;
+    let (digits, places) = pair(row);
     are_one_value(alloc, digits, places, &query_encoding)
 }
 
@@ -315,21 +315,32 @@ fn record_encoding(alloc: Global, node: &Node) -> Result<String, Unread> {
     Ok(encoding(alloc, &node)?)
 }
 
+// What a record of octets that is streamed in segments of so many is read as.
+fn cut_encoding(alloc: Global, octets: &[u8], size: usize) -> Result<String, Unread>
+    requires { 0 < size }
+{
+    let nodes = parts(alloc, octets, size)?;
+    let cut = record(alloc, Node::cons(Tag::context(1), nodes))?;
+    record_encoding(alloc, &streamed(alloc, &cut)?)
+}
+
+fn whole_encoding(alloc: Global, octets: Bytes) -> Result<String, Unread> {
+    let whole = record(alloc, Node::prim(Tag::context(1), octets))?;
+    Ok(encoding(alloc, &whole)?)
+}
+
 // Whether a record of so many octets that is streamed in segments of so many is read.
 fn is_streamed(alloc: Global, count: u32, size: usize) -> Result<bool, Unread>
     requires { 0 < size }
 {
     let octets = counted(alloc, count)?;
-    let nodes = parts(alloc, octets.as_slice(), size)?;
-    let cut = record(alloc, Node::cons(Tag::context(1), nodes))?;
-    let whole = record(alloc, Node::prim(Tag::context(1), octets))?;
-    let found = record_encoding(alloc, &streamed(alloc, &cut)?)?;
-    Ok(found == encoding(alloc, &whole)?)
+    let found = cut_encoding(alloc, octets.as_slice(), size)?;
+    Ok(tells(whole_encoding(alloc, octets), found.as_str()))
 }
 
 #[test]
 fn a_record_of_100000_octets_is_read_in_segments_of_1000(rt: HostRuntime) -> Result<(), Fail> {
-    assert!(rt; is_streamed(rt.alloc(), 100_000, 1000)?);
+    assert!(rt; held(is_streamed(rt.alloc(), 100_000, 1000)));
     Ok(())
 }
 
@@ -342,20 +353,26 @@ fn nested(alloc: Global, nodes: Vec<Node>, levels: u32) -> Result<Node, AllocErr
     Ok(node)
 }
 
+fn is_same(found: Result<Bytes, ValueError>, due: &Bytes) -> bool {
+    match found {
+        Ok(found) => found.as_slice() == due.as_slice(),
+        Err(_) => false,
+    }
+}
+
 // Whether octets in segments of so many, so many levels deep, are joined.
 fn is_joined(alloc: Global, octets: &Bytes, size: usize, levels: u32) -> Result<bool, Unread>
     requires { 0 < size }
 {
     let nodes = parts(alloc, octets.as_slice(), size)?;
     let node = nested(alloc, nodes, levels)?;
-    let joined = node.as_octets(alloc)?;
-    Ok(joined.as_slice() == octets.as_slice())
+    Ok(is_same(node.as_octets(alloc), octets))
 }
 
 #[test]
 fn segments_of_one_octet_are_joined_60_deep(rt: HostRuntime) -> Result<(), Fail> {
     let octets = counted(rt.alloc(), 200_000)?;
-    assert!(rt; is_joined(rt.alloc(), &octets, 1, 1)?);
-    assert!(rt; is_joined(rt.alloc(), &octets, 1, 60)?);
+    assert!(rt; held(is_joined(rt.alloc(), &octets, 1, 1)));
+    assert!(rt; held(is_joined(rt.alloc(), &octets, 1, 60)));
     Ok(())
 }

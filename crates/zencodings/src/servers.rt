@@ -29,7 +29,7 @@ bf308300000d82009f81530107830469646c65 bf300d82009f81530107830469646c65 close #-
 "#;
 
 fn is_read(alloc: Global, row: &str) -> Result<bool, Unread> {
-    let (sent, due) = pair(row)?;
+    let (sent, due) = pair(row);
     let octets = octets(alloc, sent)?;
     is_line(alloc, octets.as_slice(), due)
 }

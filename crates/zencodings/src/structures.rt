@@ -3,7 +3,7 @@ use crate::boxes::boxed;
 use crate::notation::{complex, has_no_text, near, other};
 use crate::plain::{is_query, query_copy, query_node, query_of};
 use crate::queries::{is_printed, unwrapped};
-use crate::rows::{each_row, element, encoding, pair};
+use crate::rows::{each_row, element, encoding, held, pair, tells};
 use crate::unread::Unread;
 use bytes::Bytes;
 use std::alloc::{AllocError, Global};
@@ -95,7 +95,7 @@ a11f06072a8648ce130301a014bf6611bf2c0a31089f7801019f7901049f2d0161
 
 fn is_written_as(alloc: Global, query: &Query, digits: &str) -> Result<bool, Unread> {
     let node = query_node(alloc, query)?;
-    Ok(encoding(alloc, &node)?.as_str() == digits)
+    Ok(tells(encoding(alloc, &node), digits))
 }
 
 fn is_copied_as(alloc: Global, query: &Query, digits: &str) -> Result<bool, Unread> {
@@ -103,12 +103,10 @@ fn is_copied_as(alloc: Global, query: &Query, digits: &str) -> Result<bool, Unre
     is_written_as(alloc, &copy, digits)
 }
 
-fn is_opaque(alloc: Global, query: &Query, digits: &str) -> Result<bool, Unread> {
-    Ok(
-        is_written_as(alloc, query, digits)?
-            && is_copied_as(alloc, query, digits)?
-            && has_no_text(alloc, query)?,
-    )
+fn is_opaque(alloc: Global, query: &Query, digits: &str) -> bool {
+    held(is_written_as(alloc, query, digits))
+        && held(is_copied_as(alloc, query, digits))
+        && held(has_no_text(alloc, query))
 }
 
 fn query(alloc: Global, digits: &str) -> Result<Box<Query>, Unread> {
@@ -118,7 +116,7 @@ fn query(alloc: Global, digits: &str) -> Result<Box<Query>, Unread> {
 
 fn is_kept(alloc: Global, row: &str) -> Result<bool, Unread> {
     let query = query(alloc, row)?;
-    is_opaque(alloc, &query, row)
+    Ok(is_opaque(alloc, &query, row))
 }
 
 #[test]
@@ -140,8 +138,8 @@ a180a00abf6607bf2c009f2d0162 a00abf6607bf2c009f2d0161 bf2e02a3000000
 ";
 
 fn tower(alloc: Global, row: &str) -> Result<Node, Unread> {
-    let (front, rest) = pair(row)?;
-    let (operand, back) = pair(rest)?;
+    let (front, rest) = pair(row);
+    let (operand, back) = pair(rest);
     let fronts = front.repeat(alloc, 60)?;
     let backs = back.repeat(alloc, 60)?;
     let digits = format!(in alloc; "a18006072a8648ce130301{fronts}{operand}{backs}0000")?;
@@ -153,7 +151,7 @@ fn is_kept_high(alloc: Global, row: &str) -> Result<bool, Unread> {
     let node = tower(alloc, row)?;
     let query = query_of(alloc, &node)?;
     let digits = encoding(alloc, &node)?;
-    is_opaque(alloc, &query, digits.as_str())
+    Ok(is_opaque(alloc, &query, digits.as_str()))
 }
 
 #[test]
@@ -183,7 +181,7 @@ fn within(alloc: Global, digits: &str) -> Result<Box<Query>, Unread> {
 #[test]
 fn other_lengths_say_the_same(rt: HostRuntime) -> Result<(), Fail> {
     let query = within(rt.alloc(), LONG)?;
-    assert!(rt; is_printed(rt.alloc(), &query, b"@attr 1=4 \"dune\"")?);
+    assert!(rt; is_printed(rt.alloc(), &query, b"@attr 1=4 \"dune\""));
     Ok(())
 }
 
@@ -243,10 +241,14 @@ fn proximity_mark(alloc: Global, node: &Node) -> Result<char, Unread> {
     mark(alloc, root, 'p')
 }
 
+fn put(mark: Result<char, Unread>, out: &mut String) -> Result<(), Unread> {
+    Ok(out.push(mark?)?)
+}
+
 fn marks(alloc: Global, node: &Node, out: &mut String) -> Result<(), Unread> {
-    out.push(term_mark(alloc, node)?)?;
-    out.push(value_mark(alloc, node)?)?;
-    Ok(out.push(proximity_mark(alloc, node)?)?)
+    put(term_mark(alloc, node), out)?;
+    put(value_mark(alloc, node), out)?;
+    put(proximity_mark(alloc, node), out)
 }
 
 fn primitive(alloc: Global, tag: Tag) -> Result<Node, AllocError> {
@@ -263,9 +265,9 @@ fn all_marks(alloc: Global, tag: Tag) -> Result<String, Unread> {
 }
 
 fn has_marks(alloc: Global, row: &str) -> Result<bool, Unread> {
-    let (number, due) = pair(row)?;
+    let (number, due) = pair(row);
     let tag = Tag::context(number.parse::<u32>()?);
-    Ok(all_marks(alloc, tag)?.as_str() == due)
+    Ok(tells(all_marks(alloc, tag), due))
 }
 
 #[test]

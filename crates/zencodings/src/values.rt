@@ -1,5 +1,5 @@
 // Values in contents octets, worked out from X.690, 8.2, 8.3, 8.6 to 8.8 and 8.19.
-use crate::rows::{digits, each_row, octets, pair};
+use crate::rows::{digits, each_row, octets, pair, tells};
 use crate::unread::Unread;
 use bytes::Bytes;
 use std::alloc::{AllocError, Global};
@@ -204,10 +204,10 @@ fn read(alloc: Global, kind: &str, node: &Node) -> Result<String, AllocError> {
 }
 
 fn is_read(alloc: Global, row: &str) -> Result<bool, Unread> {
-    let (kind, rest) = pair(row)?;
-    let (digits, value) = pair(rest)?;
+    let (kind, rest) = pair(row);
+    let (digits, value) = pair(rest);
     let node = held(alloc, digits)?;
-    Ok(read(alloc, kind, &node)?.as_str() == value)
+    Ok(tells(read(alloc, kind, &node), value))
 }
 
 #[test]
@@ -274,10 +274,10 @@ fn written(alloc: Global, kind: &str, value: &str) -> Result<Node, Unread> {
 }
 
 fn is_written(alloc: Global, row: &str) -> Result<bool, Unread> {
-    let (kind, rest) = pair(row)?;
-    let (digits, value) = pair(rest)?;
+    let (kind, rest) = pair(row);
+    let (digits, value) = pair(rest);
     let node = written(alloc, kind, value)?;
-    Ok(contents(alloc, &node)?.as_str() == digits)
+    Ok(tells(contents(alloc, &node), digits))
 }
 
 #[test]
@@ -292,9 +292,9 @@ const FIRST: &str = "\
 ";
 
 fn are_first(alloc: Global, row: &str) -> Result<bool, Unread> {
-    let (digits, due) = pair(row)?;
+    let (digits, due) = pair(row);
     let bits = held(alloc, digits)?.as_bits(alloc)?;
-    Ok(bit_digits(alloc, &bits, 20)?.as_str() == due)
+    Ok(tells(bit_digits(alloc, &bits, 20), due))
 }
 
 #[test]

@@ -8,22 +8,27 @@ use std::alloc::{AllocError, Global};
 use zapdu::{DiagRec, Record, diag_of, record_of};
 use zber::Node;
 use zencodings::boxes::boxed;
+use zencodings::parts::Line;
 use zencodings::rows::{element, pair};
 use zencodings::unread::Unread;
 use zknow::{Fact, Knowledge};
 
 // The element that a word names: digits; or of two octets, a record of them in the syntax 1.2.840.10003.5.10 with the shortest
 // lengths; or behind `~` the same with longer lengths.
-fn named(alloc: Global, word: &str) -> Result<Node, Unread> {
-    let digits = match word.as_bytes() {
+fn digits_of(alloc: Global, word: &str) -> Result<String, AllocError> {
+    match word.as_bytes() {
         [first, second] => format!(in alloc;
             "3013a111a10f280d06072a8648ce13050a8102{first:02x}{second:02x}"
-        )?,
+        ),
         [b'~', first, second] => format!(in alloc;
             "308115a113a1112882000d06072a8648ce13050a8102{first:02x}{second:02x}"
-        )?,
-        _ => word.to_string(alloc)?,
-    };
+        ),
+        _ => word.to_string(alloc),
+    }
+}
+
+fn named(alloc: Global, word: &str) -> Result<Node, Unread> {
+    let digits = digits_of(alloc, word)?;
     element(alloc, digits.as_str())
 }
 
@@ -71,7 +76,7 @@ fn count_of(target: u32, set: u32, rest: &str) -> Result<Fact, Unread>
 fn seen_of(alloc: Global, target: u32, set: u32, rest: &str) -> Result<Fact, Unread>
     ensures { IfOk result IsFact }
 {
-    let (position, word) = pair(rest)?;
+    let (position, word) = pair(rest);
     let position = number(position, 1)?;
     let rec = record(alloc, word)?;
     Ok(Fact::Seen {
@@ -85,7 +90,7 @@ fn seen_of(alloc: Global, target: u32, set: u32, rest: &str) -> Result<Fact, Unr
 fn diag_fact(alloc: Global, target: u32, set: u32, rest: &str) -> Result<Fact, Unread>
     ensures { IfOk result IsFact }
 {
-    let (place, word) = pair(rest)?;
+    let (place, word) = pair(rest);
     let place = number(place, 0)?;
     let diag = diag(alloc, word)?;
     Ok(Fact::Diag {
@@ -113,9 +118,9 @@ fn about(alloc: Global, kind: &str, target: u32, set: u32, rest: &str) -> Result
 pub(crate) fn fact(alloc: Global, row: &str) -> Result<Fact, Unread>
     ensures { IfOk result IsFact }
 {
-    let (kind, rest) = pair(row)?;
-    let (target, rest) = pair(rest)?;
-    let (set, rest) = pair(rest)?;
+    let (kind, rest) = pair(row);
+    let (target, rest) = pair(rest);
+    let (set, rest) = pair(rest);
     about(
         alloc,
         kind,
@@ -156,16 +161,12 @@ pub(crate) fn known(alloc: Global, rows: &str) -> Result<Box<Knowledge>, Unread>
     Ok(knowledge)
 }
 
-fn put_all(alloc: Global, knowledge: &Knowledge, out: &mut Vec<u8>) -> Result<(), Unread> {
-    let facts = knowledge.facts()?;
-    put_facts(alloc, facts.as_slice(), out)
-}
-
 /// Whether these are all facts, in fact order, with a space before each.
 pub(crate) fn has_facts(alloc: Global, knowledge: &Knowledge, due: &str) -> Result<bool, Unread> {
-    let mut out = Vec::new(alloc);
-    put_all(alloc, knowledge, &mut out)?;
-    Ok(out.as_slice() == due.as_bytes())
+    let facts = knowledge.facts()?;
+    let mut line = Line::new(alloc);
+    put_facts(alloc, facts.as_slice(), &mut line);
+    Ok(line.is(due.as_bytes()))
 }
 
 /// Whether this is known of the count of a set.
@@ -175,20 +176,15 @@ pub(crate) fn is_count(
     target: u32,
     set: u32,
     due: &str,
-) -> Result<bool, Unread> {
-    let mut out = Vec::new(alloc);
-    put_counts(alloc, knowledge.count(target, set), &mut out)?;
-    Ok(out.as_slice() == due.as_bytes())
+) -> bool {
+    let mut line = Line::new(alloc);
+    put_counts(alloc, knowledge.count(target, set), &mut line);
+    line.is(due.as_bytes())
 }
 
 /// Whether this is known of the record at a position of set 1 of target 0.
-pub(crate) fn is_at(
-    alloc: Global,
-    knowledge: &Knowledge,
-    position: i64,
-    due: &str,
-) -> Result<bool, Unread> {
-    let mut out = Vec::new(alloc);
-    put_known(alloc, knowledge.at(0, 1, position), &mut out)?;
-    Ok(out.as_slice() == due.as_bytes())
+pub(crate) fn is_at(alloc: Global, knowledge: &Knowledge, position: i64, due: &str) -> bool {
+    let mut line = Line::new(alloc);
+    put_known(alloc, knowledge.at(0, 1, position), &mut line);
+    line.is(due.as_bytes())
 }

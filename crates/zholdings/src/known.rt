@@ -1,11 +1,11 @@
 // What is known: facts in every order, twice, absorbed and copied; two values at one place; the printed list.
 use crate::facts::{add, copied, has_facts, is_at, is_count, known, nothing};
-use crate::reference::{list, note};
+use crate::reference::{Noted, list, note};
 use crate::shown::{has_list, is_listed};
 use std::alloc::{AllocError, Global};
 use std::process::Abort;
 use std::test::Fail;
-use zencodings::rows::{each_row, halves, pair, unescaped};
+use zencodings::rows::{each_row, halves, held, pair, spells, unescaped};
 use zencodings::unread::Unread;
 use zknow::{Knowledge, Mode};
 
@@ -74,19 +74,34 @@ pub(crate) fn add_in_order(
     Ok(())
 }
 
+fn note_at(
+    alloc: Global,
+    facts: &mut Vec<Noted>,
+    rows: &[&str],
+    place: usize,
+) -> Result<(), Unread> {
+    match rows.get(place) {
+        Some(row) => note(alloc, facts, row),
+        None => Err(Unread),
+    }
+}
+
 // Whether the reference has the list.
 fn is_noted(alloc: Global, rows: &[&str], places: &[usize], due: &str) -> Result<bool, Unread> {
     let mut facts = Vec::new(alloc);
     for place in places {
-        note(alloc, &mut facts, rows.get(*place).ok_or(Unread)?)?;
+        note_at(alloc, &mut facts, rows, *place)?;
     }
-    Ok(list(alloc, &["a"], facts.as_slice())?.as_slice() == due.as_bytes())
+    Ok(spells(list(alloc, &["a"], facts.as_slice()), due.as_bytes()))
 }
 
 fn is_list_of(alloc: Global, rows: &[&str], places: &[usize], due: &str) -> Result<bool, Unread> {
     let mut knowledge = nothing(alloc)?;
     add_in_order(alloc, &mut knowledge, rows, places)?;
-    Ok(is_listed(alloc, &knowledge, "a", Mode::Text, due)? && is_noted(alloc, rows, places, due)?)
+    Ok(
+        is_listed(alloc, &knowledge, "a", Mode::Text, due)
+            && held(is_noted(alloc, rows, places, due)),
+    )
 }
 
 // Whether rows have the list in the order of this number.
@@ -101,39 +116,39 @@ fn is_list_in_order(
 }
 
 // In how many of the first orders rows have the list.
-fn orders(alloc: Global, rows: &[&str], count: usize, due: &str) -> Result<usize, Unread> {
+fn orders(alloc: Global, rows: &[&str], count: usize, due: &str) -> usize {
     let mut same = 0usize;
     for number in 0..count {
-        if is_list_in_order(alloc, rows, number, due)? {
+        if held(is_list_in_order(alloc, rows, number, due)) {
             same = same.saturating_add(1);
         }
     }
-    Ok(same)
+    same
 }
 
 // In how many orders the seven facts of a search and two requests have the list.
 fn orders_of(alloc: Global, first: &str, second: &str, due: &str) -> Result<usize, Unread> {
     let text = format!(in alloc; "{SEARCH}\n{first}\n{second}")?;
     let rows: Vec<&str> = text.as_str().lines().collect(alloc)?;
-    orders(alloc, rows.as_slice(), 5040, due)
+    Ok(orders(alloc, rows.as_slice(), 5040, due))
 }
 
 #[test]
 fn records_that_agree_have_one_list_in_every_order(rt: HostRuntime) -> Result<(), Fail> {
-    assert!(rt; orders_of(rt.alloc(), FIRST, SECOND, AGREED)? == 5040);
+    assert!(rt; matches!(orders_of(rt.alloc(), FIRST, SECOND, AGREED), Ok(5040)));
     Ok(())
 }
 
 #[test]
 fn records_that_differ_have_one_list_in_every_order(rt: HostRuntime) -> Result<(), Fail> {
-    assert!(rt; orders_of(rt.alloc(), FIRST, OTHER, CONFLICT)? == 5040);
+    assert!(rt; matches!(orders_of(rt.alloc(), FIRST, OTHER, CONFLICT), Ok(5040)));
     Ok(())
 }
 
 // Whether a copy has the list.
 fn is_copied(alloc: Global, knowledge: &Knowledge, due: &str) -> Result<bool, Unread> {
     let copy = copied(alloc, knowledge)?;
-    is_listed(alloc, &copy, "a", Mode::Text, due)
+    Ok(is_listed(alloc, &copy, "a", Mode::Text, due))
 }
 
 // Whether a knowledge has the list once it has absorbed another, and still once it has absorbed it again.
@@ -144,9 +159,9 @@ fn absorbs(
     due: &str,
 ) -> Result<bool, Unread> {
     knowledge.absorb(other)?;
-    let once = is_copied(alloc, knowledge, due)?;
+    let once = held(is_copied(alloc, knowledge, due));
     knowledge.absorb(other)?;
-    Ok(once && is_listed(alloc, knowledge, "a", Mode::Text, due)?)
+    Ok(once && is_listed(alloc, knowledge, "a", Mode::Text, due))
 }
 
 fn absorbs_rows(
@@ -174,15 +189,15 @@ fn is_joined_either_way(
     let left = format!(in alloc; "{SEARCH}\n{first}")?;
     let right = format!(in alloc; "{SEARCH}\n{second}")?;
     Ok(
-        is_joined(alloc, left.as_str(), right.as_str(), due)?
-            && is_joined(alloc, right.as_str(), left.as_str(), due)?,
+        held(is_joined(alloc, left.as_str(), right.as_str(), due))
+            && held(is_joined(alloc, right.as_str(), left.as_str(), due)),
     )
 }
 
 #[test]
 fn joined_either_way_the_list_is_the_same(rt: HostRuntime) -> Result<(), Fail> {
-    assert!(rt; is_joined_either_way(rt.alloc(), FIRST, SECOND, AGREED)?);
-    assert!(rt; is_joined_either_way(rt.alloc(), FIRST, OTHER, CONFLICT)?);
+    assert!(rt; held(is_joined_either_way(rt.alloc(), FIRST, SECOND, AGREED)));
+    assert!(rt; held(is_joined_either_way(rt.alloc(), FIRST, OTHER, CONFLICT)));
     Ok(())
 }
 
@@ -208,39 +223,42 @@ count 0 1 5;count 0 1 4;count 0 1 5;count 1 1 0; => list a b => target \"a\" set
 seen 0 1 4 r4;seen 0 1 2 r2;count 0 1 4;seen 0 1 3 r3;seen 0 1 2 ~r2;seen 0 1 1 r1;seen 0 1 4 r4;count 0 1 4; => facts - =>  count 0 1 4 seen 0 1 1 3013a111a10f280d06072a8648ce13050a81027231 seen 0 1 2 3013a111a10f280d06072a8648ce13050a81027232 seen 0 1 3 3013a111a10f280d06072a8648ce13050a81027233 seen 0 1 4 3013a111a10f280d06072a8648ce13050a81027234
 ";
 
+// The count of a target's set.
+fn is_count_of(alloc: Global, knowledge: &Knowledge, row: &str, due: &str) -> Result<bool, Unread> {
+    let (target, set) = pair(row);
+    let target = target.parse::<u32>()?;
+    let set = set.parse::<u32>()?;
+    Ok(is_count(alloc, knowledge, target, set, due))
+}
+
+fn is_record(alloc: Global, knowledge: &Knowledge, row: &str, due: &str) -> Result<bool, Unread> {
+    let position = row.parse::<i64>()?;
+    Ok(is_at(alloc, knowledge, position, due))
+}
+
+fn is_list(alloc: Global, knowledge: &Knowledge, names: &str, due: &str) -> Result<bool, Unread> {
+    let due = unescaped(alloc, due)?;
+    Ok(has_list(alloc, knowledge, names, Mode::Text, due.as_slice()))
+}
+
 fn is_answer(
     alloc: Global,
     knowledge: &Knowledge,
     question: &str,
     due: &str,
 ) -> Result<bool, Unread> {
-    let (word, rest) = pair(question)?;
+    let (word, rest) = pair(question);
     match word {
-        "at" => is_at(alloc, knowledge, rest.parse::<i64>()?, due),
-        "count" => {
-            let (target, set) = pair(rest)?;
-            is_count(
-                alloc,
-                knowledge,
-                target.parse::<u32>()?,
-                set.parse::<u32>()?,
-                due,
-            )
-        }
+        "at" => is_record(alloc, knowledge, rest, due),
+        "count" => is_count_of(alloc, knowledge, rest, due),
         "facts" => has_facts(alloc, knowledge, due),
-        _ => has_list(
-            alloc,
-            knowledge,
-            rest,
-            Mode::Text,
-            unescaped(alloc, due)?.as_slice(),
-        ),
+        _ => is_list(alloc, knowledge, rest, due),
     }
 }
 
 fn is_answered(alloc: Global, row: &str) -> Result<bool, Unread> {
-    let (facts, rest) = halves(row)?;
-    let (question, due) = halves(rest)?;
+    let (facts, rest) = halves(row);
+    let (question, due) = halves(rest);
     let rows = facts.replace(alloc, ";", "\n")?;
     let knowledge = known(alloc, rows.as_str())?;
     is_answer(alloc, &knowledge, question, due)
@@ -308,19 +326,19 @@ fn are_listed(
     due: &str,
 ) -> Result<bool, Unread> {
     let knowledge = known(alloc, rows)?;
-    is_listed(alloc, &knowledge, names, mode, due)
+    Ok(is_listed(alloc, &knowledge, names, mode, due))
 }
 
 #[test]
 fn each_kind_of_fact_has_its_line(rt: HostRuntime) -> Result<(), Fail> {
-    assert!(rt; are_listed(rt.alloc(), MIXED, "a b%22%5c", Mode::Text, LINES)?);
+    assert!(rt; held(are_listed(rt.alloc(), MIXED, "a b%22%5c", Mode::Text, LINES)));
     Ok(())
 }
 
 #[test]
 fn octets_are_quoted_or_in_hexadecimal(rt: HostRuntime) -> Result<(), Fail> {
-    assert!(rt; are_listed(rt.alloc(), OCTETS, "a", Mode::Text, QUOTED)?);
-    assert!(rt; are_listed(rt.alloc(), OCTETS, "a", Mode::Hex, DIGITS)?);
+    assert!(rt; held(are_listed(rt.alloc(), OCTETS, "a", Mode::Text, QUOTED)));
+    assert!(rt; held(are_listed(rt.alloc(), OCTETS, "a", Mode::Hex, DIGITS)));
     Ok(())
 }
 
@@ -335,6 +353,6 @@ fn are_facts(alloc: Global, rows: &str, due: &str) -> Result<bool, Unread> {
 
 #[test]
 fn facts_of_all_kinds_stand_in_order(rt: HostRuntime) -> Result<(), Fail> {
-    assert!(rt; are_facts(rt.alloc(), MIXED, SORTED)?);
+    assert!(rt; held(are_facts(rt.alloc(), MIXED, SORTED)));
     Ok(())
 }

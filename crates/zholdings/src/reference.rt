@@ -2,16 +2,17 @@
 use crate::facts::fact;
 use std::alloc::{AllocError, Global};
 use zapdu::{DiagRec, Record, print_diag, print_record, quote};
-use zencodings::boxes::{diag_node, record_node};
+use zencodings::boxes::{boxed, diag_node, record_node};
+use zencodings::parts::Line;
 use zencodings::rows::encoding;
-use zencodings::unread::Unread;
+use zencodings::unread::{Unread, read};
 use zknow::Fact;
 
 /// A fact, and the text by which facts stand in fact order.
 #[derive(Drop)]
 pub(crate) struct Noted {
     order: String,
-    fact: Fact,
+    fact: Box<Fact>,
 }
 
 fn record_digits(alloc: Global, record: &Record) -> Result<String, Unread> {
@@ -24,30 +25,42 @@ fn diag_digits(alloc: Global, diag: &DiagRec) -> Result<String, Unread> {
     Ok(encoding(alloc, &node)?)
 }
 
+// The text of a kind of fact, its target, set and number, and the digits of its element.
+fn key(
+    alloc: Global,
+    kind: u32,
+    set: (u32, u32),
+    number: i64,
+    digits: Result<String, Unread>,
+) -> Result<String, Unread> {
+    let digits = digits?;
+    let (target, set) = set;
+    Ok(format!(in alloc; "{kind} {target:010} {set:010} {number:020} {digits}")?)
+}
+
 fn order_of(alloc: Global, fact: &Fact) -> Result<String, Unread> {
+    let none = Ok(String::new(alloc));
     match fact {
-        Fact::Count { target, set, count } => Ok(format!(in alloc;
-            "0 {target:010} {set:010} {count:020}"
-        )?),
-        Fact::Failed { target, set } => Ok(format!(in alloc; "1 {target:010} {set:010}")?),
+        Fact::Count { target, set, count } => key(alloc, 0, (*target, *set), *count, none),
+        Fact::Failed { target, set } => key(alloc, 1, (*target, *set), 0, none),
         Fact::Seen {
             target,
             set,
             position,
             rec,
-        } => {
-            let digits = record_digits(alloc, rec)?;
-            Ok(format!(in alloc; "2 {target:010} {set:010} {position:020} {digits}")?)
-        }
+        } => key(
+            alloc,
+            2,
+            (*target, *set),
+            *position,
+            record_digits(alloc, rec),
+        ),
         Fact::Diag {
             target,
             set,
             place,
             diag,
-        } => {
-            let digits = diag_digits(alloc, diag)?;
-            Ok(format!(in alloc; "3 {target:010} {set:010} {place:020} {digits}")?)
-        }
+        } => key(alloc, 3, (*target, *set), *place, diag_digits(alloc, diag)),
     }
 }
 
@@ -62,16 +75,32 @@ fn place(facts: &[Noted], order: &str) -> usize {
     place
 }
 
-/// Adds the fact of a row in its place, where it is not there.
-pub(crate) fn note(alloc: Global, facts: &mut Vec<Noted>, row: &str) -> Result<(), Unread> {
+fn noted_of(alloc: Global, row: &str) -> Result<Noted, Unread> {
     let fact = fact(alloc, row)?;
     let order = order_of(alloc, &fact)?;
-    let at = place(facts.as_slice(), order.as_str());
-    let is_there = facts.get(at).is_some_and(|noted| noted.order == order);
-    if !is_there && at <= facts.len() {
-        facts.insert(at, Noted { order, fact })?;
+    let fact = boxed(alloc, fact)?;
+    Ok(Noted { order, fact })
+}
+
+fn has_order(facts: &[Noted], at: usize, order: &str) -> bool {
+    match facts.get(at) {
+        Some(noted) => noted.order.as_str() == order,
+        None => false,
     }
-    Ok(())
+}
+
+fn put_in(facts: &mut Vec<Noted>, noted: Noted) -> Result<(), Unread> {
+    let at = place(facts.as_slice(), noted.order.as_str());
+    if at > facts.len() || has_order(facts.as_slice(), at, noted.order.as_str()) {
+        return Ok(());
+    }
+    read(facts.insert(at, noted))
+}
+
+/// Adds the fact of a row in its place, where it is not there.
+pub(crate) fn note(alloc: Global, facts: &mut Vec<Noted>, row: &str) -> Result<(), Unread> {
+    let noted = noted_of(alloc, row)?;
+    put_in(facts, noted)
 }
 
 /// The facts of rows.
@@ -128,110 +157,116 @@ fn rows(alloc: Global, facts: &[Noted]) -> Result<Vec<(i64, u32, u32)>, AllocErr
     Ok(keys)
 }
 
+fn name(alloc: Global, text: &str) -> Result<Vec<u8>, AllocError> {
+    let mut out = Vec::new(alloc);
+    quote(alloc, text.as_bytes(), &mut out)?;
+    Ok(out)
+}
+
 // The name, or # and the number of a target that has none.
-fn put_name(
-    alloc: Global,
-    names: &[&str],
-    target: u32,
-    out: &mut Vec<u8>,
-) -> Result<(), AllocError> {
+fn put_name(alloc: Global, names: &[&str], target: u32, out: &mut Line) {
     match names.get(target as usize) {
-        Some(name) => quote(alloc, name.as_bytes(), out),
-        None => {
-            let number = format!(in alloc; "#{target}")?;
-            out.extend_from_slice(number.as_bytes())
-        }
+        Some(text) => out.given(name(alloc, text)),
+        None => out.joined(format!(in alloc; "#{target}")),
     }
 }
 
-fn put(text: Result<String, AllocError>, out: &mut Vec<u8>) -> Result<(), AllocError> {
-    out.extend_from_slice(text?.as_bytes())
+fn diag_text(alloc: Global, diag: &DiagRec) -> Result<Vec<u8>, AllocError> {
+    let mut out = Vec::new(alloc);
+    print_diag(alloc, diag, &mut out)?;
+    Ok(out)
+}
+
+fn record_text(alloc: Global, record: &Record) -> Result<Vec<u8>, AllocError> {
+    let mut out = Vec::new(alloc);
+    print_record(alloc, record, false, &mut out)?;
+    Ok(out)
 }
 
 // The line of a fact of a set, behind the set.
-fn put_tail(alloc: Global, fact: &Fact, out: &mut Vec<u8>) -> Result<(), AllocError> {
+fn put_tail(alloc: Global, fact: &Fact, out: &mut Line) {
     match fact {
-        Fact::Count { count, .. } => put(format!(in alloc; " count {count}\n"), out),
-        Fact::Failed { .. } => out.extend_from_slice(b" failed\n"),
-        Fact::Seen { .. } => Ok(()),
+        Fact::Count { count, .. } => out.joined(format!(in alloc; " count {count}\n")),
+        Fact::Failed { .. } => out.put(b" failed\n"),
+        Fact::Seen { .. } => {}
         Fact::Diag { place, diag, .. } => {
-            put(format!(in alloc; " diag {place} "), out)?;
-            print_diag(alloc, diag, out)?;
-            Ok(out.push(b'\n')?)
+            out.joined(format!(in alloc; " diag {place} "));
+            out.given(diag_text(alloc, diag));
+            out.put(b"\n")
         }
     }
 }
 
-fn put_block(
-    alloc: Global,
-    names: &[&str],
-    facts: &[Noted],
-    key: (u32, u32),
-    out: &mut Vec<u8>,
-) -> Result<(), AllocError> {
+fn put_block(alloc: Global, names: &[&str], facts: &[Noted], key: (u32, u32), out: &mut Line) {
     for noted in facts {
         if block_of(&noted.fact) == Some(key) {
-            out.extend_from_slice(b"target ")?;
-            put_name(alloc, names, key.0, out)?;
-            put(format!(in alloc; " set {}", key.1), out)?;
-            put_tail(alloc, &noted.fact, out)?;
+            out.put(b"target ");
+            put_name(alloc, names, key.0, out);
+            out.joined(format!(in alloc; " set {}", key.1));
+            put_tail(alloc, &noted.fact, out);
         }
     }
-    Ok(())
 }
 
-// The records of a row, each behind a text and on a line of its own, and how many.
-fn put_records(
-    alloc: Global,
-    facts: &[Noted],
-    key: (i64, u32, u32),
-    before: &str,
-    out: &mut Vec<u8>,
-) -> Result<u32, AllocError> {
+fn stands_at(fact: &Fact, key: (i64, u32, u32)) -> bool {
+    match row_of(fact) {
+        Some((at, _)) => at == key,
+        None => false,
+    }
+}
+
+// How many records a row has.
+fn count_of(facts: &[Noted], key: (i64, u32, u32)) -> u32 {
     let mut count = 0u32;
     for noted in facts {
-        if let Some((at, record)) = row_of(&noted.fact) {
-            if at == key {
-                out.extend_from_slice(before.as_bytes())?;
-                print_record(alloc, record, false, out)?;
-                out.push(b'\n')?;
-                count = count.saturating_add(1);
-            }
+        if stands_at(&noted.fact, key) {
+            count = count.saturating_add(1);
         }
     }
-    Ok(count)
+    count
 }
 
-fn put_row(
-    alloc: Global,
-    names: &[&str],
-    facts: &[Noted],
-    key: (i64, u32, u32),
-    out: &mut Vec<u8>,
-) -> Result<(), AllocError> {
-    let (position, target, set) = key;
-    put(format!(in alloc; "{position} "), out)?;
-    put_name(alloc, names, target, out)?;
-    put(format!(in alloc; " {set}"), out)?;
-    let mut records = Vec::new(alloc);
-    let count = put_records(alloc, facts, key, "  ", &mut records)?;
-    if count == 1 {
-        put_records(alloc, facts, key, " ", out)?;
-    } else {
-        put(format!(in alloc; " conflict {count}\n"), out)?;
-        out.extend_from_slice(records.as_slice())?;
+fn put_record(alloc: Global, fact: &Fact, before: &str, out: &mut Line) {
+    if let Some((_, record)) = row_of(fact) {
+        out.put(before.as_bytes());
+        out.given(record_text(alloc, record));
+        out.put(b"\n");
     }
-    Ok(())
+}
+
+// The records of a row, each behind a text and on a line of its own.
+fn put_records(alloc: Global, facts: &[Noted], key: (i64, u32, u32), before: &str, out: &mut Line) {
+    for noted in facts {
+        if stands_at(&noted.fact, key) {
+            put_record(alloc, &noted.fact, before, out);
+        }
+    }
+}
+
+fn put_row(alloc: Global, names: &[&str], facts: &[Noted], key: (i64, u32, u32), out: &mut Line) {
+    let (position, target, set) = key;
+    out.joined(format!(in alloc; "{position} "));
+    put_name(alloc, names, target, out);
+    out.joined(format!(in alloc; " {set}"));
+    let count = count_of(facts, key);
+    if count == 1 {
+        put_records(alloc, facts, key, " ", out)
+    } else {
+        out.joined(format!(in alloc; " conflict {count}\n"));
+        put_records(alloc, facts, key, "  ", out)
+    }
 }
 
 /// The list of these facts.
-pub(crate) fn list(alloc: Global, names: &[&str], facts: &[Noted]) -> Result<Vec<u8>, AllocError> {
-    let mut out = Vec::new(alloc);
-    for key in blocks(alloc, facts)?.iter() {
-        put_block(alloc, names, facts, *key, &mut out)?;
+pub(crate) fn list(alloc: Global, names: &[&str], facts: &[Noted]) -> Result<Vec<u8>, Unread> {
+    let blocks = blocks(alloc, facts)?;
+    let rows = rows(alloc, facts)?;
+    let mut line = Line::new(alloc);
+    for key in blocks.iter() {
+        put_block(alloc, names, facts, *key, &mut line);
     }
-    for key in rows(alloc, facts)?.iter() {
-        put_row(alloc, names, facts, *key, &mut out)?;
+    for key in rows.iter() {
+        put_row(alloc, names, facts, *key, &mut line);
     }
-    Ok(out)
+    line.whole()
 }

@@ -5,7 +5,8 @@ use std::alloc::{AllocError, Global};
 use std::process::Abort;
 use std::test::Fail;
 use zber::Seq;
-use zencodings::rows::{digits, each_row, octets, pair};
+use zencodings::boxes::boxed;
+use zencodings::rows::{each_row, held, octets, pair, spells};
 use zencodings::unread::{Unread, read};
 use zknow::{Knowledge, LoadError, Names, SaveError, load, save};
 
@@ -28,15 +29,25 @@ a400a21e8001008101018201013013a111a10f280d06072a8648ce13050a81027231
 a400a319800101810100820100300e06072a8648ce13040102010d1a00
 ";
 
-/// The file of what a file says.
-fn again(alloc: Global, file: &str) -> Result<String, Unread> {
-    let (knowledge, names) = read(load(alloc, octets(alloc, file)?.as_slice()))?;
-    let file = saved(alloc, &knowledge, &names)?;
-    Ok(digits(alloc, file.as_slice())?)
+// What a file says, or why it says nothing.
+type Loaded = Result<(Knowledge, Names), LoadError>;
+
+fn loaded(alloc: Global, file: &[u8]) -> Result<Box<Loaded>, AllocError> {
+    boxed(alloc, load(alloc, file))
+}
+
+// Whether the file of what a file says is that file.
+fn is_written(alloc: Global, loaded: &Loaded, file: &[u8]) -> bool {
+    match loaded {
+        Ok((knowledge, names)) => spells(saved(alloc, knowledge, names), file),
+        Err(_) => false,
+    }
 }
 
 fn is_file(alloc: Global, row: &str) -> Result<bool, Unread> {
-    Ok(again(alloc, row)?.as_str() == row)
+    let file = octets(alloc, row)?;
+    let loaded = loaded(alloc, file.as_slice())?;
+    Ok(is_written(alloc, &loaded, file.as_slice()))
 }
 
 #[test]
@@ -87,15 +98,24 @@ const NOT_CANONICAL: &str = "\
 1 a400a319800101810101820100300e06072a8648ce13040102010d3a00
 ";
 
-/// Why a file is refused.
-fn refusal(alloc: Global, file: &str) -> Result<Option<LoadError>, Unread> {
-    Ok(load(alloc, octets(alloc, file)?.as_slice()).err())
+fn is_for(loaded: &Loaded, due: LoadError) -> bool {
+    match loaded {
+        Ok(_) => false,
+        Err(error) => *error == due,
+    }
+}
+
+// Whether a file is refused for this.
+fn is_refused(alloc: Global, file: &str, due: LoadError) -> Result<bool, Unread> {
+    let file = octets(alloc, file)?;
+    let loaded = loaded(alloc, file.as_slice())?;
+    Ok(is_for(&loaded, due))
 }
 
 fn is_no_knowledge(alloc: Global, row: &str) -> Result<bool, Unread> {
-    let (at, file) = pair(row)?;
+    let (at, file) = pair(row);
     let at = at.parse::<usize>()?;
-    Ok(refusal(alloc, file)? == Some(LoadError::NotKnowledge { at }))
+    is_refused(alloc, file, LoadError::NotKnowledge { at })
 }
 
 #[test]
@@ -104,9 +124,9 @@ fn what_is_no_knowledge_is_refused(rt: HostRuntime) -> Result<(), Fail> {
 }
 
 fn is_not_canonical(alloc: Global, row: &str) -> Result<bool, Unread> {
-    let (at, file) = pair(row)?;
+    let (at, file) = pair(row);
     let at = at.parse::<usize>()?;
-    Ok(refusal(alloc, file)? == Some(LoadError::NotCanonical { at }))
+    is_refused(alloc, file, LoadError::NotCanonical { at })
 }
 
 #[test]
@@ -132,24 +152,46 @@ struct Tally {
 }
 
 impl Tally {
-    fn put(&mut self, alloc: Global, file: &[u8]) -> Result<(), Unread> {
-        match load(alloc, file) {
-            Ok((knowledge, names)) => {
-                if saved(alloc, &knowledge, &names)?.as_slice() == file {
-                    self.files = self.files.saturating_add(1);
-                }
-            }
-            Err(LoadError::NotKnowledge { at }) => {
+    fn put_place(&mut self, at: usize) {
+        self.places = self.places.saturating_add(at);
+    }
+
+    fn put_refusal(&mut self, error: &LoadError) -> Result<(), Unread> {
+        match error {
+            LoadError::NotKnowledge { at } => {
                 self.not_knowledge = self.not_knowledge.saturating_add(1);
-                self.places = self.places.saturating_add(at);
+                self.put_place(*at);
+                Ok(())
             }
-            Err(LoadError::NotCanonical { at }) => {
+            LoadError::NotCanonical { at } => {
                 self.not_canonical = self.not_canonical.saturating_add(1);
-                self.places = self.places.saturating_add(at);
+                self.put_place(*at);
+                Ok(())
             }
-            Err(LoadError::Memory) => return Err(Unread),
+            LoadError::Memory => Err(Unread),
         }
-        Ok(())
+    }
+
+    fn put_file(&mut self, saved: &[u8], file: &[u8]) {
+        if saved == file {
+            self.files = self.files.saturating_add(1);
+        }
+    }
+
+    fn put_loaded(&mut self, alloc: Global, loaded: &Loaded, file: &[u8]) -> Result<(), Unread> {
+        match loaded {
+            Ok((knowledge, names)) => {
+                let saved = saved(alloc, knowledge, names)?;
+                self.put_file(saved.as_slice(), file);
+                Ok(())
+            }
+            Err(error) => self.put_refusal(error),
+        }
+    }
+
+    fn put(&mut self, alloc: Global, file: &[u8]) -> Result<(), Unread> {
+        let loaded = loaded(alloc, file)?;
+        self.put_loaded(alloc, &loaded, file)
     }
 }
 
@@ -167,10 +209,8 @@ fn put_others(alloc: Global, tally: &mut Tally, file: &[u8], at: usize) -> Resul
     Ok(())
 }
 
-// The numbers are those of a reader of another kind, written in another language.
-#[test]
-fn each_changed_octet_is_told(rt: HostRuntime) -> Result<(), Fail> {
-    let file = octets(rt.alloc(), WHOLE)?;
+fn counted(alloc: Global, digits: &str) -> Result<Tally, Unread> {
+    let file = octets(alloc, digits)?;
     let mut tally = Tally {
         files: 0,
         not_knowledge: 0,
@@ -178,15 +218,21 @@ fn each_changed_octet_is_told(rt: HostRuntime) -> Result<(), Fail> {
         places: 0,
     };
     for at in 0..file.len() {
-        put_others(rt.alloc(), &mut tally, file.as_slice(), at)?;
+        put_others(alloc, &mut tally, file.as_slice(), at)?;
     }
+    Ok(tally)
+}
+
+// The numbers are those of a reader of another kind, written in another language.
+#[test]
+fn each_changed_octet_is_told(rt: HostRuntime) -> Result<(), Fail> {
     let due = Tally {
         files: 6368,
         not_knowledge: 18363,
         not_canonical: 259,
         places: 58550,
     };
-    assert_eq!(rt; tally, due);
+    assert_eq!(rt; counted(rt.alloc(), WHOLE)?, due);
     Ok(())
 }
 
@@ -197,21 +243,25 @@ fn nested(alloc: Global, levels: usize) -> Result<String, AllocError> {
     format!(in alloc; "seen 0 1 1 3080a180a380{opens}{ends}000000000000")
 }
 
-/// What is appended to one octet for such a record, or why nothing is.
-fn appended(alloc: Global, levels: usize) -> Result<Result<usize, SaveError>, Unread> {
-    let knowledge = known(alloc, nested(alloc, levels)?.as_str())?;
+/// What is appended to one octet for what is known, or why nothing is.
+fn put_behind(alloc: Global, knowledge: &Knowledge) -> Result<usize, SaveError> {
     let names = Seq::from_vec(Vec::new(alloc));
-    let mut out = Vec::new(alloc);
-    out.push(7_u8)?;
-    let saved = save(alloc, &knowledge, &names, &mut out);
-    Ok(saved.map(|()| out.len()))
+    let mut out = Vec::from_slice(alloc, &[7_u8])?;
+    save(alloc, knowledge, &names, &mut out)?;
+    Ok(out.len())
+}
+
+fn appended(alloc: Global, levels: usize) -> Result<Result<usize, SaveError>, Unread> {
+    let row = nested(alloc, levels)?;
+    let knowledge = known(alloc, row.as_str())?;
+    Ok(put_behind(alloc, &knowledge))
 }
 
 // The fact is one element more: 60 of them are 64 with it, the record and its parts.
 #[test]
 fn more_than_64_levels_are_not_saved(rt: HostRuntime) -> Result<(), Fail> {
-    assert!(rt; appended(rt.alloc(), 60)?.is_ok_and(|len| len > 64));
-    assert!(rt; matches!(appended(rt.alloc(), 61)?, Err(SaveError::TooDeep)));
+    assert!(rt; matches!(appended(rt.alloc(), 60), Ok(Ok(len)) if len > 64));
+    assert!(rt; matches!(appended(rt.alloc(), 61), Ok(Err(SaveError::TooDeep))));
     Ok(())
 }
 
@@ -234,26 +284,47 @@ fn named(alloc: Global, names: &Names) -> Result<Vec<u8>, SaveError> {
 // The headers of an element of 4,194,305 octets and of the one name within.
 const TOO_LONG: [u8; 10] = [0xa4, 0x83, 0x3f, 0xff, 0xfc, 0x80, 0x83, 0x3f, 0xff, 0xf7];
 
-#[test]
-fn an_element_of_4194304_octets_is_saved_and_loaded(rt: HostRuntime) -> Result<(), Fail> {
-    let names = one_name(rt.alloc(), 4_194_294)?;
-    let mut file = named(rt.alloc(), &names)?;
-    assert_eq!(rt; file.len(), 4_194_304);
-    let (_, loaded) = load(rt.alloc(), file.as_slice())?;
-    assert!(rt; loaded.as_slice() == names.as_slice());
+fn has_names(loaded: &Loaded, due: &Names) -> bool {
+    match loaded {
+        Ok((_, names)) => names.as_slice() == due.as_slice(),
+        Err(_) => false,
+    }
+}
+
+fn are_loaded(alloc: Global, file: &[u8], names: &Names) -> Result<bool, Unread> {
+    let loaded = loaded(alloc, file)?;
+    Ok(file.len() == 4_194_304 && has_names(&loaded, names))
+}
+
+// Whether the file is refused with one octet more.
+fn is_too_long(alloc: Global, file: &mut Vec<u8>) -> Result<bool, Unread> {
     file.push(b'n')?;
     for (octet, due) in file.iter_mut().zip(TOO_LONG) {
         *octet = due;
     }
-    let refusal = load(rt.alloc(), file.as_slice()).err();
-    assert!(rt; refusal == Some(LoadError::NotKnowledge { at: 0 }));
+    let loaded = loaded(alloc, file.as_slice())?;
+    Ok(is_for(&loaded, LoadError::NotKnowledge { at: 0 }))
+}
+
+fn is_longest(alloc: Global, len: usize) -> Result<bool, Unread> {
+    let names = one_name(alloc, len)?;
+    let mut file = read(named(alloc, &names))?;
+    Ok(held(are_loaded(alloc, file.as_slice(), &names)) && held(is_too_long(alloc, &mut file)))
+}
+
+#[test]
+fn an_element_of_4194304_octets_is_saved_and_loaded(rt: HostRuntime) -> Result<(), Fail> {
+    assert!(rt; held(is_longest(rt.alloc(), 4_194_294)));
     Ok(())
+}
+
+fn is_longer(alloc: Global, len: usize) -> Result<bool, Unread> {
+    let names = one_name(alloc, len)?;
+    Ok(matches!(named(alloc, &names), Err(SaveError::TooLong)))
 }
 
 #[test]
 fn an_element_of_4194305_octets_is_not_saved(rt: HostRuntime) -> Result<(), Fail> {
-    let names = one_name(rt.alloc(), 4_194_295)?;
-    let refusal = named(rt.alloc(), &names).err();
-    assert!(rt; refusal == Some(SaveError::TooLong));
+    assert!(rt; held(is_longer(rt.alloc(), 4_194_295)));
     Ok(())
 }

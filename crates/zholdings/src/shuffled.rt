@@ -96,18 +96,22 @@ fn has_list_of_parts(
     due: &[u8],
 ) -> Result<bool, Unread> {
     let knowledge = known_of_parts(alloc, dice, rows, size)?;
-    has_list(alloc, &knowledge, "a b", Mode::Text, due)
+    Ok(has_list(alloc, &knowledge, "a b", Mode::Text, due))
 }
 
 // How many facts at a time are known apart.
 const SIZES: &str = "400\n200\n90\n13\n2\n1\n";
 
+fn list_of(alloc: Global, rows: &[&str]) -> Result<Vec<u8>, Unread> {
+    let facts = facts_of(alloc, rows)?;
+    list(alloc, &["a", "b"], facts.as_slice())
+}
+
 fn have_list_of_reference(alloc: Global, row: &str) -> Result<bool, Unread> {
     let mut dice = Dice::new(1);
     let table = table(alloc, &mut dice, 400)?;
     let rows: Vec<&str> = table.as_str().lines().collect(alloc)?;
-    let facts = facts_of(alloc, rows.as_slice())?;
-    let due = list(alloc, &["a", "b"], facts.as_slice())?;
+    let due = list_of(alloc, rows.as_slice())?;
     let size = row.parse::<usize>()?;
     has_list_of_parts(alloc, &mut dice, rows.as_slice(), size, due.as_slice())
 }

@@ -13,7 +13,7 @@ use std::test::Fail;
 use zapdu::Apdu;
 use zber::{Oid, Seq};
 use zencodings::boxes::{apdu, apdu_node, boxed};
-use zencodings::rows::{encoding, pair, unescaped};
+use zencodings::rows::{encoding, pair, parted, tells, unescaped};
 use zencodings::unread::{Unread, read};
 use zquery::Query;
 use ztarget::{Database, Entry, Field, MatchError, Target, TargetError, TargetSettings};
@@ -40,11 +40,10 @@ fn text(alloc: Global, text: &str) -> Result<Bytes, Unread> {
 
 // `USE TEXT`
 fn field(alloc: Global, row: &str) -> Result<Field, Unread> {
-    let (attr, value) = pair(row)?;
-    Ok(Field {
-        attr: attr.parse::<i64>()?,
-        text: text(alloc, value)?,
-    })
+    let (attr, value) = pair(row);
+    let attr = attr.parse::<i64>()?;
+    let text = text(alloc, value)?;
+    Ok(Field { attr, text })
 }
 
 fn fields(alloc: Global, row: &str) -> Result<Seq<Field>, Unread> {
@@ -57,7 +56,7 @@ fn fields(alloc: Global, row: &str) -> Result<Seq<Field>, Unread> {
 
 // `OCTETS | FIELD | FIELD ..`
 fn entry(alloc: Global, row: &str) -> Result<Entry, Unread> {
-    let (octets, others) = row.split_once(" | ").ok_or(Unread)?;
+    let (octets, others) = parted(row, " | ");
     Ok(Entry {
         syntax: Oid::from_arcs(alloc, &SYNTAX)?,
         octets: text(alloc, octets)?,
@@ -93,8 +92,8 @@ pub(crate) fn target_of(
 
 // `LIBRARY SIZE OPTIONS`: of the options `c` offers concurrent operations, `n` named result sets, and `r` refuses each association.
 fn target(alloc: Global, row: &str) -> Result<Box<Target>, Unread> {
-    let (library, others) = pair(row)?;
-    let (size, options) = pair(others)?;
+    let (library, others) = pair(row);
+    let (size, options) = pair(others);
     let settings = TargetSettings {
         size: size.parse::<i64>()?,
         concurrent: options.contains('c'),
@@ -166,7 +165,7 @@ fn asked(alloc: Global, target: &mut Target, digits: &str) -> Result<String, Unr
 }
 
 fn answer(alloc: Global, target: &mut Target, step: &str) -> Result<String, Unread> {
-    let (word, row) = pair(step)?;
+    let (word, row) = pair(step);
     match word {
         "ask" => asked(alloc, target, row),
         "receive" => received(alloc, target, row),
@@ -178,9 +177,9 @@ fn answer(alloc: Global, target: &mut Target, step: &str) -> Result<String, Unre
 
 // Whether the step answers as it is told.
 fn goes(alloc: Global, target: &mut Target, row: &str) -> Result<bool, Unread> {
-    let (step, due) = row.split_once(" = ").ok_or(Unread)?;
-    let answer = answer(alloc, target, step)?;
-    Ok(answer.as_str() == due)
+    let (step, due) = parted(row, " = ");
+    let answer = answer(alloc, target, step);
+    Ok(tells(answer, due))
 }
 
 // Sessions, each `new` with a library and the settings, and then its steps, a row for each: `ask` a request and get its reply, `receive` a request,

@@ -4,7 +4,8 @@ use std::alloc::Global;
 use std::test::Fail;
 use zapdu::Apdu;
 use zencodings::boxes::apdu;
-use zencodings::unread::Unread;
+use zencodings::parts::Line;
+use zencodings::unread::{Unread, read};
 use zholdings::shown::put_facts;
 use zknow::Fact;
 use zorigin::{Origin, Taken, facts_of};
@@ -64,16 +65,17 @@ facts b9348204000000029801009901009b0105bf814d21300e06072a8648ce13040102010d1a00
 // The facts of the reply, for target 7.
 fn told(alloc: Global, origin: &mut Origin, reply: &Apdu) -> Result<Vec<Fact>, Unread> {
     match origin.take(reply) {
-        Ok(Taken::Rejected(answer)) => Ok(facts_of(alloc, 7, &answer)?),
-        Ok(Taken::Answered(answer)) => Ok(facts_of(alloc, 7, &answer)?),
+        Ok(Taken::Rejected(answer)) => read(facts_of(alloc, 7, &answer)),
+        Ok(Taken::Answered(answer)) => read(facts_of(alloc, 7, &answer)),
         _ => Err(Unread),
     }
 }
 
 fn text(alloc: Global, facts: &[Fact]) -> Result<String, Unread> {
-    let mut out = Vec::new(alloc);
-    put_facts(alloc, facts, &mut out)?;
-    Ok(String::from_utf8_lossy(alloc, out.as_slice())?)
+    let mut line = Line::new(alloc);
+    put_facts(alloc, facts, &mut line);
+    let octets = line.whole()?;
+    Ok(String::from_utf8_lossy(alloc, octets.as_slice())?)
 }
 
 /// The facts of the reply that these digits spell, with a space before each.

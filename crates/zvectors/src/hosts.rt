@@ -3,7 +3,7 @@ use std::alloc::{AllocError, Global};
 use std::process::Abort;
 use std::test::Fail;
 use zencodings::boxes::boxed;
-use zencodings::rows::{digits, each_row, octets, pair};
+use zencodings::rows::{digits, each_row, held, octets, pair, parted, tells};
 use zencodings::unread::Unread;
 use zoom::Host;
 use ztarget::{Target, TargetSettings};
@@ -24,7 +24,7 @@ b421820400000000830205e0840301c006850310000086031000009f6f057a6d657461 b42182040
 b51c820400000000830205e0840301c006850310000086031000008c01ff -: 0 - true
 ";
 
-fn host(alloc: Global) -> Result<Box<Host>, AllocError> {
+pub(crate) fn host(alloc: Global) -> Result<Box<Host>, AllocError> {
     let settings = TargetSettings {
         size: 1_048_576,
         concurrent: true,
@@ -61,18 +61,18 @@ fn out(alloc: Global, host: &mut Host) -> Result<String, AllocError> {
 fn has(alloc: Global, host: &mut Host, due: &str) -> Result<bool, Unread> {
     let out = out(alloc, host)?;
     let stopped = host.stopped();
-    let found = format!(in alloc; "{out} {stopped}")?;
-    Ok(found.as_str() == due)
+    Ok(tells(format!(in alloc; "{out} {stopped}"), due))
 }
 
 fn answers(alloc: Global, host: &mut Host, row: &str) -> Result<bool, Unread> {
-    let (count, due) = pair(row)?;
-    Ok(releases(host, count.parse::<u32>()?)? && has(alloc, host, due)?)
+    let (count, due) = pair(row);
+    let count = count.parse::<u32>()?;
+    Ok(held(releases(host, count)) && held(has(alloc, host, due)))
 }
 
 fn is_fed(alloc: Global, row: &str) -> Result<bool, Unread> {
-    let (pieces, due) = row.split_once(": ").ok_or(Unread)?;
-    let (first, second) = pair(pieces)?;
+    let (pieces, due) = parted(row, ": ");
+    let (first, second) = pair(pieces);
     let mut host = host(alloc)?;
     feed(alloc, &mut host, first)?;
     feed(alloc, &mut host, second)?;

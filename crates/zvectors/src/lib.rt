@@ -14,4 +14,6 @@ mod refusals;
 #[cfg(test)]
 mod sessions;
 #[cfg(test)]
+mod talks;
+#[cfg(test)]
 mod windows;

@@ -8,7 +8,7 @@ use std::process::Abort;
 use std::test::Fail;
 use zber::Seq;
 use zencodings::boxes::{boxed, parse};
-use zencodings::rows::{digits, each_row, octets, pair};
+use zencodings::rows::{digits, each_row, held, octets, pair, tells};
 use zencodings::unread::{Unread, read};
 use zoom::{Meta, MetaSettings, Question};
 use zorigin::Range;
@@ -105,23 +105,22 @@ fn goes(alloc: Global, meta: &mut Meta, fed: &str, due: &str) -> Result<bool, Un
     let step = taken(alloc, meta)?;
     let count = driven(meta)?;
     let sent = sent(alloc, meta)?;
-    let found = format!(in alloc; "{step} {count} {sent}")?;
-    Ok(found.as_str() == due)
+    Ok(tells(format!(in alloc; "{step} {count} {sent}"), due))
 }
 
 // A step, or the end.
 fn part(alloc: Global, meta: &mut Meta, part: &str) -> Result<bool, Unread> {
     if part.starts_with("true ") || part.starts_with("false ") {
-        return Ok(ended(alloc, meta)?.as_str() == part);
+        return Ok(tells(ended(alloc, meta), part));
     }
-    let (fed, due) = pair(part)?;
+    let (fed, due) = pair(part);
     goes(alloc, meta, fed, due)
 }
 
 fn is_driven(alloc: Global, row: &str) -> Result<bool, Unread> {
     let mut meta = asked(alloc)?;
     for text in row.split(" | ") {
-        if !part(alloc, &mut meta, text)? {
+        if !held(part(alloc, &mut meta, text)) {
             return Ok(false);
         }
     }

@@ -12,7 +12,8 @@ use std::alloc::{AllocError, Global};
 use std::process::Abort;
 use std::test::Fail;
 use zencodings::boxes::boxed;
-use zencodings::rows::{digits, octets, pair, unescaped};
+use zencodings::parts::Line;
+use zencodings::rows::{digits, held, octets, pair, parted, tells, unescaped};
 use zencodings::unread::Unread;
 use zholdings::shown::{has_list, is_listed, put_counts, put_known};
 use zknow::Mode;
@@ -23,6 +24,12 @@ use zorigin::CallRefused;
 pub(crate) fn pool(alloc: Global, n: u32) -> Result<Box<Pool>, AllocError> {
     let pool = Pool::new(alloc, n, &Bytes::from_static(b"zmeta"))?;
     boxed(alloc, pool)
+}
+
+// A pool of as many connections as the row says.
+fn pool_of(alloc: Global, row: &str) -> Result<Box<Pool>, Unread> {
+    let n = row.parse::<u32>()?;
+    Ok(pool(alloc, n)?)
 }
 
 fn has(pool: &Pool, c: u32) -> Result<(), Unread>
@@ -96,24 +103,34 @@ fn out(alloc: Global, pool: &mut Pool, c: u32) -> Result<String, Unread> {
     Ok(digits(alloc, out.as_slice())?)
 }
 
+fn made_text(alloc: Global, made: &Result<(), CallRefused>) -> Result<String, AllocError> {
+    match made {
+        Ok(()) => String::from_str(alloc, "ok"),
+        Err(reason) => format!(in alloc; "{reason:?}"),
+    }
+}
+
 fn made(alloc: Global, pool: &mut Pool, c: u32, step: &str) -> Result<String, Unread> {
     let call = call(alloc, step)?;
-    match make(pool, c, &call)? {
-        Ok(()) => Ok(String::from_str(alloc, "ok")?),
-        Err(reason) => Ok(format!(in alloc; "{reason:?}")?),
+    let made = make(pool, c, &call)?;
+    Ok(made_text(alloc, &made)?)
+}
+
+fn taken_text(alloc: Global, taken: &Result<Step, TakeError>) -> Result<String, AllocError> {
+    match taken {
+        Ok(step) => format!(in alloc; "{step:?}"),
+        Err(error) => format!(in alloc; "{error:?}"),
     }
 }
 
 fn taken(alloc: Global, pool: &mut Pool, c: u32) -> Result<String, Unread> {
-    match take(pool, c)? {
-        Ok(step) => Ok(format!(in alloc; "{step:?}")?),
-        Err(error) => Ok(format!(in alloc; "{error:?}")?),
-    }
+    let taken = take(pool, c)?;
+    Ok(taken_text(alloc, &taken)?)
 }
 
 /// What a step of a connection answers: `out -`, `take -`, `state -`, or a call.
 pub(crate) fn answer(alloc: Global, pool: &mut Pool, c: u32, step: &str) -> Result<String, Unread> {
-    let (word, _) = pair(step)?;
+    let (word, _) = pair(step);
     match word {
         "out" => out(alloc, pool, c),
         "take" => taken(alloc, pool, c),
@@ -130,7 +147,7 @@ pub(crate) fn feed_row(alloc: Global, pool: &mut Pool, c: u32, digits: &str) -> 
 
 // `feed DIGITS`, `end -` or `stop -`.
 fn befall(alloc: Global, pool: &mut Pool, c: u32, event: &str) -> Result<(), Unread> {
-    let (word, row) = pair(event)?;
+    let (word, row) = pair(event);
     match word {
         "feed" => feed_row(alloc, pool, c, row),
         "end" => end(pool, c),
@@ -140,17 +157,26 @@ fn befall(alloc: Global, pool: &mut Pool, c: u32, event: &str) -> Result<(), Unr
 }
 
 // Whether this is known of the number of records of set 1.
-fn is_size(alloc: Global, pool: &Pool, c: u32, due: &str) -> Result<bool, Unread> {
-    let mut out = Vec::new(alloc);
-    put_counts(alloc, ResultSet { c, set: 1 }.size(pool), &mut out)?;
-    Ok(out.as_slice() == due.as_bytes())
+fn is_size(alloc: Global, pool: &Pool, c: u32, due: &str) -> bool {
+    let mut line = Line::new(alloc);
+    put_counts(alloc, ResultSet { c, set: 1 }.size(pool), &mut line);
+    line.is(due.as_bytes())
 }
 
 // Whether this is known of the record at a position of set 1.
-fn is_row(alloc: Global, pool: &Pool, c: u32, position: i64, due: &str) -> Result<bool, Unread> {
-    let mut out = Vec::new(alloc);
-    put_known(alloc, ResultSet { c, set: 1 }.row(pool, position), &mut out)?;
-    Ok(out.as_slice() == due.as_bytes())
+fn is_record(alloc: Global, pool: &Pool, c: u32, position: i64, due: &str) -> bool {
+    let mut line = Line::new(alloc);
+    put_known(
+        alloc,
+        ResultSet { c, set: 1 }.row(pool, position),
+        &mut line,
+    );
+    line.is(due.as_bytes())
+}
+
+fn is_row(alloc: Global, pool: &Pool, c: u32, position: &str, due: &str) -> Result<bool, Unread> {
+    let position = position.parse::<i64>()?;
+    Ok(is_record(alloc, pool, c, position, due))
 }
 
 fn is_answer(
@@ -160,16 +186,16 @@ fn is_answer(
     step: &str,
     due: &str,
 ) -> Result<bool, Unread> {
-    let (word, row) = pair(step)?;
+    let (word, row) = pair(step);
     match word {
-        "size" => is_size(alloc, pool, c, due),
-        "row" => is_row(alloc, pool, c, row.parse::<i64>()?, due),
-        _ => Ok(answer(alloc, pool, c, step)?.as_str() == due),
+        "size" => Ok(is_size(alloc, pool, c, due)),
+        "row" => is_row(alloc, pool, c, row, due),
+        _ => Ok(tells(answer(alloc, pool, c, step), due)),
     }
 }
 
 /// Whether this is the printed list of what a pool knows.
-pub(crate) fn lists(alloc: Global, pool: &Pool, names: &str, due: &str) -> Result<bool, Unread> {
+pub(crate) fn lists(alloc: Global, pool: &Pool, names: &str, due: &str) -> bool {
     is_listed(alloc, pool.knowledge(), names, Mode::Text, due)
 }
 
@@ -185,13 +211,13 @@ fn goes_on(alloc: Global, pool: &mut Pool, c: u32, row: &str) -> Result<bool, Un
 }
 
 fn is_list(alloc: Global, pool: &Pool, row: &str) -> Result<bool, Unread> {
-    let (names, due) = row.split_once(" = ").ok_or(Unread)?;
+    let (names, due) = parted(row, " = ");
     let due = unescaped(alloc, due)?;
-    has_list(alloc, pool.knowledge(), names, Mode::Text, due.as_slice())
+    Ok(has_list(alloc, pool.knowledge(), names, Mode::Text, due.as_slice()))
 }
 
 fn goes(alloc: Global, pool: &mut Pool, row: &str) -> Result<bool, Unread> {
-    let (word, rest) = pair(row)?;
+    let (word, rest) = pair(row);
     if word == "list" {
         is_list(alloc, pool, rest)
     } else {
@@ -205,10 +231,9 @@ pub(crate) fn go_as_told(rt: &(impl Abort + AllocGlobal), sessions: &str) -> Res
     let mut current = pool(rt.alloc(), 0)?;
     for row in sessions.lines() {
         if let Some(n) = row.strip_prefix("new ") {
-            current = pool(rt.alloc(), n.parse::<u32>()?)?;
+            current = pool_of(rt.alloc(), n)?;
         } else if !row.starts_with('#') {
-            let held = goes(rt.alloc(), &mut current, row).unwrap_or(false);
-            assert!(rt; held, "{row}");
+            assert!(rt; held(goes(rt.alloc(), &mut current, row)), "{row}");
         }
     }
     Ok(())

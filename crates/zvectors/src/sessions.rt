@@ -11,25 +11,24 @@ use std::process::Abort;
 use std::test::Fail;
 use zapdu::Apdu;
 use zber::{Oid, Seq};
-use zencodings::boxes::{apdu, boxed};
-use zencodings::rows::pair;
+use zencodings::boxes::{apdu, boxed, parse};
+use zencodings::rows::{cut, held, pair, parted};
 use zencodings::unread::Unread;
 use zoom::Call;
 use zorigin::{Ask, CallRefused, Origin, Range, Refused, Sent, Settings, Taken};
 
 fn databases(alloc: Global) -> Result<Seq<Bytes>, Unread> {
-    let mut databases = Vec::new(alloc);
-    databases.push(Bytes::from_static(b"d"))?;
+    let databases = vec![in alloc; Bytes::from_static(b"d")]?;
     Ok(Seq::from_vec(databases))
 }
 
 // For `dune` as a title in the database `d`, with these bounds.
 pub(crate) fn ask(alloc: Global, small: i64, large: i64, medium: i64) -> Result<Box<Ask>, Unread> {
     let databases = databases(alloc)?;
-    let query = zquery::parse_pqf(alloc, b"@attr 1=4 dune")?;
+    let query = parse(alloc, b"@attr 1=4 dune")?;
     let ask = Ask {
         databases,
-        query,
+        query: Box::into_inner(query),
         syntax: None,
         elements: None,
         small,
@@ -47,36 +46,53 @@ fn full_ask(alloc: Global) -> Result<Box<Ask>, Unread> {
     Ok(ask)
 }
 
-pub(crate) fn origin(alloc: Global) -> Result<Box<Origin>, AllocError> {
-    let settings = Settings {
-        name: Bytes::from_static(b"zmeta"),
-    };
-    boxed(alloc, Origin::new(alloc, settings))
+/// An origin of this name.
+pub(crate) fn origin_of(alloc: Global, name: Bytes) -> Result<Box<Origin>, AllocError> {
+    boxed(alloc, Origin::new(alloc, Settings { name }))
 }
 
-fn called(alloc: Global, answer: Result<Sent, CallRefused>) -> Result<String, AllocError> {
+pub(crate) fn origin(alloc: Global) -> Result<Box<Origin>, AllocError> {
+    origin_of(alloc, Bytes::from_static(b"zmeta"))
+}
+
+fn called(alloc: Global, answer: &Result<Sent, CallRefused>) -> Result<String, AllocError> {
     match answer {
         Ok(sent) => hex::encode(alloc, sent.octets.as_slice()),
         Err(reason) => format!(in alloc; "{reason:?}"),
     }
 }
 
-fn taken(alloc: Global, answer: Result<Taken, Refused>) -> Result<String, AllocError> {
+fn word(taken: &Taken) -> &'static str {
+    match taken {
+        Taken::Opened(_) => "Opened",
+        Taken::Rejected(_) => "Rejected",
+        Taken::Answered(_) => "Answered",
+        Taken::Closed => "Closed",
+    }
+}
+
+fn taken(alloc: Global, answer: &Result<Taken, Refused>) -> Result<String, AllocError> {
     match answer {
-        Ok(Taken::Opened(_)) => String::from_str(alloc, "Opened"),
-        Ok(Taken::Rejected(_)) => String::from_str(alloc, "Rejected"),
-        Ok(Taken::Answered(_)) => String::from_str(alloc, "Answered"),
-        Ok(Taken::Closed) => String::from_str(alloc, "Closed"),
+        Ok(taken) => String::from_str(alloc, word(taken)),
         Err(reason) => format!(in alloc; "{reason:?}"),
     }
 }
 
-fn take(alloc: Global, origin: &mut Origin, apdu: &Apdu) -> Result<String, AllocError> {
-    taken(alloc, origin.take(apdu))
+/// What an APDU that is taken comes to.
+pub(crate) fn take(
+    alloc: Global,
+    origin: &mut Origin,
+    apdu: &Apdu,
+) -> Result<Box<Result<Taken, Refused>>, AllocError> {
+    boxed(alloc, origin.take(apdu))
 }
 
-fn peek(alloc: Global, origin: &Origin, apdu: &Apdu) -> Result<String, AllocError> {
-    taken(alloc, origin.peek(apdu))
+fn peek(
+    alloc: Global,
+    origin: &Origin,
+    apdu: &Apdu,
+) -> Result<Box<Result<Taken, Refused>>, AllocError> {
+    boxed(alloc, origin.peek(apdu))
 }
 
 fn state(alloc: Global, origin: &Origin) -> Result<String, AllocError> {
@@ -84,49 +100,78 @@ fn state(alloc: Global, origin: &Origin) -> Result<String, AllocError> {
     format!(in alloc; "{state:?}")
 }
 
+fn search_of(alloc: Global, op: u32, set: u32, ask: Box<Ask>) -> Result<Box<Call>, AllocError> {
+    let ask = Box::into_inner(ask);
+    boxed(alloc, Call::Search { op, set, ask })
+}
+
+// The numbers of an operation and a set.
+fn places(row: &str) -> Result<(u32, u32), Unread> {
+    let (op, set) = pair(row);
+    let op = op.parse::<u32>()?;
+    let set = set.parse::<u32>()?;
+    Ok((op, set))
+}
+
+// Two numbers.
+fn numbers(row: &str) -> Result<(i64, i64), Unread> {
+    let (first, second) = pair(row);
+    let first = first.parse::<i64>()?;
+    let second = second.parse::<i64>()?;
+    Ok((first, second))
+}
+
 // `OP SET`
-fn search(alloc: Global, row: &str, ask: Box<Ask>) -> Result<Box<Call>, Unread> {
-    let (op, set) = pair(row)?;
-    let call = Call::Search {
-        op: op.parse::<u32>()?,
-        set: set.parse::<u32>()?,
-        ask: Box::into_inner(ask),
-    };
-    Ok(boxed(alloc, call)?)
+fn search(alloc: Global, row: &str) -> Result<Box<Call>, Unread> {
+    let (op, set) = places(row)?;
+    let ask = ask(alloc, 0, 1, 0)?;
+    Ok(search_of(alloc, op, set, ask)?)
+}
+
+// The same for the element set `F` of USmarc.
+fn full_search(alloc: Global, row: &str) -> Result<Box<Call>, Unread> {
+    let (op, set) = places(row)?;
+    let ask = full_ask(alloc)?;
+    Ok(search_of(alloc, op, set, ask)?)
 }
 
 // `SMALL LARGE MEDIUM`
 fn bounded_ask(alloc: Global, bounds: &str) -> Result<Box<Ask>, Unread> {
-    let (small, others) = pair(bounds)?;
-    let (large, medium) = pair(others)?;
-    ask(
-        alloc,
-        small.parse::<i64>()?,
-        large.parse::<i64>()?,
-        medium.parse::<i64>()?,
-    )
+    let (small, others) = pair(bounds);
+    let small = small.parse::<i64>()?;
+    let (large, medium) = numbers(others)?;
+    ask(alloc, small, large, medium)
 }
 
 // `OP SMALL LARGE MEDIUM`, of set 1
 fn bounded(alloc: Global, row: &str) -> Result<Box<Call>, Unread> {
-    let (op, bounds) = pair(row)?;
+    let (op, bounds) = pair(row);
+    let op = op.parse::<u32>()?;
     let ask = bounded_ask(alloc, bounds)?;
-    let row = format!(in alloc; "{op} 1")?;
-    search(alloc, row.as_str(), ask)
+    Ok(search_of(alloc, op, 1, ask)?)
+}
+
+// The two first words of a row, and what stands behind them.
+fn set_row(row: &str) -> (&str, &str) {
+    let (op, rest) = pair(row);
+    let (set, _) = pair(rest);
+    cut(row, op.len().saturating_add(set.len()).saturating_add(1))
 }
 
 // `OP SET START NUMBER`
 fn present(alloc: Global, row: &str) -> Result<Box<Call>, Unread> {
-    let (op, others) = pair(row)?;
-    let (set, range) = pair(others)?;
-    let (start, n) = pair(range)?;
-    let call = Call::Present {
-        op: op.parse::<u32>()?,
-        set: set.parse::<u32>()?,
-        start: start.parse::<i64>()?,
-        n: n.parse::<i64>()?,
-    };
-    Ok(boxed(alloc, call)?)
+    let (words, range) = set_row(row);
+    let (op, set) = places(words)?;
+    let (start, n) = numbers(range.trim_start())?;
+    Ok(boxed(alloc, Call::Present { op, set, start, n })?)
+}
+
+// `START+NUMBER`
+fn range_in(range: &str) -> Result<Range, Unread> {
+    let (start, n) = parted(range, "+");
+    let start = start.parse::<i64>()?;
+    let n = n.parse::<i64>()?;
+    Ok(Range { start, n })
 }
 
 // Ranges, `START+NUMBER` each, or `-` for none
@@ -136,36 +181,32 @@ pub(crate) fn ranges_in(alloc: Global, row: &str) -> Result<Vec<Range>, Unread> 
         return Ok(ranges);
     }
     for range in row.split_whitespace() {
-        let (start, n) = range.split_once('+').ok_or(Unread)?;
-        ranges.push(Range {
-            start: start.parse::<i64>()?,
-            n: n.parse::<i64>()?,
-        })?;
+        ranges.push(range_in(range)?)?;
     }
     Ok(ranges)
 }
 
 // `OP SET` and ranges
 fn present_ranges(alloc: Global, row: &str) -> Result<Box<Call>, Unread> {
-    let (op, others) = pair(row)?;
-    let (set, others) = pair(others)?;
-    let call = Call::PresentRanges {
-        op: op.parse::<u32>()?,
-        set: set.parse::<u32>()?,
-        ranges: Seq::from_vec(ranges_in(alloc, others)?),
-    };
+    let (words, others) = set_row(row);
+    let (op, set) = places(words)?;
+    let ranges = Seq::from_vec(ranges_in(alloc, others.trim_start())?);
+    Ok(boxed(alloc, Call::PresentRanges { op, set, ranges })?)
+}
+
+fn plain(alloc: Global, call: Call) -> Result<Box<Call>, Unread> {
     Ok(boxed(alloc, call)?)
 }
 
 /// The call of a row: `init -`, `close -`, `search OP SET`, `full OP SET`, `bounds OP SMALL LARGE MEDIUM` for set 1,
 /// `present OP SET START NUMBER`, or `ranges OP SET` and ranges.
 pub(crate) fn call(alloc: Global, step: &str) -> Result<Box<Call>, Unread> {
-    let (word, row) = pair(step)?;
+    let (word, row) = pair(step);
     match word {
-        "init" => Ok(boxed(alloc, Call::Init)?),
-        "close" => Ok(boxed(alloc, Call::Close)?),
-        "search" => search(alloc, row, ask(alloc, 0, 1, 0)?),
-        "full" => search(alloc, row, full_ask(alloc)?),
+        "init" => plain(alloc, Call::Init),
+        "close" => plain(alloc, Call::Close),
+        "search" => search(alloc, row),
+        "full" => full_search(alloc, row),
         "bounds" => bounded(alloc, row),
         "present" => present(alloc, row),
         "ranges" => present_ranges(alloc, row),
@@ -187,21 +228,24 @@ fn sent(origin: &mut Origin, call: &Call) -> Result<Sent, CallRefused> {
 
 fn call_row(alloc: Global, origin: &mut Origin, step: &str) -> Result<String, Unread> {
     let call = call(alloc, step)?;
-    Ok(called(alloc, sent(origin, &call))?)
+    let sent = boxed(alloc, sent(origin, &call))?;
+    Ok(called(alloc, &sent)?)
 }
 
 fn take_row(alloc: Global, origin: &mut Origin, digits: &str) -> Result<String, Unread> {
     let apdu = apdu(alloc, digits)?;
-    Ok(take(alloc, origin, &apdu)?)
+    let answer = take(alloc, origin, &apdu)?;
+    Ok(taken(alloc, &answer)?)
 }
 
 fn peek_row(alloc: Global, origin: &Origin, digits: &str) -> Result<String, Unread> {
     let apdu = apdu(alloc, digits)?;
-    Ok(peek(alloc, origin, &apdu)?)
+    let answer = peek(alloc, origin, &apdu)?;
+    Ok(taken(alloc, &answer)?)
 }
 
 pub(crate) fn answer(alloc: Global, origin: &mut Origin, step: &str) -> Result<String, Unread> {
-    let (word, row) = pair(step)?;
+    let (word, row) = pair(step);
     match word {
         "state" => Ok(state(alloc, origin)?),
         "take" => take_row(alloc, origin, row),
@@ -222,7 +266,7 @@ pub(crate) fn is_due(answer: &str, due: &str) -> bool {
 
 // Whether the step answers as it is told.
 fn goes(alloc: Global, origin: &mut Origin, row: &str) -> Result<bool, Unread> {
-    let (step, due) = row.split_once(" = ").ok_or(Unread)?;
+    let (step, due) = parted(row, " = ");
     let answer = answer(alloc, origin, step)?;
     Ok(is_due(answer.as_str(), due))
 }
@@ -235,8 +279,7 @@ pub(crate) fn go_as_told(rt: &(impl Abort + AllocGlobal), sessions: &str) -> Res
         if row == "new" {
             current = origin(rt.alloc())?;
         } else if !row.starts_with('#') {
-            let held = goes(rt.alloc(), &mut current, row).unwrap_or(false);
-            assert!(rt; held, "{row}");
+            assert!(rt; held(goes(rt.alloc(), &mut current, row)), "{row}");
         }
     }
     Ok(())

@@ -1,13 +1,14 @@
 // Windows of up to 64 outstanding operations (Z39.50-2003, 3.4), and names that are too long to be sent.
-use crate::sessions::{answer, origin};
+use crate::sessions::{answer, is_due, origin, origin_of, take};
 use bytes::Bytes;
 use std::alloc::Global;
 use std::process::Abort;
 use std::test::Fail;
 use zapdu::Apdu;
-use zencodings::boxes::{apdu, boxed};
+use zencodings::boxes::apdu;
+use zencodings::rows::{held, tells};
 use zencodings::unread::Unread;
-use zorigin::{CallRefused, Origin, Settings, Taken};
+use zorigin::{Origin, Refused, Taken};
 
 // An association with concurrent operations, and a set of 100 records.
 const READY: &str = "\
@@ -30,15 +31,17 @@ fn operation(place: u8) -> u32 {
     u32::from(place) + 2
 }
 
-fn is_asked(origin: &mut Origin, place: u8) -> bool {
-    origin
-        .present(operation(place), 1, i64::from(place) + 1, 1)
-        .is_ok()
+fn is_asked(alloc: Global, origin: &mut Origin, place: u8) -> Result<bool, Unread> {
+    let op = operation(place);
+    let position = i64::from(place) + 1;
+    let step = format!(in alloc; "present {op} 1 {position} 1")?;
+    let answer = answer(alloc, origin, step.as_str())?;
+    Ok(is_due(answer.as_str(), "sent"))
 }
 
-fn are_asked(origin: &mut Origin, window: u8) -> bool {
+fn are_asked(alloc: Global, origin: &mut Origin, window: u8) -> bool {
     for place in 0..window {
-        if !is_asked(origin, place) {
+        if !held(is_asked(alloc, origin, place)) {
             return false;
         }
     }
@@ -54,36 +57,38 @@ fn reply(alloc: Global, op: u32) -> Result<Box<Apdu>, Unread> {
     apdu(alloc, digits.as_str())
 }
 
-// The operation that the reply answers.
-fn answered(origin: &mut Origin, reply: &Apdu) -> Option<u32> {
-    match origin.take(reply) {
-        Ok(Taken::Answered(answer)) => Some(answer.asked.op),
-        _ => None,
+// Whether it is the answer to this operation.
+fn is_answer(taken: &Result<Taken, Refused>, op: u32) -> bool {
+    match taken {
+        Ok(Taken::Answered(answer)) => answer.asked.op == op,
+        _ => false,
     }
 }
 
 fn is_answered(alloc: Global, origin: &mut Origin, place: u8) -> Result<bool, Unread> {
     let op = operation(place);
     let reply = reply(alloc, op)?;
-    Ok(answered(origin, &reply) == Some(op))
+    let taken = take(alloc, origin, &reply)?;
+    Ok(is_answer(&taken, op))
 }
 
-fn are_answered(alloc: Global, origin: &mut Origin, from: u8, to: u8) -> Result<bool, Unread> {
+fn are_answered(alloc: Global, origin: &mut Origin, from: u8, to: u8) -> bool {
     for place in from..to {
-        if !is_answered(alloc, origin, place)? {
-            return Ok(false);
+        if !held(is_answered(alloc, origin, place)) {
+            return false;
         }
     }
-    Ok(true)
+    true
 }
 
 // Whether the replies from this place on come first, and then the others.
 fn is_window(alloc: Global, window: u8, first: u8) -> Result<bool, Unread> {
     let mut origin = ready(alloc)?;
-    let asked = are_asked(&mut origin, window);
-    let first_half = are_answered(alloc, &mut origin, first, window)?;
-    let second_half = are_answered(alloc, &mut origin, 0, first)?;
-    Ok(asked && first_half && second_half)
+    Ok(
+        are_asked(alloc, &mut origin, window)
+            && are_answered(alloc, &mut origin, first, window)
+            && are_answered(alloc, &mut origin, 0, first),
+    )
 }
 
 #[test]
@@ -97,7 +102,10 @@ fn windows_are_answered_in_any_order(rt: HostRuntime) -> Result<(), Fail> {
         (64, 32),
         (64, 63),
     ] {
-        assert!(rt; is_window(rt.alloc(), window, first)?, "{window} {first}");
+        assert!(rt;
+            held(is_window(rt.alloc(), window, first)),
+            "{window} {first}"
+        );
     }
     Ok(())
 }
@@ -105,13 +113,13 @@ fn windows_are_answered_in_any_order(rt: HostRuntime) -> Result<(), Fail> {
 // Whether Init is refused for a name of so many octets.
 fn is_unsendable(alloc: Global, len: usize) -> Result<bool, Unread> {
     let name = Bytes::from_vec(vec![in alloc; b'a'; len]?)?;
-    let mut origin = boxed(alloc, Origin::new(alloc, Settings { name }))?;
-    Ok(matches!(origin.init(), Err(CallRefused::Unsendable)))
+    let mut origin = origin_of(alloc, name)?;
+    Ok(tells(answer(alloc, &mut origin, "init -"), "Unsendable"))
 }
 
 #[test]
 fn a_long_name_is_not_sent(rt: HostRuntime) -> Result<(), Fail> {
-    assert!(rt; is_unsendable(rt.alloc(), 2_097_152)?);
-    assert!(rt; !is_unsendable(rt.alloc(), 2_097_100)?);
+    assert!(rt; matches!(is_unsendable(rt.alloc(), 2_097_152), Ok(true)));
+    assert!(rt; matches!(is_unsendable(rt.alloc(), 2_097_100), Ok(false)));
     Ok(())
 }

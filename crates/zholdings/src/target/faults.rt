@@ -5,7 +5,7 @@ use bytes::Bytes;
 use std::alloc::{AllocError, Global};
 use std::process::Abort;
 use std::test::Fail;
-use zencodings::rows::{each_row, halves, pair};
+use zencodings::rows::{each_row, halves, parted};
 use zencodings::unread::Unread;
 use zquery::Query;
 use ztarget::{MatchError, Target};
@@ -78,13 +78,21 @@ fn fault(
     told(alloc, matches(target, names, query))
 }
 
-fn is_fault(alloc: Global, row: &str) -> Result<bool, Unread> {
-    let (row, due) = halves(row)?;
-    let (text, named) = row.split_once(" | ").ok_or(Unread)?;
+fn fault_in(alloc: Global, target: &Target, query: &Query, named: &str) -> Result<String, Unread> {
+    let names = names(alloc, named)?;
+    Ok(fault(alloc, target, names.as_slice(), query)?)
+}
+
+fn fault_of(alloc: Global, text: &str, named: &str) -> Result<String, Unread> {
     let query = query(alloc, text)?;
-    let names = names(alloc, if named == "-" { "" } else { named })?;
     let target = target_of_rows(alloc, "r | 4 dune", "r | 4 dune")?;
-    let fault = fault(alloc, &target, names.as_slice(), &query)?;
+    fault_in(alloc, &target, &query, named)
+}
+
+fn is_fault(alloc: Global, row: &str) -> Result<bool, Unread> {
+    let (row, due) = halves(row);
+    let (text, named) = parted(row, " | ");
+    let fault = fault_of(alloc, text, if named == "-" { "" } else { named })?;
     Ok(fault.as_str().trim_end() == due)
 }
 

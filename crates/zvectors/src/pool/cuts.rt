@@ -5,7 +5,7 @@ use std::alloc::Global;
 use std::process::Abort;
 use std::test::Fail;
 use zencodings::boxes::boxed;
-use zencodings::rows::octets;
+use zencodings::rows::{held, octets};
 use zencodings::unread::{Unread, read};
 use zoom::{Call, Pool, Step};
 
@@ -68,24 +68,31 @@ fn calls_of(alloc: Global, rows: &str) -> Result<Vec<Box<Call>>, Unread> {
     Ok(calls)
 }
 
-fn long(alloc: Global) -> Result<Box<Exchange>, Unread> {
+fn exchange_of(
+    alloc: Global,
+    calls: &str,
+    first: &str,
+    second: &str,
+    list: &'static str,
+) -> Result<Box<Exchange>, Unread> {
+    let first = octets(alloc, first)?;
+    let second = octets(alloc, second)?;
+    let calls = calls_of(alloc, calls)?;
     let exchange = Exchange {
-        calls: calls_of(alloc, CALLS)?,
-        first: octets(alloc, FIRST)?,
-        second: octets(alloc, SECOND)?,
-        list: LIST,
+        calls,
+        first,
+        second,
+        list,
     };
     Ok(boxed(alloc, exchange)?)
 }
 
+fn long(alloc: Global) -> Result<Box<Exchange>, Unread> {
+    exchange_of(alloc, CALLS, FIRST, SECOND, LIST)
+}
+
 fn short(alloc: Global) -> Result<Box<Exchange>, Unread> {
-    let exchange = Exchange {
-        calls: calls_of(alloc, SHORT_CALLS)?,
-        first: octets(alloc, SHORT_FIRST)?,
-        second: octets(alloc, SHORT_SECOND)?,
-        list: SHORT_LIST,
-    };
-    Ok(boxed(alloc, exchange)?)
+    exchange_of(alloc, SHORT_CALLS, SHORT_FIRST, SHORT_SECOND, SHORT_LIST)
 }
 
 // Makes each call that is due: the others are refused, and change nothing.
@@ -141,33 +148,38 @@ fn is_cut(alloc: Global, exchange: &Exchange, ends: &[usize]) -> Result<bool, Un
         both_come(&mut pool, exchange, from, *to)?;
         from = *to;
     }
-    lists(alloc, &pool, "a b", exchange.list)
+    Ok(lists(alloc, &pool, "a b", exchange.list))
+}
+
+// Whether the list is due where the octets come one by one.
+fn is_each_cut(alloc: Global, exchange: &Exchange) -> Result<bool, Unread> {
+    let ends: Vec<usize> = (1..=exchange.first.len()).collect(alloc)?;
+    is_cut(alloc, exchange, ends.as_slice())
 }
 
 #[test]
 fn octets_come_one_by_one_in_alternation(rt: HostRuntime) -> Result<(), Fail> {
     let exchange = long(rt.alloc())?;
-    let ends: Vec<usize> = (1..=exchange.first.len()).collect(rt.alloc())?;
-    assert!(rt; is_cut(rt.alloc(), &exchange, ends.as_slice())?);
+    assert!(rt; held(is_each_cut(rt.alloc(), &exchange)));
     Ok(())
 }
 
 // Whether the list is due in all three pieces of which the first ends here.
-fn are_cut(alloc: Global, exchange: &Exchange, first: usize) -> Result<bool, Unread> {
+fn are_cut(alloc: Global, exchange: &Exchange, first: usize) -> bool {
     let len = exchange.first.len();
     for second in first..=len {
-        if !is_cut(alloc, exchange, &[first, second, len])? {
-            return Ok(false);
+        if !held(is_cut(alloc, exchange, &[first, second, len])) {
+            return false;
         }
     }
-    Ok(true)
+    true
 }
 
 #[test]
 fn three_pieces_come_in_each_cutting(rt: HostRuntime) -> Result<(), Fail> {
     let exchange = short(rt.alloc())?;
     for first in 0..=exchange.first.len() {
-        assert!(rt; are_cut(rt.alloc(), &exchange, first)?, "{first}");
+        assert!(rt; are_cut(rt.alloc(), &exchange, first), "{first}");
     }
     Ok(())
 }

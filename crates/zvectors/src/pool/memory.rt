@@ -4,7 +4,7 @@ use crate::sessions::call;
 use std::alloc::Global;
 use std::process::Abort;
 use std::test::Fail;
-use zencodings::rows::{octets, pair};
+use zencodings::rows::{held, octets, pair};
 use zencodings::unread::{Unread, read};
 use zknow::Known;
 use zoom::{Call, Pool, ResultSet, Step, TakeError};
@@ -25,7 +25,7 @@ struct Turn {
 }
 
 fn turn_of(alloc: Global, row: &str) -> Result<Turn, Unread> {
-    let (digits, step) = pair(row)?;
+    let (digits, step) = pair(row);
     let reply = octets(alloc, digits)?;
     let call = call(alloc, step)?;
     Ok(Turn { reply, call })
@@ -60,10 +60,9 @@ fn takes(pool: &mut Pool) -> Result<Step, Unread> {
 
 // Whether the call is admitted and its reply accepted, and nothing more is there.
 fn goes(pool: &mut Pool, turn: &Turn) -> Result<bool, Unread> {
-    let sent = makes(pool, &turn.call)? && feeds(pool, turn.reply.as_slice())?;
-    let step = takes(pool)?;
-    let done = matches!(step, Step::Opened | Step::Answered);
-    Ok(sent && done && takes(pool)? == Step::Nothing)
+    let sent = held(makes(pool, &turn.call)) && held(feeds(pool, turn.reply.as_slice()));
+    let done = matches!(takes(pool), Ok(Step::Opened | Step::Answered));
+    Ok(sent && done && matches!(takes(pool), Ok(Step::Nothing)))
 }
 
 fn go(pool: &mut Pool, turns: &[Turn]) -> Result<bool, Unread> {

@@ -4,7 +4,7 @@ use crate::sessions::is_due;
 use std::alloc::{AllocError, Global};
 use std::process::Abort;
 use std::test::Fail;
-use zencodings::rows::pair;
+use zencodings::rows::{held, pair, parted};
 use zencodings::unread::Unread;
 use zoom::Pool;
 
@@ -40,7 +40,7 @@ fn call(alloc: Global, pool: &mut Pool, step: &str) -> Result<String, Unread> {
 }
 
 fn answer_of(alloc: Global, pool: &mut Pool, step: &str) -> Result<String, Unread> {
-    let (word, row) = pair(step)?;
+    let (word, row) = pair(step);
     match word {
         "state" => {
             let state = answer(alloc, pool, 0, step)?;
@@ -52,7 +52,7 @@ fn answer_of(alloc: Global, pool: &mut Pool, step: &str) -> Result<String, Unrea
 }
 
 fn goes(alloc: Global, pool: &mut Pool, row: &str) -> Result<bool, Unread> {
-    let (step, due) = row.split_once(" = ").ok_or(Unread)?;
+    let (step, due) = parted(row, " = ");
     let answer = answer_of(alloc, pool, step)?;
     Ok(is_due(answer.as_str(), due))
 }
@@ -64,8 +64,7 @@ pub(crate) fn go_through_pool(rt: &(impl Abort + AllocGlobal), sessions: &str) -
         if row == "new" {
             current = pool(rt.alloc(), 1)?;
         } else if !row.starts_with('#') && !row.starts_with("peek ") {
-            let held = goes(rt.alloc(), &mut current, row).unwrap_or(false);
-            assert!(rt; held, "{row}");
+            assert!(rt; held(goes(rt.alloc(), &mut current, row)), "{row}");
         }
     }
     Ok(())
