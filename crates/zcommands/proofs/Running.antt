@@ -1,41 +1,66 @@
--- A world that is run, and what is written of it.
-use Rattle.std.proofs.Common.{◌≡◌, ℕ, List, [], ◌∷◌, Option, Some, None, Result, Ok, Err, IfSome, inl, inr}
-use Rattle.zknow.specs.declared.fact.Mode.{Mode}
-use Rattle.zworld.specs.Fitness.{AreNew as AreFresh}
-use Rattle.zworld.specs.Run.{AreNew}
-use Rattle.ztarget.specs.Receiving.{TargetState}
+-- What is known once all was asked, and what is written of it.
+use Rattle.std.proofs.Common.{◌≡◌, ℕ, List, Option, Some, None, Result, Ok, Err, IfSome, inl, inr}
 use Rattle.zcommands.specs.Devices.{Device}
-use Rattle.zcommands.specs.Run.{IsRun, Prints, PutsRun, IsRunStatus, IsOfSaving, Runs}
+use Rattle.zcommands.specs.Finished.{Prints, PutsFinished, IsOfSaving, Finishes, Concludes}
+use Rattle.zworld.specs.declared.world.World.{World}
+use Rattle.zworld.specs.declared.world.NamedTarget.{NamedTarget}
+use Rattle.zworld.specs.Worlds.{IsWorld}
+use Rattle.zworld.specs.Fitness.{target_named}
+use Rattle.zcommands.specs.Serve.{HasTarget}
 use Rattle.zcommands.specs.declared.fault.Fault.{Fault}
 use Rattle.zcommands.specs.declared.fault.Fault.TheVariants.{Write, Memory}
 use Rattle.zcommands.specs.declared.fault.Status.{Status}
-use Rattle.zcommands.specs.declared.run.Finished.{Finished}
+use Rattle.zcommands.specs.declared.finished.Finished.{Finished}
 
--- none of the targets has received anything yet
-pub new_ones : (ts : List TargetState) → AreFresh ts → AreNew ts
-new_ones [] h = tt
-new_ones (t ∷ ts) h = (h.0, new_ones ts h.1)
+unput : (r : Finished) (saved : Option (List ℕ)) (output printed errors told : Device) (f : Fault)
+    → PutsFinished r output printed errors told (Err f) → Finishes r saved output printed errors told (Err f)
+unput r saved output printed errors told (Write path) h = inr h
+unput r saved output printed errors told Memory h = inl h
+unput r saved output printed errors told f h = absurd h
 
--- ---- what is written
+-- the list was not written
+pub not_put : (r : Finished) (saved : Option (List ℕ)) (output printed errors told : Device) (g f : Fault) (answer : Result Status Fault)
+    → answer ≡ Err f → f ≡ g → PutsFinished r output printed errors told (Err g)
+    → Finishes r saved output printed errors told answer
+not_put r saved output printed errors told g f answer is of h = rw (is, of) (unput r saved output printed errors told g h)
 
-unput_run : (mode : Mode) (file : List ℕ) (r : Finished) (output printed errors told : Device) (f : Fault) → IsRun mode file r → PutsRun r output printed errors told (Err f) → Runs mode file output printed errors told (Err f)
-unput_run mode file r output printed errors told (Write path) is h = (r, is, inr (h.1, h.2))
-unput_run mode file r output printed errors told Memory is h = inl h
-unput_run mode file r output printed errors told f is h = absurd h
+unsaved : (r : Finished) (saved : Option (List ℕ)) (output printed errors told : Device) (f : Fault)
+    → Prints r output printed errors told → IsOfSaving saved f → Finishes r saved output printed errors told (Err f)
+unsaved r saved output printed errors told (Write path) h s = inl (h, s)
+unsaved r saved output printed errors told Memory h s = inr h
+unsaved r saved output printed errors told f h s = absurd s
 
-pub not_put : (mode : Mode) (p : Option (List ℕ)) (run : Finished) (output printed errors told : Device) (g f : Fault) (r : Result Status Fault) → r ≡ Err f → f ≡ g → IfSome p (λ file. IsRun mode file run) → PutsRun run output printed errors told (Err g) → IfSome p (λ file. Runs mode file output printed errors told r)
-not_put mode None run output printed errors told g f r is of h w = tt
-not_put mode (Some file) run output printed errors told g f r is of h w = rw (is, of) (unput_run mode file run output printed errors told g h w)
+-- it was written, and not saved
+pub not_saved : (r : Finished) (saved : Option (List ℕ)) (output printed errors told : Device) (g f : Fault) (answer : Result Status Fault)
+    → answer ≡ Err f → f ≡ g → Prints r output printed errors told → IsOfSaving saved g
+    → Finishes r saved output printed errors told answer
+not_saved r saved output printed errors told g f answer is of h s =
+    rw (is, of) (unsaved r saved output printed errors told g h s)
 
-unsaved : (mode : Mode) (file : List ℕ) (saved : Option (List ℕ)) (r : Finished) (output printed errors told : Device) (f : Fault) → IsRun mode file r → Prints r output printed errors told → IsOfSaving saved f → Runs mode file output printed errors told (Err f)
-unsaved mode file saved r output printed errors told (Write path) is h w = (r, is, inl h)
-unsaved mode file saved r output printed errors told Memory is h w = inr (r, is, h)
-unsaved mode file saved r output printed errors told f is h w = absurd w
+-- ---- a command that asks
 
-pub not_saved : (mode : Mode) (p saved : Option (List ℕ)) (run : Finished) (output printed errors told : Device) (g f : Fault) (r : Result Status Fault) → r ≡ Err f → f ≡ g → IfSome p (λ file. IsRun mode file run) → Prints run output printed errors told → IsOfSaving saved g → IfSome p (λ file. Runs mode file output printed errors told r)
-not_saved mode None saved run output printed errors told g f r is of h w s = tt
-not_saved mode (Some file) saved run output printed errors told g f r is of h w s = rw (is, of) (unsaved mode file saved run output printed errors told g h w s)
+finished : (is : Finished → Type 0) (wrong : ℕ → Type 0) (serves : Type 0) (r : Finished) (saved : Option (List ℕ))
+    (output printed errors told : Device) (answer : Result Status Fault)
+    → is r → Finishes r saved output printed errors told answer → Concludes is wrong serves output printed errors told answer
+finished is wrong serves r saved output printed errors told (Ok status) h f = (r, h, f.0, f.1)
+finished is wrong serves r saved output printed errors told (Err (Write path)) h (inl f) = (r, h, inl f.0)
+finished is wrong serves r saved output printed errors told (Err (Write path)) h (inr f) = (r, h, inr (f.1, f.2))
+finished is wrong serves r saved output printed errors told (Err Memory) h (inl f) = inl f
+finished is wrong serves r saved output printed errors told (Err Memory) h (inr f) = inr (r, h, f)
+finished is wrong serves r saved output printed errors told (Err f) h g = absurd g
 
-pub all_done : (mode : Mode) (p : Option (List ℕ)) (run : Finished) (output printed errors told : Device) (status : Status) → IfSome p (λ file. IsRun mode file run) → Prints run output printed errors told → IsRunStatus run.meta status → IfSome p (λ file. Runs mode file output printed errors told (Ok status))
-all_done mode None run output printed errors told status h w s = tt
-all_done mode (Some file) run output printed errors told status h w s = (run, h, w, s)
+pub concludes : (is : List ℕ → Finished → Type 0) (wrong : List ℕ → ℕ → Type 0) (serves : List ℕ → Type 0)
+    (file : Option (List ℕ)) (r : Finished) (saved : Option (List ℕ)) (output printed errors told : Device) (answer : Result Status Fault)
+    → IfSome file (λ octets. is octets r) → Finishes r saved output printed errors told answer
+    → IfSome file (λ octets. Concludes (is octets) (wrong octets) (serves octets) output printed errors told answer)
+concludes is wrong serves None r saved output printed errors told answer h f = tt
+concludes is wrong serves (Some octets) r saved output printed errors told answer h f =
+    finished (is octets) (wrong octets) (serves octets) r saved output printed errors told answer h f
+
+-- ---- a target that is served
+
+pub has_target : (name : List ℕ) (file : Option (List ℕ)) (world : World) (target : NamedTarget)
+    → IfSome file (λ octets. IsWorld octets world) → target_named name world.targets ≡ Some target
+    → IfSome file (HasTarget name)
+has_target name None world target says found = tt
+has_target name (Some octets) world target says found = (world, target, says, found)

@@ -8,7 +8,7 @@ use Rattle.zoom.specs.Befalling.{IsStateAt}
 use Rattle.zoom.specs.Laws.{OneHearing, UpToLaw}
 use Rattle.zoom.specs.Metas.{MetaLinks, MetaAfter, Tells, is_skipped, is_complete, settings_of}
 use Rattle.zoom.proofs.Metas.{heard_at}
-use Rattle.zcommands.specs.Run.{is_failed, has_failed, is_troubled, failure_line, AreLinesFrom}
+use Rattle.zcommands.specs.Finished.{is_failed, has_failed, is_troubled, failure_line, AreLinesFrom}
 
 -- what is told of a connection's state
 failed_tells : UpToLaw → OneHearing → (c : ℕ) (meta : MetaLinks) (state : State) → c < length meta.pool.connections

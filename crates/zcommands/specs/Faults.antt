@@ -20,8 +20,10 @@ use Rattle.zknow.specs.declared.loading.LoadError.TheVariants as loads
 use Rattle.zknow.specs.Refusals.{load_word}
 use Rattle.zworld.specs.declared.world.WorldError.{WorldError}
 use Rattle.zworld.specs.declared.world.WorldError.TheVariants as worlds
+use Rattle.znet.specs.declared.service.ServeError.{ServeError}
+use Rattle.znet.specs.declared.service.ServeError.TheVariants as serves
 use Rattle.zcommands.specs.declared.fault.Fault.{Fault}
-use Rattle.zcommands.specs.declared.fault.Fault.TheVariants.{Read, Write, Hex, Frame, NotApdu, Malformed, Query, NotPrintable, NotKnowledge, NotCanonical, NamesDiffer, Line, Memory}
+use Rattle.zcommands.specs.declared.fault.Fault.TheVariants.{Read, Write, Hex, Frame, NotApdu, Malformed, Query, NotPrintable, NotKnowledge, NotCanonical, NamesDiffer, Line, Serve, Memory}
 use Rattle.zcommands.specs.declared.fault.Status.{Status}
 use Rattle.zcommands.specs.declared.fault.Status.TheVariants as statuses
 
@@ -47,6 +49,7 @@ fault_text (NotKnowledge at) = codes "knowledge refused: " ++ load_word (loads.N
 fault_text (NotCanonical at) = codes "knowledge refused: " ++ load_word (loads.NotCanonical at) ++ codes " at " ++ decimal at
 fault_text NamesDiffer = codes "names differ"
 fault_text (Line number) = codes "line " ++ decimal number ++ codes " refused"
+fault_text Serve = codes "cannot serve"
 fault_text Memory = codes "out of memory"
 
 abbrev pub of_frame : FrameError → Fault
@@ -83,6 +86,10 @@ of_load loads.Memory = Memory
 abbrev pub of_world : WorldError → Fault
 of_world (worlds.Refused line) = Line line
 of_world worlds.Memory = Memory
+
+abbrev pub of_serve : ServeError → Fault
+of_serve serves.Listen = Serve
+of_serve serves.Memory = Memory
 
 -- the status of a command that a fault stopped
 abbrev pub status_of : Fault → Status

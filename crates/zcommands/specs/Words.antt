@@ -1,6 +1,8 @@
 -- What the words of a command line ask for.
-use Rattle.std.specs.Prelude.{◌≡◌, ◌⊎◌, ℕ, List, [], Option, Some, None, true, codes, unwrap_or}
+use Rattle.std.specs.Prelude.{◌≡◌, ◌⊎◌, ℕ, List, Option, Some, None, true, codes}
+use Rattle.std.specs.Borrow.{Bor}
 use Rattle.std.specs.Option.{option_map}
+use Rattle.std.specs.Str.Parse.{digits_value, without_leading_plus}
 use Rattle.clap.specs.Words.{first_value, one_text, kind_of}
 use Rattle.clap.specs.declared.error.Error.{Error}
 use Rattle.clap.specs.declared.error.kind.ErrorKind.{ErrorKind}
@@ -8,43 +10,72 @@ use Rattle.clap.specs.declared.error.kind.ErrorKind.TheVariants as kinds
 use Rattle.clap.specs.declared.parser.matches.Found.{Found}
 use Rattle.zknow.specs.declared.fact.Mode.{Mode}
 use Rattle.zknow.specs.declared.fact.Mode.TheVariants as modes
+use Rattle.zcommands.specs.Ask.{DoesAsk}
 use Rattle.zcommands.specs.Join.{DoesJoin}
+use Rattle.zcommands.specs.Loop.{DoesLoop}
 use Rattle.zcommands.specs.Pqf.{DoesPqf}
 use Rattle.zcommands.specs.Run.{DoesRun}
+use Rattle.zcommands.specs.Serve.{DoesServe}
 use Rattle.zcommands.specs.Show.{DoesShow}
 use Rattle.zcommands.specs.Devices.{Device, Tells}
 use Rattle.zcommands.specs.declared.fault.Fault.TheVariants as faults
 use Rattle.zcommands.specs.declared.fault.Status.{Status}
 use Rattle.zcommands.specs.declared.fault.Status.TheVariants as statuses
 use Rattle.zcommands.specs.declared.words.Words.{Words}
-use Rattle.zcommands.specs.declared.words.Words.TheVariants.{Show, Pqf, Join, Run}
+use Rattle.zcommands.specs.declared.words.Words.TheVariants.{Show, Pqf, Join, Run, Ask, Loop, Serve}
 
--- the value that a command's words give to an argument
-abbrev pub value_of : Found → List ℕ → List ℕ
-value_of found id = unwrap_or (first_value found id) []
+-- the words of a command give this value to an argument
+abbrev pub Gives : Found → List ℕ → List ℕ → Type 0
+Gives found id value = first_value found id ≡ Some value
+
+-- the words give this number in decimal digits
+abbrev pub GivesNumber : Found → List ℕ → ℕ → Type 0
+GivesNumber found id n =
+    (text : List ℕ) → one_text found id ≡ Some text → n ≡ digits_value 10 (without_leading_plus text)
 
 -- records are printed in hexadecimal exactly where the option is given
 pub record HasMode (found : Found) (mode : Mode) : Type 0 where
   pub given : one_text found (codes "hex") ≡ Some (codes "true") → mode ≡ modes.Hex
   pub left_out : (one_text found (codes "hex") ≡ None) ⊎ (one_text found (codes "hex") ≡ Some (codes "false")) → mode ≡ modes.Text
 
+-- the path of a text that is borrowed, where there is one
+abbrev pub now_of : Option (Bor (List ℕ)) → Option (List ℕ)
+now_of path = option_map (λ text. text.now) path
+
+-- the paths of a world file and of a saved file, and how records are printed
+abbrev pub AsksSearch : Found → List ℕ → Option (List ℕ) → Mode → Type 0
+AsksSearch found world saved mode =
+    Gives found (codes "FILE") world × (saved ≡ first_value found (codes "save")) × HasMode found mode
+
 -- what the command of this name asks for, with the arguments that were found
 abbrev pub Asks : List ℕ → Found → Words → Type 0
 Asks name found Show = name ≡ codes "show"
-Asks name found (Pqf text) = (name ≡ codes "pqf") × (text.now ≡ value_of found (codes "TEXT"))
-Asks name found (Join first second mode) = (name ≡ codes "join") × (first.now ≡ value_of found (codes "A"))
-    × (second.now ≡ value_of found (codes "B")) × HasMode found mode
-Asks name found (Run world saved mode) = (name ≡ codes "run") × (world.now ≡ value_of found (codes "FILE"))
-    × (option_map (λ path. path.now) saved ≡ first_value found (codes "save")) × HasMode found mode
+Asks name found (Pqf text) = (name ≡ codes "pqf") × Gives found (codes "TEXT") text.now
+Asks name found (Join first second mode) = (name ≡ codes "join") × Gives found (codes "A") first.now
+    × Gives found (codes "B") second.now × HasMode found mode
+Asks name found (Run world saved mode) = (name ≡ codes "run") × AsksSearch found world.now (now_of saved) mode
+Asks name found (Ask world saved mode) = (name ≡ codes "ask") × AsksSearch found world.now (now_of saved) mode
+Asks name found (Loop world saved mode) = (name ≡ codes "loop") × AsksSearch found world.now (now_of saved) mode
+Asks name found (Serve address whose world count) = (name ≡ codes "serve") × Gives found (codes "ADDRESS") address.now
+    × Gives found (codes "NAME") whose.now × Gives found (codes "FILE") world.now × GivesNumber found (codes "N") count
 
 -- what is done for the words: their command, with these arguments and none other
-abbrev pub Does : (List ℕ → Option (List ℕ)) → Words → Device → Device → Device → Device → Device → Device → Status → Type 0
-Does octets Show input rest output printed errors told status = DoesShow input rest output printed errors told status
-Does octets (Pqf text) input rest output printed errors told status = (rest ≡ input) × DoesPqf text.now output printed errors told status
-Does octets (Join first second mode) input rest output printed errors told status =
-    (rest ≡ input) × DoesJoin mode first.now second.now (octets first.now) (octets second.now) output printed errors told status
-Does octets (Run world saved mode) input rest output printed errors told status =
-    (rest ≡ input) × DoesRun mode world.now (option_map (λ path. path.now) saved) (octets world.now) output printed errors told status
+abbrev pub Does
+    : (List ℕ → Option (List ℕ)) → Words → Device → Device → Device → Device → Device → Device → Status → Type 0
+Does octets Show input rest output printed errors told status =
+    DoesShow input rest output printed errors told status
+Does octets (Pqf text) input rest output printed errors told status =
+    (rest ≡ input) × DoesPqf text.now output printed errors told status
+Does octets (Join one two mode) input rest output printed errors told status = (rest ≡ input)
+    × DoesJoin mode one.now two.now (octets one.now) (octets two.now) output printed errors told status
+Does octets (Run world saved mode) input rest output printed errors told status = (rest ≡ input)
+    × DoesRun mode world.now (now_of saved) (octets world.now) output printed errors told status
+Does octets (Ask world saved mode) input rest output printed errors told status = (rest ≡ input)
+    × DoesAsk mode world.now (now_of saved) (octets world.now) output printed errors told status
+Does octets (Loop world saved mode) input rest output printed errors told status = (rest ≡ input)
+    × DoesLoop mode world.now (now_of saved) (octets world.now) output printed errors told status
+Does octets (Serve address name world count) input rest output printed errors told status =
+    (rest ≡ input) × (printed ≡ output) × DoesServe name.now world.now (octets world.now) errors told status
 
 -- help was asked for
 abbrev pub IsHelp : ErrorKind → Type 0

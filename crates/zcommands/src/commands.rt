@@ -3,25 +3,31 @@ ghost use Rattle.std.specs.Prelude.{◌≡◌, ◌≢◌, IfErr, MatchResult};
 ghost use Rattle.zcommands.specs.Devices.{left, held};
 ghost use Rattle.zcommands.specs.Words.{Does, TellsWords, IsWrong};
 
+use crate::ask::ask_named;
 use crate::fault::{Fault, Status};
 use crate::files::Folder;
+use crate::finished::Paths;
 use crate::input::Source;
 use crate::join::join_named;
+use crate::looped::loop_named;
 use crate::output::Sink;
 use crate::pqf::pqf;
-use crate::run::{Paths, run_named};
+use crate::run::run_named;
+use crate::serve::{Service, serve_named};
 use crate::show::show;
 use crate::words;
 use crate::words::Words;
 use clap::Error;
 use std::alloc::Global;
 use std::io::{ErrorKind, Read, Write};
+use std::net::Net;
+use std::time::Clock;
 
 /// Does what the words ask for, the first being the program's name. Without words they are not UTF-8, or memory ran
 /// out.
-pub fn run<'a, F: Folder, R: Read, W: Write, E: Write>(
+pub fn run<'a, S: Folder + Net + Clock, R: Read, W: Write, E: Write>(
     alloc: Global,
-    files: &F,
+    system: &S,
     words: Result<&[String], ErrorKind>,
     input: &mut Source<'a, R>,
     output: &mut Sink<'a, W>,
@@ -32,7 +38,7 @@ pub fn run<'a, F: Folder, R: Read, W: Write, E: Write>(
     match words {
         Ok(words) => answer(
             alloc,
-            files,
+            system,
             words::parse(alloc, words),
             input,
             output,
@@ -43,23 +49,23 @@ pub fn run<'a, F: Folder, R: Read, W: Write, E: Write>(
 }
 
 /// Does what was asked for, or tells why nothing was.
-fn answer<'a, F: Folder, R: Read, W: Write, E: Write>(
+fn answer<'a, S: Folder + Net + Clock, R: Read, W: Write, E: Write>(
     alloc: Global,
-    files: &F,
+    system: &S,
     asked: Result<Words<'_>, Error>,
     input: &mut Source<'a, R>,
     output: &mut Sink<'a, W>,
     errors: &mut Sink<'a, E>,
 ) -> Status
     ensures { MatchResult asked.entry
-        (λ asked. Does (F.octets files.now) asked (left R.remaining input.old) (left R.remaining input.new)
+        (λ asked. Does (S.octets system.now) asked (left R.remaining input.old) (left R.remaining input.new)
         (held W.contents output.old) (held W.contents output.new)
         (held E.contents errors.old) (held E.contents errors.new) result)
         (λ error. (input.new ≡ input.old) × TellsWords error (held W.contents output.old) (held W.contents output.new)
         (held E.contents errors.old) (held E.contents errors.new) result) }
 {
     match asked {
-        Ok(asked) => call(alloc, files, asked, input, output, errors),
+        Ok(asked) => call(alloc, system, asked, input, output, errors),
         Err(error) => words::tell(&error, output, errors),
     }
 }
@@ -85,15 +91,15 @@ fn refuse<'a, W: Write, E: Write>(
 }
 
 /// Does what the words ask for.
-fn call<'a, F: Folder, R: Read, W: Write, E: Write>(
+fn call<'a, S: Folder + Net + Clock, R: Read, W: Write, E: Write>(
     alloc: Global,
-    files: &F,
+    system: &S,
     asked: Words<'_>,
     input: &mut Source<'a, R>,
     output: &mut Sink<'a, W>,
     errors: &mut Sink<'a, E>,
 ) -> Status
-    ensures { Does (F.octets files.now) asked.entry (left R.remaining input.old) (left R.remaining input.new)
+    ensures { Does (S.octets system.now) asked.entry (left R.remaining input.old) (left R.remaining input.new)
         (held W.contents output.old) (held W.contents output.new)
         (held E.contents errors.old) (held E.contents errors.new) result }
 {
@@ -104,9 +110,29 @@ fn call<'a, F: Folder, R: Read, W: Write, E: Write>(
             first,
             second,
             mode,
-        } => join_named(alloc, files, (first, second), mode, output, errors),
+        } => join_named(alloc, system, (first, second), mode, output, errors),
         Words::Run { world, saved, mode } => {
-            run_named(alloc, files, Paths { world, saved }, mode, output, errors)
+            run_named(alloc, system, Paths { world, saved }, mode, output, errors)
+        }
+        Words::Ask { world, saved, mode } => {
+            ask_named(alloc, system, Paths { world, saved }, mode, output, errors)
+        }
+        Words::Loop { world, saved, mode } => {
+            loop_named(alloc, system, Paths { world, saved }, mode, output, errors)
+        }
+        Words::Serve {
+            address,
+            name,
+            world,
+            count,
+        } => {
+            let service = Service {
+                address,
+                name,
+                world,
+                count,
+            };
+            serve_named(alloc, system, service, errors)
         }
     }
 }

@@ -1,6 +1,6 @@
 //! What is told of connections that failed.
 ghost use Rattle.std.specs.Prelude.{◌≡◌, ◌<◌, ◌^◌, ◌++◌, length, OnOk, IfOk};
-ghost use Rattle.zcommands.specs.Run.{failure_line, AreLinesFrom};
+ghost use Rattle.zcommands.specs.Finished.{failure_line, AreLinesFrom};
 
 use bytes::Bytes;
 use std::alloc::{AllocError, Global};

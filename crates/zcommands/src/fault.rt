@@ -1,6 +1,6 @@
 //! Why a command stopped, and the status that it ends with.
 ghost use Rattle.std.specs.Prelude.{◌≡◌, Some};
-ghost use Rattle.zcommands.specs.Faults.{code_of, status_of, fault_text, of_frame, of_apdu, of_query, of_print, of_build, of_load, of_world};
+ghost use Rattle.zcommands.specs.Faults.{code_of, status_of, fault_text, of_frame, of_apdu, of_query, of_print, of_build, of_load, of_world, of_serve};
 ghost use Rattle.zcommands.specs.Devices.{held, Tells};
 ghost use Rattle.zcommands.specs.declared.fault.Fault.TheVariants.{Memory};
 
@@ -11,6 +11,7 @@ use std::io::Write;
 use zapdu::{ApduError, Kind};
 use zber::{FaultKind, FrameError};
 use zknow::LoadError;
+use znet::ServeError;
 use zquery::{BuildError, PqfError, PqfErrorKind, PrintError};
 use zworld::world::WorldError;
 
@@ -71,6 +72,8 @@ pub enum Fault<'a> {
     NamesDiffer,
     /// The line of a world file, from 1, says nothing, or cannot stand where it does, or asks whom the command does not.
     Line(u64),
+    /// There is no such target, the address cannot be taken, or no connection can.
+    Serve,
     /// No memory was found.
     Memory,
 }
@@ -107,6 +110,7 @@ impl fmt::Display for Fault<'_> {
             }
             Fault::NamesDiffer => write!(f, "names differ"),
             Fault::Line(number) => write!(f, "line {number} refused"),
+            Fault::Serve => write!(f, "cannot serve"),
             Fault::Memory => write!(f, "out of memory"),
         }
     }
@@ -195,6 +199,17 @@ impl From<WorldError> for Fault<'_> {
         match error {
             WorldError::Refused { line } => Fault::Line(line),
             WorldError::Memory => Fault::Memory,
+        }
+    }
+}
+
+impl From<ServeError> for Fault<'_> {
+    ghost from_gives = { λ e f. f ≡ of_serve e };
+
+    fn from(error: ServeError) -> Self {
+        match error {
+            ServeError::Listen => Fault::Serve,
+            ServeError::Memory => Fault::Memory,
         }
     }
 }

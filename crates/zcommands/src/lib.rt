@@ -1,19 +1,24 @@
 //! The commands over readers, writers and folders: what they read, print, tell and answer.
 #![tactic(auto)]
 
+pub mod ask;
 pub mod commands;
 mod digits;
 pub mod failures;
 pub mod fault;
 mod fields;
 pub mod files;
+pub mod finished;
 pub mod input;
 pub mod join;
 mod lines;
+pub mod looped;
 pub mod output;
 pub mod pqf;
 pub mod run;
 mod search;
+pub mod serve;
 pub mod show;
 mod trouble;
 pub mod words;
+mod worlds;

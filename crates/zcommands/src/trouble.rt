@@ -1,7 +1,7 @@
 //! Whether all that was to be asked was asked and answered.
 ghost use Rattle.std.specs.Prelude.{◌≡◌, ◌<◌, ◌^◌, not, ◌||◌, length};
 ghost use Rattle.zoom.specs.Metas.{Tells};
-ghost use Rattle.zcommands.specs.Run.{is_failed, is_troubled, HasTrouble, IsRunStatus};
+ghost use Rattle.zcommands.specs.Finished.{is_failed, is_troubled, HasTrouble, IsFinishedStatus};
 
 use crate::fault::Status;
 use zoom::laws::{one_hearing, up_to};
@@ -46,9 +46,9 @@ fn has_trouble(meta: &Meta) -> bool
 }
 
 /// The status of a command after which connections stand so.
-pub(crate) fn run_status(meta: &Meta) -> Status
+pub(crate) fn finished_status(meta: &Meta) -> Status
     requires { length meta.now.pool.connections < 2 ^ 32 }
-    ensures { IsRunStatus meta.now result }
+    ensures { IsFinishedStatus meta.now result }
 {
     if meta.knowledge().has_failed() {
         return Status::Failed;

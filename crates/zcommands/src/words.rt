@@ -9,7 +9,7 @@ ghost use Rattle.zcommands.specs.Words.{Asks, HasMode, TellsWords};
 use crate::fault::{Fault, Status};
 use crate::output::Sink;
 use clap::error::ErrorKind;
-use clap::{Arg, ArgAction, ArgMatches, Command, Error};
+use clap::{Arg, ArgAction, ArgMatches, Command, Error, value_parser};
 use std::alloc::{AllocError, Global};
 use std::io::Write;
 use zknow::Mode;
@@ -35,7 +35,29 @@ pub enum Words<'a> {
         saved: Option<&'a str>,
         mode: Mode,
     },
+    /// Print the list of what the hosts of a world file answer over TCP, and save what is known then, if it is to be.
+    Ask {
+        world: &'a str,
+        saved: Option<&'a str>,
+        mode: Mode,
+    },
+    /// As `Run`, over TCP on 127.0.0.1 and without moves.
+    Loop {
+        world: &'a str,
+        saved: Option<&'a str>,
+        mode: Mode,
+    },
+    /// Let a target of a world file answer so many connections at an address.
+    Serve {
+        address: &'a str,
+        name: &'a str,
+        world: &'a str,
+        count: u32,
+    },
 }
+
+/// The most connections that one command serves.
+const MOST_CONNECTIONS: i64 = 1_000_000;
 
 /// A command: its name, what it is for, an example for its help, the words that it wants, and its options.
 #[derive(Clone, Copy)]
@@ -55,12 +77,22 @@ struct Word {
     help: &'static str,
     /// Whether it may begin with a hyphen and be no option.
     has_hyphen: bool,
+    /// Whether it is a number of connections.
+    is_count: bool,
 }
 
 const ABOUT: &str = "Asks library catalogues over Z39.50, and shows what they answer";
 
-const ADVICE: &str =
-    "'zmeta help COMMAND' says what a command reads and prints, with an example, as\n  zmeta help show";
+const ADVICE: &str = "'zmeta help COMMAND' says what a command reads and prints, with an example, as
+  zmeta help ask
+
+Statuses:
+  0  all was done
+  1  a catalogue failed, closed its connection, refused a search or could not be asked;
+     the list has what the others brought
+  2  the words are wrong
+  3  a file or a message was refused, or a file, a stream or a socket failed
+  4  memory ran out";
 
 const SHOW: Form = Form {
     name: "show",
@@ -91,6 +123,7 @@ prints first
         id: "TEXT",
         help: "The query in prefix notation",
         has_hyphen: true,
+        is_count: false,
     }],
     has_hex: false,
     has_save: false,
@@ -113,11 +146,13 @@ prints lines as
             id: "A",
             help: "A file of what one search brought",
             has_hyphen: false,
+            is_count: false,
         },
         Word {
             id: "B",
             help: "A file of what the other search brought",
             has_hyphen: false,
+            is_count: false,
         },
     ],
     has_hex: true,
@@ -148,19 +183,116 @@ prints lines as
         id: "FILE",
         help: "A file of catalogues and questions",
         has_hyphen: false,
+        is_count: false,
     }],
     has_hex: true,
     has_save: true,
 };
 
-const FORMS: [Form; 4] = [SHOW, PQF, RUN, JOIN];
+const ASK: Form = Form {
+    name: "ask",
+    about: "Asks library catalogues",
+    example: "FILE describes the catalogues and what each is asked, a line each:
+  step N, window N            positions that one request asks for, requests that may wait
+  host NAME ADDRESS           a catalogue, at an address as z3950.example.org:210
+  ask NAME DB SYNTAX WANT QUERY
+                              SYNTAX may be -; WANT is a number, or as 1-3,10-12
+Connects to all of them, asks each, and prints one list of all that they answer. A catalogue that
+cannot be reached, or is silent for 30 seconds, is told of, and the others are listed: status 1.
+
+Example, a file with the two lines
+  host loc lx2.loc.gov:210
+  ask loc LCDB 1.2.840.10003.5.10 5 \"@attr 1=4 dune\"
+is asked by
+  zmeta ask catalogues
+and prints lines as
+  target \"loc\" set 1 count 2
+  1 \"loc\" 1 rec 1.2.840.10003.5.10 \"LCDB\" \"first record\"",
+    wants: &[Word {
+        id: "FILE",
+        help: "A file of catalogues and questions",
+        has_hyphen: false,
+        is_count: false,
+    }],
+    has_hex: true,
+    has_save: true,
+};
+
+const SERVE: Form = Form {
+    name: "serve",
+    about: "Serves a catalogue in memory to other programs",
+    example: "ADDRESS is where connections are taken, as localhost:9999. FILE describes catalogues in memory,
+as 'zmeta help run' says, and NAME is one of them. N connections are taken, one after the other.
+Status 3 with 'cannot serve' where there is no such catalogue, or the address cannot be taken.
+
+Example, one client asks the catalogue of a city library:
+  zmeta serve localhost:9999 'city library' world 1",
+    wants: &[
+        Word {
+            id: "ADDRESS",
+            help: "Where connections are taken, as host:port",
+            has_hyphen: false,
+            is_count: false,
+        },
+        Word {
+            id: "NAME",
+            help: "The catalogue that is served",
+            has_hyphen: false,
+            is_count: false,
+        },
+        Word {
+            id: "FILE",
+            help: "A file of catalogues",
+            has_hyphen: false,
+            is_count: false,
+        },
+        Word {
+            id: "N",
+            help: "How many connections are taken, up to 1000000",
+            has_hyphen: false,
+            is_count: true,
+        },
+    ],
+    has_hex: false,
+    has_save: false,
+};
+
+const LOOP: Form = Form {
+    name: "loop",
+    about: "Runs searches against catalogues in memory, over this machine's network",
+    example: "FILE is as for 'zmeta run'. Each catalogue is asked over a TCP connection to 127.0.0.1, so that the
+list shows whether this machine's network carries octets as they are: it is the list of 'zmeta run'.
+Lines of FILE that say in which order octets are carried are read, and not followed.
+Status 3 with 'cannot serve' where no connections can be made.
+
+Example:
+  zmeta loop world
+prints lines as
+  target \"city library\" set 1 count 2
+  1 \"city library\" 1 rec 1.2.840.10003.5.10 \"books\" \"first record\"",
+    wants: &[Word {
+        id: "FILE",
+        help: "A file of catalogues and questions",
+        has_hyphen: false,
+        is_count: false,
+    }],
+    has_hex: true,
+    has_save: true,
+};
+
+const FORMS: [Form; 7] = [ASK, RUN, LOOP, JOIN, SERVE, SHOW, PQF];
 
 fn argument(alloc: Global, word: &Word) -> Arg<'static> {
-    Arg::new(alloc, word.id)
+    let argument = Arg::new(alloc, word.id)
         .help(word.help)
         .required(true)
         .allow_hyphen_values(word.has_hyphen)
-        .action(ArgAction::Set)
+        .action(ArgAction::Set);
+    if word.is_count {
+        argument.value_parser(value_parser!(u32).range(0..=MOST_CONNECTIONS))
+    } else {
+        argument
+    }
 }
 
 fn hex_option(alloc: Global) -> Arg<'static> {
@@ -218,24 +350,41 @@ pub fn parse<'a>(alloc: Global, words: &'a [String]) -> Result<Words<'a>, Error>
     Err(command.error(ErrorKind::InvalidSubcommand, "no such command")?)
 }
 
-/// What the command of this name asks for with the arguments that were found, or `None` where no command has the name.
+/// What the command of this name asks for with the arguments that were found. `None` where no command has the name, or a
+/// word that it wants is missing.
 fn words_of<'a>(name: &str, found: &ArgMatches<'a>) -> Option<Words<'a>>
     ensures asks { IfSome result (Asks name.now (found_of found.now)) }
 {
     match name {
         "show" => Some(Words::Show),
         "pqf" => Some(Words::Pqf {
-            text: found.get_str("TEXT").unwrap_or(""),
+            text: found.get_str("TEXT")?,
         }),
         "join" => Some(Words::Join {
-            first: found.get_str("A").unwrap_or(""),
-            second: found.get_str("B").unwrap_or(""),
+            first: found.get_str("A")?,
+            second: found.get_str("B")?,
             mode: mode_of(found),
         }),
         "run" => Some(Words::Run {
-            world: found.get_str("FILE").unwrap_or(""),
+            world: found.get_str("FILE")?,
             saved: found.get_str("save"),
             mode: mode_of(found),
+        }),
+        "ask" => Some(Words::Ask {
+            world: found.get_str("FILE")?,
+            saved: found.get_str("save"),
+            mode: mode_of(found),
+        }),
+        "loop" => Some(Words::Loop {
+            world: found.get_str("FILE")?,
+            saved: found.get_str("save"),
+            mode: mode_of(found),
+        }),
+        "serve" => Some(Words::Serve {
+            address: found.get_str("ADDRESS")?,
+            name: found.get_str("NAME")?,
+            world: found.get_str("FILE")?,
+            count: found.get_one::<u32>("N")?,
         }),
         _ => None,
     }

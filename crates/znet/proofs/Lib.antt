@@ -1,1 +1,1 @@
-pub mod Going
+pub mod Asking

@@ -1,8 +1,9 @@
 //! Hosts are asked, one after the other.
-ghost use Rattle.std.specs.Prelude.{◌≡◌, ◌<◌, ◌^◌, length, IfOk, OnOk};
+ghost use Rattle.std.specs.Prelude.{◌≡◌, ◌<◌, ◌^◌, [], true, length, is_some, IfOk, OnOk};
 ghost use Rattle.zoom.specs.Steering.{AreFit};
 ghost use Rattle.zoom.specs.Metas.{AreAskable};
-ghost use Rattle.znet.specs.Asking.{GoesOn, IsAsked};
+ghost use Rattle.znet.specs.Asking.{IsAsked};
+ghost use Rattle.znet.specs.AskingSteps.{Opens, TalksOut, OpensAll, TalksAllOut};
 
 use crate::line::{Line, line_to};
 use bytes::Bytes;
@@ -36,8 +37,8 @@ pub fn ask<N: Net + Clock>(
     ensures asked { IfOk result (λ meta. IsAsked questions.items settings meta) }
 {
     let mut meta = Meta::new(alloc, Seq::from_vec(questions), settings)?;
-    let mut lines = open_all(alloc, net, &mut meta, addresses)?;
-    talk_all(alloc, &mut meta, &mut lines)?;
+    let lines = open_all(alloc, net, &mut meta, addresses)?;
+    talk_all(alloc, &mut meta, lines)?;
     Ok(meta)
 }
 
@@ -50,7 +51,7 @@ fn open_all<'a, N: Net + Clock>(
 ) -> Result<Vec<Option<Line<'a, N, N::Stream>>>, AllocError>
     requires few { length meta.old.pool.connections < 2 ^ 32 }
     requires equal { length addresses.now ≡ length meta.old.pool.connections }
-    ensures on { OnOk result (GoesOn meta.old meta.new) }
+    ensures opens { IfOk result (λ lines. OpensAll lines.items meta.old meta.new) }
     ensures size { length meta.new.pool.connections ≡ length meta.old.pool.connections }
     ensures lines { IfOk result (λ lines. length lines.items ≡ length addresses.now) }
 {
@@ -70,7 +71,7 @@ fn open<'a, N: Net + Clock>(
     address: &Bytes,
 ) -> Result<Option<Line<'a, N, N::Stream>>, AllocError>
     requires { c < length meta.old.pool.connections }
-    ensures on { OnOk result (GoesOn meta.old meta.new) }
+    ensures opens { IfOk result (λ line. Opens c (is_some line) meta.old meta.new) }
     ensures size { length meta.new.pool.connections ≡ length meta.old.pool.connections }
 {
     let Some(mut line) = line_to(net, address) else {
@@ -87,7 +88,7 @@ fn open<'a, N: Net + Clock>(
 /// Makes the calls that are due, and writes what waits; whether it was written.
 fn begin<W: Sink>(alloc: Global, meta: &mut Meta, c: u32, sink: &mut W) -> Result<bool, AllocError>
     requires { c < length meta.old.pool.connections }
-    ensures on { OnOk result (GoesOn meta.old meta.new) }
+    ensures opens { IfOk result (λ reached. Opens c reached meta.old meta.new) }
     ensures size { length meta.new.pool.connections ≡ length meta.old.pool.connections }
 {
     meta.drive(c)?;
@@ -100,32 +101,34 @@ fn begin<W: Sink>(alloc: Global, meta: &mut Meta, c: u32, sink: &mut W) -> Resul
     }
 }
 
-/// Talks with each host in order.
-fn talk_all<C: Clock, S: Read + Write>(
+/// Talks with each host in order. Each line ends with its talk.
+fn talk_all<C: Clock, S: Read + Write + Drop>(
     alloc: Global,
     meta: &mut Meta,
-    lines: &mut [Option<Line<'_, C, S>>],
+    lines: Vec<Option<Line<'_, C, S>>>,
 ) -> Result<(), AllocError>
     requires few { length meta.old.pool.connections < 2 ^ 32 }
-    requires equal { length lines.old ≡ length meta.old.pool.connections }
-    ensures on { OnOk result (GoesOn meta.old meta.new) }
+    requires equal { length lines.items ≡ length meta.old.pool.connections }
+    ensures talks { OnOk result (TalksAllOut lines.entry.items (length lines.entry.items) [] meta.old meta.new) }
     ensures size { length meta.new.pool.connections ≡ length meta.old.pool.connections }
 {
-    for c in 0..lines.len() {
-        talk_if(alloc, meta, c as u32, &mut lines[c])?;
+    let mut c = 0;
+    for line in lines {
+        talk_if(alloc, meta, c, line)?;
+        c += 1;
     }
     Ok(())
 }
 
 /// Talks with a host, where there is a way to it.
-fn talk_if<C: Clock, S: Read + Write>(
+fn talk_if<C: Clock, S: Read + Write + Drop>(
     alloc: Global,
     meta: &mut Meta,
     c: u32,
-    line: &mut Option<Line<'_, C, S>>,
+    line: Option<Line<'_, C, S>>,
 ) -> Result<(), AllocError>
     requires { c < length meta.old.pool.connections }
-    ensures on { OnOk result (GoesOn meta.old meta.new) }
+    ensures talks { OnOk result (TalksOut c (is_some line.entry) meta.old meta.new) }
     ensures size { length meta.new.pool.connections ≡ length meta.old.pool.connections }
 {
     match line {
@@ -135,17 +138,21 @@ fn talk_if<C: Clock, S: Read + Write>(
 }
 
 /// Talks with a host until its connection ends.
-fn talk_on<C: Clock, S: Read + Write>(
+fn talk_on<C: Clock, S: Read + Write + Drop>(
     alloc: Global,
     meta: &mut Meta,
     c: u32,
-    line: &mut Line<'_, C, S>,
+    line: Line<'_, C, S>,
 ) -> Result<(), AllocError>
     requires { c < length meta.old.pool.connections }
-    ensures on { OnOk result (GoesOn meta.old meta.new) }
+    ensures talks { OnOk result (TalksOut c true meta.old meta.new) }
     ensures size { length meta.new.pool.connections ≡ length meta.old.pool.connections }
 {
-    match talk(alloc, meta, c, &mut line.source, &mut line.sink, TURNS) {
+    let Line {
+        mut source,
+        mut sink,
+    } = line;
+    match talk(alloc, meta, c, &mut source, &mut sink, TURNS) {
         Ok(()) => Ok(()),
         Err(error) => match error {
             TalkError::Memory => Err(AllocError),

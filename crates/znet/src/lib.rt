@@ -3,8 +3,10 @@
 
 mod hosts;
 mod line;
+mod loopback;
 mod service;
 
 pub use hosts::ask;
 pub use line::Line;
+pub use loopback::run_loopback;
 pub use service::{ServeError, serve};

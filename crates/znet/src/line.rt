@@ -61,10 +61,7 @@ pub struct Line<'a, C, S> {
 impl<'a, C: Clock, S: OpenStream + Drop> Line<'a, C, S> {
     /// Of a stream, with limits of 30 seconds for a read and for a write, and of an hour for all of them.
     pub fn new(clock: &'a C, stream: S) -> io::Result<Line<'a, C, S>> {
-        let patience = Duration::from_secs(PATIENCE);
-        stream.set_read_timeout(Some(patience))?;
-        stream.set_write_timeout(Some(patience))?;
-        stream.set_nodelay(true)?;
+        set_limits(&stream)?;
         let begun = Instant::now(clock)?;
         let other = stream.try_clone()?;
         Ok(Line {
@@ -72,6 +69,14 @@ impl<'a, C: Clock, S: OpenStream + Drop> Line<'a, C, S> {
             sink: limited(clock, begun, other),
         })
     }
+}
+
+/// Sets limits of 30 seconds for a read and for a write, and has octets go out at once.
+pub(crate) fn set_limits<S: OpenStream>(stream: &S) -> io::Result<()> {
+    let patience = Duration::from_secs(PATIENCE);
+    stream.set_read_timeout(Some(patience))?;
+    stream.set_write_timeout(Some(patience))?;
+    stream.set_nodelay(true)
 }
 
 fn limited<C, S>(clock: &C, begun: Instant, stream: S) -> Device<Timed<'_, C, S>> {

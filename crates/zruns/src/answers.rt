@@ -1,7 +1,10 @@
 // What a command prints, tells and answers by its words.
+use crate::runs::SHORT_LIST;
 use crate::shelf::SHELF;
 use std::alloc::{AllocError, Global};
 use std::io::{ErrorKind, Write};
+use std::net::Net;
+use std::time::Clock;
 use zcommands::commands::run;
 use zcommands::fault::Status;
 use zcommands::files::Folder;
@@ -19,22 +22,22 @@ pub(crate) struct Outcome {
 }
 
 // What is answered where the input is read without a failure.
-fn status<'a, F: Folder, W: Write, E: Write>(
+fn status<'a, S: Folder + Net + Clock, W: Write, E: Write>(
     alloc: Global,
-    files: &F,
+    system: &S,
     words: Result<&[String], ErrorKind>,
     input: &'a [u8],
     output: &mut Sink<'a, W>,
     errors: &mut Sink<'a, E>,
 ) -> Status {
     let mut input = Source::new("-", input);
-    run(alloc, files, words, &mut input, output, errors)
+    run(alloc, system, words, &mut input, output, errors)
 }
 
 /// What the words of a command line do, on an input that is read without a failure.
-pub(crate) fn ran<F: Folder>(
+pub(crate) fn ran<S: Folder + Net + Clock>(
     alloc: Global,
-    files: &F,
+    system: &S,
     words: Result<&[String], ErrorKind>,
     input: &[u8],
 ) -> Outcome {
@@ -42,7 +45,7 @@ pub(crate) fn ran<F: Folder>(
     let mut told = Vec::new(alloc);
     let status = status(
         alloc,
-        files,
+        system,
         words,
         input,
         &mut Sink::new("-", &mut printed),
@@ -65,14 +68,14 @@ pub(crate) fn words_of(alloc: Global, line: &str) -> Result<Vec<String>, AllocEr
 }
 
 /// What the words of a line do.
-pub(crate) fn ran_line<F: Folder>(
+pub(crate) fn ran_line<S: Folder + Net + Clock>(
     alloc: Global,
-    files: &F,
+    system: &S,
     line: &str,
     input: &[u8],
 ) -> Result<Outcome, AllocError> {
     let words = words_of(alloc, line)?;
-    Ok(ran(alloc, files, Ok(words.as_slice()), input))
+    Ok(ran(alloc, system, Ok(words.as_slice()), input))
 }
 
 // What is printed of the worlds on the shelf.
@@ -112,6 +115,7 @@ target \"c\" set 1 count 1
 fn meant(text: &str) -> &str {
     match text {
         "-" => "",
+        "SHORT_LIST" => SHORT_LIST,
         "WORLD_LIST" => WORLD_LIST,
         "HEX_LIST" => HEX_LIST,
         "REFUSING_LIST" => REFUSING_LIST,
@@ -139,22 +143,26 @@ pub(crate) fn is_due(alloc: Global, ran: &Outcome, due: &str) -> Result<bool, Un
 }
 
 /// Whether the words of a line do on these files what is due.
-pub(crate) fn does<F: Folder>(
+pub(crate) fn does<S: Folder + Net + Clock>(
     alloc: Global,
-    files: &F,
+    system: &S,
     line: &str,
     input: &str,
     due: &str,
 ) -> Result<bool, Unread> {
     let input = text(alloc, input)?;
-    let ran = ran_line(alloc, files, line, input.as_slice())?;
+    let ran = ran_line(alloc, system, line, input.as_slice())?;
     is_due(alloc, &ran, due)
 }
 
 /// A row of a line, and what is due of it.
-pub(crate) fn is_done_in<F: Folder>(alloc: Global, files: &F, row: &str) -> Result<bool, Unread> {
+pub(crate) fn is_done_in<S: Folder + Net + Clock>(
+    alloc: Global,
+    system: &S,
+    row: &str,
+) -> Result<bool, Unread> {
     let (line, due) = halves(row);
-    does(alloc, files, line, "-", due)
+    does(alloc, system, line, "-", due)
 }
 
 /// The same on the shelf.

@@ -2,6 +2,8 @@
 // most three octets in each other.
 use std::io;
 use std::io::{ErrorKind, Read, Write};
+use std::net::{Net, SocketAddr, TcpListener, TcpStream};
+use std::time::{Clock, Duration};
 use zcommands::files::Folder;
 
 /// A reader of some octets.
@@ -86,6 +88,31 @@ impl<'a> Folder for Shelf<'a> {
         }
         let fails_at = if path == "full" { 2 } else { 0 };
         Ok(Full { calls: 0, fails_at })
+    }
+}
+
+/// There is no way to anywhere, no port, and no time.
+impl Net for Shelf<'_> {
+    type Stream = TcpStream;
+
+    type Listener = TcpListener;
+
+    fn bind(&self, _addr: SocketAddr) -> io::Result<TcpListener> {
+        Err(io::Error::from(ErrorKind::AddrInUse))
+    }
+
+    fn connect(&self, _addr: SocketAddr) -> io::Result<TcpStream> {
+        Err(io::Error::from(ErrorKind::ConnectionRefused))
+    }
+}
+
+impl Clock for Shelf<'_> {
+    fn monotonic(&self) -> io::Result<Duration> {
+        Err(io::Error::from(ErrorKind::Unsupported))
+    }
+
+    fn since_1970(&self) -> io::Result<Duration> {
+        Err(io::Error::from(ErrorKind::Unsupported))
     }
 }
 

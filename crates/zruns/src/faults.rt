@@ -46,7 +46,7 @@ const QUERIES: [(PqfErrorKind, &str); 10] = [
     (PqfErrorKind::Trailing, "Trailing at 9"),
 ];
 
-const OTHERS: [(Fault<'static>, &str); 10] = [
+const OTHERS: [(Fault<'static>, &str); 11] = [
     (Fault::Read("a b"), "cannot read a b"),
     (Fault::Write("-"), "cannot write -"),
     (Fault::Hex, "hex refused"),
@@ -61,6 +61,7 @@ const OTHERS: [(Fault<'static>, &str); 10] = [
         "knowledge refused: NotCanonical at 2",
     ),
     (Fault::NamesDiffer, "names differ"),
+    (Fault::Serve, "cannot serve"),
     (Fault::Line(12), "line 12 refused"),
     (Fault::Memory, "out of memory"),
 ];

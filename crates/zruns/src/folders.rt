@@ -1,6 +1,7 @@
 // Files of the host: those that are joined, and one that is saved.
 use crate::answers::{is_done_in, is_due, ran_line};
-use crate::shelf::{COUNT, RECORD};
+use crate::runs::SHORT;
+use crate::shelf::{COUNT, HOSTS, RECORD, REFUSING, WORLD};
 use std::fs;
 use std::process::Abort;
 use std::test::Fail;
@@ -37,7 +38,7 @@ fn reads_files_by_their_names(rt: HostRuntime) -> Result<(), Fail> {
     Ok(())
 }
 
-const WORLD: &[u8] = b"target a 1 n\ndb d\nask a d - 5 dune\n";
+const ASKED: &[u8] = b"target a 1 n\ndb d\nask a d - 5 dune\n";
 
 /// Names `a`, and set 1 of target 0 with no record.
 const SAVED: &[u8] = b"\xa4\x03\x80\x01a\xa0\x09\x80\x01\x00\x81\x01\x01\x82\x01\x00";
@@ -49,11 +50,36 @@ fn is_saved(rt: &HostRuntime) -> Result<bool, Unread> {
 
 #[test]
 fn saves_what_is_known(rt: HostRuntime) -> Result<(), Fail> {
-    fs::write(&rt, "asked", WORLD)?;
+    fs::write(&rt, "asked", ASKED)?;
     assert!(rt; is_saved(&rt).unwrap_or(false));
     let saved = fs::read(&rt, "known")?;
     assert_eq!(rt; saved.as_slice(), SAVED);
     fs::remove_file(&rt, "asked")?;
     fs::remove_file(&rt, "known")?;
+    Ok(())
+}
+
+// No one listens at the address of `hosts`.
+const REACHED: &str = "\
+zmeta|serve|127.0.0.1:0|a|world|0 => 0 > - > -
+zmeta|serve|nowhere|a|world|0 => 3 > - > zmeta: cannot serve%0a
+zmeta|ask|hosts => 1 > - > zmeta: target \"b\": Connect%0a
+zmeta|loop|world => 0 > WORLD_LIST > -
+zmeta|loop|world|--hex => 0 > HEX_LIST > -
+zmeta|loop|short => 0 > SHORT_LIST > -
+zmeta|loop|refusing => 1 > REFUSING_LIST > -
+";
+
+#[test]
+fn asks_over_sockets(rt: HostRuntime) -> Result<(), Fail> {
+    fs::write(&rt, "world", WORLD)?;
+    fs::write(&rt, "hosts", HOSTS)?;
+    fs::write(&rt, "short", SHORT)?;
+    fs::write(&rt, "refusing", REFUSING)?;
+    are_done(&rt, REACHED)?;
+    fs::remove_file(&rt, "world")?;
+    fs::remove_file(&rt, "hosts")?;
+    fs::remove_file(&rt, "short")?;
+    fs::remove_file(&rt, "refusing")?;
     Ok(())
 }

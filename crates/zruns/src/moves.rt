@@ -14,6 +14,7 @@ use zworld::fitness::Arrangement;
 use zworld::run::peers::{Peer, peers_of};
 use zworld::run::rounds::make_moves;
 use zworld::run::turns::drive_all;
+use zworld::run::ways::Within;
 
 const ONE: &[u8] = b"step 10
 window 4
@@ -142,7 +143,7 @@ fn make(peers: &mut [Peer], meta: &mut Meta, steps: &[Move]) -> Result<(), Unrea
     if peers.len() != 1 {
         return Err(Unread);
     }
-    Ok(make_moves(peers, meta, steps)?)
+    Ok(make_moves(peers, meta, &mut Within, steps)?)
 }
 
 // Whether the target has accepted the association once these moves were made.
@@ -177,7 +178,7 @@ fn stop(peers: &mut [Peer], meta: &mut Meta) -> Result<bool, Unread> {
         return Err(Unread);
     }
     feed(&mut peers[0])?;
-    Ok(peers[0].go_round(meta, 0)?)
+    Ok(peers[0].go_round(meta, 0, &mut Within)?)
 }
 
 fn is_ended(alloc: Global) -> Result<bool, Unread> {

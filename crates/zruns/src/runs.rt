@@ -13,7 +13,7 @@ use zoom::Move;
 use zworld::fitness::Arrangement;
 use zworld::run::run_world;
 
-const SHORT: &[u8] = b"step 3
+pub(crate) const SHORT: &[u8] = b"step 3
 window 4
 target a 48 cn
 db d
@@ -44,7 +44,7 @@ ask b d - 10 \"@attr 1=4 dune\"
 ask c d - 10 \"@attr 1=4 dune\"
 ";
 
-const SHORT_LIST: &str = "\
+pub(crate) const SHORT_LIST: &str = "\
 target \"a\" set 1 count 0
 target \"b\" set 1 count 1
 target \"c\" set 1 count 7

@@ -16,7 +16,7 @@ const TURNED: &[u8] =
     b"\xa4\x00\xa0\x09\x80\x01\x01\x81\x01\x01\x82\x01\x00\xa0\x09\x80\x01\x00\x81\x01\x01\x82\x01\x04";
 
 /// Three catalogues, of which the last answers in several requests.
-const WORLD: &[u8] = b"step 3
+pub(crate) const WORLD: &[u8] = b"step 3
 window 4
 target a 48 cn
 db d
@@ -51,7 +51,7 @@ from c 1
 ";
 
 /// A search that fails, a catalogue that refuses, and one that answers.
-const REFUSING: &[u8] = b"target a 4096 cn
+pub(crate) const REFUSING: &[u8] = b"target a 4096 cn
 db d
 rec 1.2.840.10003.5.10 a1
 field 4 dune
@@ -71,7 +71,10 @@ ask c d - 10 \"@attr 1=4 dune\"
 /// The second question is put to a catalogue at an address.
 const HOSTED: &[u8] = b"target a 1 -\nhost b h:210\nask a d - 1 dune\nask b d - 1 dune\n";
 
-const FILES: [Kept<'static>; 14] = [
+/// A catalogue at an address.
+pub(crate) const HOSTS: &[u8] = b"host b 127.0.0.1:1\nask b d - 1 dune\n";
+
+const FILES: [Kept<'static>; 15] = [
     Kept {
         path: "world",
         octets: WORLD,
@@ -85,6 +88,11 @@ const FILES: [Kept<'static>; 14] = [
     Kept {
         path: "hosted",
         octets: HOSTED,
+        fails_at: 0,
+    },
+    Kept {
+        path: "hosts",
+        octets: HOSTS,
         fails_at: 0,
     },
     Kept {

@@ -14,6 +14,10 @@ zmeta|pqf|-5 => Pqf { text: \"-5\" }
 zmeta|join|a|b|--hex => Join { first: \"a\", second: \"b\", mode: Hex }
 zmeta|run|w|--save|s => Run { world: \"w\", saved: Some(\"s\"), mode: Text }
 zmeta|run|--hex|w => Run { world: \"w\", saved: None, mode: Hex }
+zmeta|ask|w|--save|s|--hex => Ask { world: \"w\", saved: Some(\"s\"), mode: Hex }
+zmeta|loop|w|--hex|--save|s => Loop { world: \"w\", saved: Some(\"s\"), mode: Hex }
+zmeta|serve|h:1|a b|w|0 => Serve { address: \"h:1\", name: \"a b\", world: \"w\", count: 0 }
+zmeta|serve|h:1|a|w|1000000 => Serve { address: \"h:1\", name: \"a\", world: \"w\", count: 1000000 }
 zmeta|join|a|b => Join { first: \"a\", second: \"b\", mode: Text }
 ";
 
@@ -48,6 +52,13 @@ zmeta|join|a|b|--save|c => 2
 zmeta|run => 2
 zmeta|run|w|--save => 2
 zmeta|run|w|x => 2
+zmeta|ask => 2
+zmeta|ask|w|--save => 2
+zmeta|serve|h:1|a|w => 2
+zmeta|serve|h:1|a|w|x => 2
+zmeta|serve|h:1|a|w|-1 => 2
+zmeta|serve|h:1|a|w|1000001 => 2
+zmeta|serve|h:1|a|w|1|--hex => 2
 zmeta|--version => 2
 zmeta|--help => 0
 zmeta|help|show => 0

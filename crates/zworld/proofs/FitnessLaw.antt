@@ -4,7 +4,8 @@ use Rattle.std.specs.Option.{option_map}
 use Rattle.zquery.specs.Trees.{RpnQuery}
 use Rattle.zoom.specs.Metas.{AreAskable}
 use Rattle.zoom.specs.Steering.{IsAskable, HasArcs}
-use Rattle.zworld.specs.Fitness.{IsFit, questions_of}
+use Rattle.zworld.specs.Finding.{questions_of}
+use Rattle.zworld.specs.Fitness.{IsFit}
 use Rattle.zworld.specs.WorldLines.{words}
 use Rattle.zworld.specs.Worlds.{Leaves, AreWorld, none, more, IsWorld, in_last, in_target, with_targets, change_target, new_target, new_host, add_entry, add_entry_field, add_database, inquiry, question, move_of, end_of, is_defined, is_among, place_of, asked_names, target_names}
 use Rattle.zworld.specs.declared.world.World.{World}

@@ -1,19 +1,23 @@
 -- Targets for questions, one after the other.
-use Rattle.std.proofs.Common.{◌≡◌, ◌∙◌, sym, ap, subst, refl, ℕ, zero, suc, ◌<◌, ◌≤◌, ◌^◌, List, [], ◌∷◌, ◌++◌, length, map, slice_get, Some, None, Result, Err, IfErr}
-use Rattle.std.proofs.lemmas.List.{length-map}
+use Rattle.std.proofs.Common.{◌≡◌, ◌∙◌, sym, ap, subst, refl, ℕ, zero, suc, ◌+◌, ◌<◌, ◌≤◌, ◌^◌, Bool, true, false, if◌then◌else◌, List, [], ◌∷◌, length, map, drop, get_or, slice_get, Option, Some, None, IfSome}
+use Rattle.std.specs.Borrow.{Bor}
+use Rattle.std.specs.Option.{option_map}
+use Rattle.std.specs.Str.{bytes_eq}
+use Rattle.std.proofs.lemmas.List.{at_drop_more}
 use Rattle.ztarget.specs.Receiving.{TargetState, new_target}
 use Rattle.ztarget.specs.Searching.{entries_in}
 use Rattle.zoom.specs.declared.question.Question.{Question}
 use Rattle.zoom.specs.Metas.{AreAskable}
-use Rattle.zworld.specs.Fitness.{AreSmall, target_at, target_for, state_of, AreFor, AreNew, AreParts, PutsOne, IsFirstAtNone, IsFit, IsArranged, settings_by, questions_of}
+use Rattle.zworld.specs.Finding.{questions_of, AreFound, AreParts}
+use Rattle.zworld.specs.Fitness.{AreSmall, target_at, target_for, target_named, state_of, IsFit, IsArranged, settings_by}
+use Rattle.zworld.specs.Run.{AreNew}
+use Rattle.zworld.proofs.Finding.{as_many, few_questions}
 use Rattle.zworld.specs.declared.world.End.{End}
 use Rattle.zworld.specs.declared.world.End.TheVariants as ends
 use Rattle.zworld.specs.declared.world.World.{World}
 use Rattle.zworld.specs.declared.world.Inquiry.{Inquiry}
 use Rattle.zworld.specs.declared.world.NamedTarget.{NamedTarget}
-use Rattle.zworld.specs.declared.world.WorldError.{WorldError}
-use Rattle.zworld.specs.declared.world.WorldError.TheVariants as errors
-use Rattle.zworld.specs.declared.fitness.Parts.{Parts}
+use Rattle.zworld.specs.declared.parts.Parts.{Parts}
 use Rattle.zworld.proofs.WorldSaid.{none_some, some_same}
 use Rattle.zworld.proofs.FitnessWants.{mapped}
 
@@ -25,6 +29,38 @@ small_place (u ∷ ts) (suc place) t h e = small_place ts place t h.1 e
 pub small_at : (ts : List NamedTarget) (end : End) (t : NamedTarget) → AreSmall ts → Some t ≡ target_at ts end → length (entries_in t.databases) < 2 ^ 32
 small_at ts (ends.Target place) t h e = small_place ts place t h (sym e)
 small_at ts (ends.Host place) t h e = absurd (none_some (sym e))
+
+-- ---- the target of a name
+
+at_next : (name : List ℕ) (ts : List NamedTarget) (i : ℕ) (t : NamedTarget) → i < length ts → t ≡ get_or ts i t
+    → target_named name (drop i ts) ≡ target_named name (t ∷ drop (i + 1) ts)
+at_next name ts i t lt is = at_drop_more (target_named name) ts i t lt ∙ ap (λ z. target_named name (z ∷ drop (i + 1) ts)) (sym is)
+
+pub passed_over : (name : List ℕ) (ts : List NamedTarget) (i : ℕ) (t : NamedTarget) → i < length ts → t ≡ get_or ts i t
+    → bytes_eq name t.name ≡ false → target_named name (drop i ts) ≡ target_named name ts
+    → target_named name (drop (i + 1) ts) ≡ target_named name ts
+passed_over name ts i t lt is other h =
+    ap (λ b. if b then Some t else target_named name (drop (i + 1) ts)) (sym other) ∙ sym (at_next name ts i t lt is) ∙ h
+
+pub met : (name : List ℕ) (ts : List NamedTarget) (i : ℕ) (t : NamedTarget) → i < length ts → t ≡ get_or ts i t
+    → bytes_eq name t.name ≡ true → target_named name (drop i ts) ≡ target_named name ts → Some t ≡ target_named name ts
+met name ts i t lt is same h =
+    ap (λ b. if b then Some t else target_named name (drop (i + 1) ts)) (sym same) ∙ sym (at_next name ts i t lt is) ∙ h
+
+pub small_named : (name : List ℕ) (ts : List NamedTarget) (t : NamedTarget) → AreSmall ts → target_named name ts ≡ Some t
+    → length (entries_in t.databases) < 2 ^ 32
+small_named name [] t h e = absurd (none_some e)
+small_named name (u ∷ ts) t h e = by (bytes_eq name u.name) (small_named name ts t h.1) e
+  where
+    by : (b : Bool) → (target_named name ts ≡ Some t → length (entries_in t.databases) < 2 ^ 32)
+        → (if b then Some u else target_named name ts) ≡ Some t → length (entries_in t.databases) < 2 ^ 32
+    by true on e = subst (λ z. length (entries_in z.databases) < 2 ^ 32) (some_same u t e) h.0
+    by false on e = on e
+
+pub small_target : (name : List ℕ) (ts all : List NamedTarget) (found : Option (Bor NamedTarget)) → ts ≡ all → AreSmall all
+    → option_map (λ t. t.now) found ≡ target_named name ts → IfSome found (λ t. length (entries_in t.now.databases) < 2 ^ 32)
+small_target name ts all None same h e = tt
+small_target name ts all (Some t) same h e = small_named name ts t.now (subst AreSmall (sym same) h) (sym e)
 
 -- ---- all of them
 
@@ -41,48 +77,32 @@ abbrev tail_is : {A : Type 0} → List A → List A
 tail_is [] = []
 tail_is (x ∷ xs) = xs
 
-all_new : (all : List NamedTarget) (qs : List Inquiry) (ss : List TargetState) → AreFor all qs ss → AreNew ss
+all_new : (all : List NamedTarget) (qs : List Inquiry) (ss : List TargetState) → AreFound (target_for all) qs ss → AreNew ss
 all_new all [] [] h = tt
 all_new all [] (s ∷ ss) h = absurd (Prim.cc h)
 all_new all (q ∷ qs) [] h = absurd (Prim.cc h)
 all_new all (q ∷ qs) (s ∷ ss) h = (new_of all q s (ap (head_is None) h), all_new all qs ss (ap tail_is h))
 
-as_many : (all : List NamedTarget) (qs : List Inquiry) (ss : List TargetState) → AreFor all qs ss → length ss ≡ length (questions_of qs)
-as_many all qs ss h = sym (length-map ss Some) ∙ sym (ap length h) ∙ length-map qs (target_for all) ∙ sym (length-map qs (λ i. i.question))
-
-pub arranged : (name : List ℕ) (w : World) (p : Parts) (all : List NamedTarget) (inquiries : List Inquiry) (qs : List Question) (ss : List TargetState) (names : List (List ℕ)) → IsFit w → length name ≤ 2000000 → all ≡ w.targets → inquiries ≡ w.questions → AreParts all inquiries p → qs ≡ p.questions.items → ss ≡ p.targets.items → names ≡ p.names.items
+pub arranged : (name : List ℕ) (w : World) (p : Parts) (all : List NamedTarget) (asked taken : List Inquiry) (found : List TargetState)
+    (qs : List Question) (ss : List TargetState) (names : List (List ℕ))
+    → IsFit w → length name ≤ 2000000 → all ≡ w.targets → asked ≡ w.questions → taken ≡ w.questions
+    → AreFound (target_for all) asked found → AreParts taken p → qs ≡ p.questions.items → ss ≡ found → names ≡ p.names.items
     → IsArranged name w (record { questions = qs; settings = settings_by name w; targets = ss; names = names; moves = w.moves })
-arranged name w p all inquiries qs ss names fit short t i h q s n =
-    let parts : AreParts w.targets w.questions p = subst (λ z. AreParts z w.questions p) t (subst (λ z. AreParts all z p) i h) in
+arranged name w p all asked taken found qs ss names fit short t i j f h q s n =
+    let parts : AreParts w.questions p = subst (λ z. AreParts z p) j h in
     let same : qs ≡ questions_of w.questions = q ∙ parts.questions in
-    let asked : AreFor w.targets w.questions ss = parts.states ∙ sym (ap (map Some) s) in
+    let put : AreFound (target_for w.targets) w.questions ss =
+    subst (AreFound (target_for w.targets) w.questions) (sym s)
+    (subst (λ z. AreFound (target_for w.targets) z found) i (subst (λ z. AreFound (target_for z) asked found) t f)) in
     record {
       questions = same;
       settings = refl;
-      targets = asked;
+      targets = put;
       names = n ∙ parts.names;
       moves = refl;
-      few = subst (λ z. length z < 2 ^ 32) (sym same) (subst (λ z. z < 2 ^ 32) (sym (length-map w.questions (λ i. i.question))) fit.few);
+      few = subst (λ z. length z < 2 ^ 32) (sym same) (few_questions w fit);
       askable = subst AreAskable (sym same) fit.askable;
       fit = fit.settings name short;
-      equal = as_many w.targets w.questions ss asked ∙ sym (ap length same);
-      fresh = all_new w.targets w.questions ss asked;
+      equal = as_many (target_for w.targets) w.questions ss put ∙ sym (ap length same);
+      fresh = all_new w.targets w.questions ss put;
     }
-
--- ---- the first that is put to none
-
-pub first_at_none : (all : List NamedTarget) (qs : List Inquiry) (front : List Inquiry) (q : Inquiry) (rest : List Inquiry) (p new : Parts) (e : WorldError) → qs ≡ front ++ q ∷ rest → AreParts all front p → PutsOne all q (Err e) p new → IsFirstAtNone all qs e
-first_at_none all qs front q rest p new (errors.Refused line) cut h put = record {
-  front = front;
-  states = p.targets.items;
-  inquiry = q;
-  rest = rest;
-  cut = cut;
-  before = h.states;
-  none = put.0;
-  place = put.1;
-}
-first_at_none all qs front q rest p new errors.Memory cut h put = tt
-
-pub refused_as : {A : Type 0} (P : WorldError → Type 0) (e f : WorldError) (r : Result A WorldError) → r ≡ Err f → f ≡ e → P e → IfErr r P
-refused_as P e f r is of h = rw (is, of) h

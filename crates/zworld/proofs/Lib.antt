@@ -13,5 +13,7 @@ pub mod FitnessWants
 pub mod FitnessSizes
 pub mod FitnessLines
 pub mod FitnessLoads
+pub mod Finding
 pub mod FitnessTargets
+pub mod Enquiries
 pub mod FitnessLaw

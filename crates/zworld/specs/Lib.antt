@@ -6,4 +6,6 @@ pub mod WorldParts
 pub mod WorldReading
 pub mod Run
 pub mod RunSteps
+pub mod Finding
 pub mod Fitness
+pub mod Enquiries

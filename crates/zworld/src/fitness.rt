@@ -1,11 +1,13 @@
 //! Worlds that are run: each question, and the target in memory that it is put to.
 
-ghost use Rattle.std.specs.Prelude.{◌≡◌, ◌≤◌, ◌<◌, ◌^◌, List, [], length, IfOk, IfErr, OnOk};
+ghost use Rattle.std.specs.Prelude.{◌≡◌, ◌≤◌, ◌<◌, ◌^◌, length, IfOk, IfErr, IfSome};
 ghost use Rattle.std.specs.Option.{option_map};
 ghost use Rattle.ztarget.specs.Searching.{entries_in};
-ghost use Rattle.zworld.specs.declared.world.NamedTarget.{NamedTarget};
-ghost use Rattle.zworld.specs.Fitness.{AreSmall, IsFit, IsArranged, IsPutToNone, target_at, state_of, AsksOne, AreParts, PutsOne, IsOneMore, IsFirstAtNone};
+ghost use Rattle.std.specs.Str.{bytes_eq};
+ghost use Rattle.zworld.specs.Fitness.{AreSmall, IsFit, IsArranged, IsPutToNone, target_at, target_for, target_named, state_of};
+ghost use Rattle.zworld.specs.Finding.{AreFound, FindsOne, IsFirstAtNone};
 
+use crate::parts::{add, parted};
 use crate::world::{End, Inquiry, NamedTarget, World, WorldError};
 use bytes::Bytes;
 use std::alloc::{AllocError, Global};
@@ -24,14 +26,6 @@ pub struct Arrangement {
     pub names: Names,
     /// The moves, in order; `c` is the place of a question.
     pub moves: Seq<Move>,
-}
-
-/// The parts of an arrangement, so far.
-#[derive(Drop)]
-struct Parts {
-    questions: Vec<Question>,
-    targets: Vec<Target>,
-    names: Vec<Bytes>,
 }
 
 impl NamedTarget {
@@ -57,76 +51,68 @@ fn target_at(targets: &[NamedTarget], end: End) -> Option<&NamedTarget>
     }
 }
 
-/// A target for a question on this line.
-fn asked(alloc: Global, targets: &[NamedTarget], end: End, line: u64) -> Result<Target, WorldError>
-    requires { AreSmall targets.now }
-    ensures { AsksOne targets.now end line result }
-{
-    match target_at(targets, end) {
-        Some(target) => Ok(target.target(alloc)?),
-        None => Err(WorldError::Refused { line }),
-    }
-}
-
-impl Parts {
-    fn new(alloc: Global) -> Parts
-        ensures { (targets : List NamedTarget) → AreParts targets [] result }
-    {
-        Parts {
-            questions: Vec::new(alloc),
-            targets: Vec::new(alloc),
-            names: Vec::new(alloc),
-        }
-    }
-
-    /// Puts a question last, its name, and a target for it.
-    fn put(
-        &mut self,
-        alloc: Global,
-        targets: &[NamedTarget],
-        inquiry: Inquiry,
-    ) -> Result<(), WorldError>
-        requires { AreSmall targets.now }
-        ensures { PutsOne targets.now inquiry result self.old self.new }
-    {
-        let Inquiry {
-            line,
-            name,
-            end,
-            question,
-        } = inquiry;
-        let target = asked(alloc, targets, end, line)?;
-        Ok(self.push(question, target, name)?)
-    }
-
-    fn push(&mut self, question: Question, target: Target, name: Bytes) -> Result<(), AllocError>
-        ensures { OnOk result (IsOneMore question target name self.old self.new) }
-    {
-        self.questions.push(question)?;
-        self.targets.push(target)?;
-        self.names.push(name)?;
-        Ok(())
-    }
-}
-
-/// The parts for questions, in order.
-fn parts_for(
+/// The target for a question.
+fn target_for(
     alloc: Global,
     targets: &[NamedTarget],
-    inquiries: Vec<Inquiry>,
-) -> Result<Parts, WorldError>
+    inquiry: &Inquiry,
+) -> Result<Target, WorldError>
     requires { AreSmall targets.now }
-    ensures parts { IfOk result (AreParts targets.now inquiries.items) }
-    ensures fault { IfErr result (IsFirstAtNone targets.now inquiries.items) }
+    ensures { FindsOne (target_for targets.now) inquiry.now result }
 {
-    let mut parts = Parts::new(alloc);
-    for inquiry in inquiries {
-        parts.put(alloc, targets, inquiry)?;
+    match target_at(targets, inquiry.end) {
+        Some(target) => Ok(target.target(alloc)?),
+        None => Err(WorldError::Refused { line: inquiry.line }),
     }
-    Ok(parts)
+}
+
+/// The targets for questions, in order.
+fn targets_for(
+    alloc: Global,
+    targets: &[NamedTarget],
+    inquiries: &[Inquiry],
+) -> Result<Vec<Target>, WorldError>
+    requires { AreSmall targets.now }
+    ensures found { IfOk result (λ found. AreFound (target_for targets.now) inquiries.now found.items) }
+    ensures fault { IfErr result (IsFirstAtNone (target_for targets.now) inquiries.now) }
+{
+    let mut found = Vec::new(alloc);
+    for inquiry in inquiries {
+        let target = target_for(alloc, targets, inquiry)?;
+        add(&mut found, target)?;
+    }
+    Ok(found)
+}
+
+/// Whether the target has the name.
+fn has_name(target: &NamedTarget, name: &[u8]) -> bool
+    ensures { result ≡ bytes_eq name.now target.now.name }
+{
+    name == target.name.as_slice()
+}
+
+/// The target of the name, which no other has.
+fn target_named<'a>(targets: &'a [NamedTarget], name: &[u8]) -> Option<&'a NamedTarget>
+    ensures { option_map (λ target. target.now) result ≡ target_named name.now targets.entry.now }
+{
+    for target in targets {
+        if has_name(target, name) {
+            return Some(target);
+        }
+    }
+    None
 }
 
 impl World {
+    /// The target in memory of this name.
+    pub fn target(&self, name: &[u8]) -> Option<&NamedTarget>
+        requires { IsFit self.now }
+        ensures named { option_map (λ target. target.now) result ≡ target_named name.now self.entry.now.targets }
+        ensures small { IfSome result (λ target. length (entries_in target.now.databases) < 2 ^ 32) }
+    {
+        target_named(self.targets.as_slice(), name)
+    }
+
     /// The world as it is run by one of this name, which has at most 2,000,000 octets.
     ///
     /// Refusals: `Refused` with the line of the first question that is put to a host; and `Memory`.
@@ -144,11 +130,12 @@ impl World {
             questions,
             moves,
         } = self;
-        let parts = parts_for(alloc, targets.as_slice(), questions.into_vec())?;
+        let targets = targets_for(alloc, targets.as_slice(), questions.as_slice())?;
+        let parts = parted(alloc, questions.into_vec())?;
         Ok(Arrangement {
             questions: Seq::from_vec(parts.questions),
             settings: MetaSettings { name, step, window },
-            targets: Seq::from_vec(parts.targets),
+            targets: Seq::from_vec(targets),
             names: Seq::from_vec(parts.names),
             moves,
         })

@@ -1,6 +1,8 @@
 //! Worlds.
 #![tactic(auto)]
 
+pub mod enquiry;
 pub mod fitness;
+mod parts;
 pub mod run;
 pub mod world;

@@ -9,9 +9,11 @@ pub mod peers;
 pub mod pipes;
 pub mod rounds;
 pub mod turns;
+pub mod ways;
 
 use crate::run::peers::peers_of;
 use crate::run::rounds::carry_out;
+use crate::run::ways::{Way, Within};
 use std::alloc::{AllocError, Global};
 use zber::Seq;
 use zknow::{Mode, Names, print_list};
@@ -19,14 +21,38 @@ use zoom::{Meta, MetaSettings, Move, Question};
 use ztarget::Target;
 
 /// Drives a connection for each question until each is Closed or Failed, with the target of the same number at its
-/// other end (Z39.50-2003, 3.2), and appends the list of what is known then.
+/// other end of a way (Z39.50-2003, 3.2).
 ///
 /// Each connection is driven once. Then the moves are made; one on no connection does nothing. `To` carries up to `k`
 /// octets to the target, which receives all whole messages; `Release` releases its pending reply `k`; `From` carries up
 /// to `k` octets to the connection, which takes each whole message, and is driven after each. Then come rounds over all
 /// connections, each of which carries everything and releases all replies in order. A round that carried and released
 /// nothing ends the input of each connection that is not finished; so does, for its own connection, a target that
-/// stopped, once all its octets are carried.
+/// stopped, once all its octets are carried. A way that failed stops its connection.
+///
+/// An error only where no memory was found.
+pub fn run_over<W: Way>(
+    alloc: Global,
+    questions: Vec<Question>,
+    settings: MetaSettings,
+    targets: Vec<Target>,
+    way: &mut W,
+    moves: &[Move],
+) -> Result<Meta, AllocError>
+    requires some { length questions.items < 2 ^ 32 }
+    requires askable { AreAskable questions.items }
+    requires fit { AreFit settings }
+    requires new { AreNew targets.items }
+    requires equal { length targets.items ≡ length questions.items }
+    ensures { IfOk result (λ meta. Ran questions.items settings targets.items meta) }
+{
+    let mut meta = Meta::new(alloc, Seq::from_vec(questions), settings)?;
+    let mut peers = peers_of(alloc, targets)?;
+    carry_out(&mut peers, &mut meta, way, moves)?;
+    Ok(meta)
+}
+
+/// As `run_over`, within memory; appends the list of what is known then.
 ///
 /// An error only where no memory was found: nothing is appended then.
 pub fn run_world(
@@ -49,9 +75,7 @@ pub fn run_world(
         (λ meta. out.new.items ≡ out.old.items ++ listing names.now mode meta.pool.knowledge) }
     ensures err { OnErr result (out.new.items ≡ out.old.items) }
 {
-    let mut meta = Meta::new(alloc, Seq::from_vec(questions), settings)?;
-    let mut peers = peers_of(alloc, targets)?;
-    carry_out(&mut peers, &mut meta, moves)?;
+    let meta = run_over(alloc, questions, settings, targets, &mut Within, moves)?;
     print_list(alloc, meta.knowledge(), names, mode, out)?;
     Ok(meta)
 }

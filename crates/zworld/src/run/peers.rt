@@ -4,7 +4,8 @@ ghost use Rattle.zworld.specs.Run.{IsNew, AreNew};
 ghost use Rattle.zworld.specs.RunSteps.{GoesOn, Carries, ReleasesReplies, IsPeerOf, ArePeersOf};
 
 use crate::run::pipes::Pipe;
-use crate::run::turns::take_all;
+use crate::run::turns::{stop_for, take_all};
+use crate::run::ways::Way;
 use std::alloc::{AllocError, Global};
 use zoom::{Host, Meta, Move};
 use ztarget::Target;
@@ -26,6 +27,11 @@ pub(crate) fn connection_of(step: Move) -> u32 {
     }
 }
 
+/// How many octets are carried of up to `k`: all that came, or none.
+fn count_of(came: bool, k: usize) -> usize {
+    if came { k } else { 0 }
+}
+
 impl Peer {
     /// Of a host. Nothing is on its way. It takes no memory.
     pub fn new(alloc: Global, host: Host) -> Peer
@@ -40,28 +46,42 @@ impl Peer {
         }
     }
 
-    /// Carries up to `k` octets of what waits on the connection to the target; whether there were any.
-    fn carry_to(&mut self, meta: &mut Meta, c: u32, k: usize) -> Result<bool, AllocError>
+    /// Carries up to `k` octets of what waits on the connection to the target; whether any came.
+    fn carry_to<W: Way>(
+        &mut self,
+        meta: &mut Meta,
+        c: u32,
+        way: &mut W,
+        k: usize,
+    ) -> Result<bool, AllocError>
         requires { c < length meta.old.pool.connections }
         ensures carries { OnOk result (Carries c meta.old meta.new self.old self.new) }
         ensures size { length meta.new.pool.connections ≡ length meta.old.pool.connections }
     {
         self.to.take_in_sent(meta, c)?;
-        let piece = self.to.next(k);
+        let came = way.carry_to(c, self.to.next(k));
+        let piece = self.to.next(count_of(came, k));
         let n = piece.len();
         self.host.feed(piece)?;
         self.to.pass(n);
         Ok(n > 0)
     }
 
-    /// Carries up to `k` octets of what waits at the target to the connection; whether there were any.
-    fn feed_from(&mut self, meta: &mut Meta, c: u32, k: usize) -> Result<bool, AllocError>
+    /// Carries up to `k` octets of what waits at the target to the connection; whether any came.
+    fn feed_from<W: Way>(
+        &mut self,
+        meta: &mut Meta,
+        c: u32,
+        way: &mut W,
+        k: usize,
+    ) -> Result<bool, AllocError>
         requires { c < length meta.old.pool.connections }
         ensures carries { OnOk result (Carries c meta.old meta.new self.old self.new) }
         ensures size { length meta.new.pool.connections ≡ length meta.old.pool.connections }
     {
         self.from.take_in_replies(&mut self.host)?;
-        let piece = self.from.next(k);
+        let came = way.carry_from(c, self.from.next(k));
+        let piece = self.from.next(count_of(came, k));
         let n = piece.len();
         meta.feed(c, piece)?;
         self.from.pass(n);
@@ -80,13 +100,20 @@ impl Peer {
     }
 
     /// Carries up to `k` octets of what waits at the target to the connection, which takes each whole message; whether
-    /// there were any.
-    fn carry_from(&mut self, meta: &mut Meta, c: u32, k: usize) -> Result<bool, AllocError>
+    /// any came. A way that failed stops the connection.
+    fn carry_from<W: Way>(
+        &mut self,
+        meta: &mut Meta,
+        c: u32,
+        way: &mut W,
+        k: usize,
+    ) -> Result<bool, AllocError>
         requires { c < length meta.old.pool.connections }
         ensures carries { OnOk result (Carries c meta.old meta.new self.old self.new) }
         ensures size { length meta.new.pool.connections ≡ length meta.old.pool.connections }
     {
-        let carried = self.feed_from(meta, c, k)?;
+        let carried = self.feed_from(meta, c, way, k)?;
+        stop_for(meta, c, way.failure(c));
         self.end_where_stopped(meta, c);
         take_all(meta, c)?;
         Ok(carried)
@@ -114,28 +141,39 @@ impl Peer {
     }
 
     /// Makes a move on this connection.
-    pub(crate) fn make(&mut self, meta: &mut Meta, c: u32, step: Move) -> Result<bool, AllocError>
+    pub(crate) fn make<W: Way>(
+        &mut self,
+        meta: &mut Meta,
+        c: u32,
+        way: &mut W,
+        step: Move,
+    ) -> Result<bool, AllocError>
         requires { c < length meta.old.pool.connections }
         ensures carries { OnOk result (Carries c meta.old meta.new self.old self.new) }
         ensures size { length meta.new.pool.connections ≡ length meta.old.pool.connections }
     {
         match step {
-            Move::To { k, .. } => self.carry_to(meta, c, k as usize),
+            Move::To { k, .. } => self.carry_to(meta, c, way, k as usize),
             Move::Release { k, .. } => self.release(k as usize),
-            Move::From { k, .. } => self.carry_from(meta, c, k as usize),
+            Move::From { k, .. } => self.carry_from(meta, c, way, k as usize),
         }
     }
 
     /// Carries everything to the target, releases all replies in order, and carries everything to the connection;
     /// whether there was anything.
-    pub fn go_round(&mut self, meta: &mut Meta, c: u32) -> Result<bool, AllocError>
+    pub fn go_round<W: Way>(
+        &mut self,
+        meta: &mut Meta,
+        c: u32,
+        way: &mut W,
+    ) -> Result<bool, AllocError>
         requires { c < length meta.old.pool.connections }
         ensures carries { OnOk result (Carries c meta.old meta.new self.old self.new) }
         ensures size { length meta.new.pool.connections ≡ length meta.old.pool.connections }
     {
-        let sent = self.carry_to(meta, c, usize::MAX)?;
+        let sent = self.carry_to(meta, c, way, usize::MAX)?;
         let released = self.release_all()?;
-        let came = self.carry_from(meta, c, usize::MAX)?;
+        let came = self.carry_from(meta, c, way, usize::MAX)?;
         Ok(sent | released | came)
     }
 }

@@ -4,6 +4,7 @@ ghost use Rattle.zworld.specs.RunSteps.{WorldGoes, WorldEnds};
 
 use crate::run::peers::{Peer, connection_of};
 use crate::run::turns::{drive_all, end_inputs, stop_all};
+use crate::run::ways::Way;
 use std::alloc::AllocError;
 use zoom::{Meta, Move};
 
@@ -12,7 +13,12 @@ use zoom::{Meta, Move};
 const MOST_ROUNDS: u32 = 1_000_010;
 
 /// Makes a move; one on no connection does nothing.
-fn make_move(peers: &mut [Peer], meta: &mut Meta, step: Move) -> Result<(), AllocError>
+fn make_move<W: Way>(
+    peers: &mut [Peer],
+    meta: &mut Meta,
+    way: &mut W,
+    step: Move,
+) -> Result<(), AllocError>
     requires few { length meta.old.pool.connections < 2 ^ 32 }
     requires equal { length peers.old ≡ length meta.old.pool.connections }
     ensures goes { OnOk result (WorldGoes meta.old meta.new peers.old peers.new) }
@@ -22,25 +28,30 @@ fn make_move(peers: &mut [Peer], meta: &mut Meta, step: Move) -> Result<(), Allo
     if c as usize >= peers.len() {
         return Ok(());
     }
-    peers[c as usize].make(meta, c, step)?;
+    peers[c as usize].make(meta, c, way, step)?;
     Ok(())
 }
 
 /// Makes the moves, in order.
-pub fn make_moves(peers: &mut [Peer], meta: &mut Meta, moves: &[Move]) -> Result<(), AllocError>
+pub fn make_moves<W: Way>(
+    peers: &mut [Peer],
+    meta: &mut Meta,
+    way: &mut W,
+    moves: &[Move],
+) -> Result<(), AllocError>
     requires few { length meta.old.pool.connections < 2 ^ 32 }
     requires equal { length peers.old ≡ length meta.old.pool.connections }
     ensures goes { OnOk result (WorldGoes meta.old meta.new peers.old peers.new) }
     ensures size { length meta.new.pool.connections ≡ length meta.old.pool.connections }
 {
     for step in moves {
-        make_move(peers, meta, *step)?;
+        make_move(peers, meta, way, *step)?;
     }
     Ok(())
 }
 
 /// A round over all connections; whether anything was carried or released.
-fn go_round(peers: &mut [Peer], meta: &mut Meta) -> Result<bool, AllocError>
+fn go_round<W: Way>(peers: &mut [Peer], meta: &mut Meta, way: &mut W) -> Result<bool, AllocError>
     requires few { length meta.old.pool.connections < 2 ^ 32 }
     requires equal { length peers.old ≡ length meta.old.pool.connections }
     ensures goes { OnOk result (WorldGoes meta.old meta.new peers.old peers.new) }
@@ -48,7 +59,7 @@ fn go_round(peers: &mut [Peer], meta: &mut Meta) -> Result<bool, AllocError>
 {
     let mut any = false;
     for c in 0..peers.len() {
-        if peers[c].go_round(meta, c as u32)? {
+        if peers[c].go_round(meta, c as u32, way)? {
             any = true;
         }
     }
@@ -56,13 +67,13 @@ fn go_round(peers: &mut [Peer], meta: &mut Meta) -> Result<bool, AllocError>
 }
 
 /// A round; where nothing was carried or released, the input ends of each connection that is not finished.
-fn go_on(peers: &mut [Peer], meta: &mut Meta) -> Result<(), AllocError>
+fn go_on<W: Way>(peers: &mut [Peer], meta: &mut Meta, way: &mut W) -> Result<(), AllocError>
     requires few { length meta.old.pool.connections < 2 ^ 32 }
     requires equal { length peers.old ≡ length meta.old.pool.connections }
     ensures goes { OnOk result (WorldGoes meta.old meta.new peers.old peers.new) }
     ensures size { length meta.new.pool.connections ≡ length meta.old.pool.connections }
 {
-    if go_round(peers, meta)? {
+    if go_round(peers, meta, way)? {
         Ok(())
     } else {
         end_inputs(meta)
@@ -70,7 +81,7 @@ fn go_on(peers: &mut [Peer], meta: &mut Meta) -> Result<(), AllocError>
 }
 
 /// Rounds until each connection is finished.
-fn finish(peers: &mut [Peer], meta: &mut Meta) -> Result<(), AllocError>
+fn finish<W: Way>(peers: &mut [Peer], meta: &mut Meta, way: &mut W) -> Result<(), AllocError>
     requires few { length meta.old.pool.connections < 2 ^ 32 }
     requires equal { length peers.old ≡ length meta.old.pool.connections }
     ensures ends { OnOk result (WorldEnds meta.old meta.new peers.old) }
@@ -80,7 +91,7 @@ fn finish(peers: &mut [Peer], meta: &mut Meta) -> Result<(), AllocError>
         if meta.finished() {
             return Ok(());
         }
-        go_on(peers, meta)?;
+        go_on(peers, meta, way)?;
     }
     end_inputs(meta)?;
     stop_all(meta);
@@ -88,9 +99,10 @@ fn finish(peers: &mut [Peer], meta: &mut Meta) -> Result<(), AllocError>
 }
 
 /// Drives each connection once, makes the moves, and goes on until each connection is finished.
-pub(crate) fn carry_out(
+pub(crate) fn carry_out<W: Way>(
     peers: &mut [Peer],
     meta: &mut Meta,
+    way: &mut W,
     moves: &[Move],
 ) -> Result<(), AllocError>
     requires few { length meta.old.pool.connections < 2 ^ 32 }
@@ -99,6 +111,6 @@ pub(crate) fn carry_out(
     ensures size { length meta.new.pool.connections ≡ length meta.old.pool.connections }
 {
     drive_all(meta)?;
-    make_moves(peers, meta, moves)?;
-    finish(peers, meta)
+    make_moves(peers, meta, way, moves)?;
+    finish(peers, meta, way)
 }

@@ -112,6 +112,17 @@ pub(crate) fn end_inputs(meta: &mut Meta) -> Result<(), AllocError>
     Ok(())
 }
 
+/// Stops a connection whose way failed.
+pub(crate) fn stop_for(meta: &mut Meta, c: u32, failure: Option<Reason>)
+    requires { c < length meta.old.pool.connections }
+    ensures on { GoesOn meta.old meta.new }
+    ensures size { length meta.new.pool.connections ≡ length meta.old.pool.connections }
+{
+    if let Some(reason) = failure {
+        meta.stop(c, reason);
+    }
+}
+
 /// Stops a connection that is not finished.
 fn stop(meta: &mut Meta, c: u32)
     requires { c < length meta.old.pool.connections }

@@ -1,5 +1,5 @@
 use Rattle.std.proofs.Common.{take}
-use Rattle.zcommands.specs.Run.{AreLinesFrom}
+use Rattle.zcommands.specs.Finished.{AreLinesFrom}
 use Rattle.zcommands.proofs.failures.failure_lines.Given as goal
 
 abbrev pub invariant-loop-c : goal.invariant-loop-c

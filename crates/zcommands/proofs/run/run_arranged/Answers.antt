@@ -1,8 +1,6 @@
 use Rattle.std.proofs.Common.{sym, subst}
 use Rattle.zworld.specs.Run.{AreNew}
-use Rattle.zcommands.proofs.Running.{new_ones}
 use Rattle.zcommands.proofs.run.run_arranged.Goals as goal
 
 pub run_world-requires-clause-new : goal.run_world-requires-clause-new
-run_world-requires-clause-new c =
-    subst AreNew (sym c.into_vec-2.ensures) (new_ones c.args.arrangement.targets c.requires.1.fresh)
+run_world-requires-clause-new c = subst AreNew (sym c.into_vec-2.ensures) c.requires.1.fresh

@@ -1,6 +1,6 @@
 use Rattle.std.proofs.Common.{arith, below_more, false}
 use Rattle.zoom.specs.Metas.{Tells}
-use Rattle.zcommands.specs.Run.{is_troubled}
+use Rattle.zcommands.specs.Finished.{is_troubled}
 use Rattle.zcommands.proofs.trouble.has_trouble.Goals as goal
 
 pub loop-c-preserved : goal.loop-c-preserved

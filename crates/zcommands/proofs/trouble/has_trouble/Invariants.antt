@@ -1,6 +1,6 @@
 use Rattle.std.proofs.Common.{ℕ, ◌<◌, false}
 use Rattle.zoom.specs.Metas.{Tells}
-use Rattle.zcommands.specs.Run.{is_troubled}
+use Rattle.zcommands.specs.Finished.{is_troubled}
 use Rattle.zcommands.proofs.trouble.has_trouble.Given as goal
 
 abbrev pub invariant-loop-c : goal.invariant-loop-c

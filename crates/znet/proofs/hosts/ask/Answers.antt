@@ -1,12 +1,16 @@
-use Rattle.std.proofs.Common.{[], ◌++◌, subst}
+use Rattle.std.proofs.Common.{◌<◌, length, [], sym, subst}
 use Rattle.zoom.specs.Metas.{MetaAfter}
-use Rattle.znet.proofs.Going.{goes_trans}
 use Rattle.znet.proofs.hosts.ask.Goals as goal
 
 pub returns : goal.returns
 returns g c =
     let after = subst (λ z. MetaAfter z c.args.settings [] c.in_ok-meta.meta) c.from_vec.ensures c.in_ok-meta.ensures.after in
-    let went = goes_trans c.in_ok-meta.meta c.open_all.new.meta c.talk_all.new.meta c.in_ok-lines.ensures.on
-    c.in_ok-talk_all.ensures.on in
-    let w = went.on c.args.questions.items c.args.settings [] after in
-    record { asked = (w.more ++ [], w.after) }
+    let opened = c.in_ok-lines.ensures.opens.on c.args.questions.items c.args.settings after in
+    let out = c.in_ok-talk_all.ensures.talks.on c.args.questions.items c.args.settings opened in
+    record {
+      asked = record {
+        history = out.history;
+        after = out.after;
+        each = λ i lt. out.talked i (subst (λ n. i < n) (sym c.in_ok-lines.ensures.lines) (subst (λ n. i < n) (sym c.requires.equal) lt));
+      };
+    }

@@ -1,8 +1,6 @@
-use Rattle.zoom.specs.declared.state.Reason.TheVariants as reasons
-use Rattle.zoom.specs.Heard.{Stops}
-use Rattle.znet.proofs.Going.{goes_deed}
+use Rattle.znet.proofs.Asking.{opens_unreached}
 use Rattle.znet.proofs.hosts.open.Goals as goal
 
-pub returns-in_default-clause-on : goal.returns-in_default-clause-on
-returns-in_default-clause-on g c =
-    goes_deed c.args.c (Stops reasons.Connect) c.args.meta.now c.stop.new.self c.stop.ensures.after
+pub returns-in_default-clause-opens : goal.returns-in_default-clause-opens
+returns-in_default-clause-opens g c =
+    opens_unreached c.args.c c.args.meta.now c.stop.new.self c.stop.ensures.after

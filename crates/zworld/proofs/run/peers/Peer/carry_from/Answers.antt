@@ -3,9 +3,10 @@ use Rattle.zworld.proofs.RunCarries.{carries_trans, goes_carries}
 use Rattle.zworld.proofs.run.peers.Peer.carry_from.Goals as goal
 
 pub returns-clause-carries : goal.returns-clause-carries
-returns-clause-carries c =
+returns-clause-carries g c =
     carries_trans c.args.c c.args.meta.now c.feed_from.new.meta c.take_all.new.meta c.args.self.now c.feed_from.new.self
     c.feed_from.new.self c.in_ok-carried.ensures.carries
     (goes_carries c.args.c c.feed_from.new.meta c.take_all.new.meta c.feed_from.new.self
-    (goes_trans c.feed_from.new.meta c.end_where_stopped.new.meta c.take_all.new.meta c.end_where_stopped.ensures.on
-    c.in_ok-take_all.ensures.on))
+    (goes_trans c.feed_from.new.meta c.stop_for.new.meta c.take_all.new.meta c.stop_for.ensures.on
+    (goes_trans c.stop_for.new.meta c.end_where_stopped.new.meta c.take_all.new.meta c.end_where_stopped.ensures.on
+    c.in_ok-take_all.ensures.on)))

@@ -1,0 +1,42 @@
+-- What `loop` prints of a world file, what it tells, and how it ends.
+use Rattle.std.specs.Prelude.{◌≡◌, ℕ, List, Option, Result, Ok, Err, IfSome}
+use Rattle.zknow.specs.declared.fact.Mode.{Mode}
+use Rattle.zworld.specs.declared.fitness.Arrangement.{Arrangement}
+use Rattle.zcommands.specs.Faults.{end_status}
+use Rattle.zcommands.specs.Devices.{Device, TellsAnswer}
+use Rattle.zcommands.specs.declared.fault.Fault.{Fault}
+use Rattle.zcommands.specs.declared.fault.Fault.TheVariants.{Read, Line, Serve, Memory}
+use Rattle.zcommands.specs.declared.fault.Status.{Status}
+use Rattle.zcommands.specs.declared.finished.Finished.{Finished}
+use Rattle.zcommands.specs.Finished.{Concludes, IsOfPaths}
+use Rattle.zcommands.specs.Run.{IsArrangedFile, IsLineAtFault, IsRun}
+
+-- the connections could not be made, or memory ran out
+abbrev pub IsOfNetwork : Fault → Type 0
+IsOfNetwork Serve = Unit {0}
+IsOfNetwork Memory = Unit {0}
+IsOfNetwork _ = ⊥
+
+-- the file says a world that is arranged
+abbrev pub CanRun : List ℕ → Type 0
+CanRun file = (a : Arrangement) × IsArrangedFile file a
+
+abbrev pub LoopsFile : Mode → List ℕ → Result Finished Fault → Type 0
+LoopsFile mode file (Ok r) = IsRun mode file r
+LoopsFile mode file (Err (Line number)) = IsLineAtFault file number
+LoopsFile mode file (Err (Read path)) = Unit {0}
+LoopsFile mode file (Err Serve) = CanRun file
+LoopsFile mode file (Err Memory) = Unit {0}
+LoopsFile mode file (Err _) = ⊥
+
+-- what an answer of `loop` says of the world file, and of what was written and told
+abbrev pub Loops : Mode → List ℕ → Device → Device → Device → Device → Result Status Fault → Type 0
+Loops mode file output printed errors told answer =
+    Concludes (IsRun mode file) (IsLineAtFault file) (CanRun file) output printed errors told answer
+
+-- what `loop` does with the world file at a path: what it writes and tells, and its status
+abbrev pub DoesLoop
+    : Mode → List ℕ → Option (List ℕ) → Option (List ℕ) → Device → Device → Device → Device → Status → Type 0
+DoesLoop mode world saved file output printed errors told status = (answer : Result Status Fault) × (between : Device)
+    × (status ≡ end_status answer) × IfSome file (λ octets. Loops mode octets output printed errors between answer)
+    × IsOfPaths world saved printed answer × TellsAnswer between told answer
