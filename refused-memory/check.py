@@ -21,6 +21,7 @@ RUNS = [
     (["show"], "examples/present-response.hex"),
     (["pqf", "@attr 1=4 @and dune @attr 1=1003 herbert"], None),
     (["run", "examples/libraries.world"], None),
+    (["loop", "examples/libraries.world"], None),
     (["join", "examples/monday.saved", "examples/tuesday.saved"], None),
 ]
 TESTS = [
