@@ -3,7 +3,7 @@ use Rattle.std.proofs.Common.{◌≡◌, ℕ, ◌-◌, List, [], ◌++◌, lengt
 use Rattle.std.proofs.lemmas.List.{take_rest}
 use Rattle.std.specs.Io.KnownBytes.{Appends, Keeps}
 use Rattle.std.proofs.KnownBytes.{Appends-trans, Appends-kept, Appends-nil}
-use Rattle.zcommands.specs.Devices.{AppendsFront}
+use Rattle.ztalk.specs.Devices.{AppendsFront}
 use Rattle.zcommands.specs.Pieces.{PutsPiece}
 
 -- a front of the text is written, and the rest is not

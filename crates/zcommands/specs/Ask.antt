@@ -24,8 +24,8 @@ CanBeAsked e = (world : World) × IsEnquiry asker world e
 abbrev pub IsEnquiryFile : List ℕ → Enquiry → Type 0
 IsEnquiryFile file e = (world : World) × IsWorld file world × IsEnquiry asker world e
 
--- the line of a file that is refused: it says nothing, or cannot stand where it does; or the file says a world, of whose
--- questions it has the first that is put to a target in memory
+-- the line of a file that is refused: it says nothing, or cannot stand where it does; or the file says a world, of
+-- whose questions it has the first that is put to a target in memory
 abbrev pub IsLineUnasked : List ℕ → ℕ → Type 0
 IsLineUnasked file number =
     IsRefused file number ⊎ ((world : World) × IsWorld file world × IsOfFirstTarget world.hosts world.questions number)

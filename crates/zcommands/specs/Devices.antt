@@ -1,11 +1,12 @@
 -- What commands do to the devices that they read and write: standard streams and files.
 use Rattle.std.specs.Prelude.{◌≡◌, ◌⊎◌, ℕ, List, ◌++◌, Option, Bool, true, false, Result, Ok, Err, MatchResult, codes}
 use Rattle.std.specs.Io.KnownBytes.{Keeps, Appends}
+use Rattle.ztalk.specs.Devices.{AppendsFront}
 use Rattle.zcommands.specs.Faults.{fault_text}
 use Rattle.zcommands.specs.declared.fault.Fault.{Fault}
 use Rattle.zcommands.specs.declared.fault.Fault.TheVariants.{Read, Write}
-use Rattle.zcommands.specs.declared.input.Source.{Source}
-use Rattle.zcommands.specs.declared.output.Sink.{Sink}
+use Rattle.zcommands.specs.declared.input.Input.{Input}
+use Rattle.zcommands.specs.declared.output.Output.{Output}
 
 -- a device: the octets that it has left or holds, where they are known, the path that is told of it, and whether a call
 -- of it failed
@@ -15,11 +16,11 @@ pub record Device : Type 0 where
   pub has_failed : Bool
 
 -- a stream that is read, by what its reader has left
-abbrev pub left : {R : Type 0} → (R → Option (List ℕ)) → Source R → Device
+abbrev pub left : {R : Type 0} → (R → Option (List ℕ)) → Input R → Device
 left remaining s = record { known = remaining s.reader; path = s.path.now; has_failed = s.has_failed }
 
 -- a stream that is written, by what its writer holds
-abbrev pub held : {W : Type 0} → (W → Option (List ℕ)) → Sink W → Device
+abbrev pub held : {W : Type 0} → (W → Option (List ℕ)) → Output W → Device
 held contents s = record { known = contents s.writer; path = s.path.now; has_failed = s.has_failed }
 
 -- nothing is written
@@ -33,13 +34,6 @@ pub record Gains (old new : Device) (text : List ℕ) : Type 0 where
   pub written : Appends old.known new.known text
   pub path : new.path ≡ old.path
   pub sound : new.has_failed ≡ old.has_failed
-
--- known octets grow by a front of the text
-pub record AppendsFront (old new : Option (List ℕ)) (text : List ℕ) : Type 0 where
-  pub front : List ℕ
-  pub rest : List ℕ
-  pub cut : text ≡ front ++ rest
-  pub written : Appends old new front
 
 -- whether the whole text was taken, or a front of it
 abbrev pub PutsPieces : Option (List ℕ) → Option (List ℕ) → List ℕ → Bool → Type 0

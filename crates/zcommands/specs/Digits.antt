@@ -1,5 +1,6 @@
 -- Octets given as hexadecimal text.
-use Rattle.std.specs.Prelude.{◌≡◌, ℕ, ◌+◌, ◌*◌, ◌≤◌, List, [], ◌∷◌, length, filter, false, not, if◌then◌else◌, Some, Result, Ok, Err, Vec, vec_items}
+use Rattle.std.specs.Prelude.{◌≡◌, ℕ, ◌+◌, ◌*◌, ◌≤◌, List, [], ◌∷◌, length, filter, false, not, if◌then◌else◌}
+use Rattle.std.specs.Prelude.{Some, Result, Ok, Err, Vec, vec_items}
 use Rattle.std.specs.Option.{unwrap_or}
 use Rattle.std.specs.Char.{is_ascii_whitespace}
 use Rattle.hex.specs.Hex.{hex_digit_value, decode_pairs, decode_of}

@@ -23,7 +23,9 @@ use Rattle.zworld.specs.declared.world.WorldError.TheVariants as worlds
 use Rattle.znet.specs.declared.service.ServeError.{ServeError}
 use Rattle.znet.specs.declared.service.ServeError.TheVariants as serves
 use Rattle.zcommands.specs.declared.fault.Fault.{Fault}
-use Rattle.zcommands.specs.declared.fault.Fault.TheVariants.{Read, Write, Hex, Frame, NotApdu, Malformed, Query, NotPrintable, NotKnowledge, NotCanonical, NamesDiffer, Line, Serve, Memory}
+use Rattle.zcommands.specs.declared.fault.Fault.TheVariants.{Read, Write, Hex, Frame, NotApdu, Malformed, Query}
+use Rattle.zcommands.specs.declared.fault.Fault.TheVariants.{NotPrintable, NotKnowledge, NotCanonical, NamesDiffer}
+use Rattle.zcommands.specs.declared.fault.Fault.TheVariants.{Line, Serve, Memory}
 use Rattle.zcommands.specs.declared.fault.Status.{Status}
 use Rattle.zcommands.specs.declared.fault.Status.TheVariants as statuses
 
@@ -45,8 +47,10 @@ fault_text NotApdu = codes "not an APDU"
 fault_text (Malformed kind at) = kind_word kind ++ codes " malformed at " ++ decimal at
 fault_text (Query kind at) = query_word kind ++ codes " at " ++ decimal at
 fault_text NotPrintable = codes "not printable"
-fault_text (NotKnowledge at) = codes "knowledge refused: " ++ load_word (loads.NotKnowledge at) ++ codes " at " ++ decimal at
-fault_text (NotCanonical at) = codes "knowledge refused: " ++ load_word (loads.NotCanonical at) ++ codes " at " ++ decimal at
+fault_text (NotKnowledge at) =
+    codes "knowledge refused: " ++ load_word (loads.NotKnowledge at) ++ codes " at " ++ decimal at
+fault_text (NotCanonical at) =
+    codes "knowledge refused: " ++ load_word (loads.NotCanonical at) ++ codes " at " ++ decimal at
 fault_text NamesDiffer = codes "names differ"
 fault_text (Line number) = codes "line " ++ decimal number ++ codes " refused"
 fault_text Serve = codes "cannot serve"

@@ -1,5 +1,6 @@
 -- What is known once all was asked: what is printed, told and saved of it, and how the command ends.
-use Rattle.std.specs.Prelude.{◌≡◌, ◌⊎◌, ℕ, ◌+◌, ◌<◌, ◌^◌, Bool, true, false, not, ◌||◌, List, [], ◌∷◌, ◌++◌, length, codes, Option, Some, None, Result, Ok, Err, IfSome}
+use Rattle.std.specs.Prelude.{◌≡◌, ◌⊎◌, ℕ, ◌+◌, ◌<◌, ◌^◌, Bool, true, false, not, ◌||◌, List, [], ◌∷◌, ◌++◌, length}
+use Rattle.std.specs.Prelude.{codes, Option, Some, None, Result, Ok, Err, IfSome}
 use Rattle.zapdu.specs.Text.{quoted}
 use Rattle.zknow.specs.declared.fact.Mode.{Mode}
 use Rattle.zknow.specs.Known.{HasFailed}
@@ -128,8 +129,8 @@ IsOfWorld path (Line number) = Unit {0}
 IsOfWorld path Memory = Unit {0}
 IsOfWorld path _ = ⊥
 
--- What an answer of a command that asks says of what was written and told: in the end such connections are finished; or a
--- line like this is at fault; or it cannot serve, where it would.
+-- What an answer of a command that asks says of what was written and told: in the end such connections are finished; or
+-- a line like this is at fault; or it cannot serve, where it would.
 abbrev pub Concludes
     : (Finished → Type 0) → (ℕ → Type 0) → Type 0 → Device → Device → Device → Device → Result Status Fault → Type 0
 Concludes is wrong serves output printed errors told (Ok status) =

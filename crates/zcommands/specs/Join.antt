@@ -1,5 +1,6 @@
 -- What `join` prints of two saved files.
-use Rattle.std.specs.Prelude.{◌≡◌, ◌≢◌, ◌⊎◌, ℕ, List, Option, Result, Ok, Err, MatchResult, IfErr, IfSome, Contains, true}
+use Rattle.std.specs.Prelude.{◌≡◌, ◌≢◌, ◌⊎◌, ℕ, true, List, Contains, Option, IfSome}
+use Rattle.std.specs.Prelude.{Result, Ok, Err, MatchResult, IfErr}
 use Rattle.std.specs.Io.KnownBytes.{IsAtEnd}
 use Rattle.zknow.specs.declared.fact.Fact.{Fact}
 use Rattle.zknow.specs.declared.fact.Mode.{Mode}
@@ -12,7 +13,8 @@ use Rattle.zknow.specs.Loaded.{IsNotKnowledge, IsNotCanonical}
 use Rattle.zcommands.specs.Faults.{end_status}
 use Rattle.zcommands.specs.Devices.{Device, Stays, Gains, Stops, FailsPut, TellsAnswer}
 use Rattle.zcommands.specs.declared.fault.Fault.{Fault}
-use Rattle.zcommands.specs.declared.fault.Fault.TheVariants.{Read, Write, NotKnowledge, NotCanonical, NamesDiffer, Memory}
+use Rattle.zcommands.specs.declared.fault.Fault.TheVariants.{Read, Write, NotKnowledge, NotCanonical}
+use Rattle.zcommands.specs.declared.fault.Fault.TheVariants.{NamesDiffer, Memory}
 use Rattle.zcommands.specs.declared.fault.Status.{Status}
 use Rattle.zcommands.specs.declared.fault.Status.TheVariants as statuses
 
@@ -55,7 +57,8 @@ IsOfReading _ = Unit {0}
 -- The answer is a fault of the first file; or that is a saved one, and where a file is told to be unreadable, it is the
 -- second.
 abbrev pub IsInOrder : {A : Type 0} → List ℕ → List ℕ → Option (List ℕ) → Result A Fault → Type 0
-IsInOrder one two octets answer = MatchResult answer (λ _. ⊥) (IsOfFile one) ⊎ (IfSome octets IsSavedFile × IfErr answer (IsToldOf two))
+IsInOrder one two octets answer =
+    MatchResult answer (λ _. ⊥) (IsOfFile one) ⊎ (IfSome octets IsSavedFile × IfErr answer (IsToldOf two))
 
 -- The same of two streams, before and after: at a fault of the first the second is left unread, else the first is read
 -- to its end; a stream that is told to be unreadable is one of which a read failed.
@@ -105,16 +108,21 @@ IsListOf mode a b facts text = (names : List (List ℕ)) × AreJoined a b names 
 
 -- the list is written and the status stands, or a front of it where the stream failed
 abbrev pub PutsList : List ℕ → Status → Device → Device → Result Status Fault → Type 0
-PutsList text status old new result = MatchResult result (λ s. (s ≡ status) × Gains old new text) (FailsPut old new text)
+PutsList text status old new result =
+    MatchResult result (λ s. (s ≡ status) × Gains old new text) (FailsPut old new text)
 
 -- what an answer of `join` says of the files, and of what was written
 abbrev pub Joins : Mode → List ℕ → List ℕ → Device → Device → Result Status Fault → Type 0
-Joins mode a b old new (Ok status) = (facts : List Fact) × (text : List ℕ) × IsListOf mode a b facts text × IsKnownStatus facts status × Gains old new text
-Joins mode a b old new (Err (NotKnowledge at)) = (IsNotKnowledge a at ⊎ (IsSavedFile a × IsNotKnowledge b at)) × Stays old new
-Joins mode a b old new (Err (NotCanonical at)) = (IsNotCanonical a at ⊎ (IsSavedFile a × IsNotCanonical b at)) × Stays old new
+Joins mode a b old new (Ok status) = (facts : List Fact) × (text : List ℕ) × IsListOf mode a b facts text
+    × IsKnownStatus facts status × Gains old new text
+Joins mode a b old new (Err (NotKnowledge at)) =
+    (IsNotKnowledge a at ⊎ (IsSavedFile a × IsNotKnowledge b at)) × Stays old new
+Joins mode a b old new (Err (NotCanonical at)) =
+    (IsNotCanonical a at ⊎ (IsSavedFile a × IsNotCanonical b at)) × Stays old new
 Joins mode a b old new (Err NamesDiffer) = DoNamesDiffer a b × Stays old new
 Joins mode a b old new (Err (Read path)) = Stays old new
-Joins mode a b old new (Err (Write path)) = (facts : List Fact) × (text : List ℕ) × IsListOf mode a b facts text × Stops old new text
+Joins mode a b old new (Err (Write path)) = (facts : List Fact) × (text : List ℕ) × IsListOf mode a b facts text
+    × Stops old new text
 Joins mode a b old new (Err Memory) = Stays old new
 Joins mode a b old new (Err _) = ⊥
 
@@ -128,6 +136,8 @@ abbrev pub JoinsKnown : Mode → Option (List ℕ) → Option (List ℕ) → Dev
 JoinsKnown mode one two output printed answer = IfSome one (λ a. IfSome two (λ b. Joins mode a b output printed answer))
 
 -- what `join` does with the files at two paths: what it writes and tells, and its status
-abbrev pub DoesJoin : Mode → List ℕ → List ℕ → Option (List ℕ) → Option (List ℕ) → Device → Device → Device → Device → Status → Type 0
-DoesJoin mode one two first second output printed errors told status = (answer : Result Status Fault) × (status ≡ end_status answer)
-    × JoinsKnown mode first second output printed answer × IsInOrder one two first answer × IsUnwritten printed answer × TellsAnswer errors told answer
+abbrev pub DoesJoin
+    : Mode → List ℕ → List ℕ → Option (List ℕ) → Option (List ℕ) → Device → Device → Device → Device → Status → Type 0
+DoesJoin mode one two first second output printed errors told status = (answer : Result Status Fault)
+    × (status ≡ end_status answer) × JoinsKnown mode first second output printed answer
+    × IsInOrder one two first answer × IsUnwritten printed answer × TellsAnswer errors told answer

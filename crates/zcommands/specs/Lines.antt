@@ -50,23 +50,27 @@ optional_records (Some rs) = records_text rs
 
 abbrev pub response_text : PresentResponse → List ℕ
 response_text v =
-    head_line kinds.PresentResponse v.reference_id (v.number_of_records_returned ∷ v.next_result_set_position ∷ v.present_status ∷ [])
+    head_line kinds.PresentResponse v.reference_id
+    (v.number_of_records_returned ∷ v.next_result_set_position ∷ v.present_status ∷ [])
     ++ optional_records v.records
 
 abbrev pub init_request_text : InitRequest → List ℕ
 init_request_text v =
     start_text kinds.InitRequest v.reference_id ++ bits_text v.protocol_version ++ bits_text v.options
-    ++ numbers_text (v.preferred_message_size ∷ v.exceptional_record_size ∷ []) ++ name_text v.implementation_name ++ codes "\n"
+    ++ numbers_text (v.preferred_message_size ∷ v.exceptional_record_size ∷ []) ++ name_text v.implementation_name
+    ++ codes "\n"
 
 abbrev pub init_response_text : InitResponse → List ℕ
 init_response_text v =
     start_text kinds.InitResponse v.reference_id ++ bits_text v.protocol_version ++ bits_text v.options
-    ++ numbers_text (v.preferred_message_size ∷ v.exceptional_record_size ∷ []) ++ truth_text v.result ++ name_text v.implementation_name ++ codes "\n"
+    ++ numbers_text (v.preferred_message_size ∷ v.exceptional_record_size ∷ []) ++ truth_text v.result
+    ++ name_text v.implementation_name ++ codes "\n"
 
 abbrev pub search_response_text : SearchResponse → List ℕ
 search_response_text v =
     start_text kinds.SearchResponse v.reference_id
-    ++ numbers_text (v.result_count ∷ v.number_of_records_returned ∷ v.next_result_set_position ∷ []) ++ truth_text v.search_status ++ codes "\n"
+    ++ numbers_text (v.result_count ∷ v.number_of_records_returned ∷ v.next_result_set_position ∷ [])
+    ++ truth_text v.search_status ++ codes "\n"
     ++ optional_records v.records
 
 abbrev pub range_line : Range → List ℕ

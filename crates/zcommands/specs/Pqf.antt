@@ -26,9 +26,11 @@ IsQueryOf text q = IsText text q × (height q.root ≤ 32)
 unfoldable pub query_lines : RpnQuery → Element → List ℕ
 query_lines q n = query_text q ++ codes "\n" ++ element_text n ++ codes "\n"
 
--- what an answer of `pqf` says of the text, and of what was written: each query of a text can be printed, and has an element
+-- what an answer of `pqf` says of the text, and of what was written: each query of a text can be printed, and has an
+-- element
 abbrev pub TellsQuery : List ℕ → List ℕ → List ℕ → Result (Unit {0}) Fault → Type 0
-TellsQuery text old new (Ok _) = (q : RpnQuery) × (n : Element) × IsQueryOf text q × WritesQuery q n × (new ≡ old ++ query_lines q n)
+TellsQuery text old new (Ok _) = (q : RpnQuery) × (n : Element) × IsQueryOf text q × WritesQuery q n
+    × (new ≡ old ++ query_lines q n)
 TellsQuery text old new (Err (Query kind at)) = IsFault text (record { at = at; kind = kind })
 TellsQuery text old new (Err Memory) = Unit {0}
 TellsQuery text old new (Err _) = ⊥
@@ -42,10 +44,12 @@ abbrev pub PrintsQuery : List ℕ → Device → Device → Result (Unit {0}) Fa
 PrintsQuery text old new (Ok _) = (lines : List ℕ) × AreLinesOf text lines × Gains old new lines
 PrintsQuery text old new (Err (Query kind at)) = IsFault text (record { at = at; kind = kind }) × Stays old new
 PrintsQuery text old new (Err Memory) = Stays old new
-PrintsQuery text old new (Err (Write path)) = (path.now ≡ old.path) × ((lines : List ℕ) × AreLinesOf text lines × Stops old new lines)
+PrintsQuery text old new (Err (Write path)) =
+    (path.now ≡ old.path) × ((lines : List ℕ) × AreLinesOf text lines × Stops old new lines)
 PrintsQuery text old new (Err _) = ⊥
 
 -- what `pqf` does: what it writes and tells, and its status
 abbrev pub DoesPqf : List ℕ → Device → Device → Device → Device → Status → Type 0
 DoesPqf text output printed errors told status =
-    (answer : Result (Unit {0}) Fault) × (status ≡ answer_status answer) × PrintsQuery text output printed answer × TellsAnswer errors told answer
+    (answer : Result (Unit {0}) Fault) × (status ≡ answer_status answer) × PrintsQuery text output printed answer
+    × TellsAnswer errors told answer

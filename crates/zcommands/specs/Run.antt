@@ -24,8 +24,8 @@ IsArrangement a = (world : World) × IsArranged asker world a
 abbrev pub IsArrangedFile : List ℕ → Arrangement → Type 0
 IsArrangedFile file a = (world : World) × IsWorld file world × IsArranged asker world a
 
--- the line of a file that is refused: it says nothing, or cannot stand where it does; or the file says a world, of whose
--- questions it has the first that is put to a host
+-- the line of a file that is refused: it says nothing, or cannot stand where it does; or the file says a world, of
+-- whose questions it has the first that is put to a host
 abbrev pub IsLineAtFault : List ℕ → ℕ → Type 0
 IsLineAtFault file number =
     IsRefused file number ⊎ ((world : World) × IsWorld file world × IsOfFirstHost world.targets world.questions number)

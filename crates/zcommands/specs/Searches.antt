@@ -48,4 +48,5 @@ search_line v =
     ++ truth_text v.replace_indicator ++ name_text (Some v.result_set_name) ++ codes "\n"
 
 abbrev pub search_request_text : SearchRequest → List ℕ
-search_request_text v = search_line v ++ database_lines v.database_names ++ optional_syntax v.preferred_record_syntax ++ query_line v.query
+search_request_text v =
+    search_line v ++ database_lines v.database_names ++ optional_syntax v.preferred_record_syntax ++ query_line v.query

@@ -24,11 +24,15 @@ limit = 2097152
 -- The octets, the text of the APDUs that they begin with, and how they end: with nothing left, or at a fault.
 pub data Shown : List ℕ → List ℕ → Result (Unit {0}) Fault → Type 0 where
   nothing_left : Shown [] [] (Ok tt)
-  apdu : {xs rest text : List ℕ} {e : Element} {end : Result (Unit {0}) Fault} (v : Apdu) → Begins limit xs e rest → Writes v e → Shown rest text end → Shown xs (apdu_text v ++ text) end
+  apdu : {xs rest text : List ℕ} {e : Element} {end : Result (Unit {0}) Fault} (v : Apdu)
+      → Begins limit xs e rest → Writes v e → Shown rest text end → Shown xs (apdu_text v ++ text) end
   fault : {xs : List ℕ} {kind : FaultKind} {at : ℕ} → Shows limit xs kind at → Shown xs [] (Err (Frame kind at))
-  unfinished : {xs : List ℕ} → 0 < length xs → IsUnfinished limit xs → Shown xs [] (Err (Frame kinds.Truncated (length xs)))
+  unfinished : {xs : List ℕ}
+      → 0 < length xs → IsUnfinished limit xs → Shown xs [] (Err (Frame kinds.Truncated (length xs)))
   no_apdu : {xs rest : List ℕ} {e : Element} → Begins limit xs e rest → IsNoApdu e → Shown xs [] (Err NotApdu)
-  malformed : {xs rest : List ℕ} {e : Element} {kind : Kind} {at : ℕ} → Begins limit xs e rest → ((v : Apdu) → Writes v e → ⊥) → IsMalformed kind at e → Shown xs [] (Err (Malformed kind at))
+  malformed : {xs rest : List ℕ} {e : Element} {kind : Kind} {at : ℕ}
+      → Begins limit xs e rest → ((v : Apdu) → Writes v e → ⊥) → IsMalformed kind at e
+      → Shown xs [] (Err (Malformed kind at))
 
 -- octets have one text and one end
 abbrev pub OneShowing : Type 0
@@ -36,11 +40,13 @@ OneShowing = (xs s t : List ℕ) (f g : Result (Unit {0}) Fault) → Shown xs s 
 
 -- the digits' octets are shown
 abbrev pub ShowsDigits : List ℕ → Device → Device → Result (Unit {0}) Fault → Type 0
-ShowsDigits digits old new answer = (xs text : List ℕ) × (octets_of digits ≡ Ok xs) × Shown xs text answer × Gains old new text
+ShowsDigits digits old new answer =
+    (xs text : List ℕ) × (octets_of digits ≡ Ok xs) × Shown xs text answer × Gains old new text
 
 -- the digits' octets have a text, and a front of it is written where the stream failed
 abbrev pub ShowsFront : List ℕ → Device → Device → Type 0
-ShowsFront digits old new = (xs text : List ℕ) × (end : Result (Unit {0}) Fault) × (octets_of digits ≡ Ok xs) × Shown xs text end × Stops old new text
+ShowsFront digits old new = (xs text : List ℕ) × (end : Result (Unit {0}) Fault) × (octets_of digits ≡ Ok xs)
+    × Shown xs text end × Stops old new text
 
 -- what an answer of `show` says of its input, and of what was written
 abbrev pub ShowsText : List ℕ → Device → Device → Result (Unit {0}) Fault → Type 0
@@ -52,5 +58,6 @@ ShowsText digits old new answer = ShowsDigits digits old new answer
 
 -- what `show` does: of its input from before and after it, of what is written and told, and of its status
 abbrev pub DoesShow : Device → Device → Device → Device → Device → Device → Status → Type 0
-DoesShow input rest output printed errors told status = (answer : Result (Unit {0}) Fault) × (status ≡ answer_status answer)
-    × IfSome input.known (λ digits. ShowsText digits output printed answer) × IsOfStream rest printed answer × TellsAnswer errors told answer
+DoesShow input rest output printed errors told status = (answer : Result (Unit {0}) Fault)
+    × (status ≡ answer_status answer) × IfSome input.known (λ digits. ShowsText digits output printed answer)
+    × IsOfStream rest printed answer × TellsAnswer errors told answer

@@ -14,7 +14,8 @@ use Rattle.zcommands.specs.declared.fault.Fault.TheVariants.{Memory}
 
 -- the next message is shown, or there is none yet, or a fault ends the octets; nothing is said where memory ran out
 abbrev pub ShowsNext : Stream → Stream → List ℕ → List ℕ → Result Bool Fault → Type 0
-ShowsNext s t old new (Ok true) = (e : Element) × (v : Apdu) × Begins limit s.octets e t.octets × Writes v e × (new ≡ old ++ apdu_text v) × (t ≡ record s { octets = t.octets })
+ShowsNext s t old new (Ok true) = (e : Element) × (v : Apdu) × Begins limit s.octets e t.octets × Writes v e
+    × (new ≡ old ++ apdu_text v) × (t ≡ record s { octets = t.octets })
 ShowsNext s t old new (Ok false) = IsUnfinished limit s.octets × (new ≡ old) × (t ≡ record s { asked = true })
 ShowsNext s t old new (Err Memory) = Unit {0}
 ShowsNext s t old new (Err f) = Shown s.octets [] (Err f) × (new ≡ old)
@@ -26,7 +27,8 @@ ShowsOctets xs old new answer = (text : List ℕ) × Shown xs text answer × (ne
 
 -- the lines are written and the answer stands, or a front of them where the stream failed
 abbrev pub PutsLines : List ℕ → Result (Unit {0}) Fault → Device → Device → Result (Unit {0}) Fault → Type 0
-PutsLines lines answer old new result = ((result ≡ answer) × Gains old new lines) ⊎ MatchResult result (λ _. ⊥) (FailsPut old new lines)
+PutsLines lines answer old new result =
+    ((result ≡ answer) × Gains old new lines) ⊎ MatchResult result (λ _. ⊥) (FailsPut old new lines)
 
 -- the lines are printed before the answer, and no line where memory ran out
 abbrev pub PrintsLines : List ℕ → Result (Unit {0}) Fault → Device → Device → Result (Unit {0}) Fault → Type 0

@@ -36,7 +36,8 @@ GivesNumber found id n =
 -- records are printed in hexadecimal exactly where the option is given
 pub record HasMode (found : Found) (mode : Mode) : Type 0 where
   pub given : one_text found (codes "hex") ≡ Some (codes "true") → mode ≡ modes.Hex
-  pub left_out : (one_text found (codes "hex") ≡ None) ⊎ (one_text found (codes "hex") ≡ Some (codes "false")) → mode ≡ modes.Text
+  pub left_out : (one_text found (codes "hex") ≡ None) ⊎ (one_text found (codes "hex") ≡ Some (codes "false"))
+      → mode ≡ modes.Text
 
 -- the path of a text that is borrowed, where there is one
 abbrev pub now_of : Option (Bor (List ℕ)) → Option (List ℕ)
@@ -87,9 +88,11 @@ pub record GivesHelp (output printed errors told : Device) (status : Status) : T
 
 -- why words ask for nothing: that is told, and nothing is printed; or help is printed
 pub record TellsWords (error : Error) (output printed errors told : Device) (status : Status) : Type 0 where
-  pub memory : kind_of error ≡ kinds.OutOfMemory → (status ≡ statuses.Memory) × Tells errors told faults.Memory × (printed ≡ output)
+  pub memory : kind_of error ≡ kinds.OutOfMemory
+      → (status ≡ statuses.Memory) × Tells errors told faults.Memory × (printed ≡ output)
   pub help : IsHelp (kind_of error) → GivesHelp output printed errors told status
-  pub wrong : (kind_of error ≡ kinds.OutOfMemory → ⊥) → (IsHelp (kind_of error) → ⊥) → (status ≡ statuses.Words) × (printed ≡ output)
+  pub wrong : (kind_of error ≡ kinds.OutOfMemory → ⊥) → (IsHelp (kind_of error) → ⊥)
+      → (status ≡ statuses.Words) × (printed ≡ output)
 
 -- words that are not UTF-8 are wrong, unless memory ran out
 abbrev pub IsWrong : Status → Type 0

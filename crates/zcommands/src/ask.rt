@@ -9,8 +9,8 @@ ghost use Rattle.zcommands.specs.Ask.{Enquires, CanBeAsked, IsAskedOf, AsksFile,
 use crate::fault::{Fault, Status};
 use crate::files::{Folder, named};
 use crate::finished::{Finished, NAME, Paths, finish};
-use crate::input::Source;
-use crate::output::Sink;
+use crate::input::Input;
+use crate::output::Output;
 use crate::worlds::world_in;
 use bytes::Bytes;
 use std::alloc::{AllocError, Global};
@@ -32,8 +32,8 @@ pub fn ask_named<'a, 'o: 'a, S: Folder + Net + Clock, W: Write, E: Write>(
     system: &'a S,
     paths: Paths<'a>,
     mode: Mode,
-    output: &mut Sink<'o, W>,
-    errors: &mut Sink<'_, E>,
+    output: &mut Output<'o, W>,
+    errors: &mut Output<'_, E>,
 ) -> Status
     ensures { DoesAsk mode paths.entry.world.now (option_map (λ path. path.now) paths.entry.saved)
         (S.octets system.now paths.entry.world.now) (held W.contents output.old) (held W.contents output.new)
@@ -51,8 +51,8 @@ fn ask_paths<'a, 'o: 'a, S: Folder + Net + Clock, W: Write, E: Write>(
     system: &'a S,
     paths: Paths<'a>,
     mode: Mode,
-    output: &mut Sink<'o, W>,
-    errors: &mut Sink<'_, E>,
+    output: &mut Output<'o, W>,
+    errors: &mut Output<'_, E>,
 ) -> Result<Status, Fault<'a>>
     ensures asks { IfSome (S.octets system.now paths.entry.world.now)
         (λ octets. AsksHosts mode octets (held W.contents output.old) (held W.contents output.new)
@@ -69,7 +69,7 @@ fn ask_paths<'a, 'o: 'a, S: Folder + Net + Clock, W: Write, E: Write>(
 fn ask_file<'a, N: Net + Clock, R: Read>(
     alloc: Global,
     net: &N,
-    file: &mut Source<'a, R>,
+    file: &mut Input<'a, R>,
     mode: Mode,
 ) -> Result<Finished, Fault<'a>>
     ensures asked { IfSome (R.remaining file.old.reader) (λ octets. AsksFile mode octets result) }
@@ -81,7 +81,7 @@ fn ask_file<'a, N: Net + Clock, R: Read>(
 }
 
 /// The world of a file, arranged so that its hosts can be asked.
-fn enquiry_of<'a, R: Read>(alloc: Global, file: &mut Source<'a, R>) -> Result<Enquiry, Fault<'a>>
+fn enquiry_of<'a, R: Read>(alloc: Global, file: &mut Input<'a, R>) -> Result<Enquiry, Fault<'a>>
     ensures enquires { IfSome (R.remaining file.old.reader) (λ octets. Enquires octets result) }
     ensures fit { IfOk result CanBeAsked }
     ensures path { IfErr result (IsOfWorld file.old.path.now) }

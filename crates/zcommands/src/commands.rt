@@ -7,10 +7,10 @@ use crate::ask::ask_named;
 use crate::fault::{Fault, Status};
 use crate::files::Folder;
 use crate::finished::Paths;
-use crate::input::Source;
+use crate::input::Input;
 use crate::join::join_named;
 use crate::looped::loop_named;
-use crate::output::Sink;
+use crate::output::Output;
 use crate::pqf::pqf;
 use crate::run::run_named;
 use crate::serve::{Service, serve_named};
@@ -29,9 +29,9 @@ pub fn run<'a, S: Folder + Net + Clock, R: Read, W: Write, E: Write>(
     alloc: Global,
     system: &S,
     words: Result<&[String], ErrorKind>,
-    input: &mut Source<'a, R>,
-    output: &mut Sink<'a, W>,
-    errors: &mut Sink<'a, E>,
+    input: &mut Input<'a, R>,
+    output: &mut Output<'a, W>,
+    errors: &mut Output<'a, E>,
 ) -> Status
     ensures { IfErr words.entry (λ _. IsWrong result) }
 {
@@ -53,9 +53,9 @@ fn answer<'a, S: Folder + Net + Clock, R: Read, W: Write, E: Write>(
     alloc: Global,
     system: &S,
     asked: Result<Words<'_>, Error>,
-    input: &mut Source<'a, R>,
-    output: &mut Sink<'a, W>,
-    errors: &mut Sink<'a, E>,
+    input: &mut Input<'a, R>,
+    output: &mut Output<'a, W>,
+    errors: &mut Output<'a, E>,
 ) -> Status
     ensures { MatchResult asked.entry
         (λ asked. Does (S.octets system.now) asked (left R.remaining input.old) (left R.remaining input.new)
@@ -74,8 +74,8 @@ fn answer<'a, S: Folder + Net + Clock, R: Read, W: Write, E: Write>(
 fn refuse<'a, W: Write, E: Write>(
     alloc: Global,
     kind: ErrorKind,
-    output: &mut Sink<'a, W>,
-    errors: &mut Sink<'a, E>,
+    output: &mut Output<'a, W>,
+    errors: &mut Output<'a, E>,
 ) -> Status
     ensures memory { kind ≡ ErrorKind.OutOfMemory → result ≡ Status.Memory }
     ensures wrong { IsWrong result }
@@ -95,9 +95,9 @@ fn call<'a, S: Folder + Net + Clock, R: Read, W: Write, E: Write>(
     alloc: Global,
     system: &S,
     asked: Words<'_>,
-    input: &mut Source<'a, R>,
-    output: &mut Sink<'a, W>,
-    errors: &mut Sink<'a, E>,
+    input: &mut Input<'a, R>,
+    output: &mut Output<'a, W>,
+    errors: &mut Output<'a, E>,
 ) -> Status
     ensures { Does (S.octets system.now) asked.entry (left R.remaining input.old) (left R.remaining input.new)
         (held W.contents output.old) (held W.contents output.new)

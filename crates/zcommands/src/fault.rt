@@ -4,7 +4,7 @@ ghost use Rattle.zcommands.specs.Faults.{code_of, status_of, fault_text, of_fram
 ghost use Rattle.zcommands.specs.Devices.{held, Tells};
 ghost use Rattle.zcommands.specs.declared.fault.Fault.TheVariants.{Memory};
 
-use crate::output::Sink;
+use crate::output::Output;
 use std::alloc::AllocError;
 use std::fmt;
 use std::io::Write;
@@ -226,7 +226,7 @@ impl Fault<'_> {
     }
 
     /// Tells the fault in a line after the program's name, and answers its status. A fault that cannot be told keeps it.
-    pub fn report<E: Write>(&self, errors: &mut Sink<'_, E>) -> Status
+    pub fn report<E: Write>(&self, errors: &mut Output<'_, E>) -> Status
         ensures status { result ≡ status_of self.now }
         ensures told { Tells (held E.contents errors.old) (held E.contents errors.new) self.now }
     {

@@ -3,7 +3,7 @@
 ghost use Rattle.std.specs.Prelude.{◌≡◌, ℕ, List, [], Option, None, IfOk, IfSome};
 ghost use Rattle.zcommands.specs.Files.{opened_left};
 
-use crate::input::Source;
+use crate::input::Input;
 use std::fs::File;
 use std::io;
 use std::io::{ErrorKind, Read, Write};
@@ -72,7 +72,7 @@ impl<F: Folder> Read for NamedFile<'_, F> {
 }
 
 /// The file at a path, as a stream. It is not opened yet.
-pub(crate) fn named<'a, F: Folder>(files: &'a F, path: &'a str) -> Source<'a, NamedFile<'a, F>>
+pub(crate) fn named<'a, F: Folder>(files: &'a F, path: &'a str) -> Input<'a, NamedFile<'a, F>>
     ensures path { result.path ≡ path.entry }
     ensures octets { opened_left F.File.remaining (F.octets result.reader.files.now result.reader.path.now)
         result.reader.file ≡ F.octets files.now path.now }
@@ -82,5 +82,5 @@ pub(crate) fn named<'a, F: Folder>(files: &'a F, path: &'a str) -> Source<'a, Na
         path,
         file: None,
     };
-    Source::new(path, file)
+    Input::new(path, file)
 }

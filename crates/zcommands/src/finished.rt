@@ -9,7 +9,7 @@ ghost use Rattle.zcommands.specs.Finished.{IsSound, IsListed, PutsFinished, IsOf
 use crate::failures::failure_lines;
 use crate::fault::{Fault, Status};
 use crate::files::Folder;
-use crate::output::Sink;
+use crate::output::Output;
 use crate::trouble::finished_status;
 use std::alloc::{AllocError, Global};
 use std::io::Write;
@@ -54,8 +54,8 @@ impl Finished {
 fn put_finished<'o, W: Write, E: Write>(
     alloc: Global,
     finished: &Finished,
-    output: &mut Sink<'o, W>,
-    errors: &mut Sink<'_, E>,
+    output: &mut Output<'o, W>,
+    errors: &mut Output<'_, E>,
 ) -> Result<(), Fault<'o>>
     requires { IsSound finished.now }
     ensures { PutsFinished finished.now (held W.contents output.old) (held W.contents output.new)
@@ -82,7 +82,7 @@ fn save_finished<'a, F: Folder>(
     };
     let octets = saved_octets(alloc, path, finished)?;
     match files.create(path) {
-        Ok(file) => Sink::new(path, file).put(octets.as_slice()),
+        Ok(file) => Output::new(path, file).put(octets.as_slice()),
         Err(_) => Err(Fault::Write(path)),
     }
 }
@@ -111,8 +111,8 @@ pub(crate) fn finish<'a, 'o: 'a, F: Folder, W: Write, E: Write>(
     files: &F,
     finished: &Finished,
     saved: Option<&'a str>,
-    output: &mut Sink<'o, W>,
-    errors: &mut Sink<'_, E>,
+    output: &mut Output<'o, W>,
+    errors: &mut Output<'_, E>,
 ) -> Result<Status, Fault<'a>>
     requires { IsSound finished.now }
     ensures { Finishes finished.now (option_map (λ path. path.now) saved.entry)

@@ -11,21 +11,21 @@ const READS: u32 = 1_000_000;
 
 /// A stream that is read, and whether reading it failed.
 #[derive(Drop)]
-pub struct Source<'a, R> {
+pub struct Input<'a, R> {
     /// What is told of it: a file's path, `-` for standard input.
     pub path: &'a str,
     pub reader: R,
     pub has_failed: bool,
 }
 
-impl<'a, R: Read> Source<'a, R> {
+impl<'a, R: Read> Input<'a, R> {
     /// The stream that a reader gives.
-    pub fn new(path: &'a str, reader: R) -> Source<'a, R>
+    pub fn new(path: &'a str, reader: R) -> Input<'a, R>
         ensures path { result.path ≡ path.entry }
         ensures reader { result.reader ≡ reader }
         ensures sound { result.has_failed ≡ false }
     {
-        Source {
+        Input {
             path,
             reader,
             has_failed: false,

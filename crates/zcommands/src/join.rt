@@ -9,8 +9,8 @@ ghost use Rattle.zcommands.specs.declared.fault.Status.{Status};
 
 use crate::fault::{Fault, Status};
 use crate::files::{Folder, named};
-use crate::input::Source;
-use crate::output::Sink;
+use crate::input::Input;
+use crate::output::Output;
 use std::alloc::Global;
 use std::io::{Read, Write};
 use zknow::{Knowledge, Mode, Names, load, print_list};
@@ -21,11 +21,11 @@ use zknow::{Knowledge, Mode, Names, load, print_list};
 /// The status is `Failed` where the list has a search or an association that failed.
 pub fn join<'a, 'o: 'a, R: Read, W: Write, E: Write>(
     alloc: Global,
-    first: &mut Source<'a, R>,
-    second: &mut Source<'a, R>,
+    first: &mut Input<'a, R>,
+    second: &mut Input<'a, R>,
     mode: Mode,
-    output: &mut Sink<'o, W>,
-    errors: &mut Sink<'_, E>,
+    output: &mut Output<'o, W>,
+    errors: &mut Output<'_, E>,
 ) -> Status
     ensures { (answer : Result Status Fault) × (result ≡ end_status answer)
         × JoinsKnown mode (R.remaining first.old.reader) (R.remaining second.old.reader)
@@ -47,8 +47,8 @@ pub fn join_named<'a, 'o: 'a, F: Folder, W: Write, E: Write>(
     files: &'a F,
     paths: (&'a str, &'a str),
     mode: Mode,
-    output: &mut Sink<'o, W>,
-    errors: &mut Sink<'_, E>,
+    output: &mut Output<'o, W>,
+    errors: &mut Output<'_, E>,
 ) -> Status
     ensures { DoesJoin mode paths.entry.0.now paths.entry.1.now (F.octets files.now paths.entry.0.now)
         (F.octets files.now paths.entry.1.now) (held W.contents output.old) (held W.contents output.new)
@@ -63,10 +63,10 @@ pub fn join_named<'a, 'o: 'a, F: Folder, W: Write, E: Write>(
 #[tactic(auto, using(crate::proofs::Joining::list_unwritten, crate::proofs::Joining::put_in_turn))]
 fn join_files<'a, 'o: 'a, R: Read, W: Write>(
     alloc: Global,
-    first: &mut Source<'a, R>,
-    second: &mut Source<'a, R>,
+    first: &mut Input<'a, R>,
+    second: &mut Input<'a, R>,
     mode: Mode,
-    output: &mut Sink<'o, W>,
+    output: &mut Output<'o, W>,
 ) -> Result<Status, Fault<'a>>
     ensures joined { JoinsKnown mode (R.remaining first.old.reader) (R.remaining second.old.reader)
         (held W.contents output.old) (held W.contents output.new) result }
@@ -83,7 +83,7 @@ fn join_files<'a, 'o: 'a, R: Read, W: Write>(
 
 /// Writes the list, and answers the status.
 fn put_list<'o, W: Write>(
-    output: &mut Sink<'o, W>,
+    output: &mut Output<'o, W>,
     text: &[u8],
     status: Status,
 ) -> Result<Status, Fault<'o>>
@@ -109,8 +109,8 @@ fn known_status(knowledge: &Knowledge) -> Status
 /// What both files say together.
 fn load_both<'a, R: Read>(
     alloc: Global,
-    first: &mut Source<'a, R>,
-    second: &mut Source<'a, R>,
+    first: &mut Input<'a, R>,
+    second: &mut Input<'a, R>,
 ) -> Result<(Knowledge, Names), Fault<'a>>
     ensures joined { IfSome (R.remaining first.old.reader) (λ a. IfSome (R.remaining second.old.reader)
         (λ b. LoadsBoth a b result)) }
@@ -131,7 +131,7 @@ fn load_both<'a, R: Read>(
 /// What one file says.
 fn load_file<'a, R: Read>(
     alloc: Global,
-    file: &mut Source<'a, R>,
+    file: &mut Input<'a, R>,
 ) -> Result<(Knowledge, Names), Fault<'a>>
     ensures loaded { IfSome (R.remaining file.old.reader) (λ octets. Loads octets result) }
     ensures end { OnOk result (IsAtEnd (R.remaining file.new.reader)) }

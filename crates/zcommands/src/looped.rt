@@ -11,8 +11,8 @@ ghost use Rattle.zcommands.specs.Serve.{IsOfService};
 use crate::fault::{Fault, Status};
 use crate::files::{Folder, named};
 use crate::finished::{Finished, Paths, finish};
-use crate::input::Source;
-use crate::output::Sink;
+use crate::input::Input;
+use crate::output::Output;
 use crate::run::arrange_file;
 use std::alloc::Global;
 use std::io::{Read, Write};
@@ -28,8 +28,8 @@ pub fn loop_named<'a, 'o: 'a, S: Folder + Net, W: Write, E: Write>(
     system: &'a S,
     paths: Paths<'a>,
     mode: Mode,
-    output: &mut Sink<'o, W>,
-    errors: &mut Sink<'_, E>,
+    output: &mut Output<'o, W>,
+    errors: &mut Output<'_, E>,
 ) -> Status
     ensures { DoesLoop mode paths.entry.world.now (option_map (λ path. path.now) paths.entry.saved)
         (S.octets system.now paths.entry.world.now) (held W.contents output.old) (held W.contents output.new)
@@ -47,8 +47,8 @@ fn loop_paths<'a, 'o: 'a, S: Folder + Net, W: Write, E: Write>(
     system: &'a S,
     paths: Paths<'a>,
     mode: Mode,
-    output: &mut Sink<'o, W>,
-    errors: &mut Sink<'_, E>,
+    output: &mut Output<'o, W>,
+    errors: &mut Output<'_, E>,
 ) -> Result<Status, Fault<'a>>
     ensures loops { IfSome (S.octets system.now paths.entry.world.now)
         (λ octets. Loops mode octets (held W.contents output.old) (held W.contents output.new)
@@ -65,7 +65,7 @@ fn loop_paths<'a, 'o: 'a, S: Folder + Net, W: Write, E: Write>(
 fn loop_file<'a, N: Net, R: Read>(
     alloc: Global,
     net: &N,
-    file: &mut Source<'a, R>,
+    file: &mut Input<'a, R>,
     mode: Mode,
 ) -> Result<Finished, Fault<'a>>
     ensures ran { IfSome (R.remaining file.old.reader) (λ octets. LoopsFile mode octets result) }

@@ -10,21 +10,21 @@ use std::io::{ErrorKind, Write};
 
 /// A stream that is written, and whether writing it failed.
 #[derive(Drop)]
-pub struct Sink<'a, W> {
+pub struct Output<'a, W> {
     /// What is told of it: a file's path, `-` for a standard stream.
     pub path: &'a str,
     pub writer: W,
     pub has_failed: bool,
 }
 
-impl<'a, W: Write> Sink<'a, W> {
+impl<'a, W: Write> Output<'a, W> {
     /// The stream of a writer.
-    pub fn new(path: &'a str, writer: W) -> Sink<'a, W>
+    pub fn new(path: &'a str, writer: W) -> Output<'a, W>
         ensures path { result.path ≡ path.entry }
         ensures writer { result.writer ≡ writer }
         ensures sound { result.has_failed ≡ false }
     {
-        Sink {
+        Output {
             path,
             writer,
             has_failed: false,

@@ -7,7 +7,7 @@ ghost use Rattle.zcommands.specs.Pqf.{IsQueryOf, element_text, query_lines, Tell
 ghost use Rattle.zcommands.specs.Devices.{held};
 
 use crate::fault::{Fault, Status};
-use crate::output::Sink;
+use crate::output::Output;
 use std::alloc::{AllocError, Global};
 use std::io::Write;
 use zber::{Node, Tag};
@@ -19,8 +19,8 @@ use zquery::{BuildError, PrintError, Query, parse_pqf, print_pqf, to_node};
 pub fn pqf<W: Write, E: Write>(
     alloc: Global,
     text: &str,
-    output: &mut Sink<'_, W>,
-    errors: &mut Sink<'_, E>,
+    output: &mut Output<'_, W>,
+    errors: &mut Output<'_, E>,
 ) -> Status
     ensures { DoesPqf text.now (held W.contents output.old) (held W.contents output.new)
         (held E.contents errors.old) (held E.contents errors.new) result }
@@ -34,7 +34,7 @@ pub fn pqf<W: Write, E: Write>(
 fn pqf_text<'a, W: Write>(
     alloc: Global,
     text: &[u8],
-    output: &mut Sink<'a, W>,
+    output: &mut Output<'a, W>,
 ) -> Result<(), Fault<'a>>
     ensures printed { PrintsQuery text.now (held W.contents output.old) (held W.contents output.new) result }
 {

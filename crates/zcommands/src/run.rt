@@ -9,8 +9,8 @@ ghost use Rattle.zcommands.specs.Run.{Arranges, IsArrangement, IsRunOf, RunsFile
 use crate::fault::{Fault, Status};
 use crate::files::{Folder, named};
 use crate::finished::{Finished, NAME, Paths, finish};
-use crate::input::Source;
-use crate::output::Sink;
+use crate::input::Input;
+use crate::output::Output;
 use crate::worlds::world_in;
 use bytes::Bytes;
 use std::alloc::{AllocError, Global};
@@ -29,8 +29,8 @@ pub fn run_named<'a, 'o: 'a, F: Folder, W: Write, E: Write>(
     files: &'a F,
     paths: Paths<'a>,
     mode: Mode,
-    output: &mut Sink<'o, W>,
-    errors: &mut Sink<'_, E>,
+    output: &mut Output<'o, W>,
+    errors: &mut Output<'_, E>,
 ) -> Status
     ensures { DoesRun mode paths.entry.world.now (option_map (λ path. path.now) paths.entry.saved)
         (F.octets files.now paths.entry.world.now) (held W.contents output.old) (held W.contents output.new)
@@ -48,8 +48,8 @@ fn run_paths<'a, 'o: 'a, F: Folder, W: Write, E: Write>(
     files: &'a F,
     paths: Paths<'a>,
     mode: Mode,
-    output: &mut Sink<'o, W>,
-    errors: &mut Sink<'_, E>,
+    output: &mut Output<'o, W>,
+    errors: &mut Output<'_, E>,
 ) -> Result<Status, Fault<'a>>
     ensures runs { IfSome (F.octets files.now paths.entry.world.now)
         (λ octets. Runs mode octets (held W.contents output.old) (held W.contents output.new)
@@ -65,7 +65,7 @@ fn run_paths<'a, 'o: 'a, F: Folder, W: Write, E: Write>(
 /// Runs the world of a file.
 fn run_file<'a, R: Read>(
     alloc: Global,
-    file: &mut Source<'a, R>,
+    file: &mut Input<'a, R>,
     mode: Mode,
 ) -> Result<Finished, Fault<'a>>
     ensures ran { IfSome (R.remaining file.old.reader) (λ octets. RunsFile mode octets result) }
@@ -79,7 +79,7 @@ fn run_file<'a, R: Read>(
 /// The world of a file, arranged to be run.
 pub(crate) fn arrange_file<'a, R: Read>(
     alloc: Global,
-    file: &mut Source<'a, R>,
+    file: &mut Input<'a, R>,
 ) -> Result<Arrangement, Fault<'a>>
     ensures arranged { IfSome (R.remaining file.old.reader) (λ octets. Arranges octets result) }
     ensures fit { IfOk result IsArrangement }

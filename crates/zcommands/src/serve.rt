@@ -6,7 +6,7 @@ ghost use Rattle.zcommands.specs.Serve.{Serves, EndsOf, DoesServe};
 
 use crate::fault::{Fault, Status};
 use crate::files::{Folder, named};
-use crate::output::Sink;
+use crate::output::Output;
 use crate::worlds::world_in;
 use std::alloc::Global;
 use std::io::Write;
@@ -31,7 +31,7 @@ pub fn serve_named<'a, S: Folder + Net + Clock, E: Write>(
     alloc: Global,
     system: &'a S,
     service: Service<'a>,
-    errors: &mut Sink<'_, E>,
+    errors: &mut Output<'_, E>,
 ) -> Status
     ensures { DoesServe service.entry.name.now service.entry.world.now (S.octets system.now service.entry.world.now)
         (held E.contents errors.old) (held E.contents errors.new) result }

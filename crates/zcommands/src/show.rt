@@ -6,9 +6,9 @@ ghost use Rattle.zcommands.specs.Devices.{left, held, IsOfStream};
 
 use crate::digits::decode;
 use crate::fault::{Fault, Status};
-use crate::input::Source;
+use crate::input::Input;
 use crate::lines::print_apdu;
-use crate::output::Sink;
+use crate::output::Output;
 use std::alloc::Global;
 use std::io::{Read, Write};
 use zapdu::from_element;
@@ -23,9 +23,9 @@ const MESSAGE_LIMIT: u32 = 2_097_152;
 /// before their end. What was printed before a fault stands; where memory runs out, nothing is printed.
 pub fn show<'a, R: Read, W: Write, E: Write>(
     alloc: Global,
-    input: &mut Source<'a, R>,
-    output: &mut Sink<'a, W>,
-    errors: &mut Sink<'_, E>,
+    input: &mut Input<'a, R>,
+    output: &mut Output<'a, W>,
+    errors: &mut Output<'_, E>,
 ) -> Status
     ensures { DoesShow (left R.remaining input.old) (left R.remaining input.new)
         (held W.contents output.old) (held W.contents output.new)
@@ -48,8 +48,8 @@ pub fn one_showing()
 
 fn show_text<'a, R: Read, W: Write>(
     alloc: Global,
-    input: &mut Source<'a, R>,
-    output: &mut Sink<'a, W>,
+    input: &mut Input<'a, R>,
+    output: &mut Output<'a, W>,
 ) -> Result<(), Fault<'a>>
     ensures shown { IfSome (R.remaining input.old.reader)
         (λ text. ShowsText text (held W.contents output.old) (held W.contents output.new) result) }
@@ -64,7 +64,7 @@ fn show_text<'a, R: Read, W: Write>(
 
 /// Writes the lines that come before an answer, but none where memory ran out.
 fn print_lines<'a, W: Write>(
-    output: &mut Sink<'a, W>,
+    output: &mut Output<'a, W>,
     lines: &[u8],
     answer: Result<(), Fault<'a>>,
 ) -> Result<(), Fault<'a>>

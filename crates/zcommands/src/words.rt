@@ -7,7 +7,7 @@ ghost use Rattle.zcommands.specs.Devices.{held};
 ghost use Rattle.zcommands.specs.Words.{Asks, HasMode, TellsWords};
 
 use crate::fault::{Fault, Status};
-use crate::output::Sink;
+use crate::output::Output;
 use clap::error::ErrorKind;
 use clap::{Arg, ArgAction, ArgMatches, Command, Error, value_parser};
 use std::alloc::{AllocError, Global};
@@ -412,8 +412,8 @@ pub(crate) fn odd_words(alloc: Global) -> Result<Error, AllocError>
 /// Writes the text of `parse` and answers the status: of wrong words to the errors, of help to the output.
 pub(crate) fn tell<'a, W: Write, E: Write>(
     error: &Error,
-    output: &mut Sink<'a, W>,
-    errors: &mut Sink<'a, E>,
+    output: &mut Output<'a, W>,
+    errors: &mut Output<'a, E>,
 ) -> Status
     ensures { TellsWords error.now (held W.contents output.old) (held W.contents output.new)
         (held E.contents errors.old) (held E.contents errors.new) result }

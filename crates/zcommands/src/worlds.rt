@@ -6,7 +6,7 @@ ghost use Rattle.zcommands.specs.Finished.{IsOfWorld};
 ghost use Rattle.zcommands.specs.Worlds.{SaysWorld};
 
 use crate::fault::Fault;
-use crate::input::Source;
+use crate::input::Input;
 use std::alloc::Global;
 use std::io::Read;
 use zworld::world::{World, read_world};
@@ -14,7 +14,7 @@ use zworld::world::{World, read_world};
 /// The world that a file says.
 pub(crate) fn world_in<'a, R: Read>(
     alloc: Global,
-    file: &mut Source<'a, R>,
+    file: &mut Input<'a, R>,
 ) -> Result<World, Fault<'a>>
     ensures says { IfSome (R.remaining file.old.reader) (λ octets. SaysWorld octets result) }
     ensures fit { IfOk result IsFit }

@@ -10,14 +10,14 @@ use std::process::ExitCode;
 use std::{env, io};
 use zcommands::commands::run;
 use zcommands::fault::Status;
-use zcommands::input::Source;
-use zcommands::output::Sink;
+use zcommands::input::Input;
+use zcommands::output::Output;
 
 fn main(rt: HostRuntime) -> ExitCode {
     let words = arguments(&rt);
-    let mut input = Source::new("-", rt.stdin());
-    let mut output = Sink::new("-", rt.stdout());
-    let mut errors = Sink::new("-", rt.stderr());
+    let mut input = Input::new("-", rt.stdin());
+    let mut output = Output::new("-", rt.stdout());
+    let mut errors = Output::new("-", rt.stderr());
     let given = match &words {
         Ok(words) => Ok(words.as_slice()),
         Err(error) => Err(error.kind()),

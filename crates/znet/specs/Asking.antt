@@ -15,8 +15,8 @@ use Rattle.ztalk.specs.Talks.{Stage, Listening, Waiting, Over, Ended, Follows, I
 -- ---- the deeds of one connection
 
 -- The way to the host of a connection is opened: there is none, for which it is stopped; or the calls that are due are
--- made, and what waits is written, or that fails, for which it is stopped. Its deeds, the newest first, behind a history;
--- and whether the host can be talked with.
+-- made, and what waits is written, or that fails, for which it is stopped. Its deeds, the newest first, behind a
+-- history; and whether the host can be talked with.
 pub data Opening (questions : List Question) (s : MetaSettings) (c : ℕ) (h : History) : History → Bool → Type 0 where
   unreached : Opening questions s c h ((c, Stops reasons.Connect) ∷ []) false
   begun : (calls : List Call) (octets : List ℕ) → IsIdle questions s c (made c calls ++ h)
@@ -58,7 +58,8 @@ pub record IsOpened (questions : List Question) (s : MetaSettings) (c : ℕ) (re
   pub first : only c before ≡ []
   pub last : only c later ≡ []
 
--- the way to its host was opened, the host was then talked with, where it can be, and nothing else befell the connection
+-- The way to its host was opened, the host was then talked with, where it can be, and nothing else befell the
+-- connection, which is over.
 pub record IsTalkedOut (questions : List Question) (s : MetaSettings) (c : ℕ) (h : History) : Type 0 where
   pub later : History
   pub more : History

@@ -8,8 +8,8 @@ use std::time::Clock;
 use zcommands::commands::run;
 use zcommands::fault::Status;
 use zcommands::files::Folder;
-use zcommands::input::Source;
-use zcommands::output::Sink;
+use zcommands::input::Input;
+use zcommands::output::Output;
 use zencodings::rows::{halves, parted, unescaped};
 use zencodings::unread::Unread;
 
@@ -27,10 +27,10 @@ fn status<'a, S: Folder + Net + Clock, W: Write, E: Write>(
     system: &S,
     words: Result<&[String], ErrorKind>,
     input: &'a [u8],
-    output: &mut Sink<'a, W>,
-    errors: &mut Sink<'a, E>,
+    output: &mut Output<'a, W>,
+    errors: &mut Output<'a, E>,
 ) -> Status {
-    let mut input = Source::new("-", input);
+    let mut input = Input::new("-", input);
     run(alloc, system, words, &mut input, output, errors)
 }
 
@@ -48,8 +48,8 @@ pub(crate) fn ran<S: Folder + Net + Clock>(
         system,
         words,
         input,
-        &mut Sink::new("-", &mut printed),
-        &mut Sink::new("-", &mut told),
+        &mut Output::new("-", &mut printed),
+        &mut Output::new("-", &mut told),
     );
     Outcome {
         status,

@@ -8,8 +8,8 @@ use std::process::Abort;
 use std::test::Fail;
 use zcommands::commands::run;
 use zcommands::fault::{Fault, Status};
-use zcommands::input::Source;
-use zcommands::output::Sink;
+use zcommands::input::Input;
+use zcommands::output::Output;
 use zencodings::rows::{each_row, halves, pair, unescaped};
 use zencodings::unread::Unread;
 
@@ -41,7 +41,7 @@ fn status<'a, E: Write>(
     alloc: Global,
     words: &[String],
     calls: Breaks,
-    errors: &mut Sink<'a, E>,
+    errors: &mut Output<'a, E>,
 ) -> Status {
     let reader = Broken {
         octets: b"BF 30 05 9F 81 53 01 00",
@@ -52,14 +52,14 @@ fn status<'a, E: Write>(
         calls: 0,
         fails_at: calls.write,
     };
-    let mut input = Source::new("-", reader);
-    let mut output = Sink::new("-", writer);
+    let mut input = Input::new("-", reader);
+    let mut output = Output::new("-", writer);
     run(alloc, &SHELF, Ok(words), &mut input, &mut output, errors)
 }
 
 fn told(alloc: Global, words: &[String], calls: Breaks) -> (Status, Vec<u8>) {
     let mut told = Vec::new(alloc);
-    let status = status(alloc, words, calls, &mut Sink::new("-", &mut told));
+    let status = status(alloc, words, calls, &mut Output::new("-", &mut told));
     (status, told)
 }
 
@@ -68,7 +68,7 @@ fn untold(alloc: Global, words: &[String], calls: Breaks) -> Status {
         calls: 0,
         fails_at: calls.tell,
     };
-    status(alloc, words, calls, &mut Sink::new("-", teller))
+    status(alloc, words, calls, &mut Output::new("-", teller))
 }
 
 fn is_told(alloc: Global, words: &[String], calls: Breaks, due: &str) -> Result<bool, Unread> {
@@ -107,13 +107,13 @@ fn a_stream_that_fails_is_told(rt: HostRuntime) -> Result<(), Fail> {
 
 // Whether so many octets, one a read, are read, and by how many reads.
 fn drained(alloc: Global, left: u32) -> (bool, u32) {
-    let mut source = Source::new("-", Drip { left, calls: 0 });
+    let mut source = Input::new("-", Drip { left, calls: 0 });
     let is_read = source.read_all(alloc).is_ok();
     (is_read, source.reader.calls)
 }
 
 fn is_given_up(alloc: Global, left: u32) -> bool {
-    let mut source = Source::new("-", Drip { left, calls: 0 });
+    let mut source = Input::new("-", Drip { left, calls: 0 });
     matches!(source.read_all(alloc), Err(Fault::Read("-")))
 }
 

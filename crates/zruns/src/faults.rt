@@ -6,7 +6,7 @@ use zapdu::{ApduError, Kind};
 use zber::FaultKind;
 use zcommands::failures::put_failure;
 use zcommands::fault::{Fault, Status};
-use zcommands::output::Sink;
+use zcommands::output::Output;
 use zoom::{Reason, State};
 use zorigin::Refused;
 use zquery::PqfErrorKind;
@@ -68,7 +68,7 @@ const OTHERS: [(Fault<'static>, &str); 11] = [
 
 fn report(alloc: Global, fault: Fault<'_>) -> (Status, Vec<u8>) {
     let mut told = Vec::new(alloc);
-    let status = fault.report(&mut Sink::new("-", &mut told));
+    let status = fault.report(&mut Output::new("-", &mut told));
     (status, told)
 }
 
