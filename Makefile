@@ -1,8 +1,20 @@
 # make quick: prints the records of an example by a build that nothing was proved of, in about a minute.
 # make show: proves and builds zmeta, and prints them. make demo: serves two catalogues on this machine, and asks both.
 # make test: passes the tests. make interop: asks the servers of others, and lets their clients ask, where they are there.
+# make install: puts what make show built, its man page and its completions below PREFIX, and DESTDIR before that.
+# make uninstall: takes them away again.
 
-.PHONY: quick show demo test interop
+PREFIX ?= /usr/local
+DESTDIR ?=
+
+program = crates/zmeta/out/zmeta
+bin = $(DESTDIR)$(PREFIX)/bin
+man = $(DESTDIR)$(PREFIX)/share/man/man1
+bash = $(DESTDIR)$(PREFIX)/share/bash-completion/completions
+zsh = $(DESTDIR)$(PREFIX)/share/zsh/site-functions
+fish = $(DESTDIR)$(PREFIX)/share/fish/vendor_completions.d
+
+.PHONY: quick show demo test interop install uninstall
 
 quick:
 	cd crates/zmeta && rt try -- show < ../../examples/present-response.hex
@@ -20,3 +32,16 @@ interop:
 test:
 	RT_JOBS=3 rt ci
 	python3 refused-memory/check.py
+
+# It builds nothing: make show does.
+install:
+	@test -x $(program) || { echo "install: no $(program); run 'make show' first" >&2; exit 1; }
+	install -d "$(bin)" "$(man)" "$(bash)" "$(zsh)" "$(fish)"
+	install -m 755 $(program) "$(bin)/zmeta"
+	install -m 644 install/zmeta.1 "$(man)/zmeta.1"
+	install -m 644 install/zmeta.bash "$(bash)/zmeta"
+	install -m 644 install/_zmeta "$(zsh)/_zmeta"
+	install -m 644 install/zmeta.fish "$(fish)/zmeta.fish"
+
+uninstall:
+	rm -f "$(bin)/zmeta" "$(man)/zmeta.1" "$(bash)/zmeta" "$(zsh)/_zmeta" "$(fish)/zmeta.fish"

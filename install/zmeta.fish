@@ -1,0 +1,71 @@
+# fish completion for zmeta
+
+# The words before the cursor that are no options, the command first.
+function __zmeta_words
+    set -l words (commandline -opc)
+    set -e words[1]
+    set -l ended no
+    set -l skip no
+    for word in $words
+        if test $skip = yes
+            set skip no
+        else if test $ended = yes
+            echo -- $word
+        else
+            switch $word
+                case --
+                    set ended yes
+                case --save
+                    set skip yes
+                case '-?*'
+                case '*'
+                    echo -- $word
+            end
+        end
+    end
+end
+
+# Whether the command is one of these.
+function __zmeta_in
+    set -l words (__zmeta_words)
+    set -q words[1]; and contains -- $words[1] $argv
+end
+
+# Whether the word that is typed has this number behind the command, from 1, and the command is one of the others.
+function __zmeta_at
+    set -l words (__zmeta_words)
+    test (count $words) = $argv[1]; and contains -- $words[1] $argv[2..-1]
+end
+
+# Whether no word before the cursor is this option; not counted is a --save whose value is typed.
+function __zmeta_lacks
+    set -l words (commandline -opc)
+    if test "$words[-1]" = --save
+        set -e words[-1]
+    end
+    not string match -qr -- "^$argv[1](=|\$)" $words
+end
+
+# Whether no command stands there yet.
+function __zmeta_first
+    test (count (commandline -opc)) = 1
+end
+
+complete -c zmeta -f
+complete -c zmeta -n __zmeta_first -a ask -d 'Asks library catalogues'
+complete -c zmeta -n __zmeta_first -a run -d 'Runs searches against catalogues in memory'
+complete -c zmeta -n __zmeta_first -a loop -d 'Runs searches against catalogues in memory, over this machine\'s network'
+complete -c zmeta -n __zmeta_first -a join -d 'Puts together what two searches of the same catalogues brought'
+complete -c zmeta -n __zmeta_first -a serve -d 'Serves a catalogue in memory to other programs'
+complete -c zmeta -n __zmeta_first -a show -d 'Shows what recorded Z39.50 messages say'
+complete -c zmeta -n __zmeta_first -a pqf -d 'Shows how a query is understood, and how it goes out'
+complete -c zmeta -n __zmeta_first -a help -d 'Print this message or the help of the given subcommand(s)'
+complete -c zmeta -n '__zmeta_at 1 help' -a 'ask run loop join serve show pqf help'
+
+complete -c zmeta -n 'not __zmeta_in help' -s h -l help -d 'Print help'
+complete -c zmeta -n '__zmeta_in ask run loop join; and __zmeta_lacks --hex' -l hex -d 'Prints the octets of records in hexadecimal'
+complete -c zmeta -n '__zmeta_in ask run loop; and __zmeta_lacks --save' -l save -r -F -d 'Saves what was brought in the file OUT'
+
+complete -c zmeta -n '__zmeta_at 1 ask run loop join' -F
+complete -c zmeta -n '__zmeta_at 2 join' -F
+complete -c zmeta -n '__zmeta_at 3 serve' -F
