@@ -1,24 +1,24 @@
 -- The kinds of APDUs, each with its table.
 use Rattle.std.proofs.Common.{◌≡◌, List, [], ◌∷◌, ◌++◌, Some, Result, Ok, Err, Bool, true, false, cond, refl, sym, ap, subst, ◌∙◌}
-use Rattle.zber.specs.Names.{Name}
+use Rattle.zber.specs.AsnTags.{AsnTag}
 use Rattle.zber.specs.Elements.{Element}
-use Rattle.zber.specs.Productions.Tags.{same_tag}
-use Rattle.zber.specs.Productions.Reading.{◌>>=◌}
-use Rattle.zber.specs.Productions.Laws.{IsMisfit, IsExact}
-use Rattle.zber.proofs.Productions.Reads.{same_tag-true}
-use Rattle.zber.proofs.Productions.Tables.{elements_exact}
+use Rattle.zber.specs.Tags.{same_tag}
+use Rattle.zproductions.specs.Reading.{◌>>=◌}
+use Rattle.zproductions.specs.Laws.{IsMisfit, IsExact}
+use Rattle.zproductions.proofs.Readings.{same_tag-true}
+use Rattle.zproductions.proofs.Tables.{elements_exact}
 use Rattle.zapdu.specs.declared.apdu.Apdu.{Apdu}
 use Rattle.zapdu.specs.declared.apdu.Apdu.TheVariants as apdus
 use Rattle.zapdu.specs.declared.apdu.Kind.{Kind}
 use Rattle.zapdu.specs.declared.apdu.Kind.TheVariants as kinds
 use Rattle.zapdu.specs.Writes.{kind_of, tag_of_kind, parts_of, kind_at, kind_among, kinds_in_order, apdu_at}
-use Rattle.zapdu.specs.InitRequests.{init_request_parts}
-use Rattle.zapdu.specs.InitResponses.{init_response_parts}
-use Rattle.zapdu.specs.SearchRequests.{search_request_parts}
-use Rattle.zapdu.specs.SearchResponses.{search_response_parts}
-use Rattle.zapdu.specs.PresentRequests.{present_request_parts}
-use Rattle.zapdu.specs.PresentResponses.{present_response_parts}
-use Rattle.zapdu.specs.Closes.{close_parts}
+use Rattle.zapdu.specs.Productions.InitRequests.{init_request_parts}
+use Rattle.zapdu.specs.Productions.InitResponses.{init_response_parts}
+use Rattle.zapdu.specs.Productions.SearchRequests.{search_request_parts}
+use Rattle.zapdu.specs.Productions.SearchResponses.{search_response_parts}
+use Rattle.zapdu.specs.Productions.PresentRequests.{present_request_parts}
+use Rattle.zapdu.specs.Productions.PresentResponses.{present_response_parts}
+use Rattle.zapdu.specs.Productions.Closes.{close_parts}
 
 abbrev pub Of : Kind → Apdu → List Element → Type 0
 Of kind v ns = (kind_of v ≡ kind) × parts_of v ns
@@ -103,13 +103,13 @@ kind_at-tag_of_kind kinds.PresentRequest = refl
 kind_at-tag_of_kind kinds.PresentResponse = refl
 kind_at-tag_of_kind kinds.Close = refl
 
-tag_turn : (t : Name) (kind k : Kind) (ks : List Kind) (b : Bool) → (kind_among t ks ≡ Some kind → t ≡ tag_of_kind kind) → same_tag t (tag_of_kind k) ≡ b → cond b (Some k) (kind_among t ks) ≡ Some kind → t ≡ tag_of_kind kind
+tag_turn : (t : AsnTag) (kind k : Kind) (ks : List Kind) (b : Bool) → (kind_among t ks ≡ Some kind → t ≡ tag_of_kind kind) → same_tag t (tag_of_kind k) ≡ b → cond b (Some k) (kind_among t ks) ≡ Some kind → t ≡ tag_of_kind kind
 tag_turn t kind k ks true later p f = let same : k ≡ kind = cc in same_tag-true t (tag_of_kind k) p ∙ ap tag_of_kind same
 tag_turn t kind k ks false later p f = later f
 
-tag_among : (t : Name) (kind : Kind) (ks : List Kind) → kind_among t ks ≡ Some kind → t ≡ tag_of_kind kind
+tag_among : (t : AsnTag) (kind : Kind) (ks : List Kind) → kind_among t ks ≡ Some kind → t ≡ tag_of_kind kind
 tag_among t kind [] e = absurd cc
 tag_among t kind (k ∷ ks) e = tag_turn t kind k ks (same_tag t (tag_of_kind k)) (tag_among t kind ks) refl e
 
-pub tag_from_kind : (t : Name) (kind : Kind) → kind_at t ≡ Some kind → t ≡ tag_of_kind kind
+pub tag_from_kind : (t : AsnTag) (kind : Kind) → kind_at t ≡ Some kind → t ≡ tag_of_kind kind
 tag_from_kind t kind e = tag_among t kind kinds_in_order e

@@ -1,9 +1,9 @@
 -- What decoding answers.
 use Rattle.std.proofs.Common.{◌≡◌, ℕ, zero, suc, ◌-◌, ◌<◌, ◌≤◌, List, [], ◌∷◌, ◌++◌, length, take, Some, None, Result, Ok, Err, refl, sym, ap, subst, ◌∙◌, append_assoc, length-append, arith}
 use Rattle.std.proofs.lemmas.List.{take_at}
-use Rattle.zber.specs.Names.{Name}
+use Rattle.zber.specs.AsnTags.{AsnTag}
 use Rattle.zber.specs.Elements.{Element, Primitive, Constructed, elements, cons, tag_of}
-use Rattle.zber.specs.Productions.Laws.{IsMisfit}
+use Rattle.zproductions.specs.Laws.{IsMisfit}
 use Rattle.zber.proofs.Runs.{elements-forest}
 use Rattle.zasn.specs.declared.error.PartError.{PartError}
 use Rattle.zasn.specs.declared.error.PartError.TheVariants.{Misfit}
@@ -47,12 +47,12 @@ misfit_at kind ns r m =
 
 -- ---- the answers
 
-pub decodes_ok : (n : Element) (t : Name) (ns : List Element) (kind : Kind) (v : Apdu) → n ≡ cons t ns → kind_at t ≡ Some kind → apdu_at kind ns ≡ Ok v → Writes v n
+pub decodes_ok : (n : Element) (t : AsnTag) (ns : List Element) (kind : Kind) (v : Apdu) → n ≡ cons t ns → kind_at t ≡ Some kind → apdu_at kind ns ≡ Ok v → Writes v n
 decodes_ok n t ns kind v e k r =
     let h = (apdu_exact kind).reads ns v r in
     rw (e, elements-forest ns) (tag_from_kind t kind k ∙ ap tag_of_kind (sym h.0), h.1)
 
-pub decodes_malformed : (n : Element) (t : Name) (ns r : List Element) (kind : Kind) → n ≡ cons t ns → kind_at t ≡ Some kind → apdu_at kind ns ≡ Err r → ((v : Apdu) → Writes v n → ⊥) × IsMalformed kind (length ns - length r) n
+pub decodes_malformed : (n : Element) (t : AsnTag) (ns r : List Element) (kind : Kind) → n ≡ cons t ns → kind_at t ≡ Some kind → apdu_at kind ns ≡ Err r → ((v : Apdu) → Writes v n → ⊥) × IsMalformed kind (length ns - length r) n
 decodes_malformed n t ns r kind e k f = rw (e, elements-forest ns) (not, (tag_from_kind t kind k, misfit_at kind ns r ((apdu_exact kind).fails ns r f)))
   where
     not : (v : Apdu) → (t ≡ tag_of_kind (kind_of v)) × parts_of v ns → ⊥
@@ -75,12 +75,12 @@ stopped kind ns k h = by_reading (apdu_at kind ns) refl h
     by_reading (Ok v) is h = absurd (value_is_no_misfit v k h)
     by_reading (Err r) is h = (r, is, err_is (length r) k h)
 
-pub taken_ok : (n : Element) (t : Name) (ns xs : List Element) (kind : Kind) (a : Result Apdu PartError) (k : ℕ) (v : Apdu) → n ≡ cons t ns → kind_at t ≡ Some kind → xs ≡ ns → FindsSo (apdu_at kind xs) a k → a ≡ Ok v → Writes v n
+pub taken_ok : (n : Element) (t : AsnTag) (ns xs : List Element) (kind : Kind) (a : Result Apdu PartError) (k : ℕ) (v : Apdu) → n ≡ cons t ns → kind_at t ≡ Some kind → xs ≡ ns → FindsSo (apdu_at kind xs) a k → a ≡ Ok v → Writes v n
 taken_ok n t ns xs kind a k v e is same h found =
     let read : apdu_at kind ns ≡ Ok v = subst (λ (ys : List Element). apdu_at kind ys ≡ Ok v) same (subst (λ (b : Result Apdu PartError). FindsSo (apdu_at kind xs) b k) found h) in
     decodes_ok n t ns kind v e is read
 
-pub taken_malformed : (n : Element) (t : Name) (ns xs zs : List Element) (kind : Kind) (a : Result Apdu PartError) (e : PartError) (all k at : ℕ) → n ≡ cons t ns → kind_at t ≡ Some kind → xs ≡ ns → FindsSo (apdu_at kind xs) a k → a ≡ Err e → e ≡ Misfit
+pub taken_malformed : (n : Element) (t : AsnTag) (ns xs zs : List Element) (kind : Kind) (a : Result Apdu PartError) (e : PartError) (all k at : ℕ) → n ≡ cons t ns → kind_at t ≡ Some kind → xs ≡ ns → FindsSo (apdu_at kind xs) a k → a ≡ Err e → e ≡ Misfit
     → zs ≡ ns → all ≡ length zs → at ≡ all - k → ((v : Apdu) → Writes v n → ⊥) × IsMalformed kind at n
 taken_malformed n t ns xs zs kind a e all k at one is same h found misfit slice many place =
     let told : FindsSo (apdu_at kind ns) (Err e) k = subst (λ (ys : List Element). FindsSo (apdu_at kind ys) (Err e) k) same (subst (λ (b : Result Apdu PartError). FindsSo (apdu_at kind xs) b k) found h) in

@@ -1,14 +1,14 @@
 -- What was built is read back.
 use Rattle.std.proofs.Common.{◌≡◌, ◌⊎◌, inl, inr, refl, ap, Option, Some, None, Result, Ok, Err}
 use Rattle.zber.specs.Elements.{Element}
-use Rattle.zber.specs.Productions.Place.{Place}
+use Rattle.zproductions.specs.Place.{Place}
 use Rattle.zapdu.specs.declared.apdu.Apdu.{Apdu}
 use Rattle.zapdu.specs.declared.apdu.ApduError.{ApduError}
 use Rattle.zapdu.specs.declared.apdu.ApduError.TheVariants as errors
-use Rattle.zapdu.specs.declared.diagnostic.DiagRec.{DiagRec}
-use Rattle.zapdu.specs.declared.record.Record.{Record}
-use Rattle.zapdu.specs.Diagnostics.{diag_rec}
-use Rattle.zapdu.specs.Records.{whole_record}
+use Rattle.zapdu.specs.declared.productions.diagnostic.DiagRec.{DiagRec}
+use Rattle.zapdu.specs.declared.productions.record.Record.{Record}
+use Rattle.zapdu.specs.Productions.Diagnostics.{diag_rec}
+use Rattle.zapdu.specs.Productions.Records.{whole_record}
 use Rattle.zapdu.specs.Writes.{Writes, Decodes}
 use Rattle.zapdu.specs.ReadingBack.{ApduReadBack, RecordReadBack, IsRecordOf, DiagReadBack, IsDiagOf}
 use Rattle.zapdu.proofs.Decoding.{one_value}

@@ -1,7 +1,7 @@
 -- An element is refused in one way.
 use Rattle.std.proofs.Common.{◌≡◌, ℕ, inl, inr, List, Some, subst}
 use Rattle.std.proofs.lemmas.Bool.{cases_order}
-use Rattle.zber.specs.Names.{Name}
+use Rattle.zber.specs.AsnTags.{AsnTag}
 use Rattle.zber.specs.Elements.{Element, Primitive, Constructed, elements}
 use Rattle.zapdu.specs.declared.apdu.Apdu.{Apdu}
 use Rattle.zapdu.specs.declared.apdu.Kind.{Kind}
@@ -16,7 +16,7 @@ known : (kind : Kind) (at : ℕ) (n : Element) → IsNoApdu n → IsMalformed ki
 known kind at (Primitive t xs) g h = h
 known kind at (Constructed t f) g h = g kind h.0
 
-one_kind : (j k : Kind) (t : Name) → t ≡ tag_of_kind j → t ≡ tag_of_kind k → j ≡ k
+one_kind : (j k : Kind) (t : AsnTag) → t ≡ tag_of_kind j → t ≡ tag_of_kind k → j ≡ k
 one_kind j k t e f =
     let first : kind_at t ≡ Some j = rw e (kind_at-tag_of_kind j) in
     let second : kind_at t ≡ Some k = rw f (kind_at-tag_of_kind k) in

@@ -1,21 +1,21 @@
 -- What is spelled is written.
 use Rattle.std.proofs.Common.{Result, Ok, Err}
-use Rattle.zber.specs.Names.{context}
+use Rattle.zber.specs.AsnTags.{context}
 use Rattle.zber.specs.Elements.{Element}
-use Rattle.zber.specs.Productions.Place.{Place}
+use Rattle.zproductions.specs.Place.{Place}
 use Rattle.zasn.specs.declared.error.BuildError.{BuildError}
 use Rattle.zasn.specs.declared.error.BuildError.TheVariants.{NotSpellable, Memory}
 use Rattle.zasn.specs.Answers.{IsWritten, Makes}
 use Rattle.zasn.specs.Places.{within}
 use Rattle.zapdu.specs.declared.apdu.Apdu.{Apdu}
 use Rattle.zapdu.specs.declared.apdu.Apdu.TheVariants as apdus
-use Rattle.zapdu.specs.InitRequests.{init_request_parts}
-use Rattle.zapdu.specs.InitResponses.{init_response_parts}
-use Rattle.zapdu.specs.SearchRequests.{search_request_parts}
-use Rattle.zapdu.specs.SearchResponses.{search_response_parts}
-use Rattle.zapdu.specs.PresentRequests.{present_request_parts}
-use Rattle.zapdu.specs.PresentResponses.{present_response_parts}
-use Rattle.zapdu.specs.Closes.{close_parts}
+use Rattle.zapdu.specs.Productions.InitRequests.{init_request_parts}
+use Rattle.zapdu.specs.Productions.InitResponses.{init_response_parts}
+use Rattle.zapdu.specs.Productions.SearchRequests.{search_request_parts}
+use Rattle.zapdu.specs.Productions.SearchResponses.{search_response_parts}
+use Rattle.zapdu.specs.Productions.PresentRequests.{present_request_parts}
+use Rattle.zapdu.specs.Productions.PresentResponses.{present_response_parts}
+use Rattle.zapdu.specs.Productions.Closes.{close_parts}
 use Rattle.zapdu.specs.Writes.{Writes, apdu_spelt}
 
 pub place_written : {A : Type 0} (p : Place A) (v : A) (r : Result Element BuildError) → Makes (p.spelt v) r → IsWritten (p.stands v) r

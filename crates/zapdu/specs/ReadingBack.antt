@@ -4,10 +4,10 @@ use Rattle.zber.specs.Elements.{Element}
 use Rattle.zapdu.specs.declared.apdu.Apdu.{Apdu}
 use Rattle.zapdu.specs.declared.apdu.ApduError.{ApduError}
 use Rattle.zapdu.specs.declared.apdu.ApduError.TheVariants as errors
-use Rattle.zapdu.specs.declared.diagnostic.DiagRec.{DiagRec}
-use Rattle.zapdu.specs.declared.record.Record.{Record}
-use Rattle.zapdu.specs.Diagnostics.{WritesDiag, diag_spelt}
-use Rattle.zapdu.specs.Records.{WritesRecord, record_spelt}
+use Rattle.zapdu.specs.declared.productions.diagnostic.DiagRec.{DiagRec}
+use Rattle.zapdu.specs.declared.productions.record.Record.{Record}
+use Rattle.zapdu.specs.Productions.Diagnostics.{WritesDiag, diag_spelt}
+use Rattle.zapdu.specs.Productions.Records.{WritesRecord, record_spelt}
 use Rattle.zapdu.specs.Writes.{Decodes, apdu_spelt}
 
 -- what decoding answers of the element that was built of an APDU: that APDU, memory aside

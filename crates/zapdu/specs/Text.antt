@@ -6,18 +6,18 @@ use Rattle.hex.specs.Hex.{encode_lower}
 use Rattle.zber.specs.Elements.{Element}
 use Rattle.zber.specs.Canonical.{canonical}
 use Rattle.zber.specs.Dotted.{dotted}
-use Rattle.zapdu.specs.declared.external.Content.{Content}
-use Rattle.zapdu.specs.declared.external.Content.TheVariants.{Aligned}
-use Rattle.zapdu.specs.declared.diagnostic.Info.{Info}
-use Rattle.zapdu.specs.declared.diagnostic.Info.TheVariants.{V2, V3}
-use Rattle.zapdu.specs.declared.diagnostic.DefaultDiag.{DefaultDiag}
-use Rattle.zapdu.specs.declared.diagnostic.DiagRec.{DiagRec}
-use Rattle.zapdu.specs.declared.diagnostic.DiagRec.TheVariants.{Default, Ext}
-use Rattle.zapdu.specs.declared.record.RecordBody.{RecordBody}
-use Rattle.zapdu.specs.declared.record.RecordBody.TheVariants.{Retrieval, Surrogate, Fragment}
-use Rattle.zapdu.specs.declared.record.Record.{Record}
-use Rattle.zapdu.specs.Diagnostics.{diag_rec}
-use Rattle.zapdu.specs.Records.{whole_record}
+use Rattle.zapdu.specs.declared.productions.external.Content.{Content}
+use Rattle.zapdu.specs.declared.productions.external.Content.TheVariants.{Aligned}
+use Rattle.zapdu.specs.declared.productions.diagnostic.Info.{Info}
+use Rattle.zapdu.specs.declared.productions.diagnostic.Info.TheVariants.{V2, V3}
+use Rattle.zapdu.specs.declared.productions.diagnostic.DefaultDiag.{DefaultDiag}
+use Rattle.zapdu.specs.declared.productions.diagnostic.DiagRec.{DiagRec}
+use Rattle.zapdu.specs.declared.productions.diagnostic.DiagRec.TheVariants.{Default, Ext}
+use Rattle.zapdu.specs.declared.productions.record.RecordBody.{RecordBody}
+use Rattle.zapdu.specs.declared.productions.record.RecordBody.TheVariants.{Retrieval, Surrogate, Fragment}
+use Rattle.zapdu.specs.declared.productions.record.Record.{Record}
+use Rattle.zapdu.specs.Productions.Diagnostics.{diag_rec}
+use Rattle.zapdu.specs.Productions.Records.{whole_record}
 
 -- an octet within quotes: 20 to 7E as it is, with a backslash before a quote and a backslash, another in hexadecimal
 unfoldable pub shown : ℕ → List ℕ
@@ -45,7 +45,8 @@ info_octets (V3 xs) = xs
 
 -- OID CONDITION "INFO"
 unfoldable pub default_text : DefaultDiag → List ℕ
-default_text d = dotted d.diag_set ++ codes " " ++ signed_decimal d.condition ++ codes " " ++ quoted (info_octets d.info)
+default_text d =
+    dotted d.diag_set ++ codes " " ++ signed_decimal d.condition ++ codes " " ++ quoted (info_octets d.info)
 
 unfoldable pub diag_text : DiagRec → List ℕ
 diag_text (Default d) = default_text d
@@ -61,7 +62,8 @@ octets_text hex octets = if hex then encode_lower octets else quoted octets
 
 -- rec OID DB TEXT, or the whole record in hexadecimal
 abbrev pub retrieval_text : Bool → Record → Option (List ℕ × List ℕ) → List ℕ
-retrieval_text hex r (Some p) = codes "rec " ++ dotted p.0 ++ codes " " ++ quoted_or_dash r.name ++ codes " " ++ octets_text hex p.1
+retrieval_text hex r (Some p) =
+    codes "rec " ++ dotted p.0 ++ codes " " ++ quoted_or_dash r.name ++ codes " " ++ octets_text hex p.1
 retrieval_text hex r None = ber_text (whole_record.spelt r)
 
 abbrev pub body_text : Bool → Record → RecordBody → List ℕ

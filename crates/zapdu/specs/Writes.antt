@@ -1,24 +1,24 @@
 -- Which element stands for an APDU (Z39.50-2003, 4.1), and where an element that stands for none goes wrong.
 use Rattle.std.specs.Prelude.{◌≡◌, ℕ, ◌<◌, ◌≤◌, List, [], ◌∷◌, ◌++◌, length, take, Option, Some, None, Result, Ok, Err, if◌then◌else◌}
-use Rattle.zber.specs.Names.{Name, context}
+use Rattle.zber.specs.AsnTags.{AsnTag, context}
 use Rattle.zber.specs.Elements.{Element, Primitive, Constructed, elements}
-use Rattle.zber.specs.Productions.Tags.{same_tag}
-use Rattle.zber.specs.Productions.Standing.{sequence}
-use Rattle.zber.specs.Productions.Reading.{◌>>=◌}
-use Rattle.zber.specs.Productions.Within.{around}
+use Rattle.zber.specs.Tags.{same_tag}
+use Rattle.zproductions.specs.Standing.{sequence}
+use Rattle.zproductions.specs.Reading.{◌>>=◌}
+use Rattle.zproductions.specs.Within.{around}
 use Rattle.zapdu.specs.declared.apdu.Apdu.{Apdu}
 use Rattle.zapdu.specs.declared.apdu.Apdu.TheVariants as apdus
 use Rattle.zapdu.specs.declared.apdu.Kind.{Kind}
 use Rattle.zapdu.specs.declared.apdu.Kind.TheVariants as kinds
 use Rattle.zapdu.specs.declared.apdu.ApduError.{ApduError}
 use Rattle.zapdu.specs.declared.apdu.ApduError.TheVariants as errors
-use Rattle.zapdu.specs.InitRequests.{init_request_parts}
-use Rattle.zapdu.specs.InitResponses.{init_response_parts}
-use Rattle.zapdu.specs.SearchRequests.{search_request_parts}
-use Rattle.zapdu.specs.SearchResponses.{search_response_parts}
-use Rattle.zapdu.specs.PresentRequests.{present_request_parts}
-use Rattle.zapdu.specs.PresentResponses.{present_response_parts}
-use Rattle.zapdu.specs.Closes.{close_parts}
+use Rattle.zapdu.specs.Productions.InitRequests.{init_request_parts}
+use Rattle.zapdu.specs.Productions.InitResponses.{init_response_parts}
+use Rattle.zapdu.specs.Productions.SearchRequests.{search_request_parts}
+use Rattle.zapdu.specs.Productions.SearchResponses.{search_response_parts}
+use Rattle.zapdu.specs.Productions.PresentRequests.{present_request_parts}
+use Rattle.zapdu.specs.Productions.PresentResponses.{present_response_parts}
+use Rattle.zapdu.specs.Productions.Closes.{close_parts}
 
 abbrev pub kind_of : Apdu → Kind
 kind_of (apdus.InitRequest v) = kinds.InitRequest
@@ -29,7 +29,7 @@ kind_of (apdus.PresentRequest v) = kinds.PresentRequest
 kind_of (apdus.PresentResponse v) = kinds.PresentResponse
 kind_of (apdus.Close v) = kinds.Close
 
-abbrev pub tag_of_kind : Kind → Name
+abbrev pub tag_of_kind : Kind → AsnTag
 tag_of_kind kinds.InitRequest = context 20
 tag_of_kind kinds.InitResponse = context 21
 tag_of_kind kinds.SearchRequest = context 22
@@ -54,13 +54,15 @@ Writes v n = sequence (tag_of_kind (kind_of v)) (parts_of v) n
 
 -- the kind that a tag names
 abbrev pub kinds_in_order : List Kind
-kinds_in_order = kinds.InitRequest ∷ kinds.InitResponse ∷ kinds.SearchRequest ∷ kinds.SearchResponse ∷ kinds.PresentRequest ∷ kinds.PresentResponse ∷ kinds.Close ∷ []
+kinds_in_order =
+    kinds.InitRequest ∷ kinds.InitResponse ∷ kinds.SearchRequest ∷ kinds.SearchResponse ∷ kinds.PresentRequest
+    ∷ kinds.PresentResponse ∷ kinds.Close ∷ []
 
-abbrev pub kind_among : Name → List Kind → Option Kind
+abbrev pub kind_among : AsnTag → List Kind → Option Kind
 kind_among t [] = None
 kind_among t (k ∷ ks) = if same_tag t (tag_of_kind k) then Some k else kind_among t ks
 
-abbrev pub kind_at : Name → Option Kind
+abbrev pub kind_at : AsnTag → Option Kind
 kind_at t = kind_among t kinds_in_order
 
 -- some APDU of the kind has these elements and then more

@@ -2,13 +2,13 @@
 ghost use Rattle.std.specs.Prelude.{◌≡◌};
 ghost use Rattle.zapdu.specs.Apdus.{kind_word, error_word};
 
-use crate::close::Close;
-use crate::init_request::InitRequest;
-use crate::init_response::InitResponse;
-use crate::present_request::PresentRequest;
-use crate::present_response::PresentResponse;
-use crate::search_request::SearchRequest;
-use crate::search_response::SearchResponse;
+use crate::productions::close::Close;
+use crate::productions::init_request::InitRequest;
+use crate::productions::init_response::InitResponse;
+use crate::productions::present_request::PresentRequest;
+use crate::productions::present_response::PresentResponse;
+use crate::productions::search_request::SearchRequest;
+use crate::productions::search_response::SearchResponse;
 use thiserror::Error;
 
 /// An APDU (Z39.50-2003, 4.1).
@@ -72,8 +72,8 @@ pub enum ApduError {
     /// The element is primitive, or its tag is none of an APDU.
     #[error("not an APDU")]
     NotApdu,
-    /// The element has the tag of an APDU of this kind, and is none: its first `at` elements are the first `at` elements
-    /// of some APDU of the kind, and no more are.
+    /// The element has the tag of an APDU of this kind, and is none: its first `at` elements are the first `at`
+    /// elements of some APDU of the kind, and no more are.
     #[error("{kind:?} malformed at {at}")]
     Malformed { kind: Kind, at: usize },
     /// No memory was found.

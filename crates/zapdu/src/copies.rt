@@ -2,20 +2,20 @@
 ghost use Rattle.std.specs.Prelude.{◌≡◌, IfOk};
 
 use crate::apdu::Apdu;
-use crate::close::Close;
-use crate::diagnostic::{DefaultDiag, DiagRec, Info};
-use crate::element_set_names::{DatabaseElementSet, ElementSetNames};
-use crate::external::{Content, External};
-use crate::init_request::InitRequest;
-use crate::init_response::InitResponse;
-use crate::present_request::PresentRequest;
-use crate::present_response::PresentResponse;
-use crate::range::Range;
-use crate::record::{Record, RecordBody, Records};
-use crate::record_composition::RecordComposition;
-use crate::search_query::SearchQuery;
-use crate::search_request::SearchRequest;
-use crate::search_response::SearchResponse;
+use crate::productions::close::Close;
+use crate::productions::diagnostic::{DefaultDiag, DiagRec, Info};
+use crate::productions::element_set_names::{DatabaseElementSet, ElementSetNames};
+use crate::productions::external::{Content, External};
+use crate::productions::init_request::InitRequest;
+use crate::productions::init_response::InitResponse;
+use crate::productions::present_request::PresentRequest;
+use crate::productions::present_response::PresentResponse;
+use crate::productions::range::Range;
+use crate::productions::record::{Record, RecordBody, Records};
+use crate::productions::record_composition::RecordComposition;
+use crate::productions::search_query::SearchQuery;
+use crate::productions::search_request::SearchRequest;
+use crate::productions::search_response::SearchResponse;
 use std::alloc::{AllocError, Global};
 use zber::Duplicate;
 

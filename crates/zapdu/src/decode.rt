@@ -1,22 +1,22 @@
 //! Elements read as APDUs, records and diagnostics.
 ghost use Rattle.std.specs.Prelude.{◌≡◌, IfOk, IfSome, IfNone};
 ghost use Rattle.zasn.specs.Answers.{Finds, FindsAway, FindsSo};
-ghost use Rattle.zapdu.specs.declared.record.Record.{Record};
-ghost use Rattle.zapdu.specs.declared.diagnostic.DiagRec.{DiagRec};
-ghost use Rattle.zapdu.specs.Records.{WritesRecord};
-ghost use Rattle.zapdu.specs.Diagnostics.{WritesDiag};
+ghost use Rattle.zapdu.specs.declared.productions.record.Record.{Record};
+ghost use Rattle.zapdu.specs.declared.productions.diagnostic.DiagRec.{DiagRec};
+ghost use Rattle.zapdu.specs.Productions.Records.{WritesRecord};
+ghost use Rattle.zapdu.specs.Productions.Diagnostics.{WritesDiag};
 ghost use Rattle.zapdu.specs.Writes.{kind_at, Decodes, apdu_at};
 
 use crate::apdu::{Apdu, ApduError, Kind};
-use crate::close::Close;
-use crate::diagnostic::DiagRec;
-use crate::init_request::InitRequest;
-use crate::init_response::InitResponse;
-use crate::present_request::PresentRequest;
-use crate::present_response::PresentResponse;
-use crate::record::Record;
-use crate::search_request::SearchRequest;
-use crate::search_response::SearchResponse;
+use crate::productions::close::Close;
+use crate::productions::diagnostic::DiagRec;
+use crate::productions::init_request::InitRequest;
+use crate::productions::init_response::InitResponse;
+use crate::productions::present_request::PresentRequest;
+use crate::productions::present_response::PresentResponse;
+use crate::productions::record::Record;
+use crate::productions::search_request::SearchRequest;
+use crate::productions::search_response::SearchResponse;
 use std::alloc::{AllocError, Global};
 use zasn::{OwnParts, PartError, Parts, Production, Tagged, Taken};
 use zber::{Body, Node, Tag};
@@ -93,8 +93,8 @@ fn take_present_response(alloc: Global, parts: &mut OwnParts) -> Result<Apdu, Pa
     Ok(Apdu::PresentResponse(apdu))
 }
 
-/// The APDU of a kind whose elements these are, and how many are left where it is none. The responses that bring records
-/// take them over.
+/// The APDU of a kind whose elements these are, and how many are left where it is none. The responses that bring
+/// records take them over.
 fn take_apdu(alloc: Global, kind: Kind, nodes: Vec<Node>) -> (Result<Apdu, PartError>, usize)
     ensures { FindsSo (apdu_at kind nodes.items) result.0 result.1 }
 {
@@ -143,8 +143,8 @@ pub fn from_node(alloc: Global, node: &Node) -> Result<Apdu, ApduError>
     }
 }
 
-/// The APDU that an element stands for, which is given away: records in syntaxes of elements are moved into the APDU, where
-/// `from_node` copies them. Its answers are those of `from_node`.
+/// The APDU that an element stands for, which is given away: records in syntaxes of elements are moved into the APDU,
+/// where `from_node` copies them. Its answers are those of `from_node`.
 pub fn from_element(alloc: Global, node: Node) -> Result<Apdu, ApduError>
     ensures { Decodes node result }
 {

@@ -1,12 +1,12 @@
 //! APDUs, records and diagnostics built as elements.
 ghost use Rattle.zasn.specs.Answers.{Makes, IsWritten};
-ghost use Rattle.zapdu.specs.Records.{WritesRecord, record_spelt};
-ghost use Rattle.zapdu.specs.Diagnostics.{WritesDiag, diag_spelt};
+ghost use Rattle.zapdu.specs.Productions.Records.{WritesRecord, record_spelt};
+ghost use Rattle.zapdu.specs.Productions.Diagnostics.{WritesDiag, diag_spelt};
 ghost use Rattle.zapdu.specs.Writes.{Writes, apdu_spelt};
 
 use crate::apdu::Apdu;
-use crate::diagnostic::DiagRec;
-use crate::record::Record;
+use crate::productions::diagnostic::DiagRec;
+use crate::productions::record::Record;
 use std::alloc::Global;
 use zasn::{BuildError, Tagged, write_within};
 use zber::{Node, Tag};
@@ -25,11 +25,12 @@ fn built(alloc: Global, apdu: &Apdu) -> Result<Node, BuildError>
     }
 }
 
-/// The element that stands for an APDU (Z39.50-2003, 4.1), with the contents octets of the canonical encoding: TRUE is FF,
-/// an INTEGER has as few octets as hold it, and unused bits are zero. What the APDU keeps as an element stands as it is.
+/// The element that stands for an APDU (Z39.50-2003, 4.1), with the contents octets of the canonical encoding: TRUE is
+/// FF, an INTEGER has as few octets as hold it, and unused bits are zero. What the APDU keeps as an element stands as
+/// it is.
 ///
-/// Refused as `NotSpellable` where a part that the APDU keeps as an element has no lawful tag or form for its place, and
-/// as `Memory`.
+/// Refused as `NotSpellable` where a part that the APDU keeps as an element has no lawful tag or form for its place,
+/// and as `Memory`.
 pub fn to_node(alloc: Global, apdu: &Apdu) -> Result<Node, BuildError>
     ensures exact { Makes (apdu_spelt apdu.now) result }
     ensures written { IsWritten (Writes apdu.now) result }

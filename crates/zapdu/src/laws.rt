@@ -2,11 +2,11 @@
 ghost use Rattle.std.specs.Prelude.{◌≡◌};
 ghost use Rattle.zber.specs.Elements.{Element};
 ghost use Rattle.zapdu.specs.declared.apdu.Apdu.{Apdu};
-ghost use Rattle.zapdu.specs.declared.diagnostic.DiagRec.{DiagRec};
-ghost use Rattle.zapdu.specs.declared.record.Record.{Record};
-ghost use Rattle.zapdu.specs.Diagnostics.{WritesDiag};
+ghost use Rattle.zapdu.specs.declared.productions.diagnostic.DiagRec.{DiagRec};
+ghost use Rattle.zapdu.specs.declared.productions.record.Record.{Record};
+ghost use Rattle.zapdu.specs.Productions.Diagnostics.{WritesDiag};
 ghost use Rattle.zapdu.specs.ReadingBack.{ApduReadBack, DiagReadBack, RecordReadBack};
-ghost use Rattle.zapdu.specs.Records.{WritesRecord};
+ghost use Rattle.zapdu.specs.Productions.Records.{WritesRecord};
 ghost use Rattle.zapdu.specs.Writes.{Writes, OneRefusal};
 
 /// An element stands for at most one APDU.

@@ -5,12 +5,12 @@ ghost use Rattle.std.specs.Fmt.{signed_decimal};
 ghost use Rattle.hex.specs.Hex.{encode_lower};
 ghost use Rattle.zber.specs.Canonical.{canonical};
 ghost use Rattle.zber.specs.Dotted.{dotted};
-ghost use Rattle.zapdu.specs.Records.{whole_record};
+ghost use Rattle.zapdu.specs.Productions.Records.{whole_record};
 ghost use Rattle.zapdu.specs.Text.{shown, quoted, quoted_or_dash, ber_text, info_octets, default_text, diag_text, octets_alone, octets_text, retrieval_text, record_text};
 
-use crate::diagnostic::{DefaultDiag, DiagRec, Info};
-use crate::external::{Content, External};
-use crate::record::{Record, RecordBody};
+use crate::productions::diagnostic::{DefaultDiag, DiagRec, Info};
+use crate::productions::external::{Content, External};
+use crate::productions::record::{Record, RecordBody};
 use bytes::Bytes;
 use std::alloc::{AllocError, Global};
 use zasn::{BuildError, Tagged};
@@ -173,7 +173,8 @@ fn put_diag(alloc: Global, diag: &DiagRec, out: &mut Vec<u8>) -> Result<(), Allo
 
 /// The object identifier and the octets, where the EXTERNAL has no more than these.
 fn octets_of(external: &External) -> Option<(&Oid, &Bytes)>
-    ensures { let v = external.now in MatchOption result (octets_alone v.direct v.indirect v.descriptor v.content ≡ None)
+    ensures { let v = external.now in
+        MatchOption result (octets_alone v.direct v.indirect v.descriptor v.content ≡ None)
         (λ p. octets_alone v.direct v.indirect v.descriptor v.content ≡ Some (p.0.now, p.1.now)) }
 {
     match (
@@ -205,7 +206,8 @@ fn put_retrieval(
     out: &mut Vec<u8>,
 ) -> Result<(), AllocError>
     ensures { let v = external.now in
-        OnOk result (out.new.items ≡ out.old.items ++ retrieval_text hex value.now (octets_alone v.direct v.indirect v.descriptor v.content)) }
+        OnOk result (out.new.items ≡ out.old.items
+        ++ retrieval_text hex value.now (octets_alone v.direct v.indirect v.descriptor v.content)) }
 {
     match octets_of(external) {
         Some((oid, octets)) => {
@@ -261,8 +263,8 @@ fn put_given_record(
     }
 }
 
-/// Appends the octets in quotes: 20 to 7E as they are, with a backslash before `"` and backslash, others as `\x` and two
-/// lower-case hexadecimal digits. Where no memory is found, nothing is appended.
+/// Appends the octets in quotes: 20 to 7E as they are, with a backslash before `"` and backslash, others as `\x` and
+/// two lower-case hexadecimal digits. Where no memory is found, nothing is appended.
 pub fn quote(alloc: Global, octets: &[u8], out: &mut Vec<u8>) -> Result<(), AllocError>
     ensures ok { OnOk result (out.new.items ≡ out.old.items ++ quoted octets.now) }
     ensures err { OnErr result (out.new.items ≡ out.old.items) }
@@ -297,10 +299,10 @@ pub fn print_default_diag(
     out.extend_from_slice(&text)
 }
 
-/// Appends a record: `rec OID DB TEXT` where it is octets in a named syntax, `diag DB DIAG` where it is a surrogate, else
-/// `ber` and its canonical encoding in hexadecimal; no digits follow `ber` where a program built a record for which no
-/// element stands. DB is quoted, or `-`; TEXT is quoted, or hexadecimal where `hex` is set. Where no memory is found,
-/// nothing is appended.
+/// Appends a record: `rec OID DB TEXT` where it is octets in a named syntax, `diag DB DIAG` where it is a surrogate,
+/// else `ber` and its canonical encoding in hexadecimal; no digits follow `ber` where a program built a record for
+/// which no element stands. DB is quoted, or `-`; TEXT is quoted, or hexadecimal where `hex` is set. Where no memory is
+/// found, nothing is appended.
 pub fn print_record(
     alloc: Global,
     value: &Record,

@@ -1,8 +1,8 @@
 -- A production that fails at a step, behind steps that went well.
 use Rattle.std.proofs.Common.{◌≡◌, List, [], ◌∷◌, Option, Result, Ok, Err, refl, subst}
-use Rattle.zber.specs.Names.{Name}
+use Rattle.zber.specs.AsnTags.{AsnTag}
 use Rattle.zber.specs.Elements.{Element}
-use Rattle.zber.specs.Productions.Reading.{◌>>=◌, optional_at}
+use Rattle.zproductions.specs.Reading.{◌>>=◌, optional_at}
 use Rattle.zasn.specs.declared.error.PartError.{PartError}
 use Rattle.zasn.specs.declared.error.PartError.TheVariants.{Misfit, Memory}
 use Rattle.zasn.specs.Answers.{Finds, Takes}
@@ -23,10 +23,10 @@ takes_fails r f Misfit left h = rw h refl
 takes_fails r f Memory left h = tt
 
 -- the same of a place that may be left out, under a tag that is known by an equation
-pub optional_fails : {A B : Type 0} (t u : Name) (meaning : Element → Option A) (ns : List Element) (f : Option A × List Element → Result B (List Element)) (e : PartError) (left : List Element) → t ≡ u
+pub optional_fails : {A B : Type 0} (t u : AsnTag) (meaning : Element → Option A) (ns : List Element) (f : Option A × List Element → Result B (List Element)) (e : PartError) (left : List Element) → t ≡ u
     → Takes (optional_at (t ∷ []) meaning ns) (Err e) left → Finds (optional_at (u ∷ []) meaning ns >>= f) (Err e) left
 optional_fails t u meaning ns f e left is h =
-    takes_fails (optional_at (u ∷ []) meaning ns) f e left (subst (λ (v : Name). Takes (optional_at (v ∷ []) meaning ns) (Err e) left) is h)
+    takes_fails (optional_at (u ∷ []) meaning ns) f e left (subst (λ (v : AsnTag). Takes (optional_at (v ∷ []) meaning ns) (Err e) left) is h)
 
 -- a step that went well, before whatever comes
 pub then_goes : {A B : Type 0} (r : Result A (List Element)) (x : A) (f : A → Result B (List Element)) (answer : Result B (List Element)) → r ≡ Ok x → f x ≡ answer → (r >>= f) ≡ answer

@@ -1,10 +1,10 @@
 -- The elements within one, read as a production.
 use Rattle.std.proofs.Common.{◌≡◌, ◌≤◌, ℕ, ◌-◌, List, [], ◌∷◌, ◌++◌, length, length-append, drop, Option, None, Result, Ok, Err, refl, sym, ap, ◌∙◌, subst, arith}
 use Rattle.std.proofs.lemmas.List.{drop_at}
-use Rattle.zber.specs.Names.{Name}
+use Rattle.zber.specs.AsnTags.{AsnTag}
 use Rattle.zber.specs.Elements.{Element, cons}
-use Rattle.zber.specs.Productions.Table.{Elements}
-use Rattle.zber.specs.Productions.Within.{found, sequence_of, any_at, all_of, list_of}
+use Rattle.zproductions.specs.Table.{Elements}
+use Rattle.zproductions.specs.Within.{found, sequence_of, any_at, all_of, list_of}
 use Rattle.zber.proofs.Runs.{elements-forest}
 use Rattle.zasn.specs.declared.error.PartError.{PartError}
 use Rattle.zasn.specs.declared.error.PartError.TheVariants.{Misfit, Memory}
@@ -15,13 +15,13 @@ found_means r (Ok x) left h = rw h refl
 found_means r (Err Misfit) left h = rw h refl
 found_means r (Err Memory) left h = tt
 
-pub within_means : {A : Type 0} (at : List Element → Result A (List Element)) (e : Element) (t : Name) (es xs : List Element) (a : Result A PartError) (left : List Element)
+pub within_means : {A : Type 0} (at : List Element → Result A (List Element)) (e : Element) (t : AsnTag) (es xs : List Element) (a : Result A PartError) (left : List Element)
     → e ≡ cons t es → xs ≡ es → Finds (at xs) a left → Means (sequence_of at e) a
 within_means at e t es xs a left is same h =
     let inside : Finds (at es) a left = subst (λ (ys : List Element). Finds (at ys) a left) same h in
     rw (is, elements-forest es) (found_means (at es) a left inside)
 
-pub list_means : {A : Type 0} (meaning : Element → Option A) (e : Element) (t : Name) (es xs : List Element) (a : Result (List A) PartError) → e ≡ cons t es → xs ≡ es → Means (all_of meaning xs) a → Means (list_of meaning e) a
+pub list_means : {A : Type 0} (meaning : Element → Option A) (e : Element) (t : AsnTag) (es xs : List Element) (a : Result (List A) PartError) → e ≡ cons t es → xs ≡ es → Means (all_of meaning xs) a → Means (list_of meaning e) a
 list_means meaning e t es xs a is same h =
     let inside : Means (all_of meaning es) a = subst (λ (ys : List Element). Means (all_of meaning ys) a) same h in
     rw (is, elements-forest es) inside
@@ -32,7 +32,7 @@ many [] h = absurd (omega arith)
 many (n ∷ []) h = absurd (omega arith)
 many (n ∷ m ∷ more) h = (n, m, more, refl)
 
-pub not_one : (e : Element) (t : Name) (es xs : List Element) → e ≡ cons t es → xs ≡ es → 2 ≤ length xs → sequence_of any_at e ≡ None
+pub not_one : (e : Element) (t : AsnTag) (es xs : List Element) → e ≡ cons t es → xs ≡ es → 2 ≤ length xs → sequence_of any_at e ≡ None
 not_one e t es xs is same h =
     let more = many es (subst (λ (ys : List Element). 2 ≤ length ys) same h) in
     rw (is, elements-forest es, more.3) refl
@@ -48,7 +48,7 @@ counted_means (Ok y) (Err Misfit) left h = absurd (value_is_no_misfit y (length 
 counted_means (Err r) (Err Misfit) left h = refl
 counted_means r (Err Memory) left h = tt
 
-pub taken_means : {A : Type 0} (at : List Element → Result A (List Element)) (e : Element) (t : Name) (es xs : List Element) (a : Result A PartError) (left : List Element)
+pub taken_means : {A : Type 0} (at : List Element → Result A (List Element)) (e : Element) (t : AsnTag) (es xs : List Element) (a : Result A PartError) (left : List Element)
     → e ≡ cons t es → xs ≡ es → FindsAway (at xs) a left → Means (sequence_of at e) a
 taken_means at e t es xs a left is same h =
     let inside : FindsAway (at es) a left = subst (λ (ys : List Element). FindsAway (at ys) a left) same h in
@@ -65,7 +65,7 @@ stopped n = Err n
 pub err_is : {A : Type 0} (m n : ℕ) → stopped {A = A} m ≡ stopped n → m ≡ n
 err_is m n e = cc
 
-pub more_than_one : (e : Element) (t : Name) (es xs rest : List Element) (n : Element) (k : ℕ) → e ≡ cons t es → xs ≡ es → xs ≡ n ∷ rest → k ≡ length rest → (k ≡ 0 → ⊥) → sequence_of any_at e ≡ None
+pub more_than_one : (e : Element) (t : AsnTag) (es xs rest : List Element) (n : Element) (k : ℕ) → e ≡ cons t es → xs ≡ es → xs ≡ n ∷ rest → k ≡ length rest → (k ≡ 0 → ⊥) → sequence_of any_at e ≡ None
 more_than_one e t es xs [] n k is same next len other = absurd (other len)
 more_than_one e t es xs (m ∷ rest) n k is same next len other =
     let more : es ≡ n ∷ m ∷ rest = sym same ∙ next in

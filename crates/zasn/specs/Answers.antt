@@ -1,8 +1,8 @@
 -- What readers and builders answer, against what reading and building give.
 use Rattle.std.specs.Prelude.{◌≡◌, ℕ, Bool, false, List, [], ◌∷◌, length, Option, Some, None, Result, Ok, Err}
-use Rattle.zber.specs.Names.{Name}
+use Rattle.zber.specs.AsnTags.{AsnTag}
 use Rattle.zber.specs.Elements.{Element, tag_of}
-use Rattle.zber.specs.Productions.Tags.{among}
+use Rattle.zber.specs.Tags.{among}
 use Rattle.zber.specs.declared.value.ValueError.{ValueError}
 use Rattle.zber.specs.declared.value.ValueError.TheVariants as values
 use Rattle.zasn.specs.declared.error.PartError.{PartError}
@@ -16,12 +16,12 @@ part_error_of values.Memory = Memory
 part_error_of _ = Misfit
 
 -- whether the first element has the tag
-abbrev pub begins : Name → List Element → Bool
+abbrev pub begins : AsnTag → List Element → Bool
 begins tag [] = false
 begins tag (n ∷ ns) = among (tag_of n) (tag ∷ [])
 
 -- the same of one of the tags
-abbrev pub starts : List Name → List Element → Bool
+abbrev pub starts : List AsnTag → List Element → Bool
 starts tags [] = false
 starts tags (n ∷ ns) = among (tag_of n) tags
 
@@ -50,7 +50,8 @@ counted (Err r) = Err (length r)
 
 -- what a step over elements that are given away returned and left is what reading gives; where the next one misfits, as
 -- many are left as before
-abbrev pub TakesAway : {A : Type 0} → Result (A × List Element) (List Element) → Result A PartError → List Element → List Element → Type 0
+abbrev pub TakesAway : {A : Type 0} → Result (A × List Element) (List Element) → Result A PartError → List Element
+    → List Element → Type 0
 TakesAway reading (Ok x) before left = reading ≡ Ok (x, left)
 TakesAway reading (Err Misfit) before left = (reading ≡ Err before) × (length left ≡ length before)
 TakesAway reading (Err Memory) before left = Unit {0}

@@ -1,26 +1,27 @@
 -- The places of productions, each one record with its laws, and a table as the elements of a value.
 use Rattle.std.specs.Prelude.{◌≡◌, ℕ, ℤ, Bool, true, List, [], ◌∷◌, Option, Some, None, if◌then◌else◌, refl}
-use Rattle.zber.specs.Names.{Name}
+use Rattle.zber.specs.AsnTags.{AsnTag}
 use Rattle.zber.specs.Elements.{Element, tag_of}
-use Rattle.zber.specs.Productions.Tags.{among}
-use Rattle.zber.specs.Productions.Standing.{required as one, ended as no_more, tagged, sequence}
-use Rattle.zber.specs.Productions.Reading.{constructed}
-use Rattle.zber.specs.Productions.Building.{constructed_spelt}
-use Rattle.zber.specs.Productions.Laws.{IsPlace, IsSpelled}
-use Rattle.zber.specs.Productions.Meanings.{octets_of, octets_spelt, oid_of, oid_spelt, bits_of, bits_spelt, int_of, int_spelt, bool_of, bool_spelt}
-use Rattle.zber.specs.Productions.Place.{Place}
-use Rattle.zber.specs.Productions.Within.{sequence_of, around, itself, any_at, is_kept, each, list_of, whole_of, all_spelt}
-use Rattle.zber.specs.Productions.Choice.{Choice, Pick, picked, Says, choice_of, choice_spelt, choice_tags, distinct}
-use Rattle.zber.specs.Productions.Table.{Table, required, ended, Elements, Fields, fields, Maker, make_of, Stand, walk, put, tags_of, clear}
-use Rattle.zber.proofs.Productions.Reads.{constructed_at_tag}
-use Rattle.zber.proofs.Productions.Builds.{constructed_spelled}
-use Rattle.zber.proofs.Productions.Meanings.{octets_place, octets_spelled, oid_place, oid_spelled, bits_place, bits_spelled, int_place, int_spelled, bool_place, bool_spelled}
-use Rattle.zber.proofs.Productions.Tables.{value_read, value_made}
-use Rattle.zber.proofs.Productions.Choices.{pick_some, choice_begins, pick_reads, pick_finds, choice_makes, choice_none}
-use Rattle.zber.proofs.Productions.Withins.{within_place, within_spelled, any_place, any_spelled, kept_place, kept_spelled, list_place, list_spelled}
+use Rattle.zber.specs.Tags.{among}
+use Rattle.zproductions.specs.Standing.{required as one, ended as no_more, tagged, sequence}
+use Rattle.zproductions.specs.Reading.{constructed}
+use Rattle.zproductions.specs.Building.{constructed_spelt}
+use Rattle.zproductions.specs.Laws.{IsPlace, IsSpelled}
+use Rattle.zproductions.specs.Meanings.{octets_of, octets_spelt, oid_of, oid_spelt, bits_of, bits_spelt, int_of, int_spelt, bool_of, bool_spelt}
+use Rattle.zproductions.specs.Place.{Place}
+use Rattle.zproductions.specs.Within.{sequence_of, around, itself, any_at, is_kept, each, list_of, whole_of, all_spelt}
+use Rattle.zproductions.specs.Choice.{Choice, Pick, picked, Says, choice_of, choice_spelt, choice_tags, distinct}
+use Rattle.zproductions.specs.Table.{Table, required, ended, Elements, Fields, fields, Maker, make_of, Stand, walk, put, tags_of, clear}
+use Rattle.zproductions.proofs.Readings.{constructed_at_tag}
+use Rattle.zproductions.proofs.Builds.{constructed_spelled}
+use Rattle.zproductions.proofs.Meanings.{octets_place, octets_spelled, oid_place, oid_spelled, bits_place, bits_spelled, int_place, int_spelled, bool_place, bool_spelled}
+use Rattle.zproductions.proofs.Tables.{value_read, value_made}
+use Rattle.zproductions.proofs.Choices.{pick_some, choice_begins, pick_reads, pick_finds, choice_makes, choice_none}
+use Rattle.zproductions.proofs.Withins.{within_place, within_spelled, any_place, any_spelled, kept_place, kept_spelled, list_place, list_spelled}
 
 -- the elements of a value that is made of the table's fields
-abbrev pub of_table : {V : Type 0} (t : Table V) (make : Maker t V) → ((v : V) → make_of t make (fields t v) ≡ v) → ((x : Fields t) → fields t (make_of t make x) ≡ x) → clear t ≡ true → Elements V
+abbrev pub of_table : {V : Type 0} (t : Table V) (make : Maker t V) → ((v : V) → make_of t make (fields t v) ≡ v)
+    → ((x : Fields t) → fields t (make_of t make x) ≡ x) → clear t ≡ true → Elements V
 of_table t make same back c = record {
   tags = tags_of t;
   stand = λ v. Stand t (fields t v);
@@ -31,7 +32,8 @@ of_table t make same back c = record {
 }
 
 -- a place, from its laws
-abbrev pub lawful : {A : Type 0} {P : A → Element → Type 0} {tags : List Name} {meaning : Element → Option A} {spelt : A → Option Element} → IsPlace P tags meaning → IsSpelled P spelt → Place A
+abbrev pub lawful : {A : Type 0} {P : A → Element → Type 0} {tags : List AsnTag} {meaning : Element → Option A}
+    {spelt : A → Option Element} → IsPlace P tags meaning → IsSpelled P spelt → Place A
 lawful {P = P} {tags = tags} {meaning = meaning} {spelt = spelt} place spelled = record {
   tags = tags;
   stands = P;
@@ -46,58 +48,83 @@ lawful {P = P} {tags = tags} {meaning = meaning} {spelt = spelt} place spelled =
 }
 
 -- OCTET STRING and the character strings, whose octets are kept as they are; OBJECT IDENTIFIER; BIT STRING
-abbrev pub octets : Name → Place (List ℕ)
-octets tag = lawful {P = tagged tag octets_of} {tags = tag ∷ []} {meaning = octets_of} {spelt = octets_spelt tag} (octets_place tag) (octets_spelled tag)
+abbrev pub octets : AsnTag → Place (List ℕ)
+octets tag =
+    lawful {P = tagged tag octets_of} {tags = tag ∷ []} {meaning = octets_of} {spelt = octets_spelt tag}
+    (octets_place tag) (octets_spelled tag)
 
-abbrev pub oid : Name → Place (List ℕ)
-oid tag = lawful {P = tagged tag oid_of} {tags = tag ∷ []} {meaning = oid_of} {spelt = oid_spelt tag} (oid_place tag) (oid_spelled tag)
+abbrev pub oid : AsnTag → Place (List ℕ)
+oid tag =
+    lawful {P = tagged tag oid_of} {tags = tag ∷ []} {meaning = oid_of} {spelt = oid_spelt tag} (oid_place tag)
+    (oid_spelled tag)
 
-abbrev pub bits : Name → Place (List Bool)
-bits tag = lawful {P = tagged tag bits_of} {tags = tag ∷ []} {meaning = bits_of} {spelt = bits_spelt tag} (bits_place tag) (bits_spelled tag)
+abbrev pub bits : AsnTag → Place (List Bool)
+bits tag =
+    lawful {P = tagged tag bits_of} {tags = tag ∷ []} {meaning = bits_of} {spelt = bits_spelt tag} (bits_place tag)
+    (bits_spelled tag)
 
 -- INTEGER, BOOLEAN
-abbrev pub integer : Name → Place ℤ
-integer tag = lawful {P = tagged tag int_of} {tags = tag ∷ []} {meaning = int_of} {spelt = int_spelt tag} (int_place tag) (int_spelled tag)
+abbrev pub integer : AsnTag → Place ℤ
+integer tag =
+    lawful {P = tagged tag int_of} {tags = tag ∷ []} {meaning = int_of} {spelt = int_spelt tag} (int_place tag)
+    (int_spelled tag)
 
-abbrev pub boolean : Name → Place Bool
-boolean tag = lawful {P = tagged tag bool_of} {tags = tag ∷ []} {meaning = bool_of} {spelt = bool_spelt tag} (bool_place tag) (bool_spelled tag)
+abbrev pub boolean : AsnTag → Place Bool
+boolean tag =
+    lawful {P = tagged tag bool_of} {tags = tag ∷ []} {meaning = bool_of} {spelt = bool_spelt tag} (bool_place tag)
+    (bool_spelled tag)
 
 -- a constructed element, kept with whatever it holds
-abbrev pub opaque : Name → Place Element
-opaque tag = lawful {P = tagged tag constructed} {tags = tag ∷ []} {meaning = constructed} {spelt = constructed_spelt tag} (constructed_at_tag tag) (constructed_spelled tag)
+abbrev pub opaque : AsnTag → Place Element
+opaque tag =
+    lawful {P = tagged tag constructed} {tags = tag ∷ []} {meaning = constructed} {spelt = constructed_spelt tag}
+    (constructed_at_tag tag) (constructed_spelled tag)
 
 -- the elements of a value, within an element with the tag
-abbrev pub within : {V : Type 0} → Name → Elements V → Place V
-within tag e = lawful {P = λ v. sequence tag (e.stand v)} {tags = tag ∷ []} {meaning = sequence_of e.at} {spelt = λ v. around tag (e.made v [])} (within_place tag e) (within_spelled tag e)
+abbrev pub within : {V : Type 0} → AsnTag → Elements V → Place V
+within tag e =
+    lawful {P = λ v. sequence tag (e.stand v)} {tags = tag ∷ []} {meaning = sequence_of e.at}
+    {spelt = λ v. around tag (e.made v [])} (within_place tag e) (within_spelled tag e)
 
 -- one element alone, within an element with the tag (EXPLICIT)
 abbrev pub alone : {A : Type 0} → Place A → Elements A
 alone p = of_table (required p (λ x. x) ended) (λ x. x) (λ x. refl) (λ x. refl) refl
 
-abbrev pub explicit : {A : Type 0} → Name → Place A → Place A
+abbrev pub explicit : {A : Type 0} → AsnTag → Place A → Place A
 explicit tag p = within tag (alone p)
 
 -- whichever element, within an element with the tag
-abbrev pub any : Name → Place Element
-any tag = lawful {P = λ m. sequence tag (one itself m no_more)} {tags = tag ∷ []} {meaning = sequence_of any_at} {spelt = λ m. around tag (Some (m ∷ []))} (any_place tag) (any_spelled tag)
+abbrev pub any : AsnTag → Place Element
+any tag =
+    lawful {P = λ m. sequence tag (one itself m no_more)} {tags = tag ∷ []} {meaning = sequence_of any_at}
+    {spelt = λ m. around tag (Some (m ∷ []))} (any_place tag) (any_spelled tag)
 
 -- an element with one of the tags, of either form, kept as it stands
-abbrev pub kept : Name → List Name → Place Element
-kept tag tags = lawful {P = is_kept (tag ∷ tags)} {tags = tag ∷ tags} {meaning = λ n. Some n} {spelt = λ m. if among (tag_of m) (tag ∷ tags) then Some m else None} (kept_place tag tags) (kept_spelled (tag ∷ tags))
+abbrev pub kept : AsnTag → List AsnTag → Place Element
+kept tag tags =
+    lawful {P = is_kept (tag ∷ tags)} {tags = tag ∷ tags} {meaning = λ n. Some n}
+    {spelt = λ m. if among (tag_of m) (tag ∷ tags) then Some m else None} (kept_place tag tags)
+    (kept_spelled (tag ∷ tags))
 
 -- SEQUENCE OF: values in order, within an element with the tag
-abbrev pub list : {A : Type 0} → Name → Place A → Place (List A)
-list tag p = lawful {P = λ xs. sequence tag (each p.stands xs)} {tags = tag ∷ []} {meaning = list_of (whole_of p)} {spelt = λ xs. around tag (all_spelt p.spelt xs)} (list_place p tag) (list_spelled p tag)
+abbrev pub list : {A : Type 0} → AsnTag → Place A → Place (List A)
+list tag p =
+    lawful {P = λ xs. sequence tag (each p.stands xs)} {tags = tag ∷ []} {meaning = list_of (whole_of p)}
+    {spelt = λ xs. around tag (all_spelt p.spelt xs)} (list_place p tag) (list_spelled p tag)
 
 -- the same of strings that all have the inner tag
-abbrev pub text_under : Name → Element → Option (List ℕ)
+abbrev pub text_under : AsnTag → Element → Option (List ℕ)
 text_under tag n = if among (tag_of n) (tag ∷ []) then octets_of n else None
 
-abbrev pub strings : Name → Name → Place (List (List ℕ))
-strings tag inner = lawful {P = λ xs. sequence tag (each (tagged inner octets_of) xs)} {tags = tag ∷ []} {meaning = list_of (text_under inner)} {spelt = λ xs. around tag (all_spelt (octets_spelt inner) xs)} (list_place (octets inner) tag) (list_spelled (octets inner) tag)
+abbrev pub strings : AsnTag → AsnTag → Place (List (List ℕ))
+strings tag inner =
+    lawful {P = λ xs. sequence tag (each (tagged inner octets_of) xs)} {tags = tag ∷ []}
+    {meaning = list_of (text_under inner)} {spelt = λ xs. around tag (all_spelt (octets_spelt inner) xs)}
+    (list_place (octets inner) tag) (list_spelled (octets inner) tag)
 
 -- CHOICE: a value of several kinds, each with its own place
-abbrev pub of_choice : {C : Type 0} (c : Choice C) (pick : C → Pick c) → ((d : C) → picked c (pick d) ≡ d) → ((x : Pick c) → pick (picked c x) ≡ x) → distinct c ≡ true → Place C
+abbrev pub of_choice : {C : Type 0} (c : Choice C) (pick : C → Pick c) → ((d : C) → picked c (pick d) ≡ d)
+    → ((x : Pick c) → pick (picked c x) ≡ x) → distinct c ≡ true → Place C
 of_choice c pick same back k = record {
   tags = choice_tags c;
   stands = λ d. Says c (pick d);

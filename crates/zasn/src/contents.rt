@@ -1,9 +1,9 @@
 //! Values that stand in one element.
 ghost use Rattle.std.specs.Prelude.{◌≡◌};
-ghost use Rattle.zber.specs.Names.{Name};
+ghost use Rattle.zber.specs.AsnTags.{AsnTag};
 ghost use Rattle.zber.specs.Elements.{tag_of};
-ghost use Rattle.zber.specs.Productions.Tags.{among};
-ghost use Rattle.zber.specs.Productions.Place.{Place};
+ghost use Rattle.zber.specs.Tags.{among};
+ghost use Rattle.zproductions.specs.Place.{Place};
 ghost use Rattle.zasn.specs.Answers.{Means, Makes};
 ghost use Rattle.zasn.specs.Places.{octets, integer, boolean, oid, bits, opaque};
 
@@ -15,7 +15,7 @@ use zber::{Bits, Body, Node, Oid, Tag};
 /// A value whose element has the tag that its place gives it (implicit tagging).
 pub trait Contents: Sized + Drop {
     /// Its place under a tag.
-    ghost place: { Name → Place Self };
+    ghost place: { AsnTag → Place Self };
 
     /// The value that the element stands for, whatever its tag.
     fn of_node(alloc: Global, node: &Node) -> Result<Self, PartError>
@@ -86,7 +86,7 @@ impl Contents for Bytes {
     }
 }
 
-#[tactic(auto, using(zber::proofs::Productions::Meanings::fits_i64))]
+#[tactic(auto, using(zproductions::proofs::Meanings::fits_i64))]
 impl Contents for i64 {
     ghost place = { integer };
 

@@ -1,10 +1,10 @@
 //! The elements of a production that are given away, read from left to right: what a value keeps of them is moved.
 ghost use Rattle.std.specs.Prelude.{◌≡◌, [], ◌∷◌, true, false, suc, length, IfSome, IfNone, OnOk};
 ghost use Rattle.zber.specs.Elements.{tag_of};
-ghost use Rattle.zber.specs.Productions.Reading.{optional_at, required_at, ended_at};
-ghost use Rattle.zber.specs.Productions.Place.{Place};
-ghost use Rattle.zber.specs.Productions.Tags.{among};
-ghost use Rattle.zber.specs.Productions.Within.{alone_at, sequence_of};
+ghost use Rattle.zproductions.specs.Reading.{optional_at, required_at, ended_at};
+ghost use Rattle.zproductions.specs.Place.{Place};
+ghost use Rattle.zber.specs.Tags.{among};
+ghost use Rattle.zproductions.specs.Within.{alone_at, sequence_of};
 ghost use Rattle.zasn.specs.Answers.{TakesAway, Finds, begins, starts};
 
 use crate::contents::{Contents, Tagged};
@@ -16,8 +16,8 @@ use std::collections::VecDeque;
 use std::marker::Model;
 use zber::{Node, Tag};
 
-/// The elements of a production that are not yet read, and are given away to its value. Where a step is refused, as many
-/// are left as before it, the first of which stands for the one that failed, and need not be equal to it.
+/// The elements of a production that are not yet read, and are given away to its value. Where a step is refused, as
+/// many are left as before it, the first of which stands for the one that failed, and need not be equal to it.
 #[derive(Drop)]
 pub struct OwnParts {
     left: VecDeque<Node>,

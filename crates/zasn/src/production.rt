@@ -1,8 +1,8 @@
 //! Values of several elements in order: a SEQUENCE.
 ghost use Rattle.std.specs.Prelude.{◌≡◌, [], ◌∷◌, Some};
-ghost use Rattle.zber.specs.Productions.Table.{Elements};
-ghost use Rattle.zber.specs.Productions.Place.{Place};
-ghost use Rattle.zber.specs.Productions.Within.{sequence_of, around, alone_at};
+ghost use Rattle.zproductions.specs.Table.{Elements};
+ghost use Rattle.zproductions.specs.Place.{Place};
+ghost use Rattle.zproductions.specs.Within.{sequence_of, around, alone_at};
 ghost use Rattle.zasn.specs.Answers.{Finds, Puts, Means, Makes};
 ghost use Rattle.zasn.specs.Places.{explicit};
 

@@ -7,7 +7,7 @@ use Rattle.zber.specs.declared.fault.FaultKind.TheVariants as kind
 use Rattle.zber.specs.declared.scan.Scan.{Scan}
 use Rattle.zber.specs.declared.scan.Reading.TheVariants.{Front as AtFront, Head, End, Whole}
 use Rattle.zber.specs.declared.scan.Reading.{Reading}
-use Rattle.zber.specs.declared.fault.Place.{Place}
+use Rattle.zber.specs.declared.fault.HeaderPlace.{HeaderPlace}
 use Rattle.zber.specs.declared.front.Front.TheVariants.{Nothing}
 use Rattle.zber.specs.Elements.{Element}
 use Rattle.zber.specs.Paths.{start}
@@ -54,7 +54,7 @@ begun limit xs s at window reading opened finished count contents = subst (Holds
 })
 
 -- octets come to the end
-path_fed : {limit : ℕ} {xs : List ℕ} {s : Scan} {es : List Element} {p : Place} (ys : List ℕ) → Going limit xs s es p → Going limit (xs ++ ys) s es p
+path_fed : {limit : ℕ} {xs : List ℕ} {s : Scan} {es : List Element} {p : HeaderPlace} (ys : List ℕ) → Going limit xs s es p → Going limit (xs ++ ys) s es p
 path_fed {xs = xs} {s = s} ys g =
     let same : take s.at (xs ++ ys) ≡ take s.at xs = take-append-le s.at xs ys g.within in
     record {

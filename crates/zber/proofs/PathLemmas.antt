@@ -1,8 +1,8 @@
 -- From a place that is told along a path to one that is told from the outside in.
 use Rattle.std.proofs.Common.{◌≡◌, ℕ, suc, ◌+◌, ◌-◌, ◌<◌, ◌≤◌, zero, subst, List, [], ◌∷◌, ◌++◌, length, take, refl, ap, ◌∙◌, arith, append_assoc, length-append}
-use Rattle.zber.specs.declared.fault.Place.{Place}
+use Rattle.zber.specs.declared.fault.HeaderPlace.{HeaderPlace}
 use Rattle.zber.specs.declared.fault.FaultKind.{FaultKind}
-use Rattle.zber.specs.Names.{Name}
+use Rattle.zber.specs.AsnTags.{AsnTag}
 use Rattle.zber.specs.Elements.{Element}
 use Rattle.zber.specs.Spelling.{SpellsAll, none, more}
 use Rattle.zber.specs.Paths.{start, after, Opens, definite, indefinite, Reached, top, inside, IsHere}
@@ -27,17 +27,17 @@ take_take (suc m) zero xs l = absurd (omega arith)
 take_take (suc m) (suc n) [] l = refl
 take_take (suc m) (suc n) (x ∷ xs) l = ap (λ z. x ∷ z) (take_take m n xs (omega arith))
 
-abbrev with_size : Place → ℕ → Place
+abbrev with_size : HeaderPlace → ℕ → HeaderPlace
 with_size p n = record { size = n; past = p.past; marked = p.marked; room = p.room }
 
-same_place : (p : Place) (a b : ℕ) → a ≡ b → with_size p a ≡ with_size p b
+same_place : (p : HeaderPlace) (a b : ℕ) → a ≡ b → with_size p a ≡ with_size p b
 same_place p a b e = ap (with_size p) e
 
-after_zero : (p : Place) → after p 0 ≡ p
+after_zero : (p : HeaderPlace) → after p 0 ≡ p
 after_zero p = same_place p (p.size - 0) p.size (omega arith)
 
 -- behind whole elements
-pub behind_all : {es : List Element} {ys : List ℕ} (p : Place) (zs : List ℕ) (o : Outcome) → SpellsAll p.room es ys → length ys ≤ p.size → StopsInside (after p (length ys)) zs o → StopsInside p (ys ++ zs) (behind (length ys) o)
+pub behind_all : {es : List Element} {ys : List ℕ} (p : HeaderPlace) (zs : List ℕ) (o : Outcome) → SpellsAll p.room es ys → length ys ≤ p.size → StopsInside (after p (length ys)) zs o → StopsInside p (ys ++ zs) (behind (length ys) o)
 behind_all p zs o none l s = rw behind-zero (subst (λ q. StopsInside q zs o) (after_zero p) s)
 behind_all p zs o (more {xs = xs} {ys = ys} f fs) l s =
     let len : length (xs ++ ys) ≡ length xs + length ys = length-append xs ys in
@@ -47,23 +47,23 @@ behind_all p zs o (more {xs = xs} {ys = ys} f fs) l s =
     rw (append_assoc xs ys zs, len, ← behind-behind (length xs) (length ys) o) whole
 
 -- one element further out
-outwards : {p : Place} {n : Name} {h : List ℕ} {q : Place} (us : List ℕ) (o : Outcome) → Opens p n h q → StopsInside q (take q.size us) o → Stops p (take p.size (h ++ us)) (behind (length h) o)
+outwards : {p : HeaderPlace} {n : AsnTag} {h : List ℕ} {q : HeaderPlace} (us : List ℕ) (o : Outcome) → Opens p n h q → StopsInside q (take q.size us) o → Stops p (take p.size (h ++ us)) (behind (length h) o)
 outwards {p} us o (definite {size = size} {h = h} head fits room) s =
     let same : take size (take (p.size - length h) us) ≡ take size us = take_take size (p.size - length h) us (omega (arith, fits)) in
     rw (take_behind p.size h us (omega (arith, fits))) (in_definite {o = o} (take (p.size - length h) us) head fits room (rw same s))
 outwards {p} us o (indefinite {h = h} head fits room) s =
     rw (take_behind p.size h us fits) (in_indefinite {o = o} head room s)
 
-pub opens_some : {p : Place} {n : Name} {h : List ℕ} {q : Place} → Opens p n h q → 0 < length h
+pub opens_some : {p : HeaderPlace} {n : AsnTag} {h : List ℕ} {q : HeaderPlace} → Opens p n h q → 0 < length h
 opens_some (definite head fits room) = head_some head
 opens_some (indefinite head fits room) = head_some head
 
-open_here : {p : Place} {n : Name} {h : List ℕ} {q : Place} → Opens p n h q → IsHere p
+open_here : {p : HeaderPlace} {n : AsnTag} {h : List ℕ} {q : HeaderPlace} → Opens p n h q → IsHere p
 open_here (definite head fits room) m = omega (arith, head_some head, fits)
 open_here (indefinite head fits room) m = omega (arith, head_some head, fits)
 
 -- from the place to the front of the message
-pub from_front : {limit : ℕ} {xs : List ℕ} {p : Place} (zs : List ℕ) (o : Outcome) → Reached limit xs p → Stops p (take p.size zs) o → (0 < length xs → IsHere p) → Stops (start limit) (take limit (xs ++ zs)) (behind (length xs) o)
+pub from_front : {limit : ℕ} {xs : List ℕ} {p : HeaderPlace} (zs : List ℕ) (o : Outcome) → Reached limit xs p → Stops p (take p.size zs) o → (0 < length xs → IsHere p) → Stops (start limit) (take limit (xs ++ zs)) (behind (length xs) o)
 from_front zs o top s h = rw behind-zero s
 from_front {limit} zs o (inside {p = p} {q = q} {xs = xs} {h = h} {ys = ys} r opens all fits) s here =
     let some : 0 < length (xs ++ (h ++ ys)) = omega (arith, length-append xs (h ++ ys), length-append h ys, opens_some opens) in

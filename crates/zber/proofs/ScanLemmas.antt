@@ -1,11 +1,11 @@
 -- How the open elements and the finished ones go on.
 use Rattle.std.proofs.Common.{◌≡◌, ℕ, suc, ◌+◌, ◌<◌, ◌≤◌, true, false, zero, subst, List, [], ◌∷◌, ◌++◌, length, take, drop, refl, sym, ap, ◌∙◌, arith, append_assoc, length-append, Some, None}
 use Rattle.std.proofs.lemmas.List.{append-nil, take-append-le}
-use Rattle.zber.specs.declared.fault.Place.{Place}
+use Rattle.zber.specs.declared.fault.HeaderPlace.{HeaderPlace}
 use Rattle.zber.specs.declared.scan.Finished.{Finished}
 use Rattle.zber.specs.declared.scan.Finished.TheVariants.{Prim}
 use Rattle.zber.specs.declared.scan.Open.{Open}
-use Rattle.zber.specs.Names.{Name}
+use Rattle.zber.specs.AsnTags.{AsnTag}
 use Rattle.zber.specs.Elements.{Element, forest, prim, cons, Primitive, Constructed}
 use Rattle.zber.specs.Spelling.{Length, Spells, primitive, definite as spells_definite, indefinite as spells_indefinite, SpellsAll, none as spells_none}
 use Rattle.zber.specs.Headers.{Header, of_size, of_mark}
@@ -30,15 +30,15 @@ told_then none u = u
 told_then (prim_told l t) u = prim_told l (told_then t u)
 told_then (cons_told l t) u = cons_told l (told_then t u)
 
-pub path_reached : {limit : ℕ} {os : List Open} {xs : List ℕ} {es : List Element} {p : Place} → Path limit os xs es p → Reached limit xs p
+pub path_reached : {limit : ℕ} {os : List Open} {xs : List ℕ} {es : List Element} {p : HeaderPlace} → Path limit os xs es p → Reached limit xs p
 path_reached top = reached_top
 path_reached (inside f w b opens all fits) = reached_inside (path_reached f) opens all fits
 
-opens_room : {p : Place} {n : Name} {h : List ℕ} {q : Place} → Opens p n h q → p.room ≡ suc q.room
+opens_room : {p : HeaderPlace} {n : AsnTag} {h : List ℕ} {q : HeaderPlace} → Opens p n h q → p.room ≡ suc q.room
 opens_room (definite head fits room) = room
 opens_room (indefinite head fits room) = room
 
-pub path_room : {limit : ℕ} {os : List Open} {xs : List ℕ} {es : List Element} {p : Place} → Path limit os xs es p → length os + p.room ≡ 64
+pub path_room : {limit : ℕ} {os : List Open} {xs : List ℕ} {es : List Element} {p : HeaderPlace} → Path limit os xs es p → length os + p.room ≡ 64
 path_room top = refl
 path_room (inside {o = o} {os = os} f w b opens all fits) = omega (arith, path_room f, opens_room opens, length-append os (o ∷ []))
 
@@ -57,9 +57,9 @@ same_snoc (z ∷ xs) (w ∷ ys) x y e =
     (rw (h, g.0) refl, g.1)
 
 -- the innermost open element, taken off
-pub record Closing (limit : ℕ) (os : List Open) (o : Open) (xs : List ℕ) (es : List Element) (p : Place) : Type 0 where
-  pub outer : Place
-  pub first : Place
+pub record Closing (limit : ℕ) (os : List Open) (o : Open) (xs : List ℕ) (es : List Element) (p : HeaderPlace) : Type 0 where
+  pub outer : HeaderPlace
+  pub first : HeaderPlace
   pub front : List ℕ
   pub head : List ℕ
   pub octets : List ℕ
@@ -75,7 +75,7 @@ pub record Closing (limit : ℕ) (os : List Open) (o : Open) (xs : List ℕ) (es
   pub elements : es ≡ before ++ kids
   pub place : p ≡ after first (length octets)
 
-pub closing : {limit : ℕ} {ns : List Open} {xs : List ℕ} {es : List Element} {p : Place} (os : List Open) (o : Open) → Path limit ns xs es p → ns ≡ os ++ o ∷ [] → Closing limit os o xs es p
+pub closing : {limit : ℕ} {ns : List Open} {xs : List ℕ} {es : List Element} {p : HeaderPlace} (os : List Open) (o : Open) → Path limit ns xs es p → ns ≡ os ++ o ∷ [] → Closing limit os o xs es p
 closing os o top e = absurd (not_snoc os o e)
 closing {limit} os o (inside {o = m} {os = ms} {xs = xs} {h = h} {ys = ys} {es = es} {fs = fs} {p = p} {q = q} f w b opens all fits) e =
     let same = same_snoc ms os m o e in
@@ -100,29 +100,29 @@ closing {limit} os o (inside {o = m} {os = ms} {xs = xs} {h = h} {ys = ys} {es =
       place = refl;
     }))
 
-pub spell_octets : {room : ℕ} {n : Name} {size : ℕ} {h : List ℕ} (ys : List ℕ) → Header n false (Some size) h → length ys ≡ size → Spells room (prim n ys) (h ++ ys)
+pub spell_octets : {room : ℕ} {n : AsnTag} {size : ℕ} {h : List ℕ} (ys : List ℕ) → Header n false (Some size) h → length ys ≡ size → Spells room (prim n ys) (h ++ ys)
 spell_octets ys (of_size {i = i} {l = l} id len) e = rw (append_assoc i l ys) (primitive id (subst (λ z. Length z l) (sym e) len))
 
-spell_definite : {room : ℕ} {n : Name} {size : ℕ} {h : List ℕ} {fs : List Element} {ys : List ℕ} → Header n true (Some size) h → length ys ≡ size → SpellsAll room fs ys → Spells (suc room) (cons n fs) (h ++ ys)
+spell_definite : {room : ℕ} {n : AsnTag} {size : ℕ} {h : List ℕ} {fs : List Element} {ys : List ℕ} → Header n true (Some size) h → length ys ≡ size → SpellsAll room fs ys → Spells (suc room) (cons n fs) (h ++ ys)
 spell_definite {ys = ys} (of_size {i = i} {l = l} id len) e all = rw (append_assoc i l ys) (spells_definite id (subst (λ z. Length z l) (sym e) len) all)
 
-spell_marked : {room : ℕ} {n : Name} {h : List ℕ} {fs : List Element} {ys : List ℕ} → Header n true None h → SpellsAll room fs ys → Spells (suc room) (cons n fs) (h ++ (ys ++ 0 ∷ 0 ∷ []))
+spell_marked : {room : ℕ} {n : AsnTag} {h : List ℕ} {fs : List Element} {ys : List ℕ} → Header n true None h → SpellsAll room fs ys → Spells (suc room) (cons n fs) (h ++ (ys ++ 0 ∷ 0 ∷ []))
 spell_marked {ys = ys} (of_mark {i = i} id) all = rw (append_assoc i (128 ∷ []) (ys ++ 0 ∷ 0 ∷ [])) (spells_indefinite id all)
 
 -- an open element ends: where its window does, or by the mark
-pub ends_size : {p : Place} {n : Name} {h : List ℕ} {q : Place} {fs : List Element} (ys : List ℕ) → Opens p n h q → SpellsAll q.room fs ys → q.marked ≡ false → length ys ≡ q.size → Spells p.room (cons n fs) (h ++ ys) × (length (h ++ ys) ≤ p.size)
+pub ends_size : {p : HeaderPlace} {n : AsnTag} {h : List ℕ} {q : HeaderPlace} {fs : List Element} (ys : List ℕ) → Opens p n h q → SpellsAll q.room fs ys → q.marked ≡ false → length ys ≡ q.size → Spells p.room (cons n fs) (h ++ ys) × (length (h ++ ys) ≤ p.size)
 ends_size {h = h} ys (definite head fits room) all m e = (rw room (spell_definite head e all), omega (arith, fits, e, length-append h ys))
 ends_size ys (indefinite head fits room) all m e = absurd (differ (sym m))
 
-pub ends_mark : {p : Place} {n : Name} {h : List ℕ} {q : Place} {fs : List Element} (ys : List ℕ) → Opens p n h q → SpellsAll q.room fs ys → q.marked ≡ true → length ys + 2 ≤ q.size → Spells p.room (cons n fs) (h ++ (ys ++ 0 ∷ 0 ∷ [])) × (length (h ++ (ys ++ 0 ∷ 0 ∷ [])) ≤ p.size)
+pub ends_mark : {p : HeaderPlace} {n : AsnTag} {h : List ℕ} {q : HeaderPlace} {fs : List Element} (ys : List ℕ) → Opens p n h q → SpellsAll q.room fs ys → q.marked ≡ true → length ys + 2 ≤ q.size → Spells p.room (cons n fs) (h ++ (ys ++ 0 ∷ 0 ∷ [])) × (length (h ++ (ys ++ 0 ∷ 0 ∷ [])) ≤ p.size)
 ends_mark ys (definite head fits room) all m l = absurd (differ m)
 ends_mark {h = h} ys (indefinite head fits room) all m l = (rw room (spell_marked head all), omega (arith, fits, l, length-append h (ys ++ 0 ∷ 0 ∷ []), length-append ys (0 ∷ 0 ∷ [])))
 
 -- behind a child that is finished, in an open element
-abbrev with_size : Place → ℕ → Place
+abbrev with_size : HeaderPlace → ℕ → HeaderPlace
 with_size p n = record { size = n; past = p.past; marked = p.marked; room = p.room }
 
-pub path_child : {limit : ℕ} {os : List Open} {xs : List ℕ} {es : List Element} {p : Place} (e : Element) (zs : List ℕ) → Path limit os xs es p → 0 < length os → Spells p.room e zs → length zs ≤ p.size → Path limit os (xs ++ zs) (es ++ e ∷ []) (after p (length zs))
+pub path_child : {limit : ℕ} {os : List Open} {xs : List ℕ} {es : List Element} {p : HeaderPlace} (e : Element) (zs : List ℕ) → Path limit os xs es p → 0 < length os → Spells p.room e zs → length zs ≤ p.size → Path limit os (xs ++ zs) (es ++ e ∷ []) (after p (length zs))
 path_child e zs top l s fit = absurd (omega arith)
 path_child {limit} e zs (inside {o = o} {os = os} {xs = xs} {h = h} {ys = ys} {es = es} {fs = fs} {q = q} f w b opens all fits) l s fit =
     let sum : length (ys ++ zs) ≡ length ys + length zs = length-append ys zs in
@@ -131,12 +131,12 @@ path_child {limit} e zs (inside {o = o} {os = os} {xs = xs} {h = h} {ys = ys} {e
     let octets : (xs ++ (h ++ ys)) ++ zs ≡ xs ++ (h ++ (ys ++ zs)) = append_assoc xs (h ++ ys) zs ∙ ap (λ z. xs ++ z) (append_assoc h ys zs) in
     rw (octets, append_assoc es fs (e ∷ []), ← here) there
 
-pub path_none : {limit : ℕ} {os : List Open} {xs : List ℕ} {es : List Element} {p : Place} → Path limit os xs es p → os ≡ [] → (xs ≡ []) × (es ≡ []) × (p ≡ start limit)
+pub path_none : {limit : ℕ} {os : List Open} {xs : List ℕ} {es : List Element} {p : HeaderPlace} → Path limit os xs es p → os ≡ [] → (xs ≡ []) × (es ≡ []) × (p ≡ start limit)
 path_none top e = (refl, refl, refl)
 path_none (inside {o = o} {os = os} f w b opens all fits) e = absurd (not_snoc os o (sym e))
 
 -- inside an element that opens
-pub path_open : {limit : ℕ} {os : List Open} {xs : List ℕ} {es : List Element} {p q : Place} (o : Open) (h : List ℕ) → Path limit os xs es p → WindowIs o.outer (length xs) p → o.behind ≡ length es → Opens p o.tag h q → Path limit (os ++ o ∷ []) (xs ++ h) es q
+pub path_open : {limit : ℕ} {os : List Open} {xs : List ℕ} {es : List Element} {p q : HeaderPlace} (o : Open) (h : List ℕ) → Path limit os xs es p → WindowIs o.outer (length xs) p → o.behind ≡ length es → Opens p o.tag h q → Path limit (os ++ o ∷ []) (xs ++ h) es q
 path_open {limit} {os = os} {xs = xs} {es = es} {q = q} o h f w b opens =
     let there : Path limit (os ++ o ∷ []) (xs ++ (h ++ [])) (es ++ []) (after q 0) = inside f w b opens spells_none (omega arith) in
     let here : after q 0 ≡ q = ap (with_size q) (omega arith) in
@@ -149,5 +149,5 @@ contents-append [] ds = omega arith
 contents-append (Primitive n xs ∷ es) ds = omega (arith, contents-append es ds)
 contents-append (Constructed n f ∷ es) ds = omega (arith, contents-append es ds)
 
-pub contents_closed : (n : Name) (es ds : List Element) → contents_in (forest (es ++ cons n ds ∷ [])) ≡ contents_in (forest (es ++ ds))
+pub contents_closed : (n : AsnTag) (es ds : List Element) → contents_in (forest (es ++ cons n ds ∷ [])) ≡ contents_in (forest (es ++ ds))
 contents_closed n es ds = omega (arith, contents-append es (cons n ds ∷ []), contents-append es ds)

@@ -1,14 +1,14 @@
 -- What a scan's state says of the octets.
 use Rattle.std.proofs.Common.{◌≡◌, ℕ, suc, ◌+◌, ◌-◌, ◌<◌, ◌≤◌, Bool, true, false, inl, inr, zero, subst, List, [], ◌∷◌, ◌++◌, length, take, drop, get_or, refl, sym, ap, ◌∙◌, arith, length-append, length-drop, Option, Some, Result, Ok, Err, OnErr}
 use Rattle.std.proofs.lemmas.List.{take-append-drop, length-take-le, take_more, get_or-drop}
-use Rattle.zber.specs.declared.fault.Place.{Place}
+use Rattle.zber.specs.declared.fault.HeaderPlace.{HeaderPlace}
 use Rattle.zber.specs.declared.fault.FaultKind.{FaultKind}
 use Rattle.zber.specs.declared.front.Front.{Front}
 use Rattle.zber.specs.declared.front.Front.TheVariants.{Nothing, HalfEnd, Groups, NoLength, SizeOctets}
 use Rattle.zber.specs.declared.scan.Reading.{Reading}
 use Rattle.zber.specs.declared.scan.Reading.TheVariants.{Front as AtFront, Head, End, Whole}
 use Rattle.zber.specs.declared.scan.Scan.{Scan}
-use Rattle.zber.specs.Names.{Name}
+use Rattle.zber.specs.AsnTags.{AsnTag}
 use Rattle.zber.specs.Elements.{Element}
 use Rattle.zber.specs.Headers.{Header, IsFront, nothing, half_end, groups, no_length, short_length, HeaderShows, ends}
 use Rattle.zber.specs.Shown.{Shows}
@@ -31,7 +31,7 @@ front_is m (NoLength n c) xs f = no_length f
 front_is m (SizeOctets n c left size) xs (i, gs, id, e, f) = rw e (short_length (length gs + left) gs id (omega (arith, f.few)) (omega (arith, f.some)))
 
 -- what the octets behind the place show or lack is so from the front
-module _ {limit : ℕ} {xs : List ℕ} {s : Scan} {es : List Element} {p : Place} (g : Going limit xs s es p) where
+module _ {limit : ℕ} {xs : List ℕ} {s : Scan} {es : List Element} {p : HeaderPlace} (g : Going limit xs s es p) where
   front_len : length (take s.at xs) ≡ s.at
   front_len = length-take-le s.at xs g.within
 
@@ -65,7 +65,7 @@ module _ {limit : ℕ} {xs : List ℕ} {s : Scan} {es : List Element} {p : Place
     by_open [] q = absurd (differ (sym (ap (λ z. z.marked) (path_none g.path q).2) ∙ m))
     by_open (o ∷ os) q = omega arith
 
-pub head_enter : {limit : ℕ} {xs : List ℕ} {s : Scan} {n : Name} {c : Bool} {size : Option ℕ} {len : ℕ} → IsGoing limit xs s (Head n c size len) → c ≡ true → IsEntered limit xs s n size len
+pub head_enter : {limit : ℕ} {xs : List ℕ} {s : Scan} {n : AsnTag} {c : Bool} {size : Option ℕ} {len : ℕ} → IsGoing limit xs s (Head n c size len) → c ≡ true → IsEntered limit xs s n size len
 head_enter {xs = xs} {s = s} {n = n} {size = size} {len = len} g e = record {
   es = g.es;
   place = g.place;
@@ -77,7 +77,7 @@ head_enter {xs = xs} {s = s} {n = n} {size = size} {len = len} g e = record {
   come = g.looked;
 }
 
-pub head_pass : {limit : ℕ} {xs : List ℕ} {s : Scan} {n : Name} {c : Bool} {size len : ℕ} → IsGoing limit xs s (Head n c (Some size) len) → c ≡ false → size ≤ length xs - s.at - len → IsPassed limit xs s n len size
+pub head_pass : {limit : ℕ} {xs : List ℕ} {s : Scan} {n : AsnTag} {c : Bool} {size len : ℕ} → IsGoing limit xs s (Head n c (Some size) len) → c ≡ false → size ≤ length xs - s.at - len → IsPassed limit xs s n len size
 head_pass {xs = xs} {s = s} {n = n} {size = size} {len = len} g e l = record {
   es = g.es;
   place = g.place;
@@ -87,7 +87,7 @@ head_pass {xs = xs} {s = s} {n = n} {size = size} {len = len} g e l = record {
   come = omega (arith, l, g.looked);
 }
 
-pub head_lack : {limit : ℕ} {xs : List ℕ} {s : Scan} {n : Name} {c : Bool} {size len : ℕ} → IsGoing limit xs s (Head n c (Some size) len) → c ≡ false → length xs - s.at - len < size → IsUnfinished limit xs
+pub head_lack : {limit : ℕ} {xs : List ℕ} {s : Scan} {n : AsnTag} {c : Bool} {size len : ℕ} → IsGoing limit xs s (Head n c (Some size) len) → c ≡ false → length xs - s.at - len < size → IsUnfinished limit xs
 head_lack {limit} {xs} {s} {n} {c} {size} {len} g e l =
     let rest : List ℕ = drop s.at xs in
     let rest_len : length rest ≡ length xs - s.at = length-drop s.at xs in
@@ -144,21 +144,21 @@ less_looked n s r old e l q = rw (e, q) (omega (arith, l, heavy r)) where
 pub one_more : (xs : List ℕ) (at len x : ℕ) → at + len < length xs → x ≡ get_or xs (at + len) 0 → take (len + 1) (drop at xs) ≡ take len (drop at xs) ++ x ∷ []
 one_more xs at len x l e = take_more (drop at xs) len 0 (omega (arith, l, length-drop at xs)) ∙ ap (λ z. take len (drop at xs) ++ z ∷ []) (get_or-drop at xs len 0 ∙ sym e)
 
-pub reading_len : (p : Place) (hs : List ℕ) (r : Reading) → ReadingIs p hs r → len_of r ≡ length hs
+pub reading_len : (p : HeaderPlace) (hs : List ℕ) (r : Reading) → ReadingIs p hs r → len_of r ≡ length hs
 reading_len p hs (AtFront f len) g = g.0
 reading_len p hs (Head n c size len) g = g.0
 reading_len p hs End g = sym (ap length g.1)
 reading_len p hs Whole g = absurd g
 
-going_on : {limit : ℕ} {xs : List ℕ} {s : Scan} {es : List Element} {p : Place} → Going limit xs s es p → (r : Reading) (hs : List ℕ) → hs ≡ take (length hs) (drop s.at xs) → s.at + length hs ≤ length xs → ReadingIs p hs r → IsGoing limit xs s r
+going_on : {limit : ℕ} {xs : List ℕ} {s : Scan} {es : List Element} {p : HeaderPlace} → Going limit xs s es p → (r : Reading) (hs : List ℕ) → hs ≡ take (length hs) (drop s.at xs) → s.at + length hs ≤ length xs → ReadingIs p hs r → IsGoing limit xs s r
 going_on {xs = xs} {s = s} {es = es} {p = p} g r hs e l f =
     let len = reading_len p hs r f in
     record { es = es; place = p; going = g; looked = omega (arith, len, l); reading = subst (λ z. ReadingIs p z r) (e ∙ ap (λ k. take k (drop s.at xs)) (sym len)) f }
 
-same_going : {limit : ℕ} {xs : List ℕ} {s : Scan} {es : List Element} {p : Place} (r : Reading) → Going limit xs s es p → Going limit xs (record s { reading = r }) es p
+same_going : {limit : ℕ} {xs : List ℕ} {s : Scan} {es : List Element} {p : HeaderPlace} (r : Reading) → Going limit xs s es p → Going limit xs (record s { reading = r }) es p
 same_going r g = record { within = g.within; path = g.path; window = g.window; told = g.told; count = g.count; contents = g.contents }
 
-holds_by : (limit : ℕ) (xs : List ℕ) (s : Scan) (p : Place) (hs : List ℕ) (r : Reading) → ReadingIs p hs r → IsGoing limit xs s r → HoldsBy limit xs s r
+holds_by : (limit : ℕ) (xs : List ℕ) (s : Scan) (p : HeaderPlace) (hs : List ℕ) (r : Reading) → ReadingIs p hs r → IsGoing limit xs s r → HoldsBy limit xs s r
 holds_by limit xs s p hs (AtFront f len) q g = g
 holds_by limit xs s p hs (Head n c size len) q g = g
 holds_by limit xs s p hs End q g = g
@@ -191,7 +191,7 @@ looked_bad {limit} {xs} {s} {f} {len} g x k l e n h =
     let window : take g.place.size rest ≡ (hs ++ x ∷ []) ++ take (g.place.size - length (hs ++ x ∷ [])) (drop (len + 1) rest) = ap (take g.place.size) cut ∙ take_behind g.place.size (hs ++ x ∷ []) (drop (len + 1) rest) (omega (arith, size, g.reading.2, n)) in
     shows g.going k (rw window (h hs (take (g.place.size - length (hs ++ x ∷ [])) (drop (len + 1) rest)) g.reading.1 g.reading.0)) (λ l' m. omega (arith, g.reading.2, n)) (omega (arith, l))
 
-pub going_same : {limit : ℕ} {xs : List ℕ} {s t : Scan} {es : List Element} {p : Place} → Same s t → Going limit xs s es p → Going limit xs t es p
+pub going_same : {limit : ℕ} {xs : List ℕ} {s t : Scan} {es : List Element} {p : HeaderPlace} → Same s t → Going limit xs s es p → Going limit xs t es p
 going_same f g = record {
   within = rw (← f.at) g.within;
   path = rw (← f.at, ← f.opened) g.path;

@@ -1,7 +1,7 @@
 -- A scan, one move further.
 use Rattle.std.proofs.Common.{◌≡◌, ℕ, ◌+◌, ◌-◌, ◌<◌, ◌≤◌, true, false, ◌⊎◌, inl, inr, subst, List, [], ◌∷◌, ◌++◌, length, take, drop, refl, sym, ap, ◌∙◌, arith, append_assoc, length-append, length-drop, Option, Some, None, IfSome}
 use Rattle.std.proofs.lemmas.List.{append-nil, length-take-le}
-use Rattle.zber.specs.declared.fault.Place.{Place}
+use Rattle.zber.specs.declared.fault.HeaderPlace.{HeaderPlace}
 use Rattle.zber.specs.declared.fault.FaultKind.TheVariants as kind
 use Rattle.zber.specs.declared.scan.Finished.{Finished}
 use Rattle.zber.specs.declared.scan.Finished.TheVariants.{Prim, Cons}
@@ -10,7 +10,7 @@ use Rattle.zber.specs.declared.scan.Open.{Open}
 use Rattle.zber.specs.declared.scan.Reading.TheVariants.{Front}
 use Rattle.zber.specs.declared.scan.Scan.{Scan}
 use Rattle.zber.specs.declared.front.Front.TheVariants.{Nothing}
-use Rattle.zber.specs.Names.{Name}
+use Rattle.zber.specs.AsnTags.{AsnTag}
 use Rattle.zber.specs.Elements.{Element, forest, prim, cons}
 use Rattle.zber.specs.Spelling.{Spells, SpellsAll, deepest, primitive, definite as spells_definite, indefinite as spells_indefinite, none as spells_none, more}
 use Rattle.zber.specs.Headers.{Header}
@@ -20,7 +20,7 @@ use Rattle.zber.proofs.ElementLemmas.{id_some}
 use Rattle.zber.proofs.HeaderLemmas.{take_add}
 use Rattle.zber.proofs.ScanLemmas.{told_more, told_then, path_none, path_child, path_open, closing, Closing, spell_octets, ends_size, ends_mark, contents-append, contents_closed}
 
-pub place_is : (p : Place) (w : Window) (at few : ℕ) → WindowIs w at p → few + p.room ≡ 64 → record { size = w.end - at; past = w.past; marked = w.marked; room = 64 - few } ≡ p
+pub place_is : (p : HeaderPlace) (w : Window) (at few : ℕ) → WindowIs w at p → few + p.room ≡ 64 → record { size = w.end - at; past = w.past; marked = w.marked; room = 64 - few } ≡ p
 place_is p w at few f r =
     let size : w.end - at ≡ p.size = omega (arith, f.end_is) in
     let room : 64 - few ≡ p.room = omega (arith, r) in
@@ -36,7 +36,7 @@ all_some : {room : ℕ} {es : List Element} {xs : List ℕ} → SpellsAll room e
 all_some spells_none = omega arith
 all_some (more {xs = xs} {ys = ys} f fs) = omega (arith, spells_some f, all_some fs, length-append xs ys)
 
-pub path_count : {limit : ℕ} {os : List Open} {xs : List ℕ} {es : List Element} {p : Place} → Path limit os xs es p → length es ≤ length xs
+pub path_count : {limit : ℕ} {os : List Open} {xs : List ℕ} {es : List Element} {p : HeaderPlace} → Path limit os xs es p → length es ≤ length xs
 path_count top = omega arith
 path_count (inside {xs = xs} {h = h} {ys = ys} {es = es} {fs = fs} f w b opens all fits) = omega (arith, path_count f, all_some all, length-append es fs, length-append xs (h ++ ys), length-append h ys)
 
@@ -52,13 +52,13 @@ module _ where
     all_contents spells_none = omega arith
     all_contents (more {e = e} {es = es} {xs = xs} {ys = ys} f fs) = omega (arith, spells_contents f, all_contents fs, length-append xs ys, contents-append (e ∷ []) es)
 
-pub path_contents : {limit : ℕ} {os : List Open} {xs : List ℕ} {es : List Element} {p : Place} → Path limit os xs es p → contents_in (forest es) ≤ length xs
+pub path_contents : {limit : ℕ} {os : List Open} {xs : List ℕ} {es : List Element} {p : HeaderPlace} → Path limit os xs es p → contents_in (forest es) ≤ length xs
 path_contents top = omega arith
 path_contents (inside {xs = xs} {h = h} {ys = ys} {es = es} {fs = fs} f w b opens all fits) = omega (arith, path_contents f, all_contents all, contents-append es fs, length-append xs (h ++ ys), length-append h ys)
 
 -- behind an element that is finished
 module _ (limit : ℕ) (xs : List ℕ) (s : Scan) where
-  pub child_holds : (os : List Open) (front : List ℕ) (es : List Element) (p : Place) (e : Element) (zs : List ℕ) → Path limit os front es p → Spells p.room e zs → length zs ≤ p.size
+  pub child_holds : (os : List Open) (front : List ℕ) (es : List Element) (p : HeaderPlace) (e : Element) (zs : List ℕ) → Path limit os front es p → Spells p.room e zs → length zs ≤ p.size
       → s.opened.items ≡ os → s.at ≡ length (front ++ zs) → take s.at xs ≡ front ++ zs → s.at ≤ length xs
       → WindowIs s.window (length front) p → Told (front ++ zs) [] s.finished.items (es ++ e ∷ []) → s.count ≡ length es + 1 → s.contents ≡ contents_in (forest (es ++ e ∷ []))
       → s.reading ≡ behind_reading (length os) → Holds limit xs s
@@ -102,7 +102,7 @@ module _ (limit : ℕ) (xs : List ℕ) (s : Scan) where
         })
 
 -- what is told of one more element
-pub told_prim : (xs : List ℕ) (es : List Element) (fs : List Finished) (n : Name) (zs ys : List ℕ) (from size : ℕ) → Told xs [] fs es → from + size ≤ length (xs ++ zs) → take size (drop from (xs ++ zs)) ≡ ys → Told (xs ++ zs) [] (fs ++ Prim n from size ∷ []) (es ++ prim n ys ∷ [])
+pub told_prim : (xs : List ℕ) (es : List Element) (fs : List Finished) (n : AsnTag) (zs ys : List ℕ) (from size : ℕ) → Told xs [] fs es → from + size ≤ length (xs ++ zs) → take size (drop from (xs ++ zs)) ≡ ys → Told (xs ++ zs) [] (fs ++ Prim n from size ∷ []) (es ++ prim n ys ∷ [])
 told_prim xs es fs n zs ys from size t l e = told_then (told_more zs t) (prim_told l (subst (λ z. Told (xs ++ zs) (es ++ prim n (take size (drop from (xs ++ zs))) ∷ []) [] (es ++ prim n z ∷ [])) e none))
 
 take_left : {A : Type 0} (xs ys : List A) → take (length xs) (xs ++ ys) ≡ xs
@@ -113,7 +113,7 @@ drop_left : {A : Type 0} (xs ys : List A) → drop (length xs) (xs ++ ys) ≡ ys
 drop_left [] ys = refl
 drop_left (x ∷ xs) ys = drop_left xs ys
 
-pub told_cons : (xs : List ℕ) (es ds : List Element) (fs : List Finished) (n : Name) (zs : List ℕ) (behind : ℕ) → Told xs [] fs (es ++ ds) → behind ≡ length es → Told (xs ++ zs) [] (fs ++ Cons n behind ∷ []) (es ++ cons n ds ∷ [])
+pub told_cons : (xs : List ℕ) (es ds : List Element) (fs : List Finished) (n : AsnTag) (zs : List ℕ) (behind : ℕ) → Told xs [] fs (es ++ ds) → behind ≡ length es → Told (xs ++ zs) [] (fs ++ Cons n behind ∷ []) (es ++ cons n ds ∷ [])
 told_cons xs es ds fs n zs behind t e =
     let front : take behind (es ++ ds) ≡ es = ap (λ k. take k (es ++ ds)) e ∙ take_left es ds in
     let back : drop behind (es ++ ds) ≡ ds = ap (λ k. drop k (es ++ ds)) e ∙ drop_left es ds in
@@ -124,7 +124,7 @@ take_full [] = refl
 take_full (x ∷ xs) = ap (λ z. x ∷ z) (take_full xs)
 
 -- behind the contents of a primitive element
-pub passed : {limit : ℕ} {xs : List ℕ} {s : Scan} {n : Name} {len size : ℕ} → IsPassed limit xs s n len size → (t : Scan)
+pub passed : {limit : ℕ} {xs : List ℕ} {s : Scan} {n : AsnTag} {len size : ℕ} → IsPassed limit xs s n len size → (t : Scan)
     → t.opened.items ≡ s.opened.items → t.at ≡ s.at + (len + size) → t.window ≡ s.window → t.finished.items ≡ s.finished.items ++ Prim n (s.at + len) size ∷ []
     → t.count ≡ s.count + 1 → t.contents ≡ s.contents + size → t.reading ≡ behind_reading (length s.opened.items) → Holds limit xs t
 passed {limit} {xs} {s} {n} {len} {size} f t opened at window finished count contents reading =
@@ -177,14 +177,14 @@ pub closed : {limit : ℕ} {xs : List ℕ} {s : Scan} {len : ℕ} → IsClosed l
 closed f os o e t opened at window finished count contents reading = closed_as f os o (closing os o f.going.path e) t opened at window finished count contents reading f.end_is
 
 -- inside an element that opens
-pub opened_at : (p : Place) (n : Name) (size : Option ℕ) (h : List ℕ) (w : Window) (at : ℕ) → Header n true size h → IfSome size (λ z. length h + z ≤ p.size) → length h ≤ p.size → 0 < p.room → WindowIs w at p
-    → (q : Place) × Opens p n h q × WindowIs (inner_window w (at + length h) size) (at + length h) q
+pub opened_at : (p : HeaderPlace) (n : AsnTag) (size : Option ℕ) (h : List ℕ) (w : Window) (at : ℕ) → Header n true size h → IfSome size (λ z. length h + z ≤ p.size) → length h ≤ p.size → 0 < p.room → WindowIs w at p
+    → (q : HeaderPlace) × Opens p n h q × WindowIs (inner_window w (at + length h) size) (at + length h) q
 opened_at p n (Some z) h w at head fits within room f =
     (record { size = z; past = kind.Overrun; marked = false; room = p.room - 1 }, definite head fits (omega (arith, room)), record { end_is = refl; past_is = refl; marked_is = refl })
 opened_at p n None h w at head fits within room f =
     (record { size = p.size - length h; past = p.past; marked = true; room = p.room - 1 }, indefinite head within (omega (arith, room)), record { end_is = omega (arith, f.end_is, within); past_is = f.past_is; marked_is = refl })
 
-entered_at : {limit : ℕ} {xs : List ℕ} {s : Scan} {n : Name} {size : Option ℕ} {len : ℕ} → IsEntered limit xs s n size len → (es : List Element) (p q : Place) → Going limit xs s es p → (t : Scan) (o : Open)
+entered_at : {limit : ℕ} {xs : List ℕ} {s : Scan} {n : AsnTag} {size : Option ℕ} {len : ℕ} → IsEntered limit xs s n size len → (es : List Element) (p q : HeaderPlace) → Going limit xs s es p → (t : Scan) (o : Open)
     → Opens p o.tag (take len (drop s.at xs)) q → WindowIs t.window t.at q → o.outer ≡ s.window → o.behind ≡ s.count
     → t.opened.items ≡ s.opened.items ++ o ∷ [] → t.at ≡ s.at + len → t.finished.items ≡ s.finished.items
     → t.count ≡ s.count → t.contents ≡ s.contents → IsGoing limit xs t (Front Nothing 0)
@@ -210,7 +210,7 @@ entered_at {limit} {xs} {s} {n} {size} {len} f es p q g t o opens window outer b
       reading = (refl, refl, omega arith);
     }
 
-pub entered : {limit : ℕ} {xs : List ℕ} {s : Scan} {n : Name} {size : Option ℕ} {len : ℕ} → IsEntered limit xs s n size len → (t : Scan)
+pub entered : {limit : ℕ} {xs : List ℕ} {s : Scan} {n : AsnTag} {size : Option ℕ} {len : ℕ} → IsEntered limit xs s n size len → (t : Scan)
     → t.opened.items ≡ s.opened.items ++ record { tag = n; outer = s.window; behind = s.count } ∷ [] → t.at ≡ s.at + len → t.window ≡ inner_window s.window (s.at + len) size → t.finished.items ≡ s.finished.items
     → t.count ≡ s.count → t.contents ≡ s.contents → IsGoing limit xs t (Front Nothing 0)
 entered {limit} {xs} {s} {n} {size} {len} f t opened at window finished count contents =

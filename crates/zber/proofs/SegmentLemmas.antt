@@ -4,7 +4,7 @@ use Rattle.std.proofs.lemmas.List.{append-nil, take_more}
 use Rattle.std.proofs.Math.Bool.{and-true}
 use Rattle.zber.specs.declared.node.Node.TheInside.{Inside}
 use Rattle.zber.specs.declared.node.Body.TheVariants.{Cons}
-use Rattle.zber.specs.Viewed.{element_of}
+use Rattle.zber.specs.NodeElements.{element_of}
 use Rattle.zber.specs.Elements.{Element, Forest, Primitive, Constructed, forest, before, tag_of}
 use Rattle.zber.specs.Segments.{is_segment, are_segments, joined, is_string, string_octets}
 use Rattle.zber.proofs.Runs.{seen_cons, seen_tag}

@@ -3,7 +3,7 @@ use Rattle.std.proofs.Common.{◌≡◌, ℕ, zero, suc, ◌-◌, ◌≤◌, sub
 use Rattle.std.proofs.lemmas.List.{append-nil}
 use Rattle.zber.specs.declared.fault.FaultKind.{FaultKind}
 use Rattle.zber.specs.declared.fault.FaultKind.TheVariants as kind
-use Rattle.zber.specs.declared.fault.Place.{Place}
+use Rattle.zber.specs.declared.fault.HeaderPlace.{HeaderPlace}
 use Rattle.zber.specs.Elements.{Element}
 use Rattle.zber.specs.Spelling.{lead, Begins}
 use Rattle.zber.specs.Headers.{BeginsBadly, HeaderShows, tag_form, tag_too_large, stray_end, half_stray_end, constructed_end, length_form, indefinite_primitive, passes, ends, too_deep, too_deep_marked}
@@ -18,7 +18,7 @@ nothing_more xs [] size within full = append-nil xs
 nothing_more xs (y ∷ ys) size within full = absurd (omega (arith, within, full, length-append xs (y ∷ ys)))
 
 -- a header shows it in the window
-header_stays : {p : Place} {xs : List ℕ} {k : FaultKind} (ys : List ℕ) → HeaderShows p xs k → length (xs ++ ys) ≤ p.size → HeaderShows p (xs ++ ys) k
+header_stays : {p : HeaderPlace} {xs : List ℕ} {k : FaultKind} (ys : List ℕ) → HeaderShows p xs k → length (xs ++ ys) ≤ p.size → HeaderShows p (xs ++ ys) k
 header_stays ys (tag_form class c xs bad) within = tag_form class c (xs ++ ys) (badly_on xs ys bad)
 header_stays {p} ys (tag_too_large class c x fronts xs on shortest small large) within =
     subst (λ (l : List ℕ). HeaderShows p (lead class c 31 ∷ l) kind.TagTooLarge) (sym (append_assoc fronts (x ∷ xs) ys)) (tag_too_large class c x fronts (xs ++ ys) on shortest small large)

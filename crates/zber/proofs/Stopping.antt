@@ -1,8 +1,8 @@
 -- Octets that spell no whole element stop: at a fault, or for want of octets.
 use Rattle.std.proofs.Common.{◌≡◌, ℕ, suc, ◌+◌, ◌<◌, ◌≤◌, true, false, Some, None, List, ◌++◌, length, take, refl, ap, arith}
 use Rattle.zber.specs.declared.fault.FaultKind.{FaultKind}
-use Rattle.zber.specs.declared.fault.Place.{Place}
-use Rattle.zber.specs.Names.{Name}
+use Rattle.zber.specs.declared.fault.HeaderPlace.{HeaderPlace}
+use Rattle.zber.specs.AsnTags.{AsnTag}
 use Rattle.zber.specs.Elements.{Element}
 use Rattle.zber.specs.Spelling.{Spells}
 use Rattle.zber.specs.Headers.{IsFront, Header, HeaderShows}
@@ -27,15 +27,15 @@ behind-zero lack = refl
 
 -- Octets that begin at a header stop: in the header, in primitive contents, or inside, behind whole elements.
 mutual
-  pub data Stops : Place → List ℕ → Outcome → Type 0 where
-    at_fault : {p : Place} {xs : List ℕ} {k : FaultKind} → HeaderShows p xs k → Stops p xs (fault k 0)
-    at_front : {p : Place} {xs : List ℕ} → IsFront p.marked xs → length xs < p.size → Stops p xs lack
-    in_octets : {p : Place} {n : Name} {size : ℕ} {h : List ℕ} (xs : List ℕ) → Header n false (Some size) h → length h + size ≤ p.size → length xs < size → Stops p (h ++ xs) lack
-    in_definite : {p : Place} {n : Name} {size room : ℕ} {h : List ℕ} {o : Outcome} (xs : List ℕ) → Header n true (Some size) h → length h + size ≤ p.size → p.room ≡ suc room
+  pub data Stops : HeaderPlace → List ℕ → Outcome → Type 0 where
+    at_fault : {p : HeaderPlace} {xs : List ℕ} {k : FaultKind} → HeaderShows p xs k → Stops p xs (fault k 0)
+    at_front : {p : HeaderPlace} {xs : List ℕ} → IsFront p.marked xs → length xs < p.size → Stops p xs lack
+    in_octets : {p : HeaderPlace} {n : AsnTag} {size : ℕ} {h : List ℕ} (xs : List ℕ) → Header n false (Some size) h → length h + size ≤ p.size → length xs < size → Stops p (h ++ xs) lack
+    in_definite : {p : HeaderPlace} {n : AsnTag} {size room : ℕ} {h : List ℕ} {o : Outcome} (xs : List ℕ) → Header n true (Some size) h → length h + size ≤ p.size → p.room ≡ suc room
         → StopsInside (within_size size room) (take size xs) o → Stops p (h ++ xs) (behind (length h) o)
-    in_indefinite : {p : Place} {n : Name} {room : ℕ} {h xs : List ℕ} {o : Outcome} → Header n true None h → p.room ≡ suc room
+    in_indefinite : {p : HeaderPlace} {n : AsnTag} {room : ℕ} {h xs : List ℕ} {o : Outcome} → Header n true None h → p.room ≡ suc room
         → StopsInside (within_mark p (length h) room) xs o → Stops p (h ++ xs) (behind (length h) o)
 
-  pub data StopsInside : Place → List ℕ → Outcome → Type 0 where
-    next : {p : Place} {xs : List ℕ} {o : Outcome} → IsHere p → Stops p xs o → StopsInside p xs o
-    later : {p : Place} {e : Element} {xs ys : List ℕ} {o : Outcome} → Spells p.room e xs → length xs ≤ p.size → StopsInside (after p (length xs)) ys o → StopsInside p (xs ++ ys) (behind (length xs) o)
+  pub data StopsInside : HeaderPlace → List ℕ → Outcome → Type 0 where
+    next : {p : HeaderPlace} {xs : List ℕ} {o : Outcome} → IsHere p → Stops p xs o → StopsInside p xs o
+    later : {p : HeaderPlace} {e : Element} {xs ys : List ℕ} {o : Outcome} → Spells p.room e xs → length xs ≤ p.size → StopsInside (after p (length xs)) ys o → StopsInside p (xs ++ ys) (behind (length xs) o)

@@ -1,6 +1,6 @@
 -- What the front of a header says of its octets, and what one more octet makes of it.
 use Rattle.std.specs.Prelude.{◌≡◌, ◌≢◌, ℕ, ◌+◌, ◌^◌, ◌<◌, ◌≤◌, Bool, true, List, [], ◌∷◌, ◌++◌, length}
-use Rattle.zber.specs.declared.fault.Place.{Place}
+use Rattle.zber.specs.declared.fault.HeaderPlace.{HeaderPlace}
 use Rattle.zber.specs.declared.front.Front.{Front}
 use Rattle.zber.specs.declared.front.Front.TheVariants.{Nothing, HalfEnd, Groups, NoLength, SizeOctets}
 use Rattle.zber.specs.declared.front.Step.{Step}
@@ -41,4 +41,4 @@ abbrev pub StepIs : Bool → List ℕ → Step → Type 0
 StepIs marked xs (On front) = FrontIs marked front xs
 StepIs marked xs End = (marked ≡ true) × (xs ≡ 0 ∷ 0 ∷ [])
 StepIs marked xs (Whole n c size) = Header n c size xs
-StepIs marked xs (Bad k) = (p : Place) (rest : List ℕ) → p.marked ≡ marked → HeaderShows p (xs ++ rest) k
+StepIs marked xs (Bad k) = (p : HeaderPlace) (rest : List ℕ) → p.marked ≡ marked → HeaderShows p (xs ++ rest) k

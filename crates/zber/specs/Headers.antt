@@ -3,8 +3,8 @@ use Rattle.std.specs.Prelude.{◌≡◌, ◌≢◌, ℕ, ◌+◌, ◌^◌, ◌<�
 use Rattle.zber.specs.declared.tag.Class.{Class}
 use Rattle.zber.specs.declared.fault.FaultKind.{FaultKind}
 use Rattle.zber.specs.declared.fault.FaultKind.TheVariants as kind
-use Rattle.zber.specs.declared.fault.Place.{Place}
-use Rattle.zber.specs.Names.{Name}
+use Rattle.zber.specs.declared.fault.HeaderPlace.{HeaderPlace}
+use Rattle.zber.specs.AsnTags.{AsnTag}
 use Rattle.zber.specs.Spelling.{groups_from, first, lead, Identifier, Length}
 
 -- groups that go on: each octet has the high bit
@@ -18,10 +18,10 @@ BeginsBadly [] = ⊥
 BeginsBadly (x ∷ xs) = (x ≡ 128) ⊎ (x < 31)
 
 -- a whole header: of a definite length, or of the indefinite one
-pub data Header : Name → Bool → Option ℕ → List ℕ → Type 0 where
-  of_size : {n : Name} {c : Bool} {size : ℕ} {i l : List ℕ}
+pub data Header : AsnTag → Bool → Option ℕ → List ℕ → Type 0 where
+  of_size : {n : AsnTag} {c : Bool} {size : ℕ} {i l : List ℕ}
       → Identifier n c i → Length size l → Header n c (Some size) (i ++ l)
-  of_mark : {n : Name} {i : List ℕ} → Identifier n true i → Header n true None (i ++ (128 ∷ []))
+  of_mark : {n : AsnTag} {i : List ℕ} → Identifier n true i → Header n true None (i ++ (128 ∷ []))
 
 -- the front of a header, with nothing wrong yet; 0 directly within an indefinite element may be half of its end
 pub data IsFront (marked : Bool) : List ℕ → Type 0 where
@@ -29,12 +29,12 @@ pub data IsFront (marked : Bool) : List ℕ → Type 0 where
   half_end : marked ≡ true → IsFront marked (0 ∷ [])
   groups : (class : Class) (c : Bool) (xs : List ℕ)
       → GoOn xs → first xs ≢ 128 → groups_from 0 xs < 2 ^ 32 → IsFront marked (lead class c 31 ∷ xs)
-  no_length : {n : Name} {c : Bool} {i : List ℕ} → Identifier n c i → IsFront marked i
-  short_length : {n : Name} {c : Bool} {i : List ℕ} (k : ℕ) (xs : List ℕ)
+  no_length : {n : AsnTag} {c : Bool} {i : List ℕ} → Identifier n c i → IsFront marked i
+  short_length : {n : AsnTag} {c : Bool} {i : List ℕ} (k : ℕ) (xs : List ℕ)
       → Identifier n c i → k ≤ 8 → length xs < k → IsFront marked (i ++ ((128 + k) ∷ xs))
 
 -- the first fault of a header at the place, in the order in which they are tested
-pub data HeaderShows (p : Place) : List ℕ → FaultKind → Type 0 where
+pub data HeaderShows (p : HeaderPlace) : List ℕ → FaultKind → Type 0 where
   tag_form : (class : Class) (c : Bool) (xs : List ℕ)
       → BeginsBadly xs → HeaderShows p (lead class c 31 ∷ xs) kind.TagForm
   tag_too_large : (class : Class) (c : Bool) (x : ℕ) (fronts xs : List ℕ)
@@ -43,14 +43,14 @@ pub data HeaderShows (p : Place) : List ℕ → FaultKind → Type 0 where
   stray_end : {xs : List ℕ} → p.marked ≡ false → HeaderShows p (0 ∷ xs) kind.StrayEnd
   half_stray_end : {x : ℕ} {xs : List ℕ} → p.marked ≡ true → x ≢ 0 → HeaderShows p (0 ∷ x ∷ xs) kind.StrayEnd
   constructed_end : {xs : List ℕ} → HeaderShows p (32 ∷ xs) kind.StrayEnd
-  length_form : {n : Name} {c : Bool} {i : List ℕ} (x : ℕ) (xs : List ℕ)
+  length_form : {n : AsnTag} {c : Bool} {i : List ℕ} (x : ℕ) (xs : List ℕ)
       → Identifier n c i → 136 < x → HeaderShows p (i ++ (x ∷ xs)) kind.LengthForm
-  indefinite_primitive : {n : Name} {i : List ℕ} (xs : List ℕ)
+  indefinite_primitive : {n : AsnTag} {i : List ℕ} (xs : List ℕ)
       → Identifier n false i → HeaderShows p (i ++ (128 ∷ xs)) kind.IndefinitePrimitive
-  passes : {n : Name} {c : Bool} {size : ℕ} {h : List ℕ} (xs : List ℕ)
+  passes : {n : AsnTag} {c : Bool} {size : ℕ} {h : List ℕ} (xs : List ℕ)
       → Header n c (Some size) h → p.size < length h + size → HeaderShows p (h ++ xs) p.past
   ends : {xs : List ℕ} → IsFront p.marked xs → length xs ≡ p.size → HeaderShows p xs p.past
-  too_deep : {n : Name} {size : ℕ} {h : List ℕ} (xs : List ℕ)
+  too_deep : {n : AsnTag} {size : ℕ} {h : List ℕ} (xs : List ℕ)
       → Header n true (Some size) h → length h + size ≤ p.size → p.room ≡ 0 → HeaderShows p (h ++ xs) kind.TooDeep
-  too_deep_marked : {n : Name} {h : List ℕ} (xs : List ℕ)
+  too_deep_marked : {n : AsnTag} {h : List ℕ} (xs : List ℕ)
       → Header n true None h → p.room ≡ 0 → HeaderShows p (h ++ xs) kind.TooDeep

@@ -1,6 +1,6 @@
 -- A message as its octets come: what is told of its finished elements, and where its open ones stand.
 use Rattle.std.specs.Prelude.{◌≡◌, ℕ, zero, suc, ◌⊎◌, ◌+◌, ◌<◌, ◌≤◌, true, false, Option, Some, None, IfSome, List, [], ◌∷◌, ◌++◌, length, take, drop}
-use Rattle.zber.specs.declared.fault.Place.{Place}
+use Rattle.zber.specs.declared.fault.HeaderPlace.{HeaderPlace}
 use Rattle.zber.specs.declared.fault.FaultKind.TheVariants as kind
 use Rattle.zber.specs.declared.scan.Finished.{Finished}
 use Rattle.zber.specs.declared.scan.Finished.TheVariants.{Prim, Cons}
@@ -9,7 +9,7 @@ use Rattle.zber.specs.declared.scan.Open.{Open}
 use Rattle.zber.specs.declared.scan.Reading.{Reading}
 use Rattle.zber.specs.declared.scan.Reading.TheVariants.{Front, Head, End, Whole}
 use Rattle.zber.specs.declared.scan.Scan.{Scan}
-use Rattle.zber.specs.Names.{Name}
+use Rattle.zber.specs.AsnTags.{AsnTag}
 use Rattle.zber.specs.declared.front.Front.TheVariants.{Nothing}
 use Rattle.zber.specs.Elements.{Element, Forest, end, leaf, branch, forest, prim, cons}
 use Rattle.zber.specs.Spelling.{SpellsAll, IsMessage}
@@ -35,20 +35,20 @@ contents_in (leaf n xs rest) = length xs + contents_in rest
 contents_in (branch n kids rest) = contents_in kids + contents_in rest
 
 -- the window that a place has, behind so many octets
-pub record WindowIs (w : Window) (at : ℕ) (p : Place) : Type 0 where
+pub record WindowIs (w : Window) (at : ℕ) (p : HeaderPlace) : Type 0 where
   pub end_is : w.end ≡ at + p.size
   pub past_is : w.past ≡ p.past
   pub marked_is : w.marked ≡ p.marked
 
 -- Octets lead to a place, through the open elements; these elements are finished and stand in none that is.
-pub data Path (limit : ℕ) : List Open → List ℕ → List Element → Place → Type 0 where
+pub data Path (limit : ℕ) : List Open → List ℕ → List Element → HeaderPlace → Type 0 where
   top : Path limit [] [] [] (start limit)
-  inside : {o : Open} {os : List Open} {xs h ys : List ℕ} {es fs : List Element} {p q : Place}
+  inside : {o : Open} {os : List Open} {xs h ys : List ℕ} {es fs : List Element} {p q : HeaderPlace}
       → Path limit os xs es p → WindowIs o.outer (length xs) p → o.behind ≡ length es
       → Opens p o.tag h q → SpellsAll q.room fs ys → length ys ≤ q.size
       → Path limit (os ++ o ∷ []) (xs ++ (h ++ ys)) (es ++ fs) (after q (length ys))
 
-pub record Going (limit : ℕ) (xs : List ℕ) (s : Scan) (es : List Element) (p : Place) : Type 0 where
+pub record Going (limit : ℕ) (xs : List ℕ) (s : Scan) (es : List Element) (p : HeaderPlace) : Type 0 where
   pub within : s.at ≤ length xs
   pub path : Path limit s.opened.items (take s.at xs) es p
   pub window : WindowIs s.window s.at p
@@ -64,7 +64,7 @@ len_of End = 2
 len_of Whole = 0
 
 -- these octets stand at the place
-abbrev pub ReadingIs : Place → List ℕ → Reading → Type 0
+abbrev pub ReadingIs : HeaderPlace → List ℕ → Reading → Type 0
 ReadingIs p hs (Front front len) = (len ≡ length hs) × FrontIs p.marked front hs × (len ≤ p.size)
 ReadingIs p hs (Head n c size len) =
     (len ≡ length hs)
@@ -84,7 +84,7 @@ pub record IsWhole (limit : ℕ) (xs : List ℕ) (s : Scan) (e : Element) : Type
 
 pub record IsGoing (limit : ℕ) (xs : List ℕ) (s : Scan) (r : Reading) : Type 0 where
   pub es : List Element
-  pub place : Place
+  pub place : HeaderPlace
   pub going : Going limit xs s es place
   pub looked : s.at + len_of r ≤ length xs
   pub reading : ReadingIs place (take (len_of r) (drop s.at xs)) r
@@ -110,18 +110,18 @@ pub record Same (s t : Scan) : Type 0 where
   pub contents : s.contents ≡ t.contents
 
 -- a whole header at the place, whose contents have come
-pub record IsPassed (limit : ℕ) (xs : List ℕ) (s : Scan) (n : Name) (len size : ℕ) : Type 0 where
+pub record IsPassed (limit : ℕ) (xs : List ℕ) (s : Scan) (n : AsnTag) (len size : ℕ) : Type 0 where
   pub es : List Element
-  pub place : Place
+  pub place : HeaderPlace
   pub going : Going limit xs s es place
   pub header : Header n false (Some size) (take len (drop s.at xs))
   pub fits : len + size ≤ place.size
   pub come : s.at + len + size ≤ length xs
 
 -- an element that opens at the place
-pub record IsEntered (limit : ℕ) (xs : List ℕ) (s : Scan) (n : Name) (size : Option ℕ) (len : ℕ) : Type 0 where
+pub record IsEntered (limit : ℕ) (xs : List ℕ) (s : Scan) (n : AsnTag) (size : Option ℕ) (len : ℕ) : Type 0 where
   pub es : List Element
-  pub place : Place
+  pub place : HeaderPlace
   pub going : Going limit xs s es place
   pub header : Header n true size (take len (drop s.at xs))
   pub fits : IfSome size (λ z. len + z ≤ place.size)
@@ -130,16 +130,16 @@ pub record IsEntered (limit : ℕ) (xs : List ℕ) (s : Scan) (n : Name) (size :
   pub come : s.at + len ≤ length xs
 
 -- an element ends at the place, with so many of these octets: where its window does, or by the mark
-abbrev pub EndsBySize : Place → ℕ → Type 0
+abbrev pub EndsBySize : HeaderPlace → ℕ → Type 0
 EndsBySize p len = (len ≡ 0) × (p.marked ≡ false) × (p.size ≡ 0)
 
-abbrev pub EndsByMark : Place → ℕ → List ℕ → Type 0
+abbrev pub EndsByMark : HeaderPlace → ℕ → List ℕ → Type 0
 EndsByMark p len ys = (len ≡ 2) × (p.marked ≡ true) × (2 ≤ p.size) × (take 2 ys ≡ 0 ∷ 0 ∷ [])
 
 -- the innermost open element ends here, with so many octets
 pub record IsClosed (limit : ℕ) (xs : List ℕ) (s : Scan) (len : ℕ) : Type 0 where
   pub es : List Element
-  pub place : Place
+  pub place : HeaderPlace
   pub going : Going limit xs s es place
   pub some_open : 0 < length s.opened.items
   pub come : s.at + len ≤ length xs

@@ -1,11 +1,11 @@
 -- Strings that are cut into segments (X.690, 8.7.3 and 8.23).
 use Rattle.std.specs.Prelude.{Bool, true, ◌&&◌, ℕ, List, [], ◌++◌}
-use Rattle.zber.specs.Names.{Name, universal}
+use Rattle.zber.specs.AsnTags.{AsnTag, universal}
 use Rattle.zber.specs.Elements.{Forest, end, leaf, branch, Element, Primitive, Constructed}
-use Rattle.zber.specs.Productions.Tags.{same_tag}
+use Rattle.zber.specs.Tags.{same_tag}
 
 -- a segment is an OCTET STRING
-abbrev pub is_segment : Name → Bool
+abbrev pub is_segment : AsnTag → Bool
 is_segment tag = same_tag tag (universal 4)
 
 -- all the elements are segments, at any depth

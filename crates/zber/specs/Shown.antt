@@ -1,7 +1,7 @@
 -- The fault that octets show.
 use Rattle.std.specs.Prelude.{◌≡◌, ◌≢◌, ℕ, ◌<◌, List, ◌++◌, length, take}
 use Rattle.zber.specs.declared.fault.FaultKind.{FaultKind}
-use Rattle.zber.specs.declared.fault.Place.{Place}
+use Rattle.zber.specs.declared.fault.HeaderPlace.{HeaderPlace}
 use Rattle.zber.specs.Headers.{HeaderShows}
 use Rattle.zber.specs.Paths.{Reached, IsHere}
 
@@ -10,7 +10,7 @@ use Rattle.zber.specs.Paths.{Reached, IsHere}
 pub record Shows (limit : ℕ) (xs : List ℕ) (k : FaultKind) (at : ℕ) : Type 0 where
   pub front : List ℕ
   pub rest : List ℕ
-  pub place : Place
+  pub place : HeaderPlace
   pub some : 0 < length xs
   pub cut : xs ≡ front ++ rest
   pub at_is : at ≡ length front

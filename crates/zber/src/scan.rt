@@ -1,7 +1,7 @@
 //! A message as its octets come: the elements that are open, and those that are finished.
 ghost use Rattle.std.specs.Prelude.{◌≡◌, ◌≢◌, ◌+◌, ◌-◌, ◌<◌, ◌≤◌, ◌^◌, ◌++◌, ◌∷◌, [], List, ℕ, Bool, true, false, length, take, drop, get_or, min, IfOk, IfErr, OnOk, OnErr, IfSome, Ok, Err, IsTrue, ◌↔◌};
 ghost use Rattle.zber.specs.Elements.{Element};
-ghost use Rattle.zber.specs.declared.fault.Place.{Place};
+ghost use Rattle.zber.specs.declared.fault.HeaderPlace.{HeaderPlace};
 ghost use Rattle.zber.specs.Headers.{Header, HeaderShows};
 ghost use Rattle.zber.specs.Fronts.{FrontIs};
 ghost use Rattle.zber.specs.declared.scan.Reading.TheVariants.{Head, Whole, Front as AtFront};
@@ -10,7 +10,7 @@ ghost use Rattle.zber.specs.Counts.{Looked, IsQuiet, Counts, CountsAtFault, Move
 ghost use Rattle.zber.specs.Moves.{MoveIs, FoundIs, WentOn, StandsAt, pos};
 ghost use Rattle.zber.specs.Scans.{Going, IsGoing, Holds, ReadingIs, behind_reading, inner_window, IsPassed, IsEntered, IsClosed, Same};
 
-use crate::fault::{FaultKind, Place};
+use crate::fault::{FaultKind, HeaderPlace};
 use crate::front::{Front, Step, advance};
 use crate::tag::Tag;
 use std::alloc::{AllocError, Global};
@@ -108,7 +108,7 @@ fn examine(octets: &[u8], at: usize, examined: &mut u64) -> u8
 
 /// What the next octet of a header makes of it.
 #[inline(always)]
-fn look(front: Front, len: usize, place: Place, x: u8) -> Result<Reading, FaultKind>
+fn look(front: Front, len: usize, place: HeaderPlace, x: u8) -> Result<Reading, FaultKind>
     requires { (xs : List ℕ) × FrontIs place.marked front xs × (len ≡ length xs) × (len < place.size) }
     ensures goes { IfOk result (λ r. (xs : List ℕ)
         → FrontIs place.marked front xs → len ≡ length xs → ReadingIs place (xs ++ x ∷ []) r) }
@@ -158,7 +158,7 @@ fn reading_behind(opened: usize) -> Reading
 }
 
 /// Whether an element of definite length ends at a place.
-fn is_at_end(place: Place, len: usize, opened: usize) -> bool
+fn is_at_end(place: HeaderPlace, len: usize, opened: usize) -> bool
     ensures { IsTrue result ↔ ((len ≡ 0) × (place.marked ≡ false) × (place.size ≡ 0) × (0 < opened)) }
 {
     len == 0 && !place.marked && place.size == 0 && opened > 0
@@ -233,13 +233,13 @@ impl Scan {
         self.contents = 0;
     }
 
-    fn place(&self) -> Place
+    fn place(&self) -> HeaderPlace
         requires end { self.now.at ≤ self.now.window.end }
         requires few { length self.now.opened.items ≤ 64 }
-        ensures { (limit : ℕ) (xs : List ℕ) (es : List Element) (p : Place)
+        ensures { (limit : ℕ) (xs : List ℕ) (es : List Element) (p : HeaderPlace)
             → Going limit xs self.now es p → result ≡ p }
     {
-        Place {
+        HeaderPlace {
             size: self.window.end - self.at,
             past: self.window.past,
             marked: self.window.marked,

@@ -1,23 +1,27 @@
--- What two files say together.
-use Rattle.std.proofs.Common.{◌≡◌, ℕ, Bool, false, List, [], ◌++◌, Option, Some, None, Result, Ok, Err, IsTrue, refl, ap, sym, ◌∙◌, subst, inl, inr}
-use Rattle.std.specs.Prelude.{IfSome, Contains}
-use Rattle.std.specs.Io.KnownBytes.{IsAtEnd}
+-- What saved files say together.
+use Rattle.std.proofs.Common.{◌≡◌, ◌∙◌, ℕ, zero, suc, ◌+◌, ◌<◌, Bool, false, List, [], ◌∷◌, ◌++◌, map, take, drop, length, get_or, append_assoc, Option, Some, None, Result, Ok, Err, IsTrue, refl, ap, sym, subst, arith}
+use Rattle.std.specs.Prelude.{IfSome, IfErr, Contains, slice_index_or}
+use Rattle.std.specs.Borrow.{Bor}
 use Rattle.std.proofs.KnownBytes.{Keeps-refl}
+use Rattle.std.proofs.lemmas.List.{take_more, take-append-drop, map-append}
 use Rattle.zknow.specs.declared.fact.Fact.{Fact}
 use Rattle.zknow.specs.declared.fact.Mode.{Mode}
 use Rattle.zknow.specs.Facts.{AreFacts}
-use Rattle.zknow.specs.Join.{IsUnion}
-use Rattle.zknow.specs.Listing.{listing}
-use Rattle.zknow.specs.Saved.{IsSaved}
-use Rattle.zknow.specs.declared.loading.LoadError.{LoadError}
-use Rattle.zknow.specs.declared.loading.LoadError.TheVariants as loads
-use Rattle.zknow.specs.Loaded.{IsFault}
-use Rattle.zcommands.specs.Faults.{of_load, end_status}
-use Rattle.zcommands.specs.Join.{IsSavedFile, Loads, AreJoined, DoNamesDiffer, LoadsBoth, IsKnownStatus, IsListOf, PutsList, Joins, JoinsKnown, IsInOrder, IsInTurn, IsOfReading, IsUnwritten, DoesJoin}
-use Rattle.zcommands.specs.Devices.{Device, Stays, TellsAnswer}
+use Rattle.zknow.specs.Tables.Join.{IsUnion}
+use Rattle.zknow.specs.List.Listing.{listing}
+use Rattle.zknow.specs.declared.saved.loading.LoadError.{LoadError}
+use Rattle.zknow.specs.declared.saved.loading.LoadError.TheVariants as loads
+use Rattle.zknow.specs.Saved.Loaded.{IsFault}
+use Rattle.zcommands.specs.Faults.{of_load}
+use Rattle.zcommands.specs.Join.{Loads, IsOfFile, IsSavedAt, IsFaultAt, LoadsAt, HasOtherNames, Absorbs, AreJoined, IsRefusedAmong, AbsorbsAll, LoadsAll, IsListOf, IsKnownStatus, PutsList, Joins}
+use Rattle.zcommands.specs.Join.AreJoined.{one, more}
+use Rattle.zcommands.specs.Join.IsRefusedAmong.{first, later, differs}
+use Rattle.zcommands.specs.Devices.{Device, Stays}
 use Rattle.zcommands.specs.declared.fault.Fault.{Fault}
 use Rattle.zcommands.specs.declared.fault.Status.{Status}
 use Rattle.zcommands.specs.declared.fault.Fault.TheVariants.{Read, Write, NotKnowledge, NotCanonical, NamesDiffer, Memory}
+
+-- ---- one file
 
 -- a file that is refused
 refused : (file : List ℕ) (e : LoadError) → IsFault file e → Loads file (Err (of_load e))
@@ -25,83 +29,189 @@ refused file (loads.NotKnowledge at) h = h
 refused file (loads.NotCanonical at) h = h
 refused file loads.Memory h = tt
 
-pub load_refused : (p : Option (List ℕ)) (octets : List ℕ) (e : LoadError) (f : Fault) (r : Result (List Fact × List (List ℕ)) Fault) → r ≡ Err f → f ≡ of_load e → IfSome p (λ xs. octets ≡ xs) → IsFault octets e → IfSome p (λ file. Loads file r)
+pub load_refused : (p : Option (List ℕ)) (octets : List ℕ) (e : LoadError) (f : Fault)
+    (r : Result (List Fact × List (List ℕ)) Fault) → r ≡ Err f → f ≡ of_load e → IfSome p (λ xs. octets ≡ xs)
+    → IsFault octets e → IfSome p (λ file. Loads file r)
 load_refused None octets e f r is of whole fault = tt
-load_refused (Some file) octets e f r is of whole fault = rw (is, of) (refused file e (subst (λ l. IsFault l e) whole fault))
+load_refused (Some file) octets e f r is of whole fault =
+    rw (is, of) (refused file e (subst (λ l. IsFault l e) whole fault))
 
--- two saved files of different names
-pub names_differ : (p q : Option (List ℕ)) (names others : List (List ℕ)) (mine theirs : List Fact) (same : Bool) → IfSome p (λ a. IsSaved names mine a) → IfSome q (λ b. IsSaved others theirs b) → (names ≡ others → IsTrue same) → same ≡ false
-    → IfSome p (λ a. IfSome q (λ b. DoNamesDiffer a b))
-names_differ None q names others mine theirs same first second test is = tt
-names_differ (Some a) None names others mine theirs same first second test is = tt
-names_differ (Some a) (Some b) names others mine theirs same first second test is =
-    record { names = names; others = others; mine = mine; theirs = theirs; first = first; second = second; differ = λ e. let passed = test e in absurd cc }
+fault_at : (octets : List ℕ → Option (List ℕ)) (path : List ℕ) (k : Option (List ℕ)) (f : Fault) → k ≡ octets path
+    → IfSome k (λ file. Loads file (Err f)) → IsOfFile path f → IsFaultAt octets path f
+fault_at octets path k (Read told) same loaded of = of
+fault_at octets path k (NotKnowledge at) same loaded of = subst (λ z. IfSome z (λ file. Loads file (Err (NotKnowledge at)))) same loaded
+fault_at octets path k (NotCanonical at) same loaded of = subst (λ z. IfSome z (λ file. Loads file (Err (NotCanonical at)))) same loaded
+fault_at octets path k Memory same loaded of = tt
+fault_at octets path k f same loaded of = absurd of
 
--- two saved files of the same names
-pub both_joined : (p q : Option (List ℕ)) (names others : List (List ℕ)) (mine theirs facts : List Fact) → IfSome p (λ a. IsSaved names mine a) → IfSome q (λ b. IsSaved others theirs b) → names ≡ others
-    → AreFacts facts → IsUnion (Contains mine) (Contains theirs) (Contains facts) → IfSome p (λ a. IfSome q (λ b. AreJoined a b names facts))
-both_joined None q names others mine theirs facts first second same ordered union = tt
-both_joined (Some a) None names others mine theirs facts first second same ordered union = tt
-both_joined (Some a) (Some b) names others mine theirs facts first second same ordered union =
-    record { mine = mine; theirs = theirs; first = first; second = subst (λ z. IsSaved z theirs b) (sym same) second; ordered = ordered; union = union }
+-- the file at a path
+pub loads_at : (octets : List ℕ → Option (List ℕ)) (path told : List ℕ) (k : Option (List ℕ))
+    (r : Result (List Fact × List (List ℕ)) Fault) → k ≡ octets path → told ≡ path
+    → IfSome k (λ file. Loads file r) → IfErr r (λ f. IsOfFile told f) → LoadsAt octets path r
+loads_at octets path told k (Ok r) same at loaded of = subst (λ z. IfSome z (λ file. Loads file (Ok r))) same loaded
+loads_at octets path told k (Err f) same at loaded of =
+    fault_at octets path k f same loaded (subst (λ z. IsOfFile z f) at of)
+
+-- ---- one file more
+
+absorbs_not : (octets : List ℕ → Option (List ℕ)) (names : List (List ℕ)) (path : List ℕ) (old new : List Fact) (f : Fault)
+    → IsFaultAt octets path f → Absorbs octets names path old new (Err f)
+absorbs_not octets names path old new (Read told) h = h
+absorbs_not octets names path old new (NotKnowledge at) h = h
+absorbs_not octets names path old new (NotCanonical at) h = h
+absorbs_not octets names path old new Memory h = h
+absorbs_not octets names path old new f h = absurd h
+
+-- it is refused
+pub absorb_refused : (octets : List ℕ → Option (List ℕ)) (names : List (List ℕ)) (path : List ℕ) (old new : List Fact)
+    (g f : Fault) (r : Result (Unit {0}) Fault) → r ≡ Err f → f ≡ g → IsFaultAt octets path g
+    → Absorbs octets names path old new r
+absorb_refused octets names path old new g f r is of h = rw (is, of) (absorbs_not octets names path old new g h)
+
+-- it has other names
+pub names_differ : (octets : List ℕ → Option (List ℕ)) (names others : List (List ℕ)) (path : List ℕ) (theirs : List Fact)
+    (same : Bool) → IsSavedAt octets path others theirs → (names ≡ others → IsTrue same) → same ≡ false
+    → HasOtherNames octets names path
+names_differ octets names others path theirs same saved test is =
+    record { others = others; facts = theirs; saved = saved; differ = λ e. let passed = test e in absurd cc }
+
+-- it has the same names
+pub absorbed : (octets : List ℕ → Option (List ℕ)) (names others : List (List ℕ)) (path : List ℕ) (old theirs new : List Fact)
+    → IsSavedAt octets path others theirs → names ≡ others → AreFacts new
+    → IsUnion (Contains old) (Contains theirs) (Contains new) → Absorbs octets names path old new (Ok tt)
+absorbed octets names others path old theirs new saved same ordered union =
+    (theirs, subst (λ z. IsSavedAt octets path z theirs) (sym same) saved, ordered, union)
+
+-- ---- all files
+
+abbrev pub paths_of : List (Bor (List ℕ)) → List (List ℕ)
+paths_of others = map (λ path. path.now) others
+
+until : (others : List (Bor (List ℕ))) (i : ℕ) (p : Bor (List ℕ)) → i < length others → p ≡ get_or others i p
+    → take (i + 1) others ≡ take i others ++ p ∷ []
+until others i p lt is = take_more others i p lt ∙ ap (λ z. take i others ++ z ∷ []) (sym is)
+
+pub joined_more : (octets : List ℕ → Option (List ℕ)) (names before : List (List ℕ)) (others : List (Bor (List ℕ)))
+    (i : ℕ) (p : Bor (List ℕ)) (old new : List Fact) → i < length others → p ≡ get_or others i p
+    → AreJoined octets names (before ++ paths_of (take i others)) old → Absorbs octets names p.now old new (Ok tt)
+    → AreJoined octets names (before ++ paths_of (take (i + 1) others)) new
+joined_more octets names before others i p old new lt is joined a =
+    let to : paths_of (take (i + 1) others) ≡ paths_of (take i others) ++ p.now ∷ [] =
+    ap paths_of (until others i p lt is) ∙ map-append (λ (path : Bor (List ℕ)). path.now) (take i others) (p ∷ []) in
+    let at : (before ++ paths_of (take i others)) ++ p.now ∷ [] ≡ before ++ paths_of (take (i + 1) others) =
+    append_assoc before (paths_of (take i others)) (p.now ∷ []) ∙ ap (λ z. before ++ z) (sym to) in
+    subst (λ z. AreJoined octets names z new) at (more p.now old a.0 joined a.1 a.2 a.3)
+
+split : (others : List (Bor (List ℕ))) (i : ℕ) (p : Bor (List ℕ)) → i < length others → p ≡ get_or others i p
+    → paths_of others ≡ paths_of (take i others) ++ p.now ∷ paths_of (drop (i + 1) others)
+split others i p lt is =
+    ap paths_of (sym (take-append-drop (i + 1) others))
+    ∙ map-append (λ (path : Bor (List ℕ)). path.now) (take (i + 1) others) (drop (i + 1) others)
+    ∙ ap (λ z. z ++ paths_of (drop (i + 1) others)) (ap paths_of (until others i p lt is)
+    ∙ map-append (λ (path : Bor (List ℕ)). path.now) (take i others) (p ∷ []))
+    ∙ append_assoc (paths_of (take i others)) (p.now ∷ []) (paths_of (drop (i + 1) others))
+
+among : (octets : List ℕ → Option (List ℕ)) (names : List (List ℕ)) (paths : List (List ℕ)) (path : List ℕ)
+    (rest : List (List ℕ)) (old new : List Fact) (f : Fault) → AreJoined octets names paths old
+    → Absorbs octets names path old new (Err f) → IsRefusedAmong octets (paths ++ path ∷ rest) f
+among octets names paths path rest old new (Read told) joined a = later paths names rest old path joined a
+among octets names paths path rest old new (NotKnowledge at) joined a = later paths names rest old path joined a
+among octets names paths path rest old new (NotCanonical at) joined a = later paths names rest old path joined a
+among octets names paths path rest old new Memory joined a = later paths names rest old path joined a
+among octets names paths path rest old new NamesDiffer joined a = differs paths names rest old path joined a
+among octets names paths path rest old new f joined a = absurd a
+
+-- one of them is refused
+pub other_refused : (octets : List ℕ → Option (List ℕ)) (names before : List (List ℕ)) (others : List (Bor (List ℕ)))
+    (i : ℕ) (p : Bor (List ℕ)) (old new : List Fact) (f : Fault) → i < length others → p ≡ get_or others i p
+    → AreJoined octets names (before ++ paths_of (take i others)) old → Absorbs octets names p.now old new (Err f)
+    → IsRefusedAmong octets (before ++ paths_of others) f
+other_refused octets names before others i p old new f lt is joined a =
+    let at : (before ++ paths_of (take i others)) ++ p.now ∷ paths_of (drop (i + 1) others) ≡ before ++ paths_of others =
+    append_assoc before (paths_of (take i others)) (p.now ∷ paths_of (drop (i + 1) others))
+    ∙ ap (λ z. before ++ z) (sym (split others i p lt is)) in
+    subst (λ z. IsRefusedAmong octets z f) at
+        (among octets names (before ++ paths_of (take i others)) p.now (paths_of (drop (i + 1) others)) old new f joined a)
+
+pub all_refused : (octets : List ℕ → Option (List ℕ)) (names : List (List ℕ)) (others : List (Bor (List ℕ)))
+    (old was now : List Fact) (i : ℕ) (p : Bor (List ℕ)) (g f : Fault) (r : Result (Unit {0}) Fault) → r ≡ Err f → f ≡ g
+    → i < length others → p ≡ get_or others i p
+    → ((before : List (List ℕ)) → AreJoined octets names before old
+        → AreJoined octets names (before ++ paths_of (take i others)) was)
+    → Absorbs octets names p.now was now (Err g) → AbsorbsAll octets names (paths_of others) old now r
+all_refused octets names others old was now i p g f r is of lt at so a =
+    rw (is, of) (λ before joined. other_refused octets names before others i p was now g lt at (so before joined) a)
+
+-- the element at a place within the list is there, whatever stands for one past its end
+pub in_place : {X : Type 0} (xs : List X) (i : ℕ) (d : X) → i < length xs
+    → slice_index_or xs i d ≡ get_or xs i (slice_index_or xs i d)
+in_place [] i d lt = absurd (omega arith)
+in_place (x ∷ xs) zero d lt = refl
+in_place (x ∷ xs) (suc i) d lt = in_place xs i d (omega (arith, lt))
+
+-- one behind the first is
+pub rest_refused : (octets : List ℕ → Option (List ℕ)) (names : List (List ℕ)) (path : List ℕ) (rest : List (List ℕ))
+    (old new : List Fact) (g f : Fault) (r : Result (List Fact × List (List ℕ)) Fault) → r ≡ Err f → f ≡ g
+    → IsSavedAt octets path names old → AbsorbsAll octets names rest old new (Err g) → LoadsAll octets (path ∷ rest) r
+rest_refused octets names path rest old new g f r is of saved h = rw (is, of) (h (path ∷ []) (one path saved))
+
+-- the first is
+pub first_refused : (octets : List ℕ → Option (List ℕ)) (path : List ℕ) (rest : List (List ℕ)) (g f : Fault)
+    (r : Result (List Fact × List (List ℕ)) Fault) → r ≡ Err f → f ≡ g → IsFaultAt octets path g
+    → LoadsAll octets (path ∷ rest) r
+first_refused octets path rest g f r is of h = rw (is, of) (first path rest h)
+
+-- ---- what is printed
 
 kept : (s : Device) → Stays s s
 kept s = record { kept = Keeps-refl s.known; path = refl; sound = refl }
 
--- nothing is printed of files that are refused
-told : (mode : Mode) (f : Fault) (old : Device) (a b : List ℕ) → LoadsBoth a b (Err f) → Joins mode a b old old (Err f)
-told mode (NotKnowledge at) old a b h = (h, kept old)
-told mode (NotCanonical at) old a b h = (h, kept old)
-told mode NamesDiffer old a b h = (h, kept old)
-told mode (Read path) old a b h = kept old
-told mode Memory old a b h = kept old
-told mode f old a b h = absurd h
+-- no fault of the files is one of the stream that is written
+abbrev IsOfReading : Fault → Type 0
+IsOfReading (Write told) = ⊥
+IsOfReading _ = Unit {0}
 
-pub join_refused : (p q : Option (List ℕ)) (mode : Mode) (old : Device) (g f : Fault) (r : Result Status Fault) → r ≡ Err f → f ≡ g → IfSome p (λ a. IfSome q (λ b. LoadsBoth a b (Err g))) → JoinsKnown mode p q old old r
-join_refused None q mode old g f r is of h = tt
-join_refused (Some a) None mode old g f r is of h = tt
-join_refused (Some a) (Some b) mode old g f r is of h = rw (is, of) (told mode g old a b h)
+at_reading : (octets : List ℕ → Option (List ℕ)) (path : List ℕ) (f : Fault) → IsFaultAt octets path f → IsOfReading f
+at_reading octets path (Read told) h = tt
+at_reading octets path (NotKnowledge at) h = tt
+at_reading octets path (NotCanonical at) h = tt
+at_reading octets path Memory h = tt
+at_reading octets path f h = absurd h
 
--- the list of files that are joined is written, or a front of it
-put_joined : (mode : Mode) (a b : List ℕ) (facts : List Fact) (text : List ℕ) (old new : Device) (status : Status) (r : Result Status Fault) → IsListOf mode a b facts text → IsKnownStatus facts status → PutsList text status old new r → Joins mode a b old new r
-put_joined mode a b facts text old new status (Ok s) l k p = (facts, text, l, subst (IsKnownStatus facts) (sym p.0) k, p.1)
-put_joined mode a b facts text old new status (Err (Write told)) l k p = (facts, text, l, p.1)
-put_joined mode a b facts text old new status (Err f) l k p = absurd p
+no_write : (octets : List ℕ → Option (List ℕ)) (paths : List (List ℕ)) (f : Fault) → IsRefusedAmong octets paths f
+    → IsOfReading f
+no_write octets paths f (first p rest fault) = at_reading octets p f fault
+no_write octets paths f (later before names rest facts p joined fault) = at_reading octets p f fault
+no_write octets paths f (differs before names rest facts p joined other) = tt
 
-pub join_done : (p q : Option (List ℕ)) (mode : Mode) (names : List (List ℕ)) (known : List Fact) (old new : Device) (start text octets : List ℕ) (status : Status) (r : Result Status Fault) → IfSome p (λ a. IfSome q (λ b. AreJoined a b names known)) → IsKnownStatus known status
-    → start ≡ [] → text ≡ start ++ listing names mode known → octets ≡ text → PutsList octets status old new r → JoinsKnown mode p q old new r
-join_done None q mode names known old new start text octets status r joined is s t o w = tt
-join_done (Some a) None mode names known old new start text octets status r joined is s t o w = tt
-join_done (Some a) (Some b) mode names known old new start text octets status r joined is s t o w =
-    put_joined mode a b known octets old new status r (names, joined, o ∙ t ∙ ap (λ z. z ++ listing names mode known) s) is w
+told : (mode : Mode) (octets : List ℕ → Option (List ℕ)) (paths : List (List ℕ)) (f : Fault) (old : Device)
+    → IsRefusedAmong octets paths f → Joins mode octets paths old old (Err f)
+told mode octets paths (Read path) old h = (h, kept old)
+told mode octets paths (NotKnowledge at) old h = (h, kept old)
+told mode octets paths (NotCanonical at) old h = (h, kept old)
+told mode octets paths NamesDiffer old h = (h, kept old)
+told mode octets paths Memory old h = kept old
+told mode octets paths (Write path) old h = absurd (no_write octets paths (Write path) h)
+told mode octets paths f old h = (h, kept old)
 
--- a stream that is told to be unwritable is the one that was written
-pub list_unwritten : (text : List ℕ) (status : Status) (old new : Device) (r : Result Status Fault) → PutsList text status old new r → IsUnwritten new r
-list_unwritten text status old new (Ok s) p = tt
-list_unwritten text status old new (Err (Write told)) p = (p.0 ∙ sym p.1.path, p.1.failed)
-list_unwritten text status old new (Err f) p = absurd p
+pub join_refused : (mode : Mode) (octets : List ℕ → Option (List ℕ)) (paths : List (List ℕ)) (old : Device) (g f : Fault)
+    (r : Result Status Fault) → r ≡ Err f → f ≡ g → IsRefusedAmong octets paths g → Joins mode octets paths old old r
+join_refused mode octets paths old g f r is of h = rw (is, of) (told mode octets paths g old h)
 
-no_write : (output : Device) (f : Fault) → IsOfReading f → IsUnwritten output (Err f)
-no_write output (Write told) h = absurd h
-no_write output f h = tt
+-- the list is written, or a front of it
+put_joined : (mode : Mode) (octets : List ℕ → Option (List ℕ)) (paths : List (List ℕ)) (facts : List Fact) (text : List ℕ)
+    (old new : Device) (status : Status) (r : Result Status Fault) → IsListOf octets mode paths facts text
+    → IsKnownStatus facts status → PutsList text status old new r → Joins mode octets paths old new r
+put_joined mode octets paths facts text old new status (Ok s) l k p =
+    (facts, text, l, subst (IsKnownStatus facts) (sym p.0) k, p.1)
+put_joined mode octets paths facts text old new status (Err (Write told)) l k p = (facts, text, l, p)
+put_joined mode octets paths facts text old new status (Err f) l k p = absurd p
 
-pub read_unwritten : (output : Device) (g f : Fault) (r : Result Status Fault) → r ≡ Err f → f ≡ g → IsOfReading g → IsUnwritten output r
-read_unwritten output g f r is of h = rw (is, of) (no_write output g h)
-
--- where the list is put the first file was read to its end
-pub put_in_turn : (unread : Type 0) (one first two second : Device) (text : List ℕ) (status : Status) (old new : Device) (r : Result Status Fault) → IfSome one.known IsSavedFile → IsAtEnd first.known → PutsList text status old new r → IsInTurn unread one first two second r
-put_in_turn unread one first two second text status old new (Ok s) m e p = inr (m, e, tt)
-put_in_turn unread one first two second text status old new (Err (Write told)) m e p = inr (m, e, (tt, tt))
-put_in_turn unread one first two second text status old new (Err f) m e p = absurd p
-
-in_order : {A : Type 0} (unread : Type 0) (one first two second : Device) (answer : Result A Fault) → IsInTurn unread one first two second answer → IsInOrder one.path two.path one.known answer
-in_order unread one first two second (Ok v) h = elim h [ inl p ↦ absurd p.0 | inr q ↦ inr (q.0, tt) ]
-in_order unread one first two second (Err f) h = elim h [ inl p ↦ inl p.0.0 | inr q ↦ inr (q.0, q.2.0) ]
-
--- the same of files by their names
-pub order_named : (unread : Type 0) (f g s t : Device) (answer : Result Status Fault) (one two : List ℕ) (a : Option (List ℕ)) → f.path ≡ one → s.path ≡ two → f.known ≡ a → IsInTurn unread f g s t answer → IsInOrder one two a answer
-order_named unread f g s t answer one two a p q m h =
-    subst (λ z. IsInOrder one two z answer) m (subst (λ z. IsInOrder one z f.known answer) q (subst (λ z. IsInOrder z s.path f.known answer) p (in_order unread f g s t answer h)))
-
-pub known_named : (k l a b : Option (List ℕ)) (mode : Mode) (output printed : Device) (answer : Result Status Fault) → k ≡ a → l ≡ b → JoinsKnown mode k l output printed answer → JoinsKnown mode a b output printed answer
-known_named k l a b mode output printed answer m n h = subst (λ z. JoinsKnown mode z b output printed answer) m (subst (λ z. JoinsKnown mode k z output printed answer) n h)
+pub join_done : (mode : Mode) (octets : List ℕ → Option (List ℕ)) (paths names : List (List ℕ)) (known : List Fact)
+    (old new : Device) (start text written : List ℕ) (status : Status) (r : Result Status Fault)
+    → AreJoined octets names paths known → IsKnownStatus known status → start ≡ []
+    → text ≡ start ++ listing names mode known → written ≡ text → PutsList written status old new r
+    → Joins mode octets paths old new r
+join_done mode octets paths names known old new start text written status r joined is s t o w =
+    put_joined mode octets paths known written old new status r
+    (names, joined, o ∙ t ∙ ap (λ z. z ++ listing names mode known) s) is w

@@ -4,12 +4,12 @@ use Rattle.zber.specs.Elements.{Element}
 use Rattle.zasn.specs.declared.error.BuildError.{BuildError}
 use Rattle.zasn.specs.declared.error.BuildError.TheVariants as builds
 use Rattle.zasn.specs.Answers.{IsWritten}
-use Rattle.zquery.specs.declared.print.PrintError.{PrintError}
-use Rattle.zquery.specs.declared.print.PrintError.TheVariants as prints
+use Rattle.zquery.specs.declared.notation.print.PrintError.{PrintError}
+use Rattle.zquery.specs.declared.notation.print.PrintError.TheVariants as prints
 use Rattle.zquery.specs.Trees.{RpnQuery}
-use Rattle.zquery.specs.Printing.{printable}
-use Rattle.zquery.specs.Type1.{WritesQuery}
-use Rattle.zquery.specs.Laws.{TextPrintable, TextSpellable}
+use Rattle.zquery.specs.Notation.Printing.{printable}
+use Rattle.zquery.specs.Element.Type1.{WritesQuery}
+use Rattle.zquery.specs.Notation.Laws.{TextPrintable, TextSpellable}
 use Rattle.zcommands.specs.Pqf.{IsQueryOf}
 
 memory_or_no_text : (q : RpnQuery) (r : Result (Unit {0}) PrintError) → printable q ≡ true → (r ≡ Err prints.NotPrintable → printable q ≡ false) → IfErr r (λ e. e ≡ prints.Memory)

@@ -4,7 +4,7 @@ use Rattle.zber.specs.declared.fault.FaultKind.{FaultKind}
 use Rattle.zber.specs.declared.fault.FaultKind.TheVariants as kinds
 use Rattle.zber.specs.declared.fault.FrameError.{FrameError}
 use Rattle.zber.specs.declared.fault.FrameError.TheVariants as frames
-use Rattle.zber.specs.Names.{Name}
+use Rattle.zber.specs.AsnTags.{AsnTag}
 use Rattle.zber.specs.Elements.{Element}
 use Rattle.zber.specs.Spelling.{Identifier, low, high, Spells, primitive, definite, indefinite, Begins}
 use Rattle.zber.specs.Shown.{Shows}
@@ -23,7 +23,7 @@ use Rattle.zcommands.specs.Devices.{Device, Gains, Stops, FailsPut, IsOfStream}
 use Rattle.zcommands.specs.declared.fault.Fault.{Fault}
 use Rattle.zcommands.specs.declared.fault.Fault.TheVariants.{Read, Write, Hex, Frame, Memory}
 
-identifier_some : {n : Name} {c : Bool} {i : List ℕ} (x : List ℕ) → Identifier n c i → 0 < length (i ++ x)
+identifier_some : {n : AsnTag} {c : Bool} {i : List ℕ} (x : List ℕ) → Identifier n c i → 0 < length (i ++ x)
 identifier_some x (low t p) = omega arith
 identifier_some x (high t p g) = omega arith
 

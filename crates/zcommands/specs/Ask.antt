@@ -1,18 +1,17 @@
 -- What `ask` prints of a world file, what it tells, and how it ends.
-use Rattle.std.specs.Prelude.{◌≡◌, ◌⊎◌, ℕ, List, Option, Result, Ok, Err, IfSome}
+use Rattle.std.specs.Prelude.{◌⊎◌, ℕ, List, Result, Ok, Err}
 use Rattle.zknow.specs.declared.fact.Mode.{Mode}
 use Rattle.zworld.specs.declared.world.World.{World}
 use Rattle.zworld.specs.declared.enquiry.Enquiry.{Enquiry}
 use Rattle.zworld.specs.Worlds.{IsWorld, IsRefused}
 use Rattle.zworld.specs.Enquiries.{IsEnquiry, IsOfFirstTarget}
 use Rattle.znet.specs.Asking.{IsAsked}
-use Rattle.zcommands.specs.Faults.{end_status}
-use Rattle.zcommands.specs.Devices.{Device, TellsAnswer}
+use Rattle.zcommands.specs.Devices.{Device}
 use Rattle.zcommands.specs.declared.fault.Fault.{Fault}
 use Rattle.zcommands.specs.declared.fault.Fault.TheVariants.{Read, Line, Memory}
 use Rattle.zcommands.specs.declared.fault.Status.{Status}
 use Rattle.zcommands.specs.declared.finished.Finished.{Finished}
-use Rattle.zcommands.specs.Finished.{asker, IsListed, Concludes, IsOfPaths}
+use Rattle.zcommands.specs.Finished.{asker, IsListed, Concludes, Command, DoesAnswer}
 
 -- ---- the world of a file
 
@@ -62,8 +61,5 @@ AsksHosts mode file output printed errors told answer =
     Concludes (AreAsked mode file) (IsLineUnasked file) ⊥ output printed errors told answer
 
 -- what `ask` does with the world file at a path: what it writes and tells, and its status
-abbrev pub DoesAsk
-    : Mode → List ℕ → Option (List ℕ) → Option (List ℕ) → Device → Device → Device → Device → Status → Type 0
-DoesAsk mode world saved file output printed errors told status = (answer : Result Status Fault) × (between : Device)
-    × (status ≡ end_status answer) × IfSome file (λ octets. AsksHosts mode octets output printed errors between answer)
-    × IsOfPaths world saved printed answer × TellsAnswer between told answer
+abbrev pub DoesAsk : Mode → Command
+DoesAsk mode = DoesAnswer (AsksHosts mode)

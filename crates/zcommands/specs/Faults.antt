@@ -9,15 +9,15 @@ use Rattle.zapdu.specs.declared.apdu.ApduError.{ApduError}
 use Rattle.zapdu.specs.declared.apdu.ApduError.TheVariants as apdus
 use Rattle.zasn.specs.declared.error.BuildError.{BuildError}
 use Rattle.zasn.specs.declared.error.BuildError.TheVariants as builds
-use Rattle.zquery.specs.declared.error.PqfError.{PqfError}
-use Rattle.zquery.specs.Errors.{kind_word as query_word}
-use Rattle.zquery.specs.declared.error.PqfErrorKind.{PqfErrorKind}
-use Rattle.zquery.specs.declared.error.PqfErrorKind.TheVariants as queries
-use Rattle.zquery.specs.declared.print.PrintError.{PrintError}
-use Rattle.zquery.specs.declared.print.PrintError.TheVariants as prints
-use Rattle.zknow.specs.declared.loading.LoadError.{LoadError}
-use Rattle.zknow.specs.declared.loading.LoadError.TheVariants as loads
-use Rattle.zknow.specs.Refusals.{load_word}
+use Rattle.zquery.specs.declared.notation.error.PqfError.{PqfError}
+use Rattle.zquery.specs.Notation.Errors.{kind_word as query_word}
+use Rattle.zquery.specs.declared.notation.error.PqfErrorKind.{PqfErrorKind}
+use Rattle.zquery.specs.declared.notation.error.PqfErrorKind.TheVariants as queries
+use Rattle.zquery.specs.declared.notation.print.PrintError.{PrintError}
+use Rattle.zquery.specs.declared.notation.print.PrintError.TheVariants as prints
+use Rattle.zknow.specs.declared.saved.loading.LoadError.{LoadError}
+use Rattle.zknow.specs.declared.saved.loading.LoadError.TheVariants as loads
+use Rattle.zknow.specs.Saved.Refusals.{load_word}
 use Rattle.zworld.specs.declared.world.WorldError.{WorldError}
 use Rattle.zworld.specs.declared.world.WorldError.TheVariants as worlds
 use Rattle.znet.specs.declared.service.ServeError.{ServeError}

@@ -1,11 +1,11 @@
 -- What is known once all was asked: what is printed, told and saved of it, and how the command ends.
 use Rattle.std.specs.Prelude.{◌≡◌, ◌⊎◌, ℕ, ◌+◌, ◌<◌, ◌^◌, Bool, true, false, not, ◌||◌, List, [], ◌∷◌, ◌++◌, length}
-use Rattle.std.specs.Prelude.{codes, Option, Some, None, Result, Ok, Err, IfSome}
+use Rattle.std.specs.Prelude.{codes, Option, Some, Result, Ok, Err, IfSome}
 use Rattle.zapdu.specs.Text.{quoted}
 use Rattle.zknow.specs.declared.fact.Mode.{Mode}
 use Rattle.zknow.specs.Known.{HasFailed}
-use Rattle.zknow.specs.Listing.{listing}
-use Rattle.zknow.specs.Saved.{IsSaved}
+use Rattle.zknow.specs.List.Listing.{listing}
+use Rattle.zknow.specs.Saved.Saved.{IsSaved}
 use Rattle.zoom.specs.declared.state.State.{State}
 use Rattle.zoom.specs.declared.state.State.TheVariants as states
 use Rattle.zoom.specs.Reasons.{reason_word}
@@ -153,3 +153,16 @@ IsOfPaths world saved printed (Err (Read told)) = told.now ≡ world
 IsOfPaths world saved printed (Err (Write told)) =
     ((told.now ≡ printed.path) × (printed.has_failed ≡ true)) ⊎ (saved ≡ Some told.now)
 IsOfPaths world saved printed _ = Unit {0}
+
+-- what a command does with the world file at a path, of these octets, and where it is to save: what it writes and tells,
+-- and its status
+abbrev pub Command : Type 1
+Command = List ℕ → Option (List ℕ) → Option (List ℕ) → Device → Device → Device → Device → Status → Type 0
+
+-- it does what its answer says of the file, and tells the fault that stopped it
+abbrev pub DoesAnswer
+    : (List ℕ → Device → Device → Device → Device → Result Status Fault → Type 0) → Command
+DoesAnswer says world saved file output printed errors told status = (answer : Result Status Fault)
+    × (between : Device) × (status ≡ end_status answer)
+    × IfSome file (λ octets. says octets output printed errors between answer)
+    × IsOfPaths world saved printed answer × TellsAnswer between told answer

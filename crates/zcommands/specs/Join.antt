@@ -1,28 +1,24 @@
--- What `join` prints of two saved files.
-use Rattle.std.specs.Prelude.{◌≡◌, ◌≢◌, ◌⊎◌, ℕ, true, List, Contains, Option, IfSome}
-use Rattle.std.specs.Prelude.{Result, Ok, Err, MatchResult, IfErr}
-use Rattle.std.specs.Io.KnownBytes.{IsAtEnd}
+-- What `join` prints of saved files.
+use Rattle.std.specs.Prelude.{◌≡◌, ◌≢◌, ℕ, List, [], ◌∷◌, ◌++◌, Contains, Option, IfSome, Result, Ok, Err, MatchResult}
 use Rattle.zknow.specs.declared.fact.Fact.{Fact}
 use Rattle.zknow.specs.declared.fact.Mode.{Mode}
 use Rattle.zknow.specs.Facts.{AreFacts}
-use Rattle.zknow.specs.Join.{IsUnion}
+use Rattle.zknow.specs.Tables.Join.{IsUnion}
 use Rattle.zknow.specs.Known.{HasFailed}
-use Rattle.zknow.specs.Listing.{listing}
-use Rattle.zknow.specs.Saved.{IsSaved}
-use Rattle.zknow.specs.Loaded.{IsNotKnowledge, IsNotCanonical}
+use Rattle.zknow.specs.List.Listing.{listing}
+use Rattle.zknow.specs.Saved.Saved.{IsSaved}
+use Rattle.zknow.specs.Saved.Loaded.{IsNotKnowledge, IsNotCanonical}
 use Rattle.zcommands.specs.Faults.{end_status}
-use Rattle.zcommands.specs.Devices.{Device, Stays, Gains, Stops, FailsPut, TellsAnswer}
+use Rattle.zcommands.specs.Devices.{Device, Stays, Gains, FailsPut, TellsAnswer}
 use Rattle.zcommands.specs.declared.fault.Fault.{Fault}
 use Rattle.zcommands.specs.declared.fault.Fault.TheVariants.{Read, Write, NotKnowledge, NotCanonical}
 use Rattle.zcommands.specs.declared.fault.Fault.TheVariants.{NamesDiffer, Memory}
 use Rattle.zcommands.specs.declared.fault.Status.{Status}
 use Rattle.zcommands.specs.declared.fault.Status.TheVariants as statuses
 
--- the file is a saved one
-abbrev pub IsSavedFile : List ℕ → Type 0
-IsSavedFile file = (names : List (List ℕ)) × (facts : List Fact) × IsSaved names facts file
+-- ---- one file
 
--- what one file says, or why it is refused
+-- what a file says, or why it is refused
 abbrev pub Loads : List ℕ → Result (List Fact × List (List ℕ)) Fault → Type 0
 Loads file (Ok r) = IsSaved r.1 r.0 file
 Loads file (Err (NotKnowledge at)) = IsNotKnowledge file at
@@ -39,62 +35,79 @@ IsOfFile path (NotCanonical at) = Unit {0}
 IsOfFile path Memory = Unit {0}
 IsOfFile path _ = ⊥
 
--- where a file is told to be unreadable, it is the one at this path
-abbrev pub IsToldOf : List ℕ → Fault → Type 0
-IsToldOf path (Read told) = told.now ≡ path
-IsToldOf path _ = Unit {0}
+-- Files by their paths, each with its octets where they are known.
+module _ (octets : List ℕ → Option (List ℕ)) where
+  -- the file at the path is a saved one of these names and facts
+  abbrev pub IsSavedAt : List ℕ → List (List ℕ) → List Fact → Type 0
+  IsSavedAt path names facts = IfSome (octets path) (λ file. IsSaved names facts file)
 
--- where a file is told to be unreadable, a read of this one failed
-abbrev pub IsUnread : Device → Fault → Type 0
-IsUnread file (Read told) = file.has_failed ≡ true
-IsUnread file _ = Unit {0}
+  -- the fault of the file at the path
+  abbrev pub IsFaultAt : List ℕ → Fault → Type 0
+  IsFaultAt path (Read told) = told.now ≡ path
+  IsFaultAt path (NotKnowledge at) = IfSome (octets path) (λ file. IsNotKnowledge file at)
+  IsFaultAt path (NotCanonical at) = IfSome (octets path) (λ file. IsNotCanonical file at)
+  IsFaultAt path Memory = Unit {0}
+  IsFaultAt path _ = ⊥
 
--- no fault of writing
-abbrev pub IsOfReading : Fault → Type 0
-IsOfReading (Write told) = ⊥
-IsOfReading _ = Unit {0}
+  -- what the file at the path says, or why it is refused
+  abbrev pub LoadsAt : List ℕ → Result (List Fact × List (List ℕ)) Fault → Type 0
+  LoadsAt path (Ok r) = IsSavedAt path r.1 r.0
+  LoadsAt path (Err f) = IsFaultAt path f
 
--- The answer is a fault of the first file; or that is a saved one, and where a file is told to be unreadable, it is the
--- second.
-abbrev pub IsInOrder : {A : Type 0} → List ℕ → List ℕ → Option (List ℕ) → Result A Fault → Type 0
-IsInOrder one two octets answer =
-    MatchResult answer (λ _. ⊥) (IsOfFile one) ⊎ (IfSome octets IsSavedFile × IfErr answer (IsToldOf two))
+  -- the file at the path is a saved one of other names
+  pub record HasOtherNames (names : List (List ℕ)) (path : List ℕ) : Type 0 where
+    pub others : List (List ℕ)
+    pub facts : List Fact
+    pub saved : IsSavedAt path others facts
+    pub differ : names ≢ others
 
--- The same of two streams, before and after: at a fault of the first the second is left unread, else the first is read
--- to its end; a stream that is told to be unreadable is one of which a read failed.
-abbrev pub IsInTurn : {A : Type 0} → Type 0 → Device → Device → Device → Device → Result A Fault → Type 0
-IsInTurn unread one first two second answer =
-    (MatchResult answer (λ _. ⊥) (λ f. IsOfFile one.path f × IsUnread first f) × unread)
-    ⊎ (IfSome one.known IsSavedFile × IsAtEnd first.known × IfErr answer (λ f. IsToldOf two.path f × IsUnread second f))
+  -- what the file at the path says is added; or why it is not
+  abbrev pub Absorbs
+      : List (List ℕ) → List ℕ → List Fact → List Fact → Result (Unit {0}) Fault → Type 0
+  Absorbs names path old new (Ok u) = (theirs : List Fact) × IsSavedAt path names theirs × AreFacts new
+      × IsUnion (Contains old) (Contains theirs) (Contains new)
+  Absorbs names path old new (Err NamesDiffer) = HasOtherNames names path
+  Absorbs names path old new (Err f) = IsFaultAt path f
 
--- the names of both files, and the facts of both together
-pub record AreJoined (a b : List ℕ) (names : List (List ℕ)) (facts : List Fact) : Type 0 where
-  pub mine : List Fact
-  pub theirs : List Fact
-  pub first : IsSaved names mine a
-  pub second : IsSaved names theirs b
-  pub ordered : AreFacts facts
-  pub union : IsUnion (Contains mine) (Contains theirs) (Contains facts)
+  -- ---- several files
 
--- both files are saved ones, of different names
-pub record DoNamesDiffer (a b : List ℕ) : Type 0 where
-  pub names : List (List ℕ)
-  pub others : List (List ℕ)
-  pub mine : List Fact
-  pub theirs : List Fact
-  pub first : IsSaved names mine a
-  pub second : IsSaved others theirs b
-  pub differ : names ≢ others
+  -- the files at these paths are saved ones of the same names, and these are the facts of all of them
+  pub data AreJoined (names : List (List ℕ)) : List (List ℕ) → List Fact → Type 0 where
+    one : {facts : List Fact} (path : List ℕ) → IsSavedAt path names facts → AreJoined names (path ∷ []) facts
+    more : {paths : List (List ℕ)} {facts : List Fact} (path : List ℕ) (mine theirs : List Fact)
+        → AreJoined names paths mine → IsSavedAt path names theirs → AreFacts facts
+        → IsUnion (Contains mine) (Contains theirs) (Contains facts) → AreJoined names (paths ++ path ∷ []) facts
 
--- what two files say together, or why one is refused: the second only where the first is a saved one
-abbrev pub LoadsBoth : List ℕ → List ℕ → Result (List Fact × List (List ℕ)) Fault → Type 0
-LoadsBoth a b (Ok r) = AreJoined a b r.1 r.0
-LoadsBoth a b (Err (NotKnowledge at)) = IsNotKnowledge a at ⊎ (IsSavedFile a × IsNotKnowledge b at)
-LoadsBoth a b (Err (NotCanonical at)) = IsNotCanonical a at ⊎ (IsSavedFile a × IsNotCanonical b at)
-LoadsBoth a b (Err NamesDiffer) = DoNamesDiffer a b
-LoadsBoth a b (Err (Read path)) = Unit {0}
-LoadsBoth a b (Err Memory) = Unit {0}
-LoadsBoth a b (Err _) = ⊥
+  -- The fault is that of the first file; or those before some file are saved ones of the same names, and it is that
+  -- file's, which may be that it has other names.
+  pub data IsRefusedAmong : List (List ℕ) → Fault → Type 0 where
+    first : {fault : Fault} (path : List ℕ) (rest : List (List ℕ))
+        → IsFaultAt path fault → IsRefusedAmong (path ∷ rest) fault
+    later : {fault : Fault} (paths names rest : List (List ℕ)) (facts : List Fact) (path : List ℕ)
+        → AreJoined names paths facts → IsFaultAt path fault → IsRefusedAmong (paths ++ path ∷ rest) fault
+    differs : (paths names rest : List (List ℕ)) (facts : List Fact) (path : List ℕ)
+        → AreJoined names paths facts → HasOtherNames names path
+        → IsRefusedAmong (paths ++ path ∷ rest) NamesDiffer
+
+  -- what the files at these paths say is added to that of others before them; or why not
+  abbrev pub AbsorbsAll
+      : List (List ℕ) → List (List ℕ) → List Fact → List Fact → Result (Unit {0}) Fault → Type 0
+  AbsorbsAll names paths old new (Ok u) =
+      (before : List (List ℕ)) → AreJoined names before old → AreJoined names (before ++ paths) new
+  AbsorbsAll names paths old new (Err f) =
+      (before : List (List ℕ)) → AreJoined names before old → IsRefusedAmong (before ++ paths) f
+
+  -- what all files say together, or why one is refused
+  abbrev pub LoadsAll : List (List ℕ) → Result (List Fact × List (List ℕ)) Fault → Type 0
+  LoadsAll paths (Ok r) = AreJoined r.1 paths r.0
+  LoadsAll paths (Err f) = IsRefusedAmong paths f
+
+  -- the list of what all files say together
+  abbrev pub IsListOf : Mode → List (List ℕ) → List Fact → List ℕ → Type 0
+  IsListOf mode paths facts text =
+      (names : List (List ℕ)) × AreJoined names paths facts × (text ≡ listing names mode facts)
+
+-- ---- the command
 
 -- the status of a command that knows these facts: whether a search or an association failed
 abbrev pub IsKnownStatus : List Fact → Status → Type 0
@@ -102,42 +115,24 @@ IsKnownStatus known statuses.Failed = HasFailed known
 IsKnownStatus known statuses.Done = HasFailed known → ⊥
 IsKnownStatus known _ = ⊥
 
--- the list of what both files say together
-abbrev pub IsListOf : Mode → List ℕ → List ℕ → List Fact → List ℕ → Type 0
-IsListOf mode a b facts text = (names : List (List ℕ)) × AreJoined a b names facts × (text ≡ listing names mode facts)
-
 -- the list is written and the status stands, or a front of it where the stream failed
 abbrev pub PutsList : List ℕ → Status → Device → Device → Result Status Fault → Type 0
 PutsList text status old new result =
     MatchResult result (λ s. (s ≡ status) × Gains old new text) (FailsPut old new text)
 
--- what an answer of `join` says of the files, and of what was written
-abbrev pub Joins : Mode → List ℕ → List ℕ → Device → Device → Result Status Fault → Type 0
-Joins mode a b old new (Ok status) = (facts : List Fact) × (text : List ℕ) × IsListOf mode a b facts text
-    × IsKnownStatus facts status × Gains old new text
-Joins mode a b old new (Err (NotKnowledge at)) =
-    (IsNotKnowledge a at ⊎ (IsSavedFile a × IsNotKnowledge b at)) × Stays old new
-Joins mode a b old new (Err (NotCanonical at)) =
-    (IsNotCanonical a at ⊎ (IsSavedFile a × IsNotCanonical b at)) × Stays old new
-Joins mode a b old new (Err NamesDiffer) = DoNamesDiffer a b × Stays old new
-Joins mode a b old new (Err (Read path)) = Stays old new
-Joins mode a b old new (Err (Write path)) = (facts : List Fact) × (text : List ℕ) × IsListOf mode a b facts text
-    × Stops old new text
-Joins mode a b old new (Err Memory) = Stays old new
-Joins mode a b old new (Err _) = ⊥
+-- What an answer of `join` says of the files at these paths, and of what was written: the list of all of them; a front
+-- of it, where the stream failed; nothing, where a file is refused or memory ran out.
+abbrev pub Joins
+    : Mode → (List ℕ → Option (List ℕ)) → List (List ℕ) → Device → Device → Result Status Fault → Type 0
+Joins mode octets paths old new (Ok status) = (facts : List Fact) × (text : List ℕ)
+    × IsListOf octets mode paths facts text × IsKnownStatus facts status × Gains old new text
+Joins mode octets paths old new (Err (Write told)) = (facts : List Fact) × (text : List ℕ)
+    × IsListOf octets mode paths facts text × FailsPut old new text (Write told)
+Joins mode octets paths old new (Err Memory) = Stays old new
+Joins mode octets paths old new (Err f) = IsRefusedAmong octets paths f × Stays old new
 
--- a stream that is told to be unwritable is the one that is written, and a write of it failed
-abbrev pub IsUnwritten : Device → Result Status Fault → Type 0
-IsUnwritten output (Err (Write told)) = (told.now ≡ output.path) × (output.has_failed ≡ true)
-IsUnwritten output _ = Unit {0}
-
--- what `join` says of what the files hold, where that is known
-abbrev pub JoinsKnown : Mode → Option (List ℕ) → Option (List ℕ) → Device → Device → Result Status Fault → Type 0
-JoinsKnown mode one two output printed answer = IfSome one (λ a. IfSome two (λ b. Joins mode a b output printed answer))
-
--- what `join` does with the files at two paths: what it writes and tells, and its status
+-- what `join` does with the files at these paths: what it writes and tells, and its status
 abbrev pub DoesJoin
-    : Mode → List ℕ → List ℕ → Option (List ℕ) → Option (List ℕ) → Device → Device → Device → Device → Status → Type 0
-DoesJoin mode one two first second output printed errors told status = (answer : Result Status Fault)
-    × (status ≡ end_status answer) × JoinsKnown mode first second output printed answer
-    × IsInOrder one two first answer × IsUnwritten printed answer × TellsAnswer errors told answer
+    : Mode → (List ℕ → Option (List ℕ)) → List (List ℕ) → Device → Device → Device → Device → Status → Type 0
+DoesJoin mode octets paths output printed errors told status = (answer : Result Status Fault)
+    × (status ≡ end_status answer) × Joins mode octets paths output printed answer × TellsAnswer errors told answer

@@ -5,18 +5,18 @@ use Rattle.zapdu.specs.Text.{quoted, record_text, default_text, diag_text}
 use Rattle.zapdu.specs.declared.apdu.Apdu.{Apdu}
 use Rattle.zapdu.specs.declared.apdu.Apdu.TheVariants as apdus
 use Rattle.zapdu.specs.declared.apdu.Kind.TheVariants as kinds
-use Rattle.zapdu.specs.declared.close.Close.{Close}
-use Rattle.zapdu.specs.declared.diagnostic.DefaultDiag.{DefaultDiag}
-use Rattle.zapdu.specs.declared.diagnostic.DiagRec.{DiagRec}
-use Rattle.zapdu.specs.declared.init_request.InitRequest.{InitRequest}
-use Rattle.zapdu.specs.declared.init_response.InitResponse.{InitResponse}
-use Rattle.zapdu.specs.declared.present_request.PresentRequest.{PresentRequest}
-use Rattle.zapdu.specs.declared.range.Range.{Range}
-use Rattle.zapdu.specs.declared.search_response.SearchResponse.{SearchResponse}
-use Rattle.zapdu.specs.declared.present_response.PresentResponse.{PresentResponse}
-use Rattle.zapdu.specs.declared.record.Record.{Record}
-use Rattle.zapdu.specs.declared.record.Records.{Records}
-use Rattle.zapdu.specs.declared.record.Records.TheVariants as records
+use Rattle.zapdu.specs.declared.productions.close.Close.{Close}
+use Rattle.zapdu.specs.declared.productions.diagnostic.DefaultDiag.{DefaultDiag}
+use Rattle.zapdu.specs.declared.productions.diagnostic.DiagRec.{DiagRec}
+use Rattle.zapdu.specs.declared.productions.init_request.InitRequest.{InitRequest}
+use Rattle.zapdu.specs.declared.productions.init_response.InitResponse.{InitResponse}
+use Rattle.zapdu.specs.declared.productions.present_request.PresentRequest.{PresentRequest}
+use Rattle.zapdu.specs.declared.productions.range.Range.{Range}
+use Rattle.zapdu.specs.declared.productions.search_response.SearchResponse.{SearchResponse}
+use Rattle.zapdu.specs.declared.productions.present_response.PresentResponse.{PresentResponse}
+use Rattle.zapdu.specs.declared.productions.record.Record.{Record}
+use Rattle.zapdu.specs.declared.productions.record.Records.{Records}
+use Rattle.zapdu.specs.declared.productions.record.Records.TheVariants as records
 use Rattle.zcommands.specs.Fields.{numbers_text, bits_text, truth_text, name_text, start_text, head_line}
 use Rattle.zcommands.specs.Searches.{search_request_text}
 

@@ -1,14 +1,13 @@
 -- What `loop` prints of a world file, what it tells, and how it ends.
-use Rattle.std.specs.Prelude.{◌≡◌, ℕ, List, Option, Result, Ok, Err, IfSome}
+use Rattle.std.specs.Prelude.{ℕ, List, Result, Ok, Err}
 use Rattle.zknow.specs.declared.fact.Mode.{Mode}
 use Rattle.zworld.specs.declared.fitness.Arrangement.{Arrangement}
-use Rattle.zcommands.specs.Faults.{end_status}
-use Rattle.zcommands.specs.Devices.{Device, TellsAnswer}
+use Rattle.zcommands.specs.Devices.{Device}
 use Rattle.zcommands.specs.declared.fault.Fault.{Fault}
 use Rattle.zcommands.specs.declared.fault.Fault.TheVariants.{Read, Line, Serve, Memory}
 use Rattle.zcommands.specs.declared.fault.Status.{Status}
 use Rattle.zcommands.specs.declared.finished.Finished.{Finished}
-use Rattle.zcommands.specs.Finished.{Concludes, IsOfPaths}
+use Rattle.zcommands.specs.Finished.{Concludes, Command, DoesAnswer}
 use Rattle.zcommands.specs.Run.{IsArrangedFile, IsLineAtFault, IsRun}
 
 -- the connections could not be made, or memory ran out
@@ -35,8 +34,5 @@ Loops mode file output printed errors told answer =
     Concludes (IsRun mode file) (IsLineAtFault file) (CanRun file) output printed errors told answer
 
 -- what `loop` does with the world file at a path: what it writes and tells, and its status
-abbrev pub DoesLoop
-    : Mode → List ℕ → Option (List ℕ) → Option (List ℕ) → Device → Device → Device → Device → Status → Type 0
-DoesLoop mode world saved file output printed errors told status = (answer : Result Status Fault) × (between : Device)
-    × (status ≡ end_status answer) × IfSome file (λ octets. Loops mode octets output printed errors between answer)
-    × IsOfPaths world saved printed answer × TellsAnswer between told answer
+abbrev pub DoesLoop : Mode → Command
+DoesLoop mode = DoesAnswer (Loops mode)

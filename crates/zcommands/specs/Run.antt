@@ -1,18 +1,17 @@
 -- What `run` prints of a world file, what it tells, and how it ends.
-use Rattle.std.specs.Prelude.{◌≡◌, ◌⊎◌, ℕ, List, Option, Result, Ok, Err, IfSome}
+use Rattle.std.specs.Prelude.{◌⊎◌, ℕ, List, Result, Ok, Err}
 use Rattle.zknow.specs.declared.fact.Mode.{Mode}
 use Rattle.zworld.specs.declared.world.World.{World}
 use Rattle.zworld.specs.declared.fitness.Arrangement.{Arrangement}
 use Rattle.zworld.specs.Worlds.{IsWorld, IsRefused}
 use Rattle.zworld.specs.Fitness.{IsArranged, IsOfFirstHost}
 use Rattle.zworld.specs.Run.{Ran}
-use Rattle.zcommands.specs.Faults.{end_status}
-use Rattle.zcommands.specs.Devices.{Device, TellsAnswer}
+use Rattle.zcommands.specs.Devices.{Device}
 use Rattle.zcommands.specs.declared.fault.Fault.{Fault}
 use Rattle.zcommands.specs.declared.fault.Fault.TheVariants.{Read, Line, Memory}
 use Rattle.zcommands.specs.declared.fault.Status.{Status}
 use Rattle.zcommands.specs.declared.finished.Finished.{Finished}
-use Rattle.zcommands.specs.Finished.{asker, IsListed, Concludes, IsOfPaths}
+use Rattle.zcommands.specs.Finished.{asker, IsListed, Concludes, Command, DoesAnswer}
 
 -- ---- the world of a file
 
@@ -62,8 +61,5 @@ Runs mode file output printed errors told answer =
     Concludes (IsRun mode file) (IsLineAtFault file) ⊥ output printed errors told answer
 
 -- what `run` does with the world file at a path: what it writes and tells, and its status
-abbrev pub DoesRun
-    : Mode → List ℕ → Option (List ℕ) → Option (List ℕ) → Device → Device → Device → Device → Status → Type 0
-DoesRun mode world saved file output printed errors told status = (answer : Result Status Fault) × (between : Device)
-    × (status ≡ end_status answer) × IfSome file (λ octets. Runs mode octets output printed errors between answer)
-    × IsOfPaths world saved printed answer × TellsAnswer between told answer
+abbrev pub DoesRun : Mode → Command
+DoesRun mode = DoesAnswer (Runs mode)

@@ -6,13 +6,13 @@ use Rattle.zber.specs.Elements.{Element}
 use Rattle.zber.specs.Canonical.{canonical}
 use Rattle.zber.specs.Dotted.{dotted}
 use Rattle.zquery.specs.Trees.{RpnQuery}
-use Rattle.zquery.specs.Printing.{printable, query_text}
-use Rattle.zquery.specs.Type1Reading.{query_spelt}
+use Rattle.zquery.specs.Notation.Printing.{printable, query_text}
+use Rattle.zquery.specs.Element.Type1Reading.{query_spelt}
 use Rattle.zapdu.specs.Text.{quoted}
 use Rattle.zapdu.specs.declared.apdu.Kind.TheVariants as kinds
-use Rattle.zapdu.specs.declared.search_query.SearchQuery.{SearchQuery}
-use Rattle.zapdu.specs.declared.search_query.SearchQuery.TheVariants as queries
-use Rattle.zapdu.specs.declared.search_request.SearchRequest.{SearchRequest}
+use Rattle.zapdu.specs.declared.productions.search_query.SearchQuery.{SearchQuery}
+use Rattle.zapdu.specs.declared.productions.search_query.SearchQuery.TheVariants as queries
+use Rattle.zapdu.specs.declared.productions.search_request.SearchRequest.{SearchRequest}
 use Rattle.zcommands.specs.Fields.{start_text, numbers_text, truth_text, name_text}
 
 abbrev pub database_line : List ℕ → List ℕ

@@ -1,9 +1,9 @@
 -- What the words of a command line ask for.
-use Rattle.std.specs.Prelude.{◌≡◌, ◌⊎◌, ℕ, List, Option, Some, None, true, codes}
+use Rattle.std.specs.Prelude.{◌≡◌, ◌⊎◌, ℕ, List, ◌∷◌, map, Option, Some, None, true, codes}
 use Rattle.std.specs.Borrow.{Bor}
 use Rattle.std.specs.Option.{option_map}
 use Rattle.std.specs.Str.Parse.{digits_value, without_leading_plus}
-use Rattle.clap.specs.Words.{first_value, one_text, kind_of}
+use Rattle.clap.specs.Words.{first_value, one_text, kind_of, matched_of, raw_values}
 use Rattle.clap.specs.declared.error.Error.{Error}
 use Rattle.clap.specs.declared.error.kind.ErrorKind.{ErrorKind}
 use Rattle.clap.specs.declared.error.kind.ErrorKind.TheVariants as kinds
@@ -27,6 +27,10 @@ use Rattle.zcommands.specs.declared.words.Words.TheVariants.{Show, Pqf, Join, Ru
 -- the words of a command give this value to an argument
 abbrev pub Gives : Found → List ℕ → List ℕ → Type 0
 Gives found id value = first_value found id ≡ Some value
+
+-- the words of a command give these values to an argument, in their order
+abbrev pub GivesAll : Found → List ℕ → List (List ℕ) → Type 0
+GivesAll found id values = option_map raw_values (matched_of found id) ≡ Some values
 
 -- the words give this number in decimal digits
 abbrev pub GivesNumber : Found → List ℕ → ℕ → Type 0
@@ -52,8 +56,8 @@ AsksSearch found world saved mode =
 abbrev pub Asks : List ℕ → Found → Words → Type 0
 Asks name found Show = name ≡ codes "show"
 Asks name found (Pqf text) = (name ≡ codes "pqf") × Gives found (codes "TEXT") text.now
-Asks name found (Join first second mode) = (name ≡ codes "join") × Gives found (codes "A") first.now
-    × Gives found (codes "B") second.now × HasMode found mode
+Asks name found (Join first others mode) = (name ≡ codes "join") × Gives found (codes "A") first.now
+    × GivesAll found (codes "B") (map (λ path. path.now) others.items) × HasMode found mode
 Asks name found (Run world saved mode) = (name ≡ codes "run") × AsksSearch found world.now (now_of saved) mode
 Asks name found (Ask world saved mode) = (name ≡ codes "ask") × AsksSearch found world.now (now_of saved) mode
 Asks name found (Loop world saved mode) = (name ≡ codes "loop") × AsksSearch found world.now (now_of saved) mode
@@ -67,8 +71,8 @@ Does octets Show input rest output printed errors told status =
     DoesShow input rest output printed errors told status
 Does octets (Pqf text) input rest output printed errors told status =
     (rest ≡ input) × DoesPqf text.now output printed errors told status
-Does octets (Join one two mode) input rest output printed errors told status = (rest ≡ input)
-    × DoesJoin mode one.now two.now (octets one.now) (octets two.now) output printed errors told status
+Does octets (Join first others mode) input rest output printed errors told status = (rest ≡ input)
+    × DoesJoin mode octets (first.now ∷ map (λ path. path.now) others.items) output printed errors told status
 Does octets (Run world saved mode) input rest output printed errors told status = (rest ≡ input)
     × DoesRun mode world.now (now_of saved) (octets world.now) output printed errors told status
 Does octets (Ask world saved mode) input rest output printed errors told status = (rest ≡ input)

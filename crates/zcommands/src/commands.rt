@@ -108,9 +108,17 @@ fn call<'a, S: Folder + Net + Clock, R: Read, W: Write, E: Write>(
         Words::Pqf { text } => pqf(alloc, text, output, errors),
         Words::Join {
             first,
-            second,
+            others,
             mode,
-        } => join_named(alloc, system, (first, second), mode, output, errors),
+        } => join_named(
+            alloc,
+            system,
+            first,
+            others.as_slice(),
+            mode,
+            output,
+            errors,
+        ),
         Words::Run { world, saved, mode } => {
             run_named(alloc, system, Paths { world, saved }, mode, output, errors)
         }

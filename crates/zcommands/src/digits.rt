@@ -90,8 +90,9 @@ fn next_octet(text: &[u8]) -> Result<Option<(u8, &[u8])>, Fault<'static>>
     next_apart(text)
 }
 
-/// The octets whose hexadecimal digits the text has, in either case. ASCII white space (space, tab, line feed, form feed,
-/// carriage return) is ignored wherever it stands. `Hex` where the rest is no even number of digits, else `Memory`.
+/// The octets whose hexadecimal digits the text has, in either case. ASCII white space (space, tab, line feed, form
+/// feed, carriage return) is ignored wherever it stands. `Hex` where the rest is no even number of digits, else
+/// `Memory`.
 pub(crate) fn decode(alloc: Global, text: &[u8]) -> Result<Vec<u8>, Fault<'static>>
     ensures { IsDecoded text.now result }
 {

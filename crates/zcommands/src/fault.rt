@@ -70,7 +70,8 @@ pub enum Fault<'a> {
     NotCanonical { at: usize },
     /// Two saved files name their targets differently.
     NamesDiffer,
-    /// The line of a world file, from 1, says nothing, or cannot stand where it does, or asks whom the command does not.
+    /// The line of a world file, from 1, says nothing, or cannot stand where it does, or asks whom the command does
+    /// not.
     Line(u64),
     /// There is no such target, the address cannot be taken, or no connection can.
     Serve,
@@ -225,7 +226,8 @@ impl Fault<'_> {
         }
     }
 
-    /// Tells the fault in a line after the program's name, and answers its status. A fault that cannot be told keeps it.
+    /// Tells the fault in a line after the program's name, and answers its status. A fault that cannot be told keeps
+    /// it.
     pub fn report<E: Write>(&self, errors: &mut Output<'_, E>) -> Status
         ensures status { result ≡ status_of self.now }
         ensures told { Tells (held E.contents errors.old) (held E.contents errors.new) self.now }

@@ -2,7 +2,7 @@
 
 ghost use Rattle.std.specs.Prelude.{◌≡◌, ◌++◌, IfOk, IfErr, MatchResult};
 ghost use Rattle.std.specs.Option.{option_map};
-ghost use Rattle.zknow.specs.Listing.{listing};
+ghost use Rattle.zknow.specs.List.Listing.{listing};
 ghost use Rattle.zcommands.specs.Devices.{held};
 ghost use Rattle.zcommands.specs.Finished.{IsSound, IsListed, PutsFinished, IsOfSaving, MakesSaved, Finishes};
 

@@ -1,9 +1,7 @@
-//! The command `join`: what two saved files know together.
-ghost use Rattle.std.specs.Prelude.{◌≡◌, ◌≢◌, ◌↔◌, IsTrue, IfSome, IfOk, IfErr, OnOk, Result};
-ghost use Rattle.std.specs.Io.KnownBytes.{IsAtEnd};
-ghost use Rattle.zcommands.specs.Faults.{end_status};
-ghost use Rattle.zcommands.specs.Join.{IsKnownStatus, Loads, IsOfFile, IsOfReading, IsUnread, IsInTurn, LoadsBoth, PutsList, JoinsKnown, IsUnwritten, DoesJoin};
-ghost use Rattle.zcommands.specs.Devices.{left, held, TellsAnswer};
+//! The command `join`: what saved files know together.
+ghost use Rattle.std.specs.Prelude.{◌≡◌, ◌↔◌, ◌∷◌, map, IsTrue, IfSome, IfErr, Result};
+ghost use Rattle.zcommands.specs.Join.{IsKnownStatus, Loads, LoadsAt, LoadsAll, Absorbs, AbsorbsAll, IsOfFile, PutsList, Joins, DoesJoin};
+ghost use Rattle.zcommands.specs.Devices.{held};
 ghost use Rattle.zcommands.specs.declared.fault.Fault.{Fault};
 ghost use Rattle.zcommands.specs.declared.fault.Status.{Status};
 
@@ -15,66 +13,42 @@ use std::alloc::Global;
 use std::io::{Read, Write};
 use zknow::{Knowledge, Mode, Names, load, print_list};
 
-/// Prints the list of what two saved files know together, or tells on standard error why there is none: a file is
-/// refused, the first before the second is read, or the files have different names. Nothing is printed then.
+/// Prints the list of what the saved files at these paths know together, or tells on standard error why there is none:
+/// a file is refused, each before the next is opened, or has other names than those before it. Nothing is printed then.
 ///
 /// The status is `Failed` where the list has a search or an association that failed.
-pub fn join<'a, 'o: 'a, R: Read, W: Write, E: Write>(
+pub fn join_named<'a, 'o: 'a, F: Folder, W: Write, E: Write>(
     alloc: Global,
-    first: &mut Input<'a, R>,
-    second: &mut Input<'a, R>,
+    files: &'a F,
+    first: &'a str,
+    others: &[&'a str],
     mode: Mode,
     output: &mut Output<'o, W>,
     errors: &mut Output<'_, E>,
 ) -> Status
-    ensures { (answer : Result Status Fault) × (result ≡ end_status answer)
-        × JoinsKnown mode (R.remaining first.old.reader) (R.remaining second.old.reader)
-        (held W.contents output.old) (held W.contents output.new) answer
-        × IsInTurn (second.new ≡ second.old) (left R.remaining first.old) (left R.remaining first.new)
-        (left R.remaining second.old) (left R.remaining second.new) answer
-        × IsUnwritten (held W.contents output.new) answer
-        × TellsAnswer (held E.contents errors.old) (held E.contents errors.new) answer }
+    ensures { DoesJoin mode (F.octets files.now) (first.entry.now ∷ map (λ path. path.now) others.now)
+        (held W.contents output.old) (held W.contents output.new)
+        (held E.contents errors.old) (held E.contents errors.new) result }
 {
-    match join_files(alloc, first, second, mode, output) {
+    match join_files(alloc, files, first, others, mode, output) {
         Ok(status) => status,
         Err(fault) => fault.report(errors),
     }
 }
 
-/// The same of the files at two paths, which are opened when they are read.
-pub fn join_named<'a, 'o: 'a, F: Folder, W: Write, E: Write>(
+/// Prints the list, and answers the status.
+fn join_files<'a, 'o: 'a, F: Folder, W: Write>(
     alloc: Global,
     files: &'a F,
-    paths: (&'a str, &'a str),
-    mode: Mode,
-    output: &mut Output<'o, W>,
-    errors: &mut Output<'_, E>,
-) -> Status
-    ensures { DoesJoin mode paths.entry.0.now paths.entry.1.now (F.octets files.now paths.entry.0.now)
-        (F.octets files.now paths.entry.1.now) (held W.contents output.old) (held W.contents output.new)
-        (held E.contents errors.old) (held E.contents errors.new) result }
-{
-    let mut first = named(files, paths.0);
-    let mut second = named(files, paths.1);
-    join(alloc, &mut first, &mut second, mode, output, errors)
-}
-
-/// Prints the list, and answers the status.
-#[tactic(auto, using(crate::proofs::Joining::list_unwritten, crate::proofs::Joining::put_in_turn))]
-fn join_files<'a, 'o: 'a, R: Read, W: Write>(
-    alloc: Global,
-    first: &mut Input<'a, R>,
-    second: &mut Input<'a, R>,
+    first: &'a str,
+    others: &[&'a str],
     mode: Mode,
     output: &mut Output<'o, W>,
 ) -> Result<Status, Fault<'a>>
-    ensures joined { JoinsKnown mode (R.remaining first.old.reader) (R.remaining second.old.reader)
+    ensures { Joins mode (F.octets files.now) (first.entry.now ∷ map (λ path. path.now) others.now)
         (held W.contents output.old) (held W.contents output.new) result }
-    ensures in_turn { IsInTurn (second.new ≡ second.old) (left R.remaining first.old) (left R.remaining first.new)
-        (left R.remaining second.old) (left R.remaining second.new) result }
-    ensures unwritten { IsUnwritten (held W.contents output.new) result }
 {
-    let (knowledge, names) = load_both(alloc, first, second)?;
+    let (knowledge, names) = load_all(alloc, files, first, others)?;
     let status = known_status(&knowledge);
     let mut text = Vec::new(alloc);
     print_list(alloc, &knowledge, &names, mode, &mut text)?;
@@ -106,26 +80,66 @@ fn known_status(knowledge: &Knowledge) -> Status
     }
 }
 
-/// What both files say together.
-fn load_both<'a, R: Read>(
+/// What the files at all paths say together.
+fn load_all<'a, F: Folder>(
     alloc: Global,
-    first: &mut Input<'a, R>,
-    second: &mut Input<'a, R>,
+    files: &'a F,
+    first: &'a str,
+    others: &[&'a str],
 ) -> Result<(Knowledge, Names), Fault<'a>>
-    ensures joined { IfSome (R.remaining first.old.reader) (λ a. IfSome (R.remaining second.old.reader)
-        (λ b. LoadsBoth a b result)) }
-    ensures reading { IfErr result IsOfReading }
-    ensures in_turn { IsInTurn (second.new ≡ second.old) (left R.remaining first.old) (left R.remaining first.new)
-        (left R.remaining second.old) (left R.remaining second.new) result }
+    ensures { LoadsAll (F.octets files.now) (first.entry.now ∷ map (λ path. path.now) others.now) result }
 {
-    let (mut knowledge, names) = load_file(alloc, first)?;
-    let (other, others) = load_file(alloc, second)?;
-    if !are_same(&names, &others) {
+    let (mut knowledge, names) = load_named(alloc, files, first)?;
+    absorb_all(alloc, files, others, &mut knowledge, &names)?;
+    Ok((knowledge, names))
+}
+
+/// Adds what the files at these paths say, which are to have these names.
+fn absorb_all<'a, F: Folder>(
+    alloc: Global,
+    files: &'a F,
+    paths: &[&'a str],
+    knowledge: &mut Knowledge,
+    names: &Names,
+) -> Result<(), Fault<'a>>
+    ensures { AbsorbsAll (F.octets files.now) names.now (map (λ path. path.now) paths.now)
+        knowledge.old knowledge.new result }
+{
+    for path in paths {
+        absorb_named(alloc, files, *path, knowledge, names)?;
+    }
+    Ok(())
+}
+
+/// Adds what the file at a path says, which is to have these names.
+fn absorb_named<'a, F: Folder>(
+    alloc: Global,
+    files: &'a F,
+    path: &'a str,
+    knowledge: &mut Knowledge,
+    names: &Names,
+) -> Result<(), Fault<'a>>
+    ensures { Absorbs (F.octets files.now) names.now path.entry.now knowledge.old knowledge.new result }
+{
+    let (other, others) = load_named(alloc, files, path)?;
+    if !are_same(names, &others) {
         return Err(Fault::NamesDiffer);
     }
     knowledge.absorb(&other)?;
     knowledge.lawful();
-    Ok((knowledge, names))
+    Ok(())
+}
+
+/// What the file at a path says.
+fn load_named<'a, F: Folder>(
+    alloc: Global,
+    files: &'a F,
+    path: &'a str,
+) -> Result<(Knowledge, Names), Fault<'a>>
+    ensures { LoadsAt (F.octets files.now) path.entry.now result }
+{
+    let mut file = named(files, path);
+    load_file(alloc, &mut file)
 }
 
 /// What one file says.
@@ -134,9 +148,7 @@ fn load_file<'a, R: Read>(
     file: &mut Input<'a, R>,
 ) -> Result<(Knowledge, Names), Fault<'a>>
     ensures loaded { IfSome (R.remaining file.old.reader) (λ octets. Loads octets result) }
-    ensures end { OnOk result (IsAtEnd (R.remaining file.new.reader)) }
     ensures fault { IfErr result (λ f. IsOfFile file.old.path.now f) }
-    ensures failed { IfErr result (λ f. IsUnread (left R.remaining file.new) f) }
 {
     let octets = file.read_all(alloc)?;
     Ok(load(alloc, octets.as_slice())?)

@@ -1,8 +1,8 @@
 //! The command `pqf`: a query in the prefix notation, as it is understood and as it goes out.
 ghost use Rattle.std.specs.Prelude.{◌≡◌, ℕ, List, [], ◌∷◌, ◌++◌, OnOk, IfOk, IfErr};
 ghost use Rattle.zber.specs.Elements.{Element};
-ghost use Rattle.zquery.specs.Printing.{query_text};
-ghost use Rattle.zquery.specs.Type1.{WritesQuery};
+ghost use Rattle.zquery.specs.Notation.Printing.{query_text};
+ghost use Rattle.zquery.specs.Element.Type1.{WritesQuery};
 ghost use Rattle.zcommands.specs.Pqf.{IsQueryOf, element_text, query_lines, TellsQuery, PrintsQuery, DoesPqf};
 ghost use Rattle.zcommands.specs.Devices.{held};
 
@@ -14,8 +14,8 @@ use zber::{Node, Tag};
 use zquery::laws::{text_printable, text_spellable};
 use zquery::{BuildError, PrintError, Query, parse_pqf, print_pqf, to_node};
 
-/// Prints the query of a text in the prefix notation, and in hexadecimal the element `[21]` that a SearchRequest holds it
-/// in; or tells on standard error why the text is no query. Nothing is printed then.
+/// Prints the query of a text in the prefix notation, and in hexadecimal the element `[21]` that a SearchRequest holds
+/// it in; or tells on standard error why the text is no query. Nothing is printed then.
 pub fn pqf<W: Write, E: Write>(
     alloc: Global,
     text: &str,

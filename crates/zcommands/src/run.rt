@@ -20,7 +20,8 @@ use zworld::fitness::Arrangement;
 use zworld::run::run_world;
 
 /// Prints the list of what the targets of a world file answer, tells on standard error each connection that failed, and
-/// saves what is known where that is asked for. Or tells on standard error why there is no list, or why it was not saved.
+/// saves what is known where that is asked for. Or tells on standard error why there is no list, or why it was not
+/// saved.
 ///
 /// The status is `Failed` where a search, an association or a connection failed, a target closed a connection, or a
 /// question was not asked.

@@ -1,6 +1,6 @@
 //! The lines of a SearchRequest.
 ghost use Rattle.std.specs.Prelude.{◌≡◌, ◌++◌, Some, OnOk};
-ghost use Rattle.zquery.specs.Type1Reading.{query_spelt};
+ghost use Rattle.zquery.specs.Element.Type1Reading.{query_spelt};
 ghost use Rattle.zcommands.specs.Searches.{search_request_text, database_line, database_lines, optional_syntax, search_line, spelling_text, type_1_text, sought_text, query_line};
 
 use crate::fields::{put_numbers, put_start, put_truth};

@@ -1,6 +1,6 @@
 //! The words of the command line, read with `clap`.
 
-ghost use Rattle.std.specs.Prelude.{◌≡◌, IfOk, IfSome};
+ghost use Rattle.std.specs.Prelude.{◌≡◌, IfOk, IfSome, codes};
 ghost use Rattle.clap.specs.Words.{kind_of, found_of};
 ghost use Rattle.clap.specs.declared.error.kind.ErrorKind.TheVariants.{InvalidValue};
 ghost use Rattle.zcommands.specs.Devices.{held};
@@ -15,7 +15,7 @@ use std::io::Write;
 use zknow::Mode;
 
 /// What the words ask for.
-#[derive(Clone, Copy, Debug, PartialEq, Eq)]
+#[derive(Debug, Drop)]
 pub enum Words<'a> {
     /// Show the messages whose hexadecimal digits standard input has.
     Show,
@@ -23,10 +23,10 @@ pub enum Words<'a> {
     Pqf {
         text: &'a str,
     },
-    /// Print the list of what two saved files know together.
+    /// Print the list of what saved files know together.
     Join {
         first: &'a str,
-        second: &'a str,
+        others: Vec<&'a str>,
         mode: Mode,
     },
     /// Print the list of what the targets of a world file answer, and save what is known then, if it is to be.
@@ -79,6 +79,8 @@ struct Word {
     has_hyphen: bool,
     /// Whether it is a number of connections.
     is_count: bool,
+    /// Whether more than one may be given.
+    is_many: bool,
 }
 
 const ABOUT: &str = "Asks library catalogues over Z39.50, and shows what they answer";
@@ -124,6 +126,7 @@ prints first
         help: "The query in prefix notation",
         has_hyphen: true,
         is_count: false,
+        is_many: false,
     }],
     has_hex: false,
     has_save: false,
@@ -131,10 +134,10 @@ prints first
 
 const JOIN: Form = Form {
     name: "join",
-    about: "Puts together what two searches of the same catalogues brought",
-    example: "A and B are saved files, of the same catalogues in the same order.
-Prints one list of all that either search brought. Where they brought different records for one
-place of a result set, both are shown there as a conflict.
+    about: "Puts together what searches of the same catalogues brought",
+    example: "A and each B are saved files, of the same catalogues in the same order.
+Prints one list of all that any search brought. Where they brought different records for one
+place of a result set, all of these are shown there as a conflict.
 
 Example, the searches of two days:
   zmeta join monday.saved tuesday.saved
@@ -147,12 +150,14 @@ prints lines as
             help: "A file of what one search brought",
             has_hyphen: false,
             is_count: false,
+            is_many: false,
         },
         Word {
             id: "B",
-            help: "A file of what the other search brought",
+            help: "Files of what other searches brought",
             has_hyphen: false,
             is_count: false,
+            is_many: true,
         },
     ],
     has_hex: true,
@@ -184,6 +189,7 @@ prints lines as
         help: "A file of catalogues and questions",
         has_hyphen: false,
         is_count: false,
+        is_many: false,
     }],
     has_hex: true,
     has_save: true,
@@ -213,6 +219,7 @@ and prints lines as
         help: "A file of catalogues and questions",
         has_hyphen: false,
         is_count: false,
+        is_many: false,
     }],
     has_hex: true,
     has_save: true,
@@ -233,24 +240,28 @@ Example, one client asks the catalogue of a city library:
             help: "Where connections are taken, as host:port",
             has_hyphen: false,
             is_count: false,
+            is_many: false,
         },
         Word {
             id: "NAME",
             help: "The catalogue that is served",
             has_hyphen: false,
             is_count: false,
+            is_many: false,
         },
         Word {
             id: "FILE",
             help: "A file of catalogues",
             has_hyphen: false,
             is_count: false,
+            is_many: false,
         },
         Word {
             id: "N",
             help: "How many connections are taken, up to 1000000",
             has_hyphen: false,
             is_count: true,
+            is_many: false,
         },
     ],
     has_hex: false,
@@ -275,6 +286,7 @@ prints lines as
         help: "A file of catalogues and questions",
         has_hyphen: false,
         is_count: false,
+        is_many: false,
     }],
     has_hex: true,
     has_save: true,
@@ -290,6 +302,8 @@ fn argument(alloc: Global, word: &Word) -> Arg<'static> {
         .action(ArgAction::Set);
     if word.is_count {
         argument.value_parser(value_parser!(u32).range(0..=MOST_CONNECTIONS))
+    } else if word.is_many {
+        argument.num_args(1..).action(ArgAction::Append)
     } else {
         argument
     }
@@ -343,27 +357,55 @@ pub fn parse<'a>(alloc: Global, words: &'a [String]) -> Result<Words<'a>, Error>
     let mut command = command(alloc)?;
     let matches = command.try_get_matches_from_mut(words)?;
     if let Some((name, found)) = matches.subcommand()
-        && let Some(asked) = words_of(name, found)
+        && let Some(asked) = words_of(alloc, name, found)?
     {
         return Ok(asked);
     }
     Err(command.error(ErrorKind::InvalidSubcommand, "no such command")?)
 }
 
-/// What the command of this name asks for with the arguments that were found. `None` where no command has the name, or a
-/// word that it wants is missing.
-fn words_of<'a>(name: &str, found: &ArgMatches<'a>) -> Option<Words<'a>>
+/// What the command of this name asks for with the arguments that were found. `None` where no command has the name, or
+/// a word that it wants is missing.
+fn words_of<'a>(
+    alloc: Global,
+    name: &str,
+    found: &ArgMatches<'a>,
+) -> Result<Option<Words<'a>>, AllocError>
+    ensures asks { IfOk result (λ words. IfSome words (Asks name.now (found_of found.now))) }
+{
+    if name == "join" {
+        return joins_of(alloc, found);
+    }
+    Ok(single_of(name, found))
+}
+
+/// What `join` asks for: files, the first and the others.
+fn joins_of<'a>(alloc: Global, found: &ArgMatches<'a>) -> Result<Option<Words<'a>>, AllocError>
+    ensures asks { IfOk result (λ words. IfSome words (Asks (codes "join") (found_of found.now))) }
+{
+    let Some(first) = found.get_str("A") else {
+        return Ok(None);
+    };
+    let Some(values) = found.get_strs("B") else {
+        return Ok(None);
+    };
+    let mut others = Vec::new(alloc);
+    others.extend_from_slice(values)?;
+    Ok(Some(Words::Join {
+        first,
+        others,
+        mode: mode_of(found),
+    }))
+}
+
+/// What a command asks for that wants a fixed number of words.
+fn single_of<'a>(name: &str, found: &ArgMatches<'a>) -> Option<Words<'a>>
     ensures asks { IfSome result (Asks name.now (found_of found.now)) }
 {
     match name {
         "show" => Some(Words::Show),
         "pqf" => Some(Words::Pqf {
             text: found.get_str("TEXT")?,
-        }),
-        "join" => Some(Words::Join {
-            first: found.get_str("A")?,
-            second: found.get_str("B")?,
-            mode: mode_of(found),
         }),
         "run" => Some(Words::Run {
             world: found.get_str("FILE")?,

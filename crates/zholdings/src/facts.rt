@@ -1,6 +1,6 @@
 //! Facts as rows: the kind, the target, the set, then the count, or the position or place and the element.
 ghost use Rattle.std.specs.Prelude.{◌≤ℤ◌, IfOk};
-ghost use Rattle.zapdu.specs.Records.{IsSpellable};
+ghost use Rattle.zapdu.specs.Productions.Records.{IsSpellable};
 ghost use Rattle.zknow.specs.Facts.{IsFact};
 
 use crate::shown::{put_counts, put_facts, put_known};

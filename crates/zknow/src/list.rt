@@ -1,23 +1,25 @@
 //! The printed list.
 ghost use Rattle.std.specs.Prelude.{◌≡◌, ◌++◌, List, codes, OnOk, OnErr};
-ghost use Rattle.zapdu.specs.declared.record.Record.{Record};
+ghost use Rattle.zapdu.specs.declared.productions.record.Record.{Record};
 ghost use Rattle.std.specs.Fmt.{decimal, signed_decimal};
 ghost use Rattle.std.specs.List.{flat_map, filter_map};
 ghost use Rattle.zapdu.specs.Text.{record_text, diag_text};
-ghost use Rattle.zknow.specs.Keys.{set_cmp, row_cmp};
+ghost use Rattle.zknow.specs.Tables.Keys.{set_cmp, row_cmp};
 ghost use Rattle.zknow.specs.Known.{Shows, records_at};
-ghost use Rattle.zknow.specs.Listing.{ascending, block_of, row_of, name_text, line, line_in, block_text, entry_text, row_text, is_hex, listing};
-ghost use Rattle.zknow.specs.Sections.{facts_of, counts_of, failed_of, diags_of, marked, numbered};
-ghost use Rattle.zknow.specs.Tables.{AreLawful, KnowsLawfully};
+ghost use Rattle.zknow.specs.List.Listing.{ascending, block_of, row_of, name_text, line, line_in, block_text, entry_text, row_text, is_hex, listing};
+ghost use Rattle.zknow.specs.Tables.Sections.{facts_of, counts_of, failed_of, diags_of, marked, numbered};
+ghost use Rattle.zknow.specs.Tables.Tables.{AreLawful, KnowsLawfully};
 
-use crate::distinct::Distinct;
-use crate::encoded_diag::EncodedDiag;
+pub mod list_keys;
+
 use crate::fact::{Known, Mode, Names};
-use crate::keys::{Mark, RowKey, SetKey};
 use crate::knowledge::Knowledge;
-use crate::list_keys::{block_keys, row_keys};
-use crate::table::Table;
+use crate::list::list_keys::{block_keys, row_keys};
 use crate::tables::Tables;
+use crate::tables::distinct::Distinct;
+use crate::tables::encoded_diag::EncodedDiag;
+use crate::tables::keys::{Mark, RowKey, SetKey};
+use crate::tables::table::Table;
 use std::alloc::{AllocError, Global};
 use zapdu::{DiagRec, Record, print_diag, print_record, quote};
 
@@ -72,7 +74,8 @@ fn put_counts(
     counts: &[i64],
     out: &mut Vec<u8>,
 ) -> Result<(), AllocError>
-    ensures { OnOk result (out.new.items ≡ out.old.items ++ flat_map (λ n. line names.now key.now (codes " count " ++ signed_decimal n)) counts.now) }
+    ensures { OnOk result (out.new.items ≡ out.old.items
+        ++ flat_map (λ n. line names.now key.now (codes " count " ++ signed_decimal n)) counts.now) }
 {
     for count in counts {
         let mut tail = Vec::new(alloc);
@@ -90,7 +93,8 @@ fn put_failed(
     mark: &Mark,
     out: &mut Vec<u8>,
 ) -> Result<(), AllocError>
-    ensures { OnOk result (out.new.items ≡ out.old.items ++ flat_map (λ u. line names.now key.now (codes " failed")) (marked mark.now)) }
+    ensures { OnOk result (out.new.items ≡ out.old.items
+        ++ flat_map (λ u. line names.now key.now (codes " failed")) (marked mark.now)) }
 {
     if mark.is_set {
         put_line(alloc, names, key, b" failed", out)?;
@@ -107,7 +111,8 @@ fn put_diag(
     diag: &DiagRec,
     out: &mut Vec<u8>,
 ) -> Result<(), AllocError>
-    ensures { OnOk result (out.new.items ≡ out.old.items ++ line names.now key.now (codes " diag " ++ signed_decimal place.now ++ codes " " ++ diag_text diag.now)) }
+    ensures { OnOk result (out.new.items ≡ out.old.items
+        ++ line names.now key.now (codes " diag " ++ signed_decimal place.now ++ codes " " ++ diag_text diag.now)) }
 {
     let mut tail = Vec::new(alloc);
     tail.extend_from_slice(b" diag ")?;
@@ -125,7 +130,9 @@ fn put_diags(
     diags: &[EncodedDiag],
     out: &mut Vec<u8>,
 ) -> Result<(), AllocError>
-    ensures { OnOk result (out.new.items ≡ out.old.items ++ flat_map (λ d. line names.now key.now (codes " diag " ++ signed_decimal place.now ++ codes " " ++ diag_text d)) diags.now) }
+    ensures { OnOk result (out.new.items ≡ out.old.items
+        ++ flat_map (λ d. line names.now key.now
+        (codes " diag " ++ signed_decimal place.now ++ codes " " ++ diag_text d)) diags.now) }
 {
     for diag in diags {
         put_diag(alloc, names, key, place, diag.diag(), out)?;
@@ -140,7 +147,9 @@ fn put_all_diags(
     diags: &Table<i64, Distinct<EncodedDiag>>,
     out: &mut Vec<u8>,
 ) -> Result<(), AllocError>
-    ensures { OnOk result (out.new.items ≡ out.old.items ++ flat_map (λ x. line names.now key.now (codes " diag " ++ signed_decimal x.0 ++ codes " " ++ diag_text x.1)) (numbered diags.now)) }
+    ensures { OnOk result (out.new.items ≡ out.old.items
+        ++ flat_map (λ x. line names.now key.now
+        (codes " diag " ++ signed_decimal x.0 ++ codes " " ++ diag_text x.1)) (numbered diags.now)) }
 {
     for (place, diags) in diags.iter() {
         put_diags(alloc, names, key, place, diags.values(), out)?;
@@ -221,7 +230,8 @@ fn put_records(
     records: &[Record],
     out: &mut Vec<u8>,
 ) -> Result<(), AllocError>
-    ensures { OnOk result (out.new.items ≡ out.old.items ++ flat_map (λ r. codes "  " ++ record_text hex r ++ codes "\n") records.now) }
+    ensures { OnOk result (out.new.items ≡ out.old.items
+        ++ flat_map (λ r. codes "  " ++ record_text hex r ++ codes "\n") records.now) }
 {
     for record in records {
         out.extend_from_slice(b"  ")?;
@@ -238,7 +248,8 @@ fn put_entry(
     known: &Known<'_, Record>,
     out: &mut Vec<u8>,
 ) -> Result<(), AllocError>
-    ensures { OnOk result ((records : List Record) → Shows known.now records → out.new.items ≡ out.old.items ++ entry_text hex records) }
+    ensures { OnOk result ((records : List Record) → Shows known.now records → out.new.items ≡ out.old.items
+        ++ entry_text hex records) }
 {
     match known {
         Known::Nothing => Ok(()),
@@ -284,7 +295,9 @@ fn put_blocks(
     out: &mut Vec<u8>,
 ) -> Result<(), AllocError>
     requires { AreLawful tables.now }
-    ensures { OnOk result (out.new.items ≡ out.old.items ++ flat_map (block_text names.now (facts_of tables.now)) (ascending set_cmp (filter_map block_of (facts_of tables.now)))) }
+    ensures { OnOk result (out.new.items ≡ out.old.items
+        ++ flat_map (block_text names.now (facts_of tables.now))
+        (ascending set_cmp (filter_map block_of (facts_of tables.now)))) }
 {
     let keys = block_keys(alloc, tables)?;
     for key in &keys {
@@ -300,7 +313,8 @@ fn put_rows(
     knowledge: &Knowledge,
     out: &mut Vec<u8>,
 ) -> Result<(), AllocError>
-    ensures { OnOk result (out.new.items ≡ out.old.items ++ flat_map (row_text names.now hex knowledge.now) (ascending row_cmp (filter_map row_of knowledge.now))) }
+    ensures { OnOk result (out.new.items ≡ out.old.items
+        ++ flat_map (row_text names.now hex knowledge.now) (ascending row_cmp (filter_map row_of knowledge.now))) }
 {
     let keys = row_keys(alloc, knowledge.tables())?;
     for key in &keys {
@@ -310,7 +324,8 @@ fn put_rows(
 }
 
 /// Appends the list: for each target and set its counts, its failure and its diagnostics, a line each; then for each
-/// position, target and set its record, or a conflict and all its records. Where no memory is found, nothing is appended.
+/// position, target and set its record, or a conflict and all its records. Where no memory is found, nothing is
+/// appended.
 pub fn print_list(
     alloc: Global,
     knowledge: &Knowledge,

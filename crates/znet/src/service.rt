@@ -34,9 +34,9 @@ impl From<AllocError> for ServeError {
     }
 }
 
-/// Serves so many connections, one after the other, each with a target that has received nothing yet (Z39.50-2003, 3.2).
-/// A client that breaks off, sends what is no Z39.50, is silent for 30 seconds or takes more than an hour costs its own
-/// connection alone.
+/// Serves so many connections, one after the other, each with a target that has received nothing yet (Z39.50-2003,
+/// 3.2). A client that breaks off, sends what is no Z39.50, is silent for 30 seconds or takes more than an hour costs
+/// its own connection alone.
 ///
 /// Refusals: `Listen`, where no connection can be taken; and `Memory`.
 pub fn serve<C: Clock, L: OpenListener>(

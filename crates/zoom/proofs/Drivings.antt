@@ -26,7 +26,7 @@ use Rattle.zoom.specs.Driving.{plan_of, operation_for, reply_for, made_event, an
 
 -- ---- members
 
-contained : {X : Type 0} (x : X) (xs : List X) → IsIn x xs → Contains xs x
+pub contained : {X : Type 0} (x : X) (xs : List X) → IsIn x xs → Contains xs x
 contained x [] h = absurd h
 contained x (y ∷ ys) (inl e) = (0, (let at : 0 < length (y ∷ ys) = omega arith in at), sym e)
 contained x (y ∷ ys) (inr i) =
@@ -34,7 +34,7 @@ contained x (y ∷ ys) (inr i) =
     let at : suc more.0 < length (y ∷ ys) = omega (arith, more.1) in
     (suc more.0, at, more.2)
 
-among : {X : Type 0} (x : X) (xs : List X) → Contains xs x → IsIn x xs
+pub among : {X : Type 0} (x : X) (xs : List X) → Contains xs x → IsIn x xs
 among {X} x xs h = by xs h.0 h.1 h.2
   where
     by : (ys : List X) (k : ℕ) → k < length ys → slice_index_or ys k x ≡ x → IsIn x ys
@@ -42,16 +42,16 @@ among {X} x xs h = by xs h.0 h.1 h.2
     by (y ∷ ys) zero h e = inl (sym e)
     by (y ∷ ys) (suc k) h e = inr (by ys k (omega arith) e)
 
-in_last : {X : Type 0} (x : X) (xs : List X) → IsIn x (xs ++ x ∷ [])
+pub in_last : {X : Type 0} (x : X) (xs : List X) → IsIn x (xs ++ x ∷ [])
 in_last x [] = inl refl
 in_last x (y ∷ xs) = inr (in_last x xs)
 
-in_front : {X : Type 0} (x y : X) (xs : List X) → IsIn x xs → IsIn x (xs ++ y ∷ [])
+pub in_front : {X : Type 0} (x y : X) (xs : List X) → IsIn x xs → IsIn x (xs ++ y ∷ [])
 in_front x y [] i = absurd i
 in_front x y (z ∷ xs) (inl e) = inl e
 in_front x y (z ∷ xs) (inr i) = inr (in_front x y xs i)
 
-in_parts : {X : Type 0} (x : X) (xs ys : List X) → IsIn x (xs ++ ys) → IsIn x xs ⊎ IsIn x ys
+pub in_parts : {X : Type 0} (x : X) (xs ys : List X) → IsIn x (xs ++ ys) → IsIn x xs ⊎ IsIn x ys
 in_parts x [] ys i = inr i
 in_parts x (y ∷ xs) ys (inl e) = inl (inl e)
 in_parts x (y ∷ xs) ys (inr i) = elim (in_parts x xs ys i) [ inl j ↦ inl (inr j) | inr j ↦ inr j ]
@@ -68,7 +68,7 @@ list_is (p ∷ ps) (q ∷ qs) h =
     let f = list_is ps qs t in
     λ i. e i ∷ f i
 
-same_is : (a b : Operation) → same a b ≡ true → a ≡ b
+pub same_is : (a b : Operation) → same a b ≡ true → a ≡ b
 same_is plan.Init plan.Init h = refl
 same_is plan.Search plan.Search h = refl
 same_is (plan.Present l) (plan.Present m) h = ap plan.Present (list_is l m h)
@@ -81,10 +81,10 @@ same_is (plan.Present l) plan.Search h = absurd (true≢false (sym h))
 
 -- ---- one call more
 
-asked_more : (p : Past) (call : Call) → asked (admit_unless p call None) ≡ asked p ++ operation_of call
+pub asked_more : (p : Past) (call : Call) → asked (admit_unless p call None) ≡ asked p ++ operation_of call
 asked_more p call = flat_map-append operation_of p.admitted (call ∷ []) ∙ ap (λ l. asked p ++ l) (append-nil (operation_of call))
 
-asked_call : (q : Asked) (call : Call) (events : List Event) → IsIn q (operation_of call) → IsIn (operation_for q.what) (asked_in (plan_of call ∷ events))
+pub asked_call : (q : Asked) (call : Call) (events : List Event) → IsIn q (operation_of call) → IsIn (operation_for q.what) (asked_in (plan_of call ∷ events))
 asked_call q Init events (inl e) = inl (ap (λ z. operation_for z.what) e)
 asked_call q Init events (inr i) = absurd i
 asked_call q (Search op set ask) events (inl e) = inl (ap (λ z. operation_for z.what) e)
@@ -93,7 +93,7 @@ asked_call q (Present op set ranges) events (inl e) = inl (ap (λ z. operation_f
 asked_call q (Present op set ranges) events (inr i) = absurd i
 asked_call q Close events i = absurd i
 
-asked_still : (a : Operation) (call : Call) (events : List Event) → IsIn a (asked_in events) → IsIn a (asked_in (plan_of call ∷ events))
+pub asked_still : (a : Operation) (call : Call) (events : List Event) → IsIn a (asked_in events) → IsIn a (asked_in (plan_of call ∷ events))
 asked_still a Init events i = inr i
 asked_still a (Search op set ask) events i = inr i
 asked_still a (Present op set ranges) events i = inr i
@@ -108,7 +108,7 @@ numbered_call q (Present op set ranges) n (inl e) = ap (λ z. z.op) e ∙ n ∙ 
 numbered_call q (Present op set ranges) n (inr i) = absurd i
 numbered_call q Close n i = absurd i
 
-replies_call : (a : Operation) (call : Call) (events : List Event) → replies_in (plan_of call ∷ events) a ≡ replies_in events a
+pub replies_call : (a : Operation) (call : Call) (events : List Event) → replies_in (plan_of call ∷ events) a ≡ replies_in events a
 replies_call a Init events = refl
 replies_call a (Search op set ask) events = refl
 replies_call a (Present op set ranges) events = refl
@@ -122,14 +122,14 @@ count_call Close events = let e : length (asked_in events) ≡ length (asked_in 
 
 -- ---- one reply more
 
-same_asked : (p : Past) (v : Result Taken Refused) → asked (after_verdict p v) ≡ asked p
+pub same_asked : (p : Past) (v : Result Taken Refused) → asked (after_verdict p v) ≡ asked p
 same_asked p (Ok (taken.Opened a)) = refl
 same_asked p (Ok (taken.Rejected a)) = refl
 same_asked p (Ok (taken.Answered a)) = refl
 same_asked p (Ok taken.Closed) = refl
 same_asked p (Err r) = elim (is_open (state_of p)) as (λ b. asked (cond b (record p { fault = Some r }) p) ≡ asked p) [ true ↦ refl | false ↦ refl ]
 
-same_events : (ask : Ask) (p : Past) (v : Result Taken Refused) (events : List Event) → asked_in (got_event ask p v events) ≡ asked_in events
+pub same_events : (ask : Ask) (p : Past) (v : Result Taken Refused) (events : List Event) → asked_in (got_event ask p v events) ≡ asked_in events
 same_events ask p (Ok (taken.Opened a)) events = refl
 same_events ask p (Ok (taken.Rejected a)) events = refl
 same_events ask p (Ok (taken.Answered a)) events = refl
@@ -137,10 +137,10 @@ same_events ask p (Ok taken.Closed) events = refl
 same_events ask p (Err r) events = refl
 
 -- the answer that brought a reply
-abbrev IsBy : List Answer → Operation → Type 0
+abbrev pub IsBy : List Answer → Operation → Type 0
 IsBy accepted a = (x : Answer) × IsIn x accepted × (operation_for x.asked.what ≡ a)
 
-by_more : (accepted : List Answer) (x : Answer) (a : Operation) → IsBy accepted a → IsBy (accepted ++ x ∷ []) a
+pub by_more : (accepted : List Answer) (x : Answer) (a : Operation) → IsBy accepted a → IsBy (accepted ++ x ∷ []) a
 by_more accepted x a b = (b.0, in_front b.0 x accepted b.1, b.2)
 
 by_last : (ask : Ask) (q p : Past) (x : Answer) (events : List Event) (a : Operation) (r : Reply) → (replies_in events a ≡ Some r → IsBy p.accepted a)
@@ -177,7 +177,7 @@ differ (z ∷ xs) x y d (inr i) = differ xs x y (IsDistinct-tail nat_eq (answere
 
 module _ (ask : Ask) (settings : Settings) where
   -- what was admitted was sent
-  sent_known : (log : Log) (q : Asked) → IsIn q (asked (past settings log)) → IsIn (operation_for q.what) (asked_in (events_of ask settings log))
+  pub sent_known : (log : Log) (q : Asked) → IsIn q (asked (past settings log)) → IsIn (operation_for q.what) (asked_in (events_of ask settings log))
   sent_known [] q i = absurd i
   sent_known (Made call ∷ log) q i = made (sent_known log q) (refusal (standing (past settings log)) call) i
     where
@@ -194,7 +194,7 @@ module _ (ask : Ask) (settings : Settings) where
       (sent_known log q (subst (IsIn q) (same_asked (past settings log) v) i))
 
   -- a reply came with an accepted answer
-  replied : (log : Log) (a : Operation) (r : Reply) → replies_in (events_of ask settings log) a ≡ Some r → IsBy (past settings log).accepted a
+  pub replied : (log : Log) (a : Operation) (r : Reply) → replies_in (events_of ask settings log) a ≡ Some r → IsBy (past settings log).accepted a
   replied [] a r e = absurd (cc)
   replied (Made call ∷ log) a r e = made (replied log a r) (refusal (standing (past settings log)) call) e
     where
@@ -223,7 +223,7 @@ module _ (ask : Ask) (settings : Settings) where
 
   module _ (wanted : List ℕ) (step : ℕ) where
     -- the number of an operation is that of the plan
-    numbered : (log : Log) → IsDrivenLog ask wanted step settings log → (q : Asked) → IsIn q (asked (past settings log)) → q.op ≡ number (operation_for q.what)
+    pub numbered : (log : Log) → IsDrivenLog ask wanted step settings log → (q : Asked) → IsIn q (asked (past settings log)) → q.op ≡ number (operation_for q.what)
     numbered [] d q i = absurd i
     numbered (Made call ∷ log) d q i = made (numbered log d.1 q) (refusal (standing (past settings log)) call) d.0 i
       where
@@ -238,7 +238,7 @@ module _ (ask : Ask) (settings : Settings) where
     numbered (Got reply ∷ log) d q i = numbered log d q (subst (IsIn q) (same_asked (past settings log) (verdict (standing (past settings log)) reply)) i)
 
     -- an accepted answer is the first to what was sent
-    fresh : (log : Log) → ((s : Settings) (l : Log) → IsOrderly (past s l)) → IsDrivenLog ask wanted step settings log → (x : Answer) → IsOrderly (accept (past settings log) x)
+    pub fresh : (log : Log) → ((s : Settings) (l : Log) → IsOrderly (past s l)) → IsDrivenLog ask wanted step settings log → (x : Answer) → IsOrderly (accept (past settings log) x)
         → IsIn (operation_for x.asked.what) (asked_in (events_of ask settings log)) × (replies_in (events_of ask settings log) (operation_for x.asked.what) ≡ None)
     fresh log orderly d x o = (sent_known log x.asked there, unanswered (replies_in (events_of ask settings log) (operation_for x.asked.what)) refl)
       where

@@ -20,4 +20,4 @@ pub mod Rows
 pub mod Hosts
 pub mod Served
 pub mod MetaLaws
-mod Drivings
+pub mod Drivings

@@ -3,7 +3,7 @@ use Rattle.std.proofs.Common.{◌≡◌, ◌⊎◌, inl, inr, length-append, ℕ
 use Rattle.std.proofs.Common.{length, refl, sym, ap, subst, ◌∙◌, true≢false, arith}
 use Rattle.zber.specs.declared.fault.FaultKind.{FaultKind}
 use Rattle.zber.specs.Elements.{Element}
-use Rattle.zber.specs.Names.{Name}
+use Rattle.zber.specs.AsnTags.{AsnTag}
 use Rattle.zber.specs.Spelling.{Identifier, low, high, Spells, primitive, definite, indefinite, Begins}
 use Rattle.zber.specs.Shown.{Shows}
 use Rattle.zber.specs.Unfinished.{IsUnfinished}
@@ -120,7 +120,7 @@ shape_once l xs m n none (halted a) (halted b) = halts_once l xs m n a b
 
 -- ---- a Take
 
-identifier_some : {n : Name} {c : Bool} {i : List ℕ} (x : List ℕ) → Identifier n c i → 0 < length (i ++ x)
+identifier_some : {n : AsnTag} {c : Bool} {i : List ℕ} (x : List ℕ) → Identifier n c i → 0 < length (i ++ x)
 identifier_some x (low t p) = omega arith
 identifier_some x (high t p g) = omega arith
 

@@ -3,9 +3,9 @@ use Rattle.std.proofs.Common.{◌≡◌, ⊎_elim, ℕ, List, [], ◌∷◌, ref
 use Rattle.std.specs.Prelude.{Contains}
 use Rattle.std.specs.List.{flat_map}
 use Rattle.std.proofs.lemmas.List.Elements.{Contains-append_cases, Contains-append_left, Contains-append_right}
-use Rattle.zknow.specs.DistinctLaws.{none_in_nil, in_cons, in_head, in_tail}
+use Rattle.zknow.specs.Tables.DistinctLaws.{none_in_nil, in_cons, in_head, in_tail}
 use Rattle.zknow.specs.FactLaws.{same_facts}
-use Rattle.zknow.specs.Listing.{listing}
+use Rattle.zknow.specs.List.Listing.{listing}
 use Rattle.zknow.specs.declared.fact.Fact.{Fact}
 use Rattle.zapdu.specs.declared.apdu.Apdu.{Apdu}
 use Rattle.zapdu.specs.declared.apdu.Apdu.TheVariants as apdus

@@ -6,13 +6,13 @@ use Rattle.std.specs.List.{enumerate_from}
 use Rattle.std.proofs.lemmas.List.Elements.{Contains-append_cases}
 use Rattle.zapdu.specs.declared.apdu.Apdu.{Apdu}
 use Rattle.zapdu.specs.declared.apdu.Apdu.TheVariants as apdus
-use Rattle.zapdu.specs.declared.record.Record.{Record}
-use Rattle.zapdu.specs.declared.diagnostic.DiagRec.{DiagRec}
-use Rattle.zknow.specs.DistinctLaws.{none_in_nil, in_cons}
+use Rattle.zapdu.specs.declared.productions.record.Record.{Record}
+use Rattle.zapdu.specs.declared.productions.diagnostic.DiagRec.{DiagRec}
+use Rattle.zknow.specs.Tables.DistinctLaws.{none_in_nil, in_cons}
 use Rattle.zknow.specs.declared.fact.Fact.{Fact}
 use Rattle.zknow.specs.declared.fact.Fact.TheVariants.{Failed, Seen}
 use Rattle.zknow.specs.Facts.{target_of}
-use Rattle.zknow.specs.ListLaws.{PlaceLaws, ListLaws}
+use Rattle.zknow.specs.List.ListLaws.{PlaceLaws, ListLaws}
 use Rattle.zorigin.specs.declared.answer.What.{What}
 use Rattle.zorigin.specs.declared.answer.What.TheVariants as what
 use Rattle.zorigin.specs.Fitting.{records_in, diagnostics_in}

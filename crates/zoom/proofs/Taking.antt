@@ -16,8 +16,8 @@ use Rattle.zapdu.specs.declared.apdu.ApduError.{ApduError}
 use Rattle.zapdu.specs.declared.apdu.ApduError.TheVariants as decode
 use Rattle.zapdu.specs.Writes.{Decodes}
 use Rattle.zknow.specs.declared.fact.Fact.{Fact}
-use Rattle.zknow.specs.DistinctLaws.{none_in_nil}
-use Rattle.zknow.specs.Join.{IsUnion, IsPartOfUnion}
+use Rattle.zknow.specs.Tables.DistinctLaws.{none_in_nil}
+use Rattle.zknow.specs.Tables.Join.{IsUnion, IsPartOfUnion}
 use Rattle.zorigin.specs.declared.answer.Taken.{Taken}
 use Rattle.zorigin.specs.declared.refusal.Refused.{Refused}
 use Rattle.zorigin.specs.Standings.{Standing}

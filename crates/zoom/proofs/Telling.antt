@@ -5,9 +5,9 @@ use Rattle.std.specs.Prelude.{◌||◌, ◌&&◌, ◌==◌, nat_lt, ℤ}
 use Rattle.std.specs.List.{list_any, find}
 use Rattle.zapdu.specs.declared.apdu.Apdu.{Apdu}
 use Rattle.zapdu.specs.declared.apdu.Apdu.TheVariants as apdus
-use Rattle.zapdu.specs.declared.init_response.InitResponse.{InitResponse}
-use Rattle.zapdu.specs.declared.search_response.SearchResponse.{SearchResponse}
-use Rattle.zapdu.specs.declared.present_response.PresentResponse.{PresentResponse}
+use Rattle.zapdu.specs.declared.productions.init_response.InitResponse.{InitResponse}
+use Rattle.zapdu.specs.declared.productions.search_response.SearchResponse.{SearchResponse}
+use Rattle.zapdu.specs.declared.productions.present_response.PresentResponse.{PresentResponse}
 use Rattle.zplan.specs.Plan as plan
 use Rattle.zplan.specs.Plan.{Operation, Event, Sends, Receives, Closes, Reply, Opens, Finds, Shows, IsDue, IsDriven, asked_in, replies_in, outstanding_in, number, same}
 use Rattle.zplan.specs.Positions.{IsIn, IsWanted, first_of}

@@ -27,7 +27,8 @@ IsStateAt c pool state =
 -- a call's answer, memory aside
 abbrev pub IsCallAnswer : ℕ → Call → Links → Result (Unit {0}) CallRefused → Type 0
 IsCallAnswer c call pool answer =
-    (settings : Settings) (h : History) (a : After settings h pool) → IsCalled answer → answer ≡ called_as (a.heard c) call
+    (settings : Settings) (h : History) (a : After settings h pool) → IsCalled answer
+    → answer ≡ called_as (a.heard c) call
 
 -- a Take's answer: there is what it met, and this is answered then
 abbrev pub IsTakeAnswer : ℕ → Links → Result Step TakeError → Type 0

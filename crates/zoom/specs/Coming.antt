@@ -15,7 +15,8 @@ use Rattle.zapdu.specs.Writes.{Writes, IsNoApdu, IsMalformed}
 abbrev pub limit : ℕ
 limit = 2097152
 
--- What a Take meets: a connection that was stopped before; a message, or one that is no APDU; a fault; octets that are no
+-- What a Take meets: a connection that was stopped before; a message, or one that is no APDU; a fault; octets that are
+-- no
 -- whole message, so many; no octets.
 pub data Met : Type 0 where
   Stopped : Met

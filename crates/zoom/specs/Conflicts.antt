@@ -1,11 +1,11 @@
 -- When two accepted replies differ: that a row is then a conflict, and is printed as one.
 use Rattle.std.specs.Prelude.{◌≢◌, ◌↔◌, ◌≤◌, ℕ, ℤ, List, length, Contains}
-use Rattle.zapdu.specs.declared.record.Record.{Record}
+use Rattle.zapdu.specs.declared.productions.record.Record.{Record}
 use Rattle.zknow.specs.declared.fact.Fact.TheVariants.{Seen}
 use Rattle.zknow.specs.declared.fact.Mode.{Mode}
 use Rattle.zknow.specs.Known.{records_at}
-use Rattle.zknow.specs.Listing.{is_hex, listing}
-use Rattle.zknow.specs.ListLaws.{StandsIn, conflict_text}
+use Rattle.zknow.specs.List.Listing.{is_hex, listing}
+use Rattle.zknow.specs.List.ListLaws.{StandsIn, conflict_text}
 use Rattle.zorigin.specs.declared.settings.Settings.{Settings}
 use Rattle.zorigin.specs.declared.answer.Answer.{Answer}
 use Rattle.zorigin.specs.Facts.{facts_of}
@@ -39,7 +39,8 @@ IsPrinted pool c set position =
 -- what is known of one row
 pub record RowLaws (heard : ℕ → Heard) (pool : Links) (c set : ℕ) (position : ℤ) : Type 0 where
   -- its records are those that accepted replies show
-  pub records : (rec : Record) → Contains (records_at c set position pool.knowledge) rec ↔ IsShownBy heard c set position rec
+  pub records : (rec : Record) → Contains (records_at c set position pool.knowledge) rec
+      ↔ IsShownBy heard c set position rec
   -- it is a conflict exactly where two of them differ, and is printed as one
   pub conflict : (2 ≤ length (records_at c set position pool.knowledge)) ↔ Differ heard c set position
   pub printed : Differ heard c set position → IsPrinted pool c set position

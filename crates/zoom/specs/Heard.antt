@@ -158,7 +158,8 @@ IsNews target p q = (met : Met) × Meets p met × Contains (news_at target p met
 
 -- ---- deeds
 
--- What befalls one connection: a call, a piece of octets, a Take, the end of its input, octets handed out, and that its host
+-- What befalls one connection: a call, a piece of octets, a Take, the end of its input, octets handed out, and that its
+-- host
 -- stopped it. A call or a Take that was answered for want of memory is none.
 pub data Deed : Type 0 where
   Calls : Call → Deed

@@ -1,10 +1,11 @@
--- The laws of histories: what deeds amount to, when a Take answers Nothing, and that the order of events does not matter.
+-- The laws of histories: what deeds amount to, when a Take answers Nothing, and that the order of events does not
+-- matter.
 use Rattle.std.specs.Prelude.{◌≡◌, ◌↔◌, ℕ, true, false, List, None, Ok, Contains}
 use Rattle.zber.specs.Unfinished.{IsUnfinished}
 use Rattle.zapdu.specs.declared.apdu.Apdu.{Apdu}
 use Rattle.zapdu.specs.declared.apdu.Apdu.TheVariants as apdus
 use Rattle.zknow.specs.declared.fact.Mode.{Mode}
-use Rattle.zknow.specs.Listing.{listing}
+use Rattle.zknow.specs.List.Listing.{listing}
 use Rattle.zorigin.specs.declared.settings.Settings.{Settings}
 use Rattle.zorigin.specs.declared.answer.Answer.{Answer}
 use Rattle.zoom.specs.declared.answer.Step.TheVariants as steps
@@ -40,7 +41,8 @@ pub record TakeLaws : Type 0 where
 
 -- what a history can have left, it can have left up to any connection's next Take
 abbrev pub UpToLaw : Type 0
-UpToLaw = (settings : Settings) (c : ℕ) (h : History) (pool : Links) → After settings h pool → AfterUpTo settings c h pool
+UpToLaw =
+    (settings : Settings) (c : ℕ) (h : History) (pool : Links) → After settings h pool → AfterUpTo settings c h pool
 
 -- a reply without its reference id
 abbrev pub plain : Apdu → Apdu
@@ -69,7 +71,8 @@ pub record KnowSame (one other : Links) : Type 0 where
   pub printed : (names : List (List ℕ)) (mode : Mode)
       → listing names mode one.knowledge ≡ listing names mode other.knowledge
 
--- histories with the same accepted replies leave the same knowledge, whatever the order of events and cutting of streams
+-- histories with the same accepted replies leave the same knowledge, whatever the order of events and cutting of
+-- streams
 abbrev pub OrderLaw : Type 0
 OrderLaw =
     (settings others : Settings) (g h : History) (one other : Links)

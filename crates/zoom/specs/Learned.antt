@@ -4,7 +4,7 @@ use Rattle.zber.specs.Elements.{Element}
 use Rattle.zapdu.specs.declared.apdu.Apdu.{Apdu}
 use Rattle.zapdu.specs.Writes.{Writes}
 use Rattle.zknow.specs.declared.fact.Fact.{Fact}
-use Rattle.zknow.specs.Join.{IsUnion, IsPartOfUnion}
+use Rattle.zknow.specs.Tables.Join.{IsUnion, IsPartOfUnion}
 use Rattle.zorigin.specs.declared.answer.Answer.{Answer}
 use Rattle.zorigin.specs.declared.answer.Taken.{Taken}
 use Rattle.zorigin.specs.Facts.{IsShowable, HasShowable}

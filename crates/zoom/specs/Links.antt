@@ -6,7 +6,8 @@ use Rattle.zknow.specs.declared.fact.Fact.{Fact}
 use Rattle.zorigin.specs.Standings.{Standing}
 use Rattle.zoom.specs.declared.state.State.{State}
 
--- A connection: its origin; the octets that came and were not yet given out in a message; the message that want of memory
+-- A connection: its origin; the octets that came and were not yet given out in a message; the message that want of
+-- memory
 -- left; the octets that wait to go out; whether the input ended; what stopped it.
 pub record Link : Type 0 where
   pub origin : Standing

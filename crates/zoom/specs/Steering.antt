@@ -22,7 +22,8 @@ use Rattle.zoom.specs.declared.question.Question.{Question}
 use Rattle.zoom.specs.declared.question.MetaSettings.{MetaSettings}
 use Rattle.zoom.specs.Driving.{plan_of, events_of, IsNumbered}
 
--- What is asked of one connection: the search; the positions that are wanted; how many of them one Present asks for; how
+-- What is asked of one connection: the search; the positions that are wanted; how many of them one Present asks for;
+-- how
 -- many Presents wait for their answers at a time, where the target takes several.
 pub record Errand : Type 0 where
   pub ask : Ask

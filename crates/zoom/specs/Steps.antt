@@ -7,7 +7,7 @@ use Rattle.zber.specs.Shown.{Shows}
 use Rattle.zber.specs.Stream.{Stream}
 use Rattle.zber.specs.Unfinished.{IsUnfinished}
 use Rattle.zknow.specs.declared.fact.Fact.{Fact}
-use Rattle.zknow.specs.Join.{IsUnion, IsPartOfUnion}
+use Rattle.zknow.specs.Tables.Join.{IsUnion, IsPartOfUnion}
 use Rattle.zorigin.specs.declared.settings.Settings.{Settings}
 use Rattle.zorigin.specs.declared.refusal.CallRefused.{CallRefused}
 use Rattle.zorigin.specs.Standings.{Standing, Call}
@@ -69,7 +69,8 @@ pub record LacksTo (p : Heard) (answer : Result Told TakeError) (c : Link) : Typ
 abbrev pub Draws : Heard → Result (Option Element) FrameError → Option Element → Stream → Type 0
 Draws p (Ok (Some e)) held framer = (held ≡ None) × Frames p (Some e) framer
 Draws p (Ok None) held framer =
-    (held ≡ None) × Frames p None framer × IsUnfinished limit framer.octets × (framer.asked ≡ true) × (framer.fault ≡ None)
+    (held ≡ None) × Frames p None framer × IsUnfinished limit framer.octets × (framer.asked ≡ true)
+    × (framer.fault ≡ None)
 Draws p (Err (Fault kind at)) held framer =
     (held ≡ None) × ((reason : Reason) → Frames (stop_by p reason) None framer) × Shows limit framer.octets kind at
 Draws p (Err Memory) held framer = (held ≡ None) × Frames p None framer

@@ -58,7 +58,8 @@ pub(crate) fn step_told(told: &Told) -> Step
     }
 }
 
-/// Why a message is not taken. But for `Memory` the connection has then failed for this reason, and what is known stays.
+/// Why a message is not taken. But for `Memory` the connection has then failed for this reason, and what is known
+/// stays.
 #[derive(Clone, Copy, Debug, PartialEq, Eq, Error)]
 pub enum TakeError {
     /// The octets show this fault at the header that stands so many octets behind the first of the message at fault

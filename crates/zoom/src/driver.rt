@@ -144,8 +144,8 @@ impl Driver {
         Ok(())
     }
 
-    /// The call that is next in this state of the connection, or none. It is not made yet: `sent` or `refused` says what
-    /// came of it. Refused only for want of memory.
+    /// The call that is next in this state of the connection, or none. It is not made yet: `sent` or `refused` says
+    /// what came of it. Refused only for want of memory.
     pub(crate) fn next_call(&mut self, state: State) -> Result<Option<Call>, AllocError>
         ensures stays { Stays self.old self.new }
         ensures ok { IfOk result (λ given. GivesNext state given self.new) }

@@ -1,6 +1,6 @@
 //! Messages that are taken: what each says is added to what is known, and then the origin takes it.
 ghost use Rattle.std.specs.Prelude.{◌≡◌, ◌∷◌, Contains, Err};
-ghost use Rattle.zknow.specs.Join.{IsPartOfUnion};
+ghost use Rattle.zknow.specs.Tables.Join.{IsPartOfUnion};
 ghost use Rattle.zorigin.specs.declared.settings.Settings.{Settings};
 ghost use Rattle.zorigin.specs.Log.{Log, Got, past, standing, After};
 ghost use Rattle.zorigin.specs.Replies.{verdict};

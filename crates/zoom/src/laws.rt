@@ -52,8 +52,9 @@ pub fn conflicts()
     list_laws();
 }
 
-/// Of connections that are driven: Close aside, each is asked two things at most, and one for each wanted position up to
-/// the number that its search found; and with the same accepted replies, reference ids aside, the same list is printed.
+/// Of connections that are driven: Close aside, each is asked two things at most, and one for each wanted position up
+/// to the number that its search found; and with the same accepted replies, reference ids aside, the same list is
+/// printed.
 pub fn meta_laws()
     ensures { MetaLaws }
 {

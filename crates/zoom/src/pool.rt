@@ -92,8 +92,8 @@ impl Pool {
         self.connections[c as usize].call(call)
     }
 
-    /// Takes the next piece of octets that came on a connection, cut anywhere. On one that is Closed or Failed, or whose
-    /// input ended, it does nothing. Where no memory is found, the pool is as it was.
+    /// Takes the next piece of octets that came on a connection, cut anywhere. On one that is Closed or Failed, or
+    /// whose input ended, it does nothing. Where no memory is found, the pool is as it was.
     pub fn feed(&mut self, c: u32, piece: &[u8]) -> Result<(), AllocError>
         requires { c < length self.old.connections }
         ensures after { OnOk result (Befell c (Feeds piece.now) self.old self.new) }

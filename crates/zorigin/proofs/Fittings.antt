@@ -4,9 +4,9 @@ use Rattle.std.proofs.lemmas.Bool.Decides.{nat_tests}
 use Rattle.std.proofs.lemmas.Int.{ints}
 use Rattle.zapdu.specs.declared.apdu.Apdu.{Apdu}
 use Rattle.zapdu.specs.declared.apdu.Apdu.TheVariants as apdus
-use Rattle.zapdu.specs.declared.record.Records.{Records}
-use Rattle.zapdu.specs.declared.search_response.SearchResponse.{SearchResponse}
-use Rattle.zapdu.specs.declared.present_response.PresentResponse.{PresentResponse}
+use Rattle.zapdu.specs.declared.productions.record.Records.{Records}
+use Rattle.zapdu.specs.declared.productions.search_response.SearchResponse.{SearchResponse}
+use Rattle.zapdu.specs.declared.productions.present_response.PresentResponse.{PresentResponse}
 use Rattle.zorigin.specs.declared.answer.What.{What}
 use Rattle.zorigin.specs.declared.answer.What.TheVariants as what
 use Rattle.zorigin.specs.declared.refusal.Refused.TheVariants as refused

@@ -4,9 +4,9 @@ use Rattle.std.proofs.lemmas.Int.{ints}
 use Rattle.std.specs.List.{AllByRecursion, enumerate_from}
 use Rattle.zapdu.specs.declared.apdu.Apdu.{Apdu}
 use Rattle.zapdu.specs.declared.apdu.Apdu.TheVariants as apdus
-use Rattle.zapdu.specs.declared.record.Record.{Record}
-use Rattle.zapdu.specs.declared.diagnostic.DiagRec.{DiagRec}
-use Rattle.zapdu.specs.Records.{whole_record}
+use Rattle.zapdu.specs.declared.productions.record.Record.{Record}
+use Rattle.zapdu.specs.declared.productions.diagnostic.DiagRec.{DiagRec}
+use Rattle.zapdu.specs.Productions.Records.{whole_record}
 use Rattle.zknow.specs.declared.fact.Fact.{Fact}
 use Rattle.zknow.specs.declared.fact.Fact.TheVariants.{Seen, Failed}
 use Rattle.zknow.specs.Encodings.{IsSpellable}

@@ -3,7 +3,7 @@ use Rattle.std.proofs.Common.{◌≡◌, ℕ, ℤ, pos, ◌+ℤ◌, ◌≤ℤ◌
 use Rattle.std.proofs.lemmas.List.{map-append, take_more, length-take-le}
 use Rattle.std.specs.Prelude.{zip}
 use Rattle.std.specs.List.{enumerate_from, range_with_len}
-use Rattle.zapdu.specs.declared.record.Record.{Record}
+use Rattle.zapdu.specs.declared.productions.record.Record.{Record}
 use Rattle.zknow.specs.declared.fact.Fact.{Fact}
 use Rattle.zknow.specs.declared.fact.Fact.TheVariants.{Seen}
 use Rattle.zorigin.specs.declared.range.Range.{Range}

@@ -6,12 +6,9 @@ use Rattle.std.proofs.lemmas.List.{at_drop_more}
 use Rattle.std.proofs.lemmas.List.Folds.{list_any-append}
 use Rattle.std.proofs.lemmas.List.FromFn.{length-range_with_len}
 use Rattle.std.specs.List.{range_with_len, AllByRecursion}
+use Rattle.zber.proofs.Tests.{both_true}
 use Rattle.zorigin.specs.declared.range.Range.{Range}
 use Rattle.zorigin.specs.Ranges.{natural, positions_of, positions, first_of, last_of, is_range, follow, are_ranges, is_past}
-
-pub both_true : (a b : Bool) → (a && b) ≡ true → (a ≡ true) × (b ≡ true)
-both_true true b h = (refl, h)
-both_true false b h = absurd (true≢false (sym h))
 
 -- ---- what a range that can be asked for is
 

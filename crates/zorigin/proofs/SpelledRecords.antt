@@ -2,19 +2,19 @@
 use Rattle.std.proofs.Common.{ℕ, zero, suc, List, [], ◌∷◌, Option, Some, None}
 use Rattle.std.specs.List.{AllByRecursion}
 use Rattle.zber.specs.Elements.{Element, Primitive, Constructed, elements}
-use Rattle.zber.specs.Productions.Standing as standing
-use Rattle.zber.specs.Productions.Table.{Table, required, optional, ended, also, fields, Stand}
-use Rattle.zber.specs.Productions.Within.{each}
+use Rattle.zproductions.specs.Standing as standing
+use Rattle.zproductions.specs.Table.{Table, required, optional, ended, also, fields, Stand}
+use Rattle.zproductions.specs.Within.{each}
 use Rattle.zapdu.specs.declared.apdu.Apdu.{Apdu}
 use Rattle.zapdu.specs.declared.apdu.Apdu.TheVariants as apdus
-use Rattle.zapdu.specs.declared.record.Record.{Record}
-use Rattle.zapdu.specs.declared.record.Records.{Records}
-use Rattle.zapdu.specs.declared.record.Records.TheVariants as kinds
-use Rattle.zapdu.specs.declared.search_response.SearchResponse.{SearchResponse}
-use Rattle.zapdu.specs.declared.present_response.PresentResponse.{PresentResponse}
-use Rattle.zapdu.specs.Records.{records, whole_record}
-use Rattle.zapdu.specs.SearchResponses.{search_response_table, search_response_parts}
-use Rattle.zapdu.specs.PresentResponses.{present_response_table, present_response_parts}
+use Rattle.zapdu.specs.declared.productions.record.Record.{Record}
+use Rattle.zapdu.specs.declared.productions.record.Records.{Records}
+use Rattle.zapdu.specs.declared.productions.record.Records.TheVariants as kinds
+use Rattle.zapdu.specs.declared.productions.search_response.SearchResponse.{SearchResponse}
+use Rattle.zapdu.specs.declared.productions.present_response.PresentResponse.{PresentResponse}
+use Rattle.zapdu.specs.Productions.Records.{records, whole_record}
+use Rattle.zapdu.specs.Productions.SearchResponses.{search_response_table, search_response_parts}
+use Rattle.zapdu.specs.Productions.PresentResponses.{present_response_table, present_response_parts}
 use Rattle.zapdu.specs.Writes.{Writes}
 use Rattle.zknow.specs.Encodings.{IsSpellable}
 use Rattle.zorigin.specs.Fitting.{records_in}

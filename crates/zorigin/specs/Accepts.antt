@@ -20,7 +20,8 @@ id_of (apdus.PresentRequest v) = v.reference_id
 id_of (apdus.PresentResponse v) = v.reference_id
 id_of (apdus.Close v) = v.reference_id
 
--- The reference id is the operation's, or is absent where concurrency is not in force and no other operation is outstanding.
+-- The reference id is the operation's, or is absent where concurrency is not in force and no other operation is
+-- outstanding.
 abbrev pub Refers : Past → Asked → Option (List ℕ) → Type 0
 Refers p q (Some id) = id ≡ reference_id q.op
 Refers p q None = ((force_after (opening p)).concurrent ≡ false) × (outstanding p ≡ q ∷ [])

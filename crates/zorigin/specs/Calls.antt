@@ -1,4 +1,5 @@
--- The table of calls (Z39.50-2003, 3.2.1.1, 3.2.2.1, 3.2.3.1 and 3.2.11.1; concurrent operations: 3.5): which are refused,
+-- The table of calls (Z39.50-2003, 3.2.1.1, 3.2.2.1, 3.2.3.1 and 3.2.11.1; concurrent operations: 3.5): which are
+-- refused,
 -- row by row, and what one that is not refused comes to.
 use Rattle.std.specs.Prelude.{◌≡◌, ℕ, pos, int_lt, nat_eq, nat_le, ◌==◌, ◌-◌, Bool, false, not, ◌||◌, ◌&&◌, if◌then◌else◌, List, [], ◌∷◌, length, slice_get, is_some, is_none, Option, Some, None, Result, Ok, Err}
 use Rattle.std.specs.List.{list_any}
@@ -89,7 +90,8 @@ out_of_range s (Present op set ranges) =
     not (are_ranges ranges) || past_count (positions ranges) (search_of s.searches set)
 out_of_range s _ = false
 
--- an operation is outstanding, and no second one may be: concurrency is not in force, or it is a search that would replace a set
+-- an operation is outstanding, and no second one may be: concurrency is not in force, or it is a search that would
+-- replace a set
 abbrev pub busy : Standing → Call → Bool
 busy s (Search op set ask) =
     not (is_empty s.outstanding) && (not s.force.concurrent || (not s.force.named && not (is_empty s.searches)))

@@ -1,12 +1,14 @@
--- How a call that is admitted, and an APDU that is taken, change where a connection stands (Z39.50-2003, 3.2 and 3.4). These
--- definitions serve private functions: public clauses speak of logs (Log.antt, which takes from here what one call or reply says).
+-- How a call that is admitted, and an APDU that is taken, change where a connection stands (Z39.50-2003, 3.2 and 3.4).
+-- These
+-- definitions serve private functions: public clauses speak of logs (Log.antt, which takes from here what one call or
+-- reply says).
 use Rattle.std.specs.Prelude.{◌≡◌, ◌≢◌, ℕ, nat_eq, ◌==◌, Bool, true, false, slice_index_or, if◌then◌else◌, List, Option, Some, None, Result, Ok, Err}
 use Rattle.std.specs.Map.{set_value}
 use Rattle.indexmap.specs.IndexMap.{insert_entry, shift_remove_entry}
 use Rattle.indexmap.specs.IndexSet.{insert_key}
 use Rattle.zapdu.specs.declared.apdu.Apdu.{Apdu}
 use Rattle.zapdu.specs.declared.apdu.Apdu.TheVariants as apdus
-use Rattle.zapdu.specs.declared.init_response.InitResponse.{InitResponse}
+use Rattle.zapdu.specs.declared.productions.init_response.InitResponse.{InitResponse}
 use Rattle.zorigin.specs.declared.range.Range.{Range}
 use Rattle.zorigin.specs.declared.settings.Ask.{Ask}
 use Rattle.zorigin.specs.declared.answer.Asked.{Asked}

@@ -1,17 +1,18 @@
--- What a reply has to be like to answer an operation (Z39.50-2003, 3.2.2.1, 3.2.3.1), and what is wrong with one that does not.
+-- What a reply has to be like to answer an operation (Z39.50-2003, 3.2.2.1, 3.2.3.1), and what is wrong with one that
+-- does not.
 use Rattle.std.specs.Prelude.{◌≡◌, ◌≢◌, ◌⊎◌, ℕ, ℤ, pos, negsuc, ◌≤◌, ◌≤ℤ◌, int_lt, nat_lt, ◌==◌, Bool, true, false, not, ◌||◌, ◌&&◌, if◌then◌else◌, List, [], ◌∷◌, length, Option, Some, None}
 use Rattle.std.specs.List.{list_any}
 use Rattle.zapdu.specs.declared.apdu.Apdu.{Apdu}
 use Rattle.zapdu.specs.declared.apdu.Apdu.TheVariants as apdus
-use Rattle.zapdu.specs.declared.record.Record.{Record}
-use Rattle.zapdu.specs.declared.record.RecordBody.{RecordBody}
-use Rattle.zapdu.specs.declared.record.RecordBody.TheVariants as bodies
-use Rattle.zapdu.specs.declared.record.Records.{Records}
-use Rattle.zapdu.specs.declared.record.Records.TheVariants as kinds
-use Rattle.zapdu.specs.declared.diagnostic.DiagRec.{DiagRec}
-use Rattle.zapdu.specs.declared.diagnostic.DiagRec.TheVariants.{Default}
-use Rattle.zapdu.specs.declared.search_response.SearchResponse.{SearchResponse}
-use Rattle.zapdu.specs.declared.present_response.PresentResponse.{PresentResponse}
+use Rattle.zapdu.specs.declared.productions.record.Record.{Record}
+use Rattle.zapdu.specs.declared.productions.record.RecordBody.{RecordBody}
+use Rattle.zapdu.specs.declared.productions.record.RecordBody.TheVariants as bodies
+use Rattle.zapdu.specs.declared.productions.record.Records.{Records}
+use Rattle.zapdu.specs.declared.productions.record.Records.TheVariants as kinds
+use Rattle.zapdu.specs.declared.productions.diagnostic.DiagRec.{DiagRec}
+use Rattle.zapdu.specs.declared.productions.diagnostic.DiagRec.TheVariants.{Default}
+use Rattle.zapdu.specs.declared.productions.search_response.SearchResponse.{SearchResponse}
+use Rattle.zapdu.specs.declared.productions.present_response.PresentResponse.{PresentResponse}
 use Rattle.zorigin.specs.declared.answer.What.{What}
 use Rattle.zorigin.specs.declared.answer.What.TheVariants as what
 use Rattle.zorigin.specs.declared.refusal.Refused.{Refused}

@@ -1,4 +1,5 @@
--- What was done to one origin (Z39.50-2003, 3.2 and 3.4), as a list, and what it amounts to: the calls that were admitted and
+-- What was done to one origin (Z39.50-2003, 3.2 and 3.4), as a list, and what it amounts to: the calls that were
+-- admitted and
 -- the replies that were accepted.
 use Rattle.std.specs.Prelude.{◌≡◌, ◌≢◌, ℕ, ◌==◌, Bool, true, false, not, if◌then◌else◌, List, [], ◌∷◌, ◌++◌, map, filter, Option, None, Some, Result, Ok, Err}
 use Rattle.std.specs.List.{list_any, find, flat_map}
@@ -36,7 +37,8 @@ pub data Entry : Type 0 where
 abbrev pub Log : Type 0
 Log = List Entry
 
--- What the log amounts to: the calls admitted, the requests sent for them and the replies accepted, in order; whether a Close
+-- What the log amounts to: the calls admitted, the requests sent for them and the replies accepted, in order; whether a
+-- Close
 -- was taken, and the latest fault.
 pub record Past : Type 0 where
   pub settings : Settings

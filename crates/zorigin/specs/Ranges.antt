@@ -1,4 +1,5 @@
--- The positions of a result set that are asked for, as ranges of them, and which ranges can be asked for (Z39.50-2003, 3.2.3.1).
+-- The positions of a result set that are asked for, as ranges of them, and which ranges can be asked for (Z39.50-2003,
+-- 3.2.3.1).
 use Rattle.std.specs.Prelude.{ℕ, ℤ, pos, negsuc, ◌+ℤ◌, ◌-ℤ◌, int_le, int_lt, Bool, true, false, ◌&&◌, List, [], ◌∷◌}
 use Rattle.std.specs.List.{range_with_len, flat_map, list_any}
 use Rattle.zorigin.specs.declared.range.Range.{Range}

@@ -22,7 +22,8 @@ abbrev pub numbered_as : List (ℕ × Asked) → Option ℕ → Option Asked
 numbered_as outstanding None = None
 numbered_as outstanding (Some op) = lookup (nat_eq op) outstanding
 
--- the outstanding operation that a reference id names; an absent one names the only operation, where concurrency is not in force
+-- the outstanding operation that a reference id names; an absent one names the only operation, where concurrency is not
+-- in force
 abbrev pub named : Standing → Option (List ℕ) → Option Asked
 named s (Some id) = numbered_as s.outstanding (number_of id)
 named s None = if s.force.concurrent then None else only_of s.outstanding

@@ -7,12 +7,12 @@ use Rattle.zber.specs.Canonical.{canonical}
 use Rattle.zber.specs.Spelling.{Begins}
 use Rattle.zapdu.specs.declared.apdu.Apdu.{Apdu}
 use Rattle.zapdu.specs.declared.apdu.Apdu.TheVariants as apdus
-use Rattle.zapdu.specs.declared.element_set_names.ElementSetNames.{ElementSetNames}
-use Rattle.zapdu.specs.declared.element_set_names.ElementSetNames.TheVariants.{Generic}
-use Rattle.zapdu.specs.declared.range.Range.{Range as SentRange}
-use Rattle.zapdu.specs.declared.record_composition.RecordComposition.{RecordComposition}
-use Rattle.zapdu.specs.declared.record_composition.RecordComposition.TheVariants.{Simple}
-use Rattle.zapdu.specs.declared.search_query.SearchQuery.TheVariants.{Rpn}
+use Rattle.zapdu.specs.declared.productions.element_set_names.ElementSetNames.{ElementSetNames}
+use Rattle.zapdu.specs.declared.productions.element_set_names.ElementSetNames.TheVariants.{Generic}
+use Rattle.zapdu.specs.declared.productions.range.Range.{Range as SentRange}
+use Rattle.zapdu.specs.declared.productions.record_composition.RecordComposition.{RecordComposition}
+use Rattle.zapdu.specs.declared.productions.record_composition.RecordComposition.TheVariants.{Simple}
+use Rattle.zapdu.specs.declared.productions.search_query.SearchQuery.TheVariants.{Rpn}
 use Rattle.zapdu.specs.Writes.{Writes, apdu_spelt}
 use Rattle.zorigin.specs.declared.settings.Settings.{Settings}
 use Rattle.zorigin.specs.declared.range.Range.{Range}

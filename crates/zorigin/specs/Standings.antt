@@ -12,7 +12,8 @@ use Rattle.zorigin.specs.declared.state.Outcome.{Outcome}
 use Rattle.zorigin.specs.declared.state.Outcome.TheVariants as outcomes
 use Rattle.zorigin.specs.declared.state.Searched.{Searched}
 
--- a call: a search with its operation, its set and what it asks for; a Present with its operation, its set and the ranges of positions
+-- a call: a search with its operation, its set and what it asks for; a Present with its operation, its set and the
+-- ranges of positions
 pub data Call : Type 0 where
   Init : Call
   Search : ℕ → ℕ → Ask → Call

@@ -195,8 +195,9 @@ fn present_facts(
 }
 
 /// The facts of a reply, of the target with this number: of a rejected Init, that the connection failed; of a search,
-/// its count, or that it failed; each record at its position, record j of a Present at the j-th that was asked for; each
-/// diagnostic that stands for no record, of a search at place 0, of a Present at the first position that was asked for.
+/// its count, or that it failed; each record at its position, record j of a Present at the j-th that was asked for;
+/// each diagnostic that stands for no record, of a search at place 0, of a Present at the first position that was asked
+/// for.
 ///
 /// An error only where no memory was found.
 pub fn facts_of(alloc: Global, target: u32, answer: &Answer) -> Result<Vec<Fact>, AllocError>

@@ -30,9 +30,9 @@ pub enum CallRefused {
     /// Named result sets are not in force, and a later search was admitted.
     #[error("the set was replaced")]
     SetReplaced,
-    /// A search of set 0, with a negative bound, or with a large bound not above the small one. A Present of no range, of
-    /// a range whose start or number is below 1 or that does not begin after the end of the one before, or that asks for
-    /// a position past the count or past 2,147,483,647.
+    /// A search of set 0, with a negative bound, or with a large bound not above the small one. A Present of no range,
+    /// of a range whose start or number is below 1 or that does not begin after the end of the one before, or that asks
+    /// for a position past the count or past 2,147,483,647.
     #[error("out of range")]
     OutOfRange,
     /// An operation is outstanding, and either concurrent operations are not in force, or the call is a search, named

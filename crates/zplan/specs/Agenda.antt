@@ -25,7 +25,8 @@ without p = filter (λ l. not (first_of l == p))
 
 -- all that the wanted positions up to the count are cut into
 abbrev pub whole_agenda : Bool → ℕ → List ℕ → Agenda
-whole_agenda three step wanted = record { due = deal three (step - 1) (step - 1) wanted; waiting = []; ready = false; three = three }
+whole_agenda three step wanted =
+    record { due = deal three (step - 1) (step - 1) wanted; waiting = []; ready = false; three = three }
 
 -- The agenda has exactly the Presents that are due, and those that wait, each once and by least first position.
 pub record IsAgenda (wanted : List ℕ) (step : ℕ) (events : List Event) (a : Agenda) : Type 0 where

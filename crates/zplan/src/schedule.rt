@@ -37,8 +37,8 @@ impl Model for Schedule {
 impl Schedule {
     /// All that is to be asked, once the count is known: the wanted positions up to the count, cut in order into lists
     /// of `step`, 1 or more, the last one shorter. A list is one Present where version 3 is in force (`three`), else
-    /// one for each of its runs. The ranges have positions from 1 to 2,147,483,647, are in order, and leave gaps. Refused
-    /// only for want of memory.
+    /// one for each of its runs. The ranges have positions from 1 to 2,147,483,647, are in order, and leave gaps.
+    /// Refused only for want of memory.
     pub fn new(
         alloc: Global,
         wanted: &[Range],

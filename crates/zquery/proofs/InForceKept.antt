@@ -4,7 +4,7 @@ use Rattle.std.specs.List.{list_any}
 use Rattle.std.proofs.lemmas.Bool.{or_parts, or_from, cond-false}
 use Rattle.zquery.specs.declared.query.Attr.{Attr}
 use Rattle.zquery.specs.InForce.{alike, in_force}
-use Rattle.zquery.specs.Reading.{put_in}
+use Rattle.zquery.specs.Notation.Reading.{put_in}
 use Rattle.zquery.proofs.InForceLemmas.{Apart, put-law}
 
 none-alike : (done more : List Attr) (a : Attr) → Apart (done ++ a ∷ more) → list_any (λ b. alike b a) done ≡ false

@@ -11,7 +11,7 @@ use Rattle.std.specs.List.{list_any}
 use Rattle.zquery.specs.declared.query.Attr.{Attr}
 use Rattle.zquery.specs.declared.query.AttrValue.{AttrValue}
 use Rattle.zquery.specs.InForce.{same_set, alike, firsts, last_value, in_force}
-use Rattle.zquery.specs.Reading.{put_in}
+use Rattle.zquery.specs.Notation.Reading.{put_in}
 
 -- likeness is an equality of keys
 set-is : (a b : Option (List ℕ)) → same_set a b ≡ true → a ≡ b

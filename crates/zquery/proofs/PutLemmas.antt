@@ -6,7 +6,7 @@ use Rattle.std.proofs.lemmas.Bool.{cond-true, cond-false, ltb-true, ltb-false}
 use Rattle.std.proofs.lemmas.List.Quantifiers.{position-Some}
 use Rattle.zquery.specs.declared.query.Attr.{Attr}
 use Rattle.zquery.specs.InForce.{alike}
-use Rattle.zquery.specs.Reading.{put_in}
+use Rattle.zquery.specs.Notation.Reading.{put_in}
 
 -- what a position tells
 by-test : {X : Type 0} (p : X → Bool) (xs : List X) (i : ℕ) (b : Bool) → nat_lt (position_or_len p xs) (length xs) ≡ b → cond b (Some (position_or_len p xs)) None ≡ Some i → (position_or_len p xs ≡ i) × (i < length xs)

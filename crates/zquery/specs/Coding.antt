@@ -9,8 +9,8 @@ use Rattle.zquery.specs.declared.query.AttrValue.{AttrValue}
 use Rattle.zquery.specs.declared.query.AttrValue.TheVariants.{Number, Complex}
 use Rattle.zquery.specs.declared.query.TermValue.{TermValue}
 use Rattle.zquery.specs.declared.query.TermValue.TheVariants.{General, Numeric, Text, Other}
-use Rattle.zquery.specs.declared.word.Operator.{Operator}
-use Rattle.zquery.specs.declared.word.Operator.TheVariants.{And, Or, Not}
+use Rattle.zquery.specs.declared.notation.word.Operator.{Operator}
+use Rattle.zquery.specs.declared.notation.word.Operator.TheVariants.{And, Or, Not}
 use Rattle.zquery.specs.Trees.{Tree, OfTerm, OfSet, OfSetAttrs, Of, Near, RpnQuery}
 
 abbrev pub coded_octets : Coded (List ℕ)
@@ -33,7 +33,8 @@ abbrev pub coded_value : Coded AttrValue
 coded_value = code_by (ℤ ⊎ Element) (coded⊎ coded_ℤ coded_element) value_parts value_at value_back
 
 abbrev pub coded_attr : Coded Attr
-coded_attr = code_by (Option (List ℕ) × (ℤ × AttrValue)) (coded× (coded_option coded_octets) (coded× coded_ℤ coded_value))
+coded_attr =
+    code_by (Option (List ℕ) × (ℤ × AttrValue)) (coded× (coded_option coded_octets) (coded× coded_ℤ coded_value))
     (λ a. (a.attr_set, (a.kind, a.value))) (λ p. record { attr_set = p.0; kind = p.1.0; value = p.1.1 }) (λ _. refl)
 
 -- terms
@@ -59,7 +60,9 @@ term_back (Text xs) = refl
 term_back (Other e) = refl
 
 abbrev pub coded_term : Coded TermValue
-coded_term = code_by TermParts (coded⊎ coded_octets (coded⊎ coded_ℤ (coded⊎ coded_octets coded_element))) term_parts term_at term_back
+coded_term =
+    code_by TermParts (coded⊎ coded_octets (coded⊎ coded_ℤ (coded⊎ coded_octets coded_element)))
+    term_parts term_at term_back
 
 -- operators
 abbrev pub operator_number : Operator → ℕ
@@ -113,10 +116,12 @@ pub built-append : (a b : List Step) (qs : List Tree) → built (a ++ b) qs ≡ 
 built-append [] b qs = refl
 built-append (s ∷ a) b qs = built-append a b (step s qs)
 
-pub built-two : (a b : Tree) (s : Step) (qs : List Tree) → built (steps a) qs ≡ a ∷ qs → built (steps b) (a ∷ qs) ≡ b ∷ a ∷ qs
+pub built-two : (a b : Tree) (s : Step) (qs : List Tree) → built (steps a) qs ≡ a ∷ qs
+    → built (steps b) (a ∷ qs) ≡ b ∷ a ∷ qs
     → built (steps a ++ (steps b ++ s ∷ [])) qs ≡ step s (b ∷ a ∷ qs)
 built-two a b s qs first second =
-    built-append (steps a) _ qs ∙ ap (built (steps b ++ s ∷ [])) first ∙ built-append (steps b) _ (a ∷ qs) ∙ ap (built (s ∷ [])) second
+    built-append (steps a) _ qs ∙ ap (built (steps b ++ s ∷ [])) first ∙ built-append (steps b) _ (a ∷ qs)
+    ∙ ap (built (s ∷ [])) second
 
 pub built-steps : (q : Tree) (qs : List Tree) → built (steps q) qs ≡ q ∷ qs
 built-steps (OfTerm xs v) qs = refl
@@ -140,4 +145,6 @@ abbrev pub coded_tree : Coded Tree
 coded_tree = code_by (List Step) (coded_list coded_step) steps tree_at tree_back
 
 abbrev pub coded_query : Coded RpnQuery
-coded_query = code_by (List ℕ × Tree) (coded× coded_octets coded_tree) (λ q. (q.attr_set, q.root)) (λ p. record { attr_set = p.0; root = p.1 }) (λ _. refl)
+coded_query =
+    code_by (List ℕ × Tree) (coded× coded_octets coded_tree) (λ q. (q.attr_set, q.root))
+    (λ p. record { attr_set = p.0; root = p.1 }) (λ _. refl)

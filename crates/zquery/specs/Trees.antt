@@ -3,7 +3,7 @@ use Rattle.std.specs.Prelude.{ℕ, ◌+◌, max, List}
 use Rattle.zber.specs.Elements.{Element}
 use Rattle.zquery.specs.declared.query.Attr.{Attr}
 use Rattle.zquery.specs.declared.query.TermValue.{TermValue}
-use Rattle.zquery.specs.declared.word.Operator.{Operator}
+use Rattle.zquery.specs.declared.notation.word.Operator.{Operator}
 
 -- a term, a result set, a result set with attributes, two queries with an operator, or two with proximity
 pub data Tree : Type 0 where

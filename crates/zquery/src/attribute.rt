@@ -2,8 +2,8 @@
 ghost use Rattle.std.specs.Prelude.{◌≡◌, None, IfOk, OnOk, OnErr, position};
 ghost use Rattle.zquery.specs.declared.query.Attr.{Attr};
 ghost use Rattle.zquery.specs.InForce.{alike, same_set};
-ghost use Rattle.zquery.specs.Grammar.{kept_set};
-ghost use Rattle.zquery.specs.Reading.{put_in};
+ghost use Rattle.zquery.specs.Notation.Grammar.{kept_set};
+ghost use Rattle.zquery.specs.Notation.Reading.{put_in};
 
 use crate::query::{Attr, AttrValue};
 use std::alloc::{AllocError, Global};

@@ -2,7 +2,7 @@
 ghost use Rattle.std.specs.Prelude.{◌≡◌, Option, Some};
 ghost use Rattle.zber.specs.Elements.{Element};
 ghost use Rattle.zquery.specs.Trees.{RpnQuery};
-ghost use Rattle.zquery.specs.Type1.{IsQueryOf, WritesQuery};
+ghost use Rattle.zquery.specs.Element.Type1.{IsQueryOf, WritesQuery};
 
 /// An element stands for one type-1 query at most.
 pub fn one_query()

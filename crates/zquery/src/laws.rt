@@ -1,5 +1,5 @@
 // Laws of the definitions, each the contract of a function that does nothing.
-ghost use Rattle.zquery.specs.Laws.{OneLexing, SetNames, OneQuery, NoneRefused, FirstFault, TooDeepAlone, OneAnswer, PrintedReads, TextPrintable, TextSpellable};
+ghost use Rattle.zquery.specs.Notation.Laws.{OneLexing, SetNames, OneQuery, NoneRefused, FirstFault, TooDeepAlone, OneAnswer, PrintedReads, TextPrintable, TextSpellable};
 
 /// A text has one list of tokens, or one quote that stays open.
 pub fn one_lexing()
@@ -26,7 +26,8 @@ pub fn first_fault()
     ensures { FirstFault }
 {}
 
-/// A refusal is `TooDeep` exactly where its token goes on with the tokens before it to the front of some query, but for its level.
+/// A refusal is `TooDeep` exactly where its token goes on with the tokens before it to the front of some query, but for
+/// its level.
 pub fn too_deep_alone()
     ensures { TooDeepAlone }
 {}

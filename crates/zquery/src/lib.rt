@@ -2,30 +2,18 @@
 #![tactic(auto)]
 
 mod attribute;
-mod cursor;
-mod decode;
+mod element;
 pub mod element_laws;
-mod encode;
-mod error;
 pub mod laws;
-mod lexer;
-mod number;
-mod operand;
-mod operator;
-mod parse;
-mod print;
-mod printable;
+mod notation;
 mod query;
-mod token;
-mod value;
-mod word;
 
-pub use decode::from_node;
-pub use encode::to_node;
-pub use error::{PqfError, PqfErrorKind};
-pub use lexer::tokens;
-pub use parse::parse_pqf;
-pub use print::{PrintError, print_pqf};
+pub use element::decode::from_node;
+pub use element::encode::to_node;
+pub use notation::error::{PqfError, PqfErrorKind};
+pub use notation::lexer::tokens;
+pub use notation::parse::parse_pqf;
+pub use notation::print::{PrintError, print_pqf};
+pub use notation::token::Token;
 pub use query::{Attr, AttrValue, Query, Rpn, TermValue};
-pub use token::Token;
 pub use zasn::BuildError;

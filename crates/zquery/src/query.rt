@@ -1,6 +1,6 @@
 // Type-1 queries (Z39.50-2003, RPNQuery).
 ghost use Rattle.std.specs.Prelude.{◌≡◌, IfOk};
-ghost use Rattle.zquery.specs.Viewed.{seen};
+ghost use Rattle.zquery.specs.QueryTrees.{seen};
 
 use crate::attribute::copies;
 use bytes::Bytes;
@@ -72,7 +72,7 @@ impl Model for Query {
 
     ghost coded = { coded_query };
 
-    ghost use Rattle.zquery.specs.Viewed.{query_of};
+    ghost use Rattle.zquery.specs.QueryTrees.{query_of};
 
     ghost view = { query_of };
 }

@@ -58,7 +58,8 @@ is_message steps.Answered = true
 is_message steps.Closed = true
 is_message _ = false
 
--- These deeds of the connection, the newest first, follow the history in this order: what is due is called and what waits
+-- These deeds of the connection, the newest first, follow the history in this order: what is due is called and what
+-- waits
 -- is written, first and after each message; a piece is read only where no message was there; the input ends only there.
 -- What was read, what was written, how many reads gave octets, and where it stands then.
 pub data Follows (questions : List Question) (s : MetaSettings) (c : ℕ) (h : History)
@@ -150,7 +151,8 @@ pub record EndsItself
   pub at : (stage ≡ Over) ⊎ ((stage ≡ Ended) × IsAtEnd left.octets)
   pub over : IsStoppedAt s c (talk.more ++ h)
 
--- What a talk did after each history that can have left the connections before it: it ended by itself; a read or a write
+-- What a talk did after each history that can have left the connections before it: it ended by itself; a read or a
+-- write
 -- failed; the input ended and the connection was not Closing; so many reads gave octets, and the connection was not
 -- stopped after them. Where memory was wanting, nothing is told.
 abbrev pub TalkedBy

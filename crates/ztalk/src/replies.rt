@@ -92,8 +92,8 @@ fn answer_piece<R: Source, W: Sink>(
 }
 
 /// Lets a target in memory answer what is read, until its input ends, its Close was written (Z39.50-2003, 3.2.11.1), or
-/// it stopped: reads up to 4,096 octets, at most so many times, feeds them to it, releases all its replies in order, and
-/// writes them.
+/// it stopped: reads up to 4,096 octets, at most so many times, feeds them to it, releases all its replies in order,
+/// and writes them.
 ///
 /// Refusals: `Read` and `Write`, where that device failed; `Turns`, where that many reads gave octets, and the target
 /// goes on; `Memory`.

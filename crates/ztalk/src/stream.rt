@@ -7,8 +7,8 @@ use crate::device::{Failed, Sink, Source};
 use std::io::{ErrorKind, Read, Write};
 
 /// A reader, a writer, or both, with a count of its failures: as a TCP stream, a slice of octets that is read, or a
-/// `Vec` that is written. Of a stream nothing is known of its octets. A call that was interrupted is made again. A write
-/// that takes none of a piece that has some is a failure.
+/// `Vec` that is written. Of a stream nothing is known of its octets. A call that was interrupted is made again. A
+/// write that takes none of a piece that has some is a failure.
 #[derive(Drop)]
 pub struct Device<D> {
     inner: D,

@@ -1,10 +1,10 @@
 -- Of a set of hits is answered what stands at them.
 use Rattle.std.proofs.Common.{◌≡◌, sym, ◌∙◌, ap, ℕ, List, length, map, take, None, Some}
 use Rattle.std.proofs.lemmas.List.{length-map, take-map}
-use Rattle.zapdu.specs.declared.present_request.PresentRequest.{PresentRequest}
-use Rattle.zapdu.specs.declared.range.Range.{Range}
-use Rattle.zapdu.specs.declared.record.Record.{Record}
-use Rattle.zapdu.specs.declared.search_request.SearchRequest.{SearchRequest}
+use Rattle.zapdu.specs.declared.productions.present_request.PresentRequest.{PresentRequest}
+use Rattle.zapdu.specs.declared.productions.range.Range.{Range}
+use Rattle.zapdu.specs.declared.productions.record.Record.{Record}
+use Rattle.zapdu.specs.declared.productions.search_request.SearchRequest.{SearchRequest}
 use Rattle.ztarget.specs.declared.database.Database.{Database}
 use Rattle.ztarget.specs.declared.found.Hit.{Hit}
 use Rattle.ztarget.specs.Keeping.{found_at, all_found_at, records_at}

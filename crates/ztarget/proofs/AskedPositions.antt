@@ -5,8 +5,9 @@ use Rattle.std.proofs.lemmas.Bool.{leb-true}
 use Rattle.std.proofs.lemmas.List.{at_drop_more, map-append, take_rest, length-take-le, length-map, take-map, drop-map}
 use Rattle.std.proofs.lemmas.List.FromFn.{length-range_with_len}
 use Rattle.std.specs.List.{range_with_len}
-use Rattle.zapdu.specs.declared.range.Range.{Range}
-use Rattle.zapdu.specs.declared.record.Record.{Record}
+use Rattle.zapdu.specs.declared.productions.range.Range.{Range}
+use Rattle.zapdu.specs.declared.productions.record.Record.{Record}
+use Rattle.zber.proofs.Tests.{both_true}
 use Rattle.ztarget.specs.Initialising.{natural}
 use Rattle.ztarget.specs.declared.database.Database.{Database}
 use Rattle.ztarget.specs.declared.found.Hit.{Hit}
@@ -26,10 +27,6 @@ length_left ranges i x l e =
 pub in_set_more : (count : ℕ) (ranges : List Range) (i : ℕ) (x : Range) → i < length ranges → x ≡ get_or ranges i x
     → are_in_set count (drop i ranges) ≡ (is_in_set (natural x.starting_position) (natural x.number_of_records) count && are_in_set count (drop (i + 1) ranges))
 in_set_more count ranges i x l e = at_drop_more (are_in_set count) ranges i x l ∙ ap (λ y. are_in_set count (y ∷ drop (i + 1) ranges)) (sym e)
-
-pub both_true : (a b : Bool) → (a && b) ≡ true → (a ≡ true) × (b ≡ true)
-both_true true b h = (refl, h)
-both_true false b h = absurd (true≢false (sym h))
 
 -- ---- the last position
 

@@ -3,14 +3,14 @@ use Rattle.std.proofs.Common.{◌≡◌, ℕ, suc, ◌≤◌, List, [], ◌∷�
 use Rattle.std.specs.Prelude.{ℤ}
 use Rattle.std.specs.List.{All, AllByRecursion}
 use Rattle.std.proofs.lemmas.List.Elements.{recursion_from_All}
-use Rattle.zber.specs.Names.{Name}
+use Rattle.zber.specs.AsnTags.{AsnTag}
 use Rattle.zber.specs.Elements.{Element, Primitive, Constructed, forest, height, height_of}
-use Rattle.zber.specs.Productions.Building.{◌>>=◌ as and_then, optional_put}
-use Rattle.zber.specs.Productions.Meanings.{is_i64}
-use Rattle.zber.specs.Productions.Reading.{option_map}
-use Rattle.zber.specs.Productions.Place.{Place}
-use Rattle.zber.specs.Productions.Table.{Table, required, optional, also, ended, Fields, put}
-use Rattle.zber.specs.Productions.Within.{around, onto, all_spelt}
+use Rattle.zproductions.specs.Building.{◌>>=◌ as and_then, optional_put}
+use Rattle.zproductions.specs.Meanings.{is_i64}
+use Rattle.zproductions.specs.Reading.{option_map}
+use Rattle.zproductions.specs.Place.{Place}
+use Rattle.zproductions.specs.Table.{Table, required, optional, also, ended, Fields, put}
+use Rattle.zproductions.specs.Within.{around, onto, all_spelt}
 use Rattle.zber.specs.Integers.{integer_octets}
 use Rattle.zber.specs.Oids.{IsOid, oid_octets}
 use Rattle.zber.proofs.OidTest.{is_oid_pass}
@@ -62,11 +62,11 @@ forest_levels k (Primitive t xs ∷ ns) h = forest_levels k ns h.1
 forest_levels k (Constructed t f ∷ ns) h = omega (arith, h.0, forest_levels k ns h.1)
 
 -- one level more
-pub of_around : (k : ℕ) (tag : Name) (o : Option (List Element)) → HaveLevels k o → HasLevels (suc k) (around tag o)
+pub of_around : (k : ℕ) (tag : AsnTag) (o : Option (List Element)) → HaveLevels k o → HasLevels (suc k) (around tag o)
 of_around k tag None h = absurd h
 of_around k tag (Some ns) h = let inside = forest_levels k ns h in omega (arith, inside)
 
-pub of_explicit : {A : Type 0} (k : ℕ) (tag : Name) (p : Place A) (x : A) → HasLevels k (p.spelt x) → HasLevels (suc k) ((explicit tag p).spelt x)
+pub of_explicit : {A : Type 0} (k : ℕ) (tag : AsnTag) (p : Place A) (x : A) → HasLevels k (p.spelt x) → HasLevels (suc k) ((explicit tag p).spelt x)
 of_explicit k tag p x h = of_around k tag (put (required p (λ y. y) ended) (x, tt) []) (of_table k (required p (λ y. y) ended) (x, tt) [] (h, tt) tt)
 
 put_on : (k : ℕ) (o : Option Element) (os : Option (List Element)) → HasLevels k o → HaveLevels k os → HaveLevels k (onto o os)
@@ -78,7 +78,7 @@ each_of : {A : Type 0} (k : ℕ) (spelt : A → Option Element) (xs : List A) �
 each_of k spelt [] h = tt
 each_of k spelt (x ∷ xs) h = put_on k (spelt x) (all_spelt spelt xs) h.0 (each_of k spelt xs h.1)
 
-pub of_list : {A : Type 0} (k : ℕ) (tag : Name) (spelt : A → Option Element) (xs : List A) → All (λ x. HasLevels k (spelt x)) xs → HasLevels (suc k) (around tag (all_spelt spelt xs))
+pub of_list : {A : Type 0} (k : ℕ) (tag : AsnTag) (spelt : A → Option Element) (xs : List A) → All (λ x. HasLevels k (spelt x)) xs → HasLevels (suc k) (around tag (all_spelt spelt xs))
 of_list k tag spelt xs h = of_around k tag (all_spelt spelt xs) (each_of k spelt xs (recursion_from_All (λ x. HasLevels k (spelt x)) xs h))
 
 weaker : (j k : ℕ) (o : Option Element) → j ≤ k → HasLevels j o → HasLevels k o
@@ -89,8 +89,8 @@ pub up_to : (j k : ℕ) (o : Option Element) → j ≤ k → HasLevels j o → H
 up_to j k o l h = weaker j k o l h
 
 -- primitive elements have no levels
-pub of_oid : (k : ℕ) (tag : Name) (arcs : List ℕ) → IsOid arcs → HasLevels k ((oid tag).spelt arcs)
+pub of_oid : (k : ℕ) (tag : AsnTag) (arcs : List ℕ) → IsOid arcs → HasLevels k ((oid tag).spelt arcs)
 of_oid k tag arcs is = subst (λ (b : Bool). HasLevels k (cond b (Some (Primitive tag (oid_octets arcs))) None)) (sym (is_oid_pass arcs is)) (omega arith)
 
-pub of_integer : (k : ℕ) (tag : Name) (z : ℤ) → is_i64 z ≡ true → HasLevels k ((integer tag).spelt z)
+pub of_integer : (k : ℕ) (tag : AsnTag) (z : ℤ) → is_i64 z ≡ true → HasLevels k ((integer tag).spelt z)
 of_integer k tag z is = subst (λ (b : Bool). HasLevels k (cond b (Some (Primitive tag (integer_octets z))) None)) (sym is) (omega arith)

@@ -5,32 +5,32 @@ use Rattle.std.specs.List.{All}
 use Rattle.std.specs.Str.{bytes_eq}
 use Rattle.std.proofs.lemmas.Bool.{lt-ltb}
 use Rattle.zber.specs.Dotted.{dotted}
-use Rattle.zber.specs.Names.{Name, context, universal}
+use Rattle.zber.specs.AsnTags.{AsnTag, context, universal}
 use Rattle.zber.specs.Elements.{Element}
 use Rattle.zber.specs.Oids.{IsOid}
-use Rattle.zber.specs.Productions.Meanings.{is_i64}
-use Rattle.zber.specs.Productions.Table.{fields}
+use Rattle.zproductions.specs.Meanings.{is_i64}
+use Rattle.zproductions.specs.Table.{fields}
 use Rattle.zasn.specs.Places.{octets, integer, within}
 use Rattle.zapdu.specs.declared.apdu.Apdu.{Apdu}
 use Rattle.zapdu.specs.declared.apdu.Apdu.TheVariants as apdus
-use Rattle.zapdu.specs.declared.close.Close.{Close}
-use Rattle.zapdu.specs.declared.diagnostic.DiagRec.TheVariants.{Default}
-use Rattle.zapdu.specs.declared.external.External.{External}
-use Rattle.zapdu.specs.declared.external.Content.TheVariants.{Aligned}
-use Rattle.zapdu.specs.declared.init_request.InitRequest.{InitRequest}
-use Rattle.zapdu.specs.declared.present_request.PresentRequest.{PresentRequest}
-use Rattle.zapdu.specs.declared.record.Record.{Record}
-use Rattle.zapdu.specs.declared.record.RecordBody.{RecordBody}
-use Rattle.zapdu.specs.declared.record.RecordBody.TheVariants.{Retrieval, Surrogate}
-use Rattle.zapdu.specs.declared.search_request.SearchRequest.{SearchRequest}
-use Rattle.zapdu.specs.Closes.{close_table, close_parts}
-use Rattle.zapdu.specs.Diagnostics.{default_table, default_parts, diag_rec}
-use Rattle.zapdu.specs.Externals.{external_table, external_parts}
-use Rattle.zapdu.specs.Implementations.{implementation, implementation_table, implementation_parts}
-use Rattle.zapdu.specs.InitResponses.{init_response_table, init_response_parts}
-use Rattle.zapdu.specs.PresentResponses.{present_response_table, present_response_parts}
-use Rattle.zapdu.specs.Records.{body, record_table, record_parts, whole_record, records}
-use Rattle.zapdu.specs.SearchResponses.{search_response_table, search_response_parts}
+use Rattle.zapdu.specs.declared.productions.close.Close.{Close}
+use Rattle.zapdu.specs.declared.productions.diagnostic.DiagRec.TheVariants.{Default}
+use Rattle.zapdu.specs.declared.productions.external.External.{External}
+use Rattle.zapdu.specs.declared.productions.external.Content.TheVariants.{Aligned}
+use Rattle.zapdu.specs.declared.productions.init_request.InitRequest.{InitRequest}
+use Rattle.zapdu.specs.declared.productions.present_request.PresentRequest.{PresentRequest}
+use Rattle.zapdu.specs.declared.productions.record.Record.{Record}
+use Rattle.zapdu.specs.declared.productions.record.RecordBody.{RecordBody}
+use Rattle.zapdu.specs.declared.productions.record.RecordBody.TheVariants.{Retrieval, Surrogate}
+use Rattle.zapdu.specs.declared.productions.search_request.SearchRequest.{SearchRequest}
+use Rattle.zapdu.specs.Productions.Closes.{close_table, close_parts}
+use Rattle.zapdu.specs.Productions.Diagnostics.{default_table, default_parts, diag_rec}
+use Rattle.zapdu.specs.Productions.Externals.{external_table, external_parts}
+use Rattle.zapdu.specs.Productions.Implementations.{implementation, implementation_table, implementation_parts}
+use Rattle.zapdu.specs.Productions.InitResponses.{init_response_table, init_response_parts}
+use Rattle.zapdu.specs.Productions.PresentResponses.{present_response_table, present_response_parts}
+use Rattle.zapdu.specs.Productions.Records.{body, record_table, record_parts, whole_record, records}
+use Rattle.zapdu.specs.Productions.SearchResponses.{search_response_table, search_response_parts}
 use Rattle.zapdu.specs.Writes.{tag_of_kind, kind_of, apdu_made, apdu_spelt}
 use Rattle.zapdu.proofs.Written.{apdu_written}
 use Rattle.ztarget.specs.declared.settings.TargetSettings.{TargetSettings}
@@ -47,7 +47,7 @@ use Rattle.ztarget.proofs.Levels.{HaveLevels, IfThere, AreWithin, of_table, of_a
 low : (k : ℕ) → 0 ≤ k
 low k = omega arith
 
-text : (k : ℕ) (tag : Name) (o : Option (List ℕ)) → IfThere k (octets tag).spelt o
+text : (k : ℕ) (tag : AsnTag) (o : Option (List ℕ)) → IfThere k (octets tag).spelt o
 text k tag None = tt
 text k tag (Some xs) = low k
 
@@ -118,7 +118,7 @@ next_fits last count l h =
 status_fits : (returned due : ℕ) → is_i64 (status returned due) ≡ true
 status_fits returned due = elim (returned == due) as (λ b. is_i64 (if b then pos 0 else pos 2) ≡ true) [ true ↦ refl | false ↦ refl ]
 
-status_of_fits : (tag : Name) (returned due : ℕ) → IfThere 63 (integer tag).spelt (status_of returned due)
+status_of_fits : (tag : AsnTag) (returned due : ℕ) → IfThere 63 (integer tag).spelt (status_of returned due)
 status_of_fits tag returned due =
     elim (due == 0) as (λ b. IfThere 63 (integer tag).spelt (if b then None else Some (status returned due))) [
       | true ↦ tt

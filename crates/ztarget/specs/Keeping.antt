@@ -1,10 +1,11 @@
--- What a result set keeps: where each entry that a search found stands, by the number of its database among the target's
+-- What a result set keeps: where each entry that a search found stands, by the number of its database among the
+-- target's
 -- and its own in that.
 use Rattle.std.specs.Prelude.{◌≡◌, ℕ, List, [], map, Bool, Option, Some, None, unwrap_or, slice_get}
 use Rattle.std.specs.List.{All, AllByRecursion, flat_map}
 use Rattle.std.specs.Map.{values_of}
 use Rattle.std.specs.Option.{IsSome, option_map}
-use Rattle.zapdu.specs.declared.record.Record.{Record}
+use Rattle.zapdu.specs.declared.productions.record.Record.{Record}
 use Rattle.ztarget.specs.declared.database.Entry.{Entry}
 use Rattle.ztarget.specs.declared.database.Database.{Database}
 use Rattle.ztarget.specs.declared.found.Hit.{Hit}

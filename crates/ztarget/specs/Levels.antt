@@ -2,8 +2,8 @@
 use Rattle.std.specs.Prelude.{◌≡◌, ℕ, ◌≤◌, Option, Some, None}
 use Rattle.zber.specs.Elements.{Element, height}
 use Rattle.zapdu.specs.declared.apdu.Apdu.{Apdu}
-use Rattle.zapdu.specs.declared.record.Record.{Record}
-use Rattle.zapdu.specs.Records.{record_spelt}
+use Rattle.zapdu.specs.declared.productions.record.Record.{Record}
+use Rattle.zapdu.specs.Productions.Records.{record_spelt}
 use Rattle.zapdu.specs.Writes.{Writes, apdu_spelt}
 
 -- there is an element, in which no more than so many constructed elements stand within one another

@@ -1,8 +1,8 @@
 -- The positions of a result set that a request for records asks for, in the order sent (Z39.50-2003, 3.2.3.1).
 use Rattle.std.specs.Prelude.{ℕ, ◌+◌, ◌-◌, nat_le, List, [], ◌∷◌, take, drop, slice_index_or, Bool, ◌&&◌, Option, Some, None}
 use Rattle.std.specs.List.{range_with_len, flat_map, list_all}
-use Rattle.zapdu.specs.declared.range.Range.{Range}
-use Rattle.zapdu.specs.declared.present_request.PresentRequest.{PresentRequest}
+use Rattle.zapdu.specs.declared.productions.range.Range.{Range}
+use Rattle.zapdu.specs.declared.productions.present_request.PresentRequest.{PresentRequest}
 use Rattle.ztarget.specs.Initialising.{natural}
 
 abbrev pub additional : Option (List Range) → List Range
@@ -28,7 +28,8 @@ is_in_set start number count = (nat_le 1 start && nat_le 1 number) && nat_le (st
 
 -- each range begins at 1 or later, has a position, and none past so many
 abbrev pub are_in_set : ℕ → List Range → Bool
-are_in_set count ranges = list_all (λ (r : Range). is_in_set (natural r.starting_position) (natural r.number_of_records) count) ranges
+are_in_set count ranges =
+    list_all (λ (r : Range). is_in_set (natural r.starting_position) (natural r.number_of_records) count) ranges
 
 -- what stands at the positions
 abbrev pub at_positions : {X : Type 0} → List X → List ℕ → List X

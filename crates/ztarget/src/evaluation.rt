@@ -6,7 +6,7 @@ ghost use Rattle.ztarget.specs.Evaluating.{has_sought};
 ghost use Rattle.ztarget.specs.Indexing.{IsIndexOf};
 ghost use Rattle.ztarget.specs.Narrowing.{Narrows, IsNeeded};
 ghost use Rattle.ztarget.specs.Searching.{places_from};
-ghost use Rattle.ztarget.specs.Viewed.{asks};
+ghost use Rattle.ztarget.specs.TargetStates.{asks};
 
 use crate::common::{are_few, in_both};
 use crate::criterion::Criterion;

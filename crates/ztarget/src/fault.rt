@@ -4,7 +4,7 @@ ghost use Rattle.std.specs.Fmt.{signed_decimal};
 ghost use Rattle.std.specs.List.{find};
 ghost use Rattle.std.specs.Option.{option_map};
 ghost use Rattle.zquery.specs.Trees.{OfTerm};
-ghost use Rattle.zquery.specs.Viewed.{seen};
+ghost use Rattle.zquery.specs.QueryTrees.{seen};
 ghost use Rattle.ztarget.specs.Faults.{fault, first_of, is_unknown, is_among, number_fault, row_of, value_fault, set_fault, attr_fault, attrs_fault, term_fault, tree_fault, query_fault, is_known, names_fault, match_fault};
 
 use crate::decimal::{decimal, dotted};
@@ -49,7 +49,8 @@ fn unless_among(
     condition: u16,
     value: i64,
 ) -> Result<Option<Fault>, AllocError>
-    ensures { IfOk result (λ f. f ≡ (if is_among values.now value then None else Some (fault condition (signed_decimal value)))) }
+    ensures { IfOk result (λ f. f ≡
+        (if is_among values.now value then None else Some (fault condition (signed_decimal value)))) }
 {
     if is_among(values, value) {
         return Ok(None);
@@ -70,7 +71,8 @@ fn unsupported_type(alloc: Global, kind: i64) -> Result<Option<Fault>, AllocErro
     }))
 }
 
-/// The fault of an attribute with a number: Use, Relation, Position, Structure, Truncation, Completeness, and other types.
+/// The fault of an attribute with a number: Use, Relation, Position, Structure, Truncation, Completeness, and other
+/// types.
 fn number_fault(alloc: Global, kind: i64, value: i64) -> Result<Option<Fault>, AllocError>
     ensures { IfOk result (λ f. f ≡ number_fault kind value (row_of kind)) }
 {

@@ -2,7 +2,7 @@
 ghost use Rattle.std.specs.Prelude.{◌≡◌, ◌+◌, ◌++◌, ◌<◌, ◌^◌, length, map, IfOk, OnOk};
 ghost use Rattle.std.specs.List.{AllByRecursion};
 ghost use Rattle.ztarget.specs.Asking.{meets};
-ghost use Rattle.ztarget.specs.Viewed.{asks};
+ghost use Rattle.ztarget.specs.TargetStates.{asks};
 ghost use Rattle.ztarget.specs.Counting.{places_in};
 ghost use Rattle.ztarget.specs.Keeping.{hit, databases_of, hits_in, hits_by};
 ghost use Rattle.ztarget.specs.Searching.{entries_in, places_from};
@@ -12,8 +12,8 @@ use crate::indexed::Indexed;
 use crate::searched::Numbered;
 use std::alloc::{AllocError, Global};
 
-/// Where an entry that a search found stands: the number of its database among those of the target, and its own in that,
-/// each counted from 0.
+/// Where an entry that a search found stands: the number of its database among those of the target, and its own in
+/// that, each counted from 0.
 #[derive(Clone, Copy, Debug, PartialEq, Eq)]
 pub(crate) struct Hit {
     pub(crate) database: usize,
@@ -42,7 +42,8 @@ fn put_found(
     places: &mut Vec<u32>,
 ) -> Result<(), AllocError>
     requires { first + length database.now.entries < 2 ^ 32 }
-    ensures { OnOk result (places.new.items ≡ places.old.items ++ places_from (meets (asks criterion.now)) first database.now.entries) }
+    ensures { OnOk result (places.new.items ≡ places.old.items
+        ++ places_from (meets (asks criterion.now)) first database.now.entries) }
 {
     let found = database.found(alloc, criterion)?;
     put_shifted(first, found.as_slice(), places)

@@ -133,7 +133,8 @@ impl Index {
 
 /// Adds the words of a field.
 fn put_words(index: &mut Index, entry: u32, field: usize, words: &[Word]) -> Result<(), AllocError>
-    ensures { OnOk result ((w : List ℕ) → standing index.new w ≡ standing index.old w ++ at_word w (word_places entry field 0 words.now)) }
+    ensures { OnOk result ((w : List ℕ) → standing index.new w ≡ standing index.old w
+        ++ at_word w (word_places entry field 0 words.now)) }
 {
     let mut word = 0;
     let mut left = words;
@@ -152,7 +153,8 @@ fn put_fields(
     entry: u32,
     fields: &[Field],
 ) -> Result<(), AllocError>
-    ensures { OnOk result ((w : List ℕ) → standing index.new w ≡ standing index.old w ++ at_word w (field_places entry 0 fields.now)) }
+    ensures { OnOk result ((w : List ℕ) → standing index.new w ≡ standing index.old w
+        ++ at_word w (field_places entry 0 fields.now)) }
 {
     let mut number = 0;
     for field in fields {

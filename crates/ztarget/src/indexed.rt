@@ -3,7 +3,7 @@ ghost use Rattle.std.specs.Prelude.{◌≡◌, ◌<◌, ◌^◌, length, IfOk};
 ghost use Rattle.ztarget.specs.Asking.{meets};
 ghost use Rattle.ztarget.specs.Indexing.{IsIndexOf};
 ghost use Rattle.ztarget.specs.Searching.{entries_in, places_from};
-ghost use Rattle.ztarget.specs.Viewed.{asks};
+ghost use Rattle.ztarget.specs.TargetStates.{asks};
 
 use crate::criterion::Criterion;
 use crate::database::{Database, Entry};

@@ -1,6 +1,6 @@
 //! What a target finds for a query.
 ghost use Rattle.std.specs.Prelude.{◌≡◌, ◌<◌, ◌^◌, None, length, map, IfOk, IfErr, OnOk};
-ghost use Rattle.zquery.specs.Viewed.{seen};
+ghost use Rattle.zquery.specs.QueryTrees.{seen};
 ghost use Rattle.ztarget.specs.Faults.{match_fault};
 ghost use Rattle.ztarget.specs.Matching.{matches};
 ghost use Rattle.ztarget.specs.Searching.{entries_in, found_places, result_set};
@@ -81,7 +81,8 @@ pub(crate) fn found(
     request: &SearchRequest,
 ) -> Result<Vec<Hit>, AllocError>
     requires { length (entries_in databases.now) < 2 ^ 32 }
-    ensures found { IfOk result (λ hits. AreAt databases.now hits.items (found_by_query databases.now request.now request.now.query)) }
+    ensures found { IfOk result (λ hits. AreAt databases.now hits.items
+        (found_by_query databases.now request.now request.now.query)) }
     ensures few { IfOk result (λ hits. length hits.items < 2 ^ 32) }
 {
     match &request.query {

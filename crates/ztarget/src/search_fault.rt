@@ -1,11 +1,11 @@
 //! Why a search fails.
 ghost use Rattle.std.specs.Prelude.{◌≡◌, List, IfOk};
-ghost use Rattle.zapdu.specs.declared.search_query.SearchQuery.TheVariants.{Rpn};
+ghost use Rattle.zapdu.specs.declared.productions.search_query.SearchQuery.TheVariants.{Rpn};
 ghost use Rattle.ztarget.specs.declared.database.Database.{Database};
 ghost use Rattle.ztarget.specs.Keeping.{sets_of};
 ghost use Rattle.ztarget.specs.Responding.{name_fault, kept_fault, search_fault};
 ghost use Rattle.ztarget.specs.Standing.{set_named};
-ghost use Rattle.ztarget.specs.Viewed.{terms_of};
+ghost use Rattle.ztarget.specs.TargetStates.{terms_of};
 
 use crate::fault::{Fault, match_fault};
 use crate::indexed::Indexed;
@@ -31,7 +31,8 @@ fn name_fault(named: bool, name: &Bytes) -> Result<Option<Fault>, AllocError>
 
 /// The fault of a search that must not replace a result set that is there (Z39.50-2003, 3.2.2.1.3).
 fn kept_fault(sets: &ResultSets, replaces: bool, name: &Bytes) -> Result<Option<Fault>, AllocError>
-    ensures { (databases : List Database) → IfOk result (λ f. f ≡ kept_fault replaces name.now (set_named (sets_of databases sets.now) name.now)) }
+    ensures { (databases : List Database)
+        → IfOk result (λ f. f ≡ kept_fault replaces name.now (set_named (sets_of databases sets.now) name.now)) }
 {
     match sets.named(name) {
         Some(_) if !replaces => Ok(Some(Fault {
@@ -51,7 +52,8 @@ fn type_1_fault(
     request: &SearchRequest,
     query: &Query,
 ) -> Result<Option<Fault>, AllocError>
-    ensures { IfOk result (λ f. f ≡ search_fault databases.now (sets_of databases.now sets.now) (terms_of terms) request.now (Rpn query.now)) }
+    ensures { IfOk result (λ f. f ≡ search_fault databases.now (sets_of databases.now sets.now) (terms_of terms) request.now
+        (Rpn query.now)) }
 {
     let name = &request.result_set_name;
     if let Some(fault) = name_fault(terms.named, name)? {
@@ -71,7 +73,8 @@ pub(crate) fn search_fault(
     terms: Terms,
     request: &SearchRequest,
 ) -> Result<Option<Fault>, AllocError>
-    ensures { IfOk result (λ f. f ≡ search_fault databases.now (sets_of databases.now sets.now) (terms_of terms) request.now request.now.query) }
+    ensures { IfOk result (λ f. f ≡ search_fault databases.now (sets_of databases.now sets.now)
+        (terms_of terms) request.now request.now.query) }
 {
     match &request.query {
         SearchQuery::Rpn(query) => type_1_fault(alloc, databases, sets, terms, request, query),

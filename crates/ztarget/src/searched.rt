@@ -26,8 +26,10 @@ fn put_if_called<'a>(
     name: &Bytes,
     out: &mut Vec<Numbered<'a>>,
 ) -> Result<(), AllocError>
-    ensures called { OnOk result (databases_of out.new.items ≡ databases_of out.old.items ++ called (numbered.entry.database.now ∷ []) name.now) }
-    ensures numbered { (databases : List Database) → IsNumbered databases numbered.entry → All (IsNumbered databases) out.old.items → OnOk result (All (IsNumbered databases) out.new.items) }
+    ensures called { OnOk result (databases_of out.new.items ≡ databases_of out.old.items
+        ++ called (numbered.entry.database.now ∷ []) name.now) }
+    ensures numbered { (databases : List Database) → IsNumbered databases numbered.entry → All (IsNumbered databases) out.old.items
+        → OnOk result (All (IsNumbered databases) out.new.items) }
 {
     if numbered.database.name().as_slice() == name.as_slice() {
         out.push(numbered)?;

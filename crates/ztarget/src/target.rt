@@ -13,7 +13,7 @@ ghost use Rattle.ztarget.specs.declared.database.Database.{Database};
 ghost use Rattle.ztarget.specs.declared.settings.TargetSettings.{TargetSettings};
 ghost use Rattle.ztarget.specs.Receiving.{new_target, answered, Receives, After, Answers, is_close, with_released, Releases, TakesOut, IsRefusal};
 ghost use Rattle.ztarget.specs.Levels.{HasElement};
-ghost use Rattle.ztarget.specs.Viewed.{terms_of};
+ghost use Rattle.ztarget.specs.TargetStates.{terms_of};
 
 use crate::database::Database;
 use crate::error::{MatchError, TargetError};
@@ -38,8 +38,8 @@ use zapdu::{
 use zber::Duplicate;
 use zquery::Query;
 
-/// A target of Z39.50 with databases in memory (Z39.50-2003, 3.2): it owes each request that it takes one reply, a function of the requests
-/// received up to it, and hands the replies out in any order, a Close last.
+/// A target of Z39.50 with databases in memory (Z39.50-2003, 3.2): it owes each request that it takes one reply, a
+/// function of the requests received up to it, and hands the replies out in any order, a Close last.
 #[derive(Drop)]
 pub struct Target {
     alloc: Global,
@@ -63,14 +63,20 @@ impl Model for Target {
     ghost coded = { Prim.hlevel (codes, coded_element, coded_query) };
 
     ghost use Rattle.ztarget.specs.Searching.{entries_in};
-    ghost use Rattle.ztarget.specs.Viewed.{state_of};
+    ghost use Rattle.ztarget.specs.TargetStates.{state_of};
     ghost use Rattle.std.specs.List.{All};
     ghost use Rattle.ztarget.specs.Keeping.{SetsStand, sets_of};
     ghost use Rattle.ztarget.specs.Levels.{HasElement};
 
-    ghost view = { λ t. record { databases = t.databases.items; settings = t.settings; standing = record { state = state_of t.phase; sets = sets_of t.databases.items t.sets }; pending = t.pending.items } };
+    ghost view = { λ t. record {
+      databases = t.databases.items;
+      settings = t.settings;
+      standing = record { state = state_of t.phase; sets = sets_of t.databases.items t.sets };
+      pending = t.pending.items;
+    } };
 
-    ghost invariant = { λ t. (length (entries_in t.databases.items) < 2 ^ 32) × All HasElement t.pending.items × SetsStand t.databases.items t.sets };
+    ghost invariant = { λ t. (length (entries_in t.databases.items) < 2 ^ 32) × All HasElement t.pending.items
+        × SetsStand t.databases.items t.sets };
 }
 
 /// The answer to a Close: reason 0, finished, and the same reference id.
@@ -112,8 +118,8 @@ fn take_out(pending: &mut VecDeque<Apdu>, k: usize) -> Option<Apdu>
 impl Target {
     /// A target that has received nothing yet, with fewer than 4,294,967,296 entries in all.
     ///
-    /// The names of the databases are meant to be distinct, and the size to be at least 1. Of databases with the same name
-    /// all entries are searched; with a size below 1 each record is too large.
+    /// The names of the databases are meant to be distinct, and the size to be at least 1. Of databases with the same
+    /// name all entries are searched; with a size below 1 each record is too large.
     ///
     /// An error only where no memory was found.
     #[tactic(auto, using(crate::proofs::Histories::at_first))]
@@ -173,7 +179,10 @@ impl Target {
         requires element { HasElement (apdus.SearchResponse response) }
         requires stand { AllStand self.old.databases set }
         ensures ok { OnOk result (self.new ≡ record self.old {
-          standing = record { state = self.old.standing.state; sets = put_set self.old.standing.sets (named_set self.old.databases (name, set)) };
+          standing = record {
+            state = self.old.standing.state;
+            sets = put_set self.old.standing.sets (named_set self.old.databases (name, set));
+          };
           pending = self.old.pending ++ apdus.SearchResponse response ∷ [];
         }) }
         ensures err { OnErr result (self.new ≡ self.old) }
@@ -190,7 +199,11 @@ impl Target {
 
     /// Puts the response to a search that fails last.
     fn fail(&mut self, request: &SearchRequest, fault: Fault) -> Result<(), AllocError>
-        ensures ok { OnOk result (self.new ≡ record self.old { pending = self.old.pending ++ apdus.SearchResponse (search_failed request.now fault) ∷ [] }) }
+        ensures ok { OnOk result (self.new
+            ≡ record self.old {
+              pending = self.old.pending
+                  ++ apdus.SearchResponse (search_failed request.now fault) ∷ [];
+            }) }
         ensures err { OnErr result (self.new ≡ self.old) }
     {
         let response = search_failed(self.alloc, request, fault)?;
@@ -201,7 +214,8 @@ impl Target {
     /// Puts the response to a search without a fault last, and keeps its result set.
     fn find(&mut self, terms: Terms, request: &SearchRequest) -> Result<(), AllocError>
         requires { self.old.standing.state ≡ Open (terms_of terms) }
-        ensures ok { OnOk result (self.new ≡ answered self.old (to_search_unless (terms_of terms) self.old.standing.sets request.now
+        ensures ok { OnOk result (self.new ≡ answered self.old
+            (to_search_unless (terms_of terms) self.old.standing.sets request.now
             (found_by_query self.old.databases request.now request.now.query) None)) }
         ensures err { OnErr result (self.new ≡ self.old) }
     {
@@ -214,7 +228,8 @@ impl Target {
     /// Puts the response to a search last.
     fn search(&mut self, terms: Terms, request: &SearchRequest) -> Result<(), AllocError>
         requires { self.old.standing.state ≡ Open (terms_of terms) }
-        ensures ok { OnOk result (self.new ≡ answered self.old (to_search self.old.databases (terms_of terms) self.old.standing.sets request.now)) }
+        ensures ok { OnOk result (self.new
+            ≡ answered self.old (to_search self.old.databases (terms_of terms) self.old.standing.sets request.now)) }
         ensures err { OnErr result (self.new ≡ self.old) }
     {
         match search_fault(self.alloc, &self.databases, &self.sets, terms, request)? {
@@ -229,7 +244,8 @@ impl Target {
         terms: Terms,
         request: &PresentRequest,
     ) -> Result<PresentResponse, AllocError>
-        ensures value { IfOk result (λ response. response ≡ presented (terms_of terms) request.now (set_named self.now.standing.sets request.now.result_set_id)) }
+        ensures value { IfOk result (λ response. response
+            ≡ presented (terms_of terms) request.now (set_named self.now.standing.sets request.now.result_set_id)) }
         ensures element { IfOk result (λ response. HasElement (apdus.PresentResponse response)) }
     {
         let found = self.sets.named(&request.result_set_id);
@@ -309,21 +325,26 @@ impl Target {
     ///
     /// The replies, each with its request's reference id (all of them: docs/FORMATS.md, "What the target answers"):
     /// - to Init, whether the association is accepted, and what is in force (3.2.1.1);
-    /// - to a search, how many entries match, and the first records as far as its bounds ask for them and the size in force has
-    ///   room. The set is kept under its name. A search that fails is answered by one diagnostic, and leaves the older sets (3.2.2.1);
-    /// - to a request for records, those at its positions that have room, from the first on, or one diagnostic (3.2.3.1). In the
-    ///   place of a record stands diagnostic 238 where another syntax is asked for, and 17 where it is longer than the size;
+    /// - to a search, how many entries match, and the first records as far as its bounds ask for them and the size in
+    ///   force has room. The set is kept under its name. A search that fails is answered by one diagnostic, and leaves
+    ///   the older sets (3.2.2.1);
+    /// - to a request for records, those at its positions that have room, from the first on, or one diagnostic
+    ///   (3.2.3.1). In the place of a record stands diagnostic 238 where another syntax is asked for, and 17 where it
+    ///   is longer than the size;
     /// - to a Close, a Close (3.2.11.1).
     ///
-    /// So what fails by a diagnostic is answered, and is no refusal. Each pending reply has an element, in which no more
-    /// than 64 constructed elements stand within one another: encoding it is refused for its length and for memory alone.
+    /// So what fails by a diagnostic is answered, and is no refusal. Each pending reply has an element, in which no
+    /// more than 64 constructed elements stand within one another: encoding it is refused for its length and for memory
+    /// alone.
     ///
-    /// Refusals, which leave all as it was: `NotRequest` for a response; `WrongState` before Init for anything but Init and
-    /// Close, for a second Init, and for anything after a Close or after an Init that was refused; `Memory`.
+    /// Refusals, which leave all as it was: `NotRequest` for a response; `WrongState` before Init for anything but Init
+    /// and Close, for a second Init, and for anything after a Close or after an Init that was refused; `Memory`.
     #[tactic(auto, using(crate::proofs::Histories::answers_of))]
     pub fn receive(&mut self, apdu: &Apdu) -> Result<(), TargetError>
         ensures receives { Receives self.old apdu.now result self.new }
-        ensures answers { (databases : List Database) (settings : TargetSettings) (received released : List Apdu) → After databases settings received released self.old → Answers databases settings received released apdu.now result self.old self.new }
+        ensures answers { (databases : List Database) (settings : TargetSettings) (received released : List Apdu)
+            → After databases settings received released self.old
+            → Answers databases settings received released apdu.now result self.old self.new }
         ensures elements { All HasElement self.new.pending }
     {
         let received = self.take_in(apdu);
@@ -331,18 +352,18 @@ impl Target {
         received
     }
 
-    /// The places of the entries that match the query (Z39.50-2003, 3.7), counted from 0 through the databases named: in
-    /// the order of their names, a repeated name counting once, and of their entries.
+    /// The places of the entries that match the query (Z39.50-2003, 3.7), counted from 0 through the databases named:
+    /// in the order of their names, a repeated name counting once, and of their entries.
     ///
-    /// Supported of bib-1 (Z39.50-2003, ATR): Use (type 1) 4, 7, 12, 21, 31, 1003 and 1016, which is any field and stands
-    /// where none is given; Relation (2) 3; Position (3) 3; Structure (4) 1 and 2; Truncation (5) 1, of the last word on its
-    /// right, and 100, none; Completeness (6) 1. The last Use and the last Truncation of a term count.
+    /// Supported of bib-1 (Z39.50-2003, ATR): Use (type 1) 4, 7, 12, 21, 31, 1003 and 1016, which is any field and
+    /// stands where none is given; Relation (2) 3; Position (3) 3; Structure (4) 1 and 2; Truncation (5) 1, of the last
+    /// word on its right, and 100, none; Completeness (6) 1. The last Use and the last Truncation of a term count.
     ///
-    /// Refusals: `Code` with the condition of a bib-1 diagnostic (Z39.50-2003, ERR) and what it names, for the first fault: no database named,
-    /// or one that is not known (235); another default set than bib-1 (121); then the tree from the left, operators before
-    /// their operands: proximity (110), a result set (18), an attribute's set (121), a complex value or another type than 1
-    /// to 6 (113), an unsupported value (114, 117, 119, 118, 120, 122 for types 1 to 6), a term of another type (100).
-    /// `Memory`.
+    /// Refusals: `Code` with the condition of a bib-1 diagnostic (Z39.50-2003, ERR) and what it names, for the first
+    /// fault: no database named, or one that is not known (235); another default set than bib-1 (121); then the tree
+    /// from the left, operators before their operands: proximity (110), a result set (18), an attribute's set (121), a
+    /// complex value or another type than 1 to 6 (113), an unsupported value (114, 117, 119, 118, 120, 122 for types 1
+    /// to 6), a term of another type (100). `Memory`.
     pub fn matches(&self, names: &[Bytes], query: &Query) -> Result<Vec<u32>, MatchError>
         ensures lawful { OnOk result (match_fault self.now.databases names.now query.now ≡ None) }
         ensures places { IfOk result (λ places. places.items ≡ found_places self.now.databases names.now query.now.root) }
@@ -367,13 +388,15 @@ impl Target {
         take_out(&mut self.pending, k)
     }
 
-    /// Hands out pending reply `k`, the first being 0; the others stay in order. `None` where there is none, or where it is
-    /// a Close and others are pending (Z39.50-2003, 3.2.11.1). It takes no memory. What is handed out has an element of at
-    /// most 64 levels, as each pending reply has.
+    /// Hands out pending reply `k`, the first being 0; the others stay in order. `None` where there is none, or where
+    /// it is a Close and others are pending (Z39.50-2003, 3.2.11.1). It takes no memory. What is handed out has an
+    /// element of at most 64 levels, as each pending reply has.
     #[tactic(auto, using(crate::proofs::Histories::release_of))]
     pub fn release(&mut self, k: usize) -> Option<Apdu>
         ensures releases { Releases self.old k result self.new }
-        ensures after { (databases : List Database) (settings : TargetSettings) (received released : List Apdu) → After databases settings received released self.old → After databases settings received (with_released released result) self.new }
+        ensures after { (databases : List Database) (settings : TargetSettings) (received released : List Apdu)
+            → After databases settings received released self.old
+            → After databases settings received (with_released released result) self.new }
         ensures element { IfSome result HasElement }
     {
         self.take(k)

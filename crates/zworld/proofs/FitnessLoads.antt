@@ -1,8 +1,8 @@
 -- How much so many octets can put: each question and each record takes one octet at least.
 use Rattle.std.proofs.Common.{◌≡◌, ◌∙◌, sym, ap, subst, refl, ℕ, ◌+◌, ◌<◌, ◌≤◌, ◌^◌, Bool, true, false, if◌then◌else◌, List, [], ◌∷◌, ◌++◌, length, Option, Some, None, arith, length-append}
 use Rattle.std.specs.Option.{option_map}
-use Rattle.zquery.specs.declared.token.Token.{Token}
-use Rattle.zquery.specs.Tokens.{AreTokens}
+use Rattle.zquery.specs.declared.notation.token.Token.{Token}
+use Rattle.zquery.specs.Notation.Tokens.{AreTokens}
 use Rattle.ztarget.specs.declared.database.Database.{Database}
 use Rattle.ztarget.specs.declared.database.Field.{Field}
 use Rattle.ztarget.specs.Searching.{entries_in}

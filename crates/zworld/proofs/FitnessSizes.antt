@@ -1,8 +1,8 @@
 -- How much lists hold, and how little a text with tokens can have.
 use Rattle.std.proofs.Common.{◌≡◌, ◌∙◌, sym, ap, subst, ℕ, suc, ◌+◌, ◌<◌, ◌≤◌, Bool, true, false, cond, List, [], ◌∷◌, ◌++◌, length, Option, Some, arith, length-append}
 use Rattle.std.specs.List.{slice_split, onto_first}
-use Rattle.zquery.specs.declared.token.Token.{Token}
-use Rattle.zquery.specs.Tokens.{AreTokens, IsWritten, IsNext}
+use Rattle.zquery.specs.declared.notation.token.Token.{Token}
+use Rattle.zquery.specs.Notation.Tokens.{AreTokens, IsWritten, IsNext}
 use Rattle.zworld.specs.Worlds.{in_last}
 use Rattle.zworld.proofs.WorldSaid.{none_some}
 use Rattle.zworld.proofs.FitnessWants.{mapped}

@@ -6,10 +6,10 @@ use Rattle.std.specs.Str.Parse.{digits_value}
 use Rattle.std.proofs.lemmas.Bool.{and_parts, leb-true}
 use Rattle.std.proofs.lemmas.Bool.Decides.{nat_tests}
 use Rattle.std.proofs.lemmas.List.FromFn.{length-range_with_len}
-use Rattle.zquery.specs.Numbers.{number_of, is_numeral}
+use Rattle.zquery.specs.Notation.Numbers.{number_of, is_numeral}
 use Rattle.std.specs.Str.{bytes_eq}
 use Rattle.std.specs.Prelude.{codes}
-use Rattle.zquery.specs.Sets.{oid_of}
+use Rattle.zquery.specs.Notation.Sets.{oid_of}
 use Rattle.zplan.specs.Ranges.{IsApart, IsBounded, span_of}
 use Rattle.zorigin.specs.declared.range.Range.{Range}
 use Rattle.zorigin.specs.Ranges.{positions, positions_of}

@@ -2,13 +2,13 @@
 use Rattle.std.proofs.Common.{◌≡◌, ◌∙◌, sym, ap, subst, ℕ, List, [], ◌∷◌, ◌++◌, true, false, Option, Some, None, Result, Ok, Err, IfOk, ◌⊎◌, inl, inr, refl}
 use Rattle.std.specs.Option.{option_map}
 use Rattle.std.proofs.lemmas.Bool.{cond-true, cond-false}
-use Rattle.zquery.specs.declared.token.Token.{Token}
-use Rattle.zquery.specs.declared.error.PqfError.{PqfError}
-use Rattle.zquery.specs.declared.error.PqfErrorKind.TheVariants as kind
-use Rattle.zquery.specs.Faults.{memory}
-use Rattle.zquery.specs.Laws.{OneLexing, OneAnswer}
-use Rattle.zquery.specs.Texts.{IsFault}
-use Rattle.zquery.specs.Tokens.{AreTokens, IsOpenAt}
+use Rattle.zquery.specs.declared.notation.token.Token.{Token}
+use Rattle.zquery.specs.declared.notation.error.PqfError.{PqfError}
+use Rattle.zquery.specs.declared.notation.error.PqfErrorKind.TheVariants as kind
+use Rattle.zquery.specs.Notation.Faults.{memory}
+use Rattle.zquery.specs.Notation.Laws.{OneLexing, OneAnswer}
+use Rattle.zquery.specs.Notation.Texts.{IsFault}
+use Rattle.zquery.specs.Notation.Tokens.{AreTokens, IsOpenAt}
 use Rattle.zquery.specs.Trees.{RpnQuery}
 use Rattle.zworld.specs.World.{Answers}
 use Rattle.zworld.specs.WorldLines.{line_of, words}

@@ -3,8 +3,8 @@ use Rattle.std.specs.Prelude.{ℕ, ◌^◌, ◌-◌, pos, Bool, ◌==◌, ◌&&�
 use Rattle.std.specs.List.{slice_split, list_all, list_any}
 use Rattle.std.specs.Option.{option_map, option_and_then}
 use Rattle.std.specs.Str.{bytes_eq}
-use Rattle.zquery.specs.declared.token.Token.{Token}
-use Rattle.zquery.specs.Sets.{oid_of}
+use Rattle.zquery.specs.declared.notation.token.Token.{Token}
+use Rattle.zquery.specs.Notation.Sets.{oid_of}
 use Rattle.ztarget.specs.declared.settings.TargetSettings.{TargetSettings}
 use Rattle.zworld.specs.WorldWants.{number_in, wanted_of}
 use Rattle.zworld.specs.declared.world.word.Keyword.{Keyword}

@@ -1,9 +1,9 @@
 -- What the reader keeps, seen.
 use Rattle.std.specs.Prelude.{◌≡◌, ◌≤◌, ◌+◌, ◌++◌, length, ℕ, List, Option, Some, None, Result, Ok, Err}
-use Rattle.zquery.specs.declared.error.PqfErrorKind.{PqfErrorKind}
-use Rattle.zquery.specs.declared.error.PqfErrorKind.TheVariants as kinds
-use Rattle.zquery.specs.declared.token.Token.{Token}
-use Rattle.zquery.specs.Tokens.{AreTokens}
+use Rattle.zquery.specs.declared.notation.error.PqfErrorKind.{PqfErrorKind}
+use Rattle.zquery.specs.declared.notation.error.PqfErrorKind.TheVariants as kinds
+use Rattle.zquery.specs.declared.notation.token.Token.{Token}
+use Rattle.zquery.specs.Notation.Tokens.{AreTokens}
 use Rattle.zquery.specs.Trees.{RpnQuery}
 use Rattle.zworld.specs.declared.world.World.{World}
 use Rattle.zworld.specs.declared.world.WorldError.{WorldError}

@@ -2,7 +2,7 @@
 use Rattle.std.specs.Prelude.{ℕ, ◌+◌, ◌-◌, pos, Bool, ◌==◌, nat_le, if◌then◌else◌, List, [], ◌∷◌, Option, Some, None}
 use Rattle.std.specs.List.{slice_split}
 use Rattle.std.specs.Option.{option_map, option_and_then, option_or}
-use Rattle.zquery.specs.Numbers.{number_of}
+use Rattle.zquery.specs.Notation.Numbers.{number_of}
 use Rattle.zorigin.specs.declared.range.Range.{Range}
 
 -- the number that digits write, where it is from the least to the most

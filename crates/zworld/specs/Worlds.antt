@@ -3,9 +3,9 @@ use Rattle.std.specs.Prelude.{◌≡◌, ℕ, ◌+◌, ◌≤◌, Bool, ◌||◌
 use Rattle.std.specs.List.{list_any}
 use Rattle.std.specs.Option.{option_map, option_or}
 use Rattle.std.specs.Str.{bytes_eq}
-use Rattle.zquery.specs.declared.token.Token.{Token}
-use Rattle.zquery.specs.Tokens.{AreTokens}
-use Rattle.zquery.specs.Texts.{IsText}
+use Rattle.zquery.specs.declared.notation.token.Token.{Token}
+use Rattle.zquery.specs.Notation.Tokens.{AreTokens}
+use Rattle.zquery.specs.Notation.Texts.{IsText}
 use Rattle.zquery.specs.Trees.{RpnQuery, height}
 use Rattle.ztarget.specs.declared.database.Database.{Database}
 use Rattle.ztarget.specs.declared.database.Entry.{Entry}

@@ -1,6 +1,6 @@
 //! Worlds in memory: connections that are driven, and targets in memory that answer them.
 ghost use Rattle.std.specs.Prelude.{◌≡◌, ◌<◌, ◌^◌, ◌++◌, length, IfOk, OnErr};
-ghost use Rattle.zknow.specs.Listing.{listing};
+ghost use Rattle.zknow.specs.List.Listing.{listing};
 ghost use Rattle.zoom.specs.Steering.{AreFit};
 ghost use Rattle.zoom.specs.Metas.{AreAskable};
 ghost use Rattle.zworld.specs.Run.{AreNew, Ran};

@@ -105,7 +105,8 @@ fn read_line(reader: Reader, number: u64, text: &[u8]) -> Result<Reader, WorldEr
     }
 }
 
-/// What a world file of fewer than 4,294,967,296 octets says: questions that can be asked, and targets that can be made.
+/// What a world file of fewer than 4,294,967,296 octets says: questions that can be asked, and targets that can be
+/// made.
 ///
 /// Refusals: `Refused` with the first line that is no line of a world file, or that can't stand where it does; and
 /// `Memory`.

@@ -2,7 +2,8 @@
 
 use zoom::Reason;
 
-/// What carries the octets between connections and their targets, piece by piece: each piece comes whole, or not at all.
+/// What carries the octets between connections and their targets, piece by piece: each piece comes whole, or not at
+/// all.
 pub trait Way {
     /// Carries a piece to the target of connection `c`; whether it came there.
     fn carry_to(&mut self, c: u32, piece: &[u8]) -> bool;

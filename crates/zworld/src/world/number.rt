@@ -2,8 +2,8 @@
 ghost use Rattle.std.specs.Prelude.{◌≡◌, ◌≤◌, IfOk, IfSome};
 ghost use Rattle.std.specs.Char.{is_ascii_digit};
 ghost use Rattle.std.specs.List.{list_all};
-ghost use Rattle.zquery.specs.Numbers.{is_numeral, number_of};
-ghost use Rattle.zquery.specs.Sets.{oid_of};
+ghost use Rattle.zquery.specs.Notation.Numbers.{is_numeral, number_of};
+ghost use Rattle.zquery.specs.Notation.Sets.{oid_of};
 ghost use Rattle.zworld.specs.WorldWants.{number_in};
 
 use std::alloc::{AllocError, Global};

@@ -1,5 +1,5 @@
 use Rattle.std.proofs.Common.{◌≡◌, Some}
-use Rattle.zapdu.specs.Diagnostics.{diag_rec}
+use Rattle.zapdu.specs.Productions.Diagnostics.{diag_rec}
 use Rattle.zapdu.proofs.laws.one_diagnostic.Goals as goal
 
 pub returns : goal.returns

@@ -1,5 +1,5 @@
 use Rattle.std.proofs.Common.{◌≡◌, Some}
-use Rattle.zapdu.specs.Records.{whole_record}
+use Rattle.zapdu.specs.Productions.Records.{whole_record}
 use Rattle.zapdu.proofs.laws.one_record.Goals as goal
 
 pub returns : goal.returns

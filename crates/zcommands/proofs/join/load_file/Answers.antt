@@ -1,6 +1,6 @@
 use Rattle.std.proofs.Common.{subst}
 use Rattle.std.proofs.lemmas.Result.{err_from_is_err_and}
-use Rattle.zknow.specs.Loaded.{IsFault}
+use Rattle.zknow.specs.Saved.Loaded.{IsFault}
 use Rattle.zcommands.proofs.Joining.{load_refused}
 use Rattle.zcommands.proofs.join.load_file.Goals as goal
 

@@ -1,5 +1,5 @@
-use Rattle.zknow.specs.Keys.{set_cmp, set_total, set_exact, row_cmp, row_total, row_exact}
-use Rattle.zknow.proofs.Conflicts.{are_keys, conflict_listed}
+use Rattle.zknow.specs.Tables.Keys.{set_cmp, set_total, set_exact, row_cmp, row_total, row_exact}
+use Rattle.zknow.proofs.ListTheory.Conflicts.{are_keys, conflict_listed}
 use Rattle.zknow.proofs.laws.list_laws.Goals as goal
 
 pub returns : goal.returns

@@ -1,4 +1,4 @@
-use Rattle.zknow.proofs.Places.{counts_are, counts_in_order, records_are, records_in_order, conflict_is}
+use Rattle.zknow.proofs.ListTheory.Places.{counts_are, counts_in_order, records_are, records_in_order, conflict_is}
 use Rattle.zknow.proofs.laws.place_laws.Goals as goal
 
 pub returns : goal.returns

@@ -1,10 +1,10 @@
 use Rattle.std.proofs.Common.{◌++◌, ap, ◌∙◌}
 use Rattle.std.specs.Prelude.{codes}
 use Rattle.std.specs.Fmt.{signed_decimal}
-use Rattle.zapdu.specs.declared.diagnostic.DiagRec.{DiagRec}
+use Rattle.zapdu.specs.declared.productions.diagnostic.DiagRec.{DiagRec}
 use Rattle.zapdu.specs.Text.{diag_text}
-use Rattle.zknow.specs.Listing.{line}
-use Rattle.zknow.proofs.AtKeys.{flat_written}
+use Rattle.zknow.specs.List.Listing.{line}
+use Rattle.zknow.proofs.TableTheory.AtKeys.{flat_written}
 use Rattle.zknow.proofs.list.put_diags.Goals as goal
 
 pub loop-diag-preserved : goal.loop-diag-preserved

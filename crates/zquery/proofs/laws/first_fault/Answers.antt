@@ -1,4 +1,4 @@
-use Rattle.zquery.proofs.Refusing.{first-fault-of}
+use Rattle.zquery.proofs.NotationTheory.Refusing.{first-fault-of}
 use Rattle.zquery.proofs.laws.first_fault.Goals as goal
 
 pub returns : goal.returns

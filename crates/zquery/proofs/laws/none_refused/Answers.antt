@@ -1,4 +1,4 @@
-use Rattle.zquery.proofs.Filling.{accepted}
+use Rattle.zquery.proofs.NotationTheory.Filling.{accepted}
 use Rattle.zquery.proofs.laws.none_refused.Goals as goal
 
 pub returns : goal.returns

@@ -1,4 +1,4 @@
-use Rattle.zquery.proofs.OneAnswers.{one-answer}
+use Rattle.zquery.proofs.NotationTheory.OneAnswers.{one-answer}
 use Rattle.zquery.proofs.laws.one_answer.Goals as goal
 
 pub returns : goal.returns

@@ -1,4 +1,4 @@
-use Rattle.zquery.proofs.OneAnswers.{one-lexing}
+use Rattle.zquery.proofs.NotationTheory.OneAnswers.{one-lexing}
 use Rattle.zquery.proofs.laws.one_lexing.Goals as goal
 
 pub returns : goal.returns

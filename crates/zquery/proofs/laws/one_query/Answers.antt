@@ -1,4 +1,4 @@
-use Rattle.zquery.proofs.Unique.{one-query}
+use Rattle.zquery.proofs.NotationTheory.Unique.{one-query}
 use Rattle.zquery.proofs.laws.one_query.Goals as goal
 
 pub returns : goal.returns

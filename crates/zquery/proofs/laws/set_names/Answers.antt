@@ -1,4 +1,4 @@
-use Rattle.zquery.proofs.PrintedWords.{set-names}
+use Rattle.zquery.proofs.NotationTheory.PrintedWords.{set-names}
 use Rattle.zquery.proofs.laws.set_names.Goals as goal
 
 pub returns : goal.returns

@@ -1,4 +1,4 @@
-use Rattle.zquery.proofs.ReadTexts.{text-printable}
+use Rattle.zquery.proofs.NotationTheory.ReadTexts.{text-printable}
 use Rattle.zquery.proofs.laws.text_printable.Goals as goal
 
 pub returns : goal.returns

@@ -1,4 +1,4 @@
-use Rattle.zquery.proofs.ReadTexts.{text-spellable}
+use Rattle.zquery.proofs.NotationTheory.ReadTexts.{text-spellable}
 use Rattle.zquery.proofs.laws.text_spellable.Goals as goal
 
 pub returns : goal.returns

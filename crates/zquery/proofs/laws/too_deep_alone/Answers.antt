@@ -1,4 +1,4 @@
-use Rattle.zquery.proofs.Levels.{too-deep-alone}
+use Rattle.zquery.proofs.NotationTheory.Levels.{too-deep-alone}
 use Rattle.zquery.proofs.laws.too_deep_alone.Goals as goal
 
 pub returns : goal.returns

@@ -1,8 +1,8 @@
 use Rattle.std.proofs.Common.{◌≡◌, rules}
 use Rattle.std.proofs.lemmas.Result.{IfOk-weaker}
-use Rattle.zquery.specs.Viewed.{seen}
+use Rattle.zquery.specs.QueryTrees.{seen}
 use Rattle.ztarget.specs.Asking.{asked, meets}
-use Rattle.ztarget.specs.Viewed.{asks}
+use Rattle.ztarget.specs.TargetStates.{asks}
 use Rattle.ztarget.proofs.Repeats.{both_meet, either_meets, first_meets}
 use Rattle.ztarget.proofs.criterion.+criterion_of.Goals as goal
 

@@ -1,7 +1,7 @@
 use Rattle.std.proofs.Common.{◌≡◌, length, Some, refl, ◌∙◌}
 use Rattle.ztarget.specs.Keeping.{all_found_at}
 use Rattle.ztarget.specs.Responding.{present_response, presented}
-use Rattle.ztarget.specs.Viewed.{terms_of}
+use Rattle.ztarget.specs.TargetStates.{terms_of}
 use Rattle.ztarget.proofs.Answered.{presented_all}
 use Rattle.ztarget.proofs.Sendable.{known_ok}
 use Rattle.ztarget.proofs.present.present_found.Goals as goal

@@ -1,5 +1,5 @@
 use Rattle.std.proofs.Common.{◌≡◌, map, take}
-use Rattle.zknow.specs.FactRefs.{fact_of}
+use Rattle.zknow.specs.Tables.FactRefs.{fact_of}
 use Rattle.zknow.proofs.knowledge.Knowledge.facts.Given as goal
 
 abbrev pub invariant-loop-fact : goal.invariant-loop-fact

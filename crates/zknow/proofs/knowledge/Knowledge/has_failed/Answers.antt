@@ -1,4 +1,4 @@
-use Rattle.zknow.proofs.Failures.{failed_unless}
+use Rattle.zknow.proofs.ListTheory.Failures.{failed_unless}
 use Rattle.zknow.proofs.knowledge.Knowledge.has_failed.Goals as goal
 
 pub returns : goal.returns

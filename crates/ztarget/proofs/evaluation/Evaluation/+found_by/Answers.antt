@@ -4,7 +4,7 @@ use Rattle.ztarget.specs.Asking.{meets}
 use Rattle.ztarget.specs.Merging.{merged}
 use Rattle.ztarget.specs.Narrowing.{Narrows}
 use Rattle.ztarget.specs.Searching.{places_from}
-use Rattle.ztarget.specs.Viewed.{asks}
+use Rattle.ztarget.specs.TargetStates.{asks}
 use Rattle.ztarget.proofs.Merges.{none_places, either_places}
 use Rattle.ztarget.proofs.Needs.{found_without}
 use Rattle.ztarget.proofs.evaluation.Evaluation.+found_by.Goals as goal

@@ -3,7 +3,7 @@ use Rattle.std.proofs.lemmas.Result.{IfOk-weaker}
 use Rattle.ztarget.specs.Asking.{meets}
 use Rattle.ztarget.specs.Merging.{merged}
 use Rattle.ztarget.specs.Narrowing.{Narrows}
-use Rattle.ztarget.specs.Viewed.{asks}
+use Rattle.ztarget.specs.TargetStates.{asks}
 use Rattle.ztarget.proofs.Needs.{none_kept, kept_by_either, kept_without}
 use Rattle.ztarget.proofs.evaluation.Evaluation.+narrowed.Goals as goal
 

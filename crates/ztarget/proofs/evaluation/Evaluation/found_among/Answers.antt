@@ -2,7 +2,7 @@ use Rattle.std.proofs.Common.{◌≡◌, false, rules}
 use Rattle.std.proofs.lemmas.Result.{IfOk-weaker}
 use Rattle.ztarget.specs.Asking.{HasPhrase, meets}
 use Rattle.ztarget.specs.Searching.{places_from}
-use Rattle.ztarget.specs.Viewed.{asks}
+use Rattle.ztarget.specs.TargetStates.{asks}
 use Rattle.ztarget.proofs.Needs.{kept_of_needed}
 use Rattle.ztarget.proofs.evaluation.Evaluation.found_among.Goals as goal
 

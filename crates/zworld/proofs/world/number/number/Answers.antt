@@ -1,7 +1,7 @@
 use Rattle.std.proofs.Common.{◌≡◌, ◌∙◌, sym, ap, Some, true, rules, arith}
 use Rattle.std.specs.Str.Parse.{ParsesUnsigned, digits_value}
-use Rattle.zquery.specs.Numbers.{is_numeral}
-use Rattle.zquery.proofs.NumberLemmas.{no-number, some-number, large-number, parsed, not-parsed, utf8-numeral}
+use Rattle.zquery.specs.Notation.Numbers.{is_numeral}
+use Rattle.zquery.proofs.NotationTheory.NumberLemmas.{no-number, some-number, large-number, parsed, not-parsed, utf8-numeral}
 use Rattle.zworld.proofs.world.number.number.Goals as goal
 
 pub returns-then-not-is_numeral-clause-value : goal.returns-then-not-is_numeral-clause-value

@@ -4,7 +4,7 @@ use denote.Enum.Bare.{sameb}
 use Rattle.zber.specs.contracts.oid.OidError.{the_type}
 use Rattle.zber.specs.declared.oid.OidError.{OidError}
 use Rattle.zber.specs.declared.oid.OidError.TheVariants.{Memory}
-use Rattle.zquery.proofs.SetLemmas.{oid-found, no-oid}
+use Rattle.zquery.proofs.NotationTheory.SetLemmas.{oid-found, no-oid}
 use Rattle.zworld.proofs.world.number.oid_named.Goals as goal
 
 pub returns-in-Ok : goal.returns-in-Ok

@@ -1,5 +1,5 @@
 use Rattle.std.proofs.Common.{sym, subst, Err}
-use Rattle.zquery.specs.Tokens.{AreTokens}
+use Rattle.zquery.specs.Notation.Tokens.{AreTokens}
 use Rattle.zworld.specs.WorldReading.{Says}
 use Rattle.zworld.proofs.WorldSaid.{said_of, unsaid}
 use Rattle.zworld.proofs.world.said.said.Goals as goal

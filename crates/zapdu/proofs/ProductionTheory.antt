@@ -1,0 +1,2 @@
+-- Productions that are read in parts.
+pub mod SearchQueries

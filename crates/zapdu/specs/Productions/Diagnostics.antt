@@ -1,0 +1,76 @@
+-- Diagnostics (Z39.50-2003, 4.1: DiagRec, DefaultDiagFormat).
+use Rattle.std.specs.Prelude.{◌≡◌, Option, refl}
+use Rattle.std.proofs.Common.{inl, inr}
+use Rattle.zber.specs.AsnTags.{universal}
+use Rattle.zber.specs.Elements.{Element}
+use Rattle.zproductions.specs.Place.{Place}
+use Rattle.zproductions.specs.Choice.{Choice, either, finally, Pick, picked}
+use Rattle.zproductions.specs.Table.{Table, required, ended, ◌⨾◌, Elements}
+use Rattle.zasn.specs.Places.{of_table, of_choice, octets, integer, oid, within}
+use Rattle.zapdu.specs.declared.productions.diagnostic.Info.{Info}
+use Rattle.zapdu.specs.declared.productions.diagnostic.Info.TheVariants.{V2, V3}
+use Rattle.zapdu.specs.declared.productions.diagnostic.DefaultDiag.{DefaultDiag}
+use Rattle.zapdu.specs.declared.productions.diagnostic.DiagRec.{DiagRec}
+use Rattle.zapdu.specs.declared.productions.diagnostic.DiagRec.TheVariants.{Default, Ext}
+use Rattle.zapdu.specs.Productions.Externals.{external_parts}
+
+-- addinfo: v2Addinfo VisibleString, v3Addinfo InternationalString
+abbrev pub infos : Choice Info
+infos =
+    either (octets (universal 26)) V2
+    (finally (octets (universal 27)) V3)
+
+abbrev pub info_pick : Info → Pick infos
+info_pick (V2 xs) = inl xs
+info_pick (V3 xs) = inr xs
+
+pub info-same : (i : Info) → picked infos (info_pick i) ≡ i
+info-same (V2 xs) = refl
+info-same (V3 xs) = refl
+
+pub info-back : (x : Pick infos) → info_pick (picked infos x) ≡ x
+info-back (inl xs) = refl
+info-back (inr xs) = refl
+
+abbrev pub info : Place Info
+info = of_choice infos info_pick info-same info-back refl
+
+abbrev pub default_table : Table DefaultDiag
+default_table =
+    required (oid (universal 6)) (λ v. v.diag_set)
+    ⨾ required (integer (universal 2)) (λ v. v.condition)
+    ⨾ required info (λ v. v.info)
+    ⨾ ended
+
+unfoldable pub default_parts : Elements DefaultDiag
+default_parts =
+    of_table default_table (λ a b c. record { diag_set = a; condition = b; info = c }) (λ v. refl) (λ x. refl) refl
+
+-- defaultFormat SEQUENCE, externallyDefined EXTERNAL
+abbrev pub diag_recs : Choice DiagRec
+diag_recs =
+    either (within (universal 16) default_parts) Default
+    (finally (within (universal 8) external_parts) Ext)
+
+abbrev pub diag_pick : DiagRec → Pick diag_recs
+diag_pick (Default v) = inl v
+diag_pick (Ext v) = inr v
+
+pub diag-same : (d : DiagRec) → picked diag_recs (diag_pick d) ≡ d
+diag-same (Default v) = refl
+diag-same (Ext v) = refl
+
+pub diag-back : (x : Pick diag_recs) → diag_pick (picked diag_recs x) ≡ x
+diag-back (inl v) = refl
+diag-back (inr v) = refl
+
+abbrev pub diag_rec : Place DiagRec
+diag_rec = of_choice diag_recs diag_pick diag-same diag-back refl
+
+-- the element stands for the diagnostic
+abbrev pub WritesDiag : DiagRec → Element → Type 0
+WritesDiag v n = diag_rec.stands v n
+
+-- the one element that spells the diagnostic, its contents octets those of the canonical encoding
+abbrev pub diag_spelt : DiagRec → Option Element
+diag_spelt v = diag_rec.spelt v

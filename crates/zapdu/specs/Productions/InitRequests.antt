@@ -1,0 +1,41 @@
+-- InitializeRequest [20] (Z39.50-2003, 4.1 and 3.2.1.1).
+use Rattle.std.specs.Prelude.{◌≡◌, true, refl}
+use Rattle.zber.specs.AsnTags.{context}
+use Rattle.zproductions.specs.Table.{Table, required, optional, also, ◌⨾◌, Elements, clear}
+use Rattle.zasn.specs.Places.{of_table, octets, bits, integer, any}
+use Rattle.zapdu.specs.declared.productions.init_request.InitRequest.{InitRequest}
+use Rattle.zapdu.specs.Productions.Implementations.{implementation, implementation_parts}
+
+abbrev pub init_request_table : Table InitRequest
+init_request_table =
+    optional (octets (context 2)) (λ v. v.reference_id)
+    ⨾ required (bits (context 3)) (λ v. v.protocol_version)
+    ⨾ required (bits (context 4)) (λ v. v.options)
+    ⨾ required (integer (context 5)) (λ v. v.preferred_message_size)
+    ⨾ required (integer (context 6)) (λ v. v.exceptional_record_size)
+    ⨾ optional (any (context 7)) (λ v. v.id_authentication)
+    ⨾ also implementation_parts
+    (λ v. implementation v.implementation_id v.implementation_name v.implementation_version v.user_information_field v.other_info)
+
+-- no tag of a place that may be left out stands again after it
+pub init_request_clear : clear init_request_table ≡ true
+unfolding implementation_parts
+init_request_clear = refl
+
+unfoldable pub init_request_parts : Elements InitRequest
+init_request_parts =
+    of_table init_request_table
+    (λ a b c d e f g. record {
+      reference_id = a;
+      protocol_version = b;
+      options = c;
+      preferred_message_size = d;
+      exceptional_record_size = e;
+      id_authentication = f;
+      implementation_id = g.implementation_id;
+      implementation_name = g.implementation_name;
+      implementation_version = g.implementation_version;
+      user_information_field = g.user_information_field;
+      other_info = g.other_info;
+    })
+    (λ v. refl) (λ x. refl) init_request_clear

@@ -1,0 +1,20 @@
+-- Ranges of a result set (Z39.50-2003, 4.1: Range).
+use Rattle.std.specs.Prelude.{refl}
+use Rattle.zber.specs.AsnTags.{context, universal}
+use Rattle.zproductions.specs.Place.{Place}
+use Rattle.zproductions.specs.Table.{Table, required, ended, ◌⨾◌, Elements}
+use Rattle.zasn.specs.Places.{of_table, integer, within}
+use Rattle.zapdu.specs.declared.productions.range.Range.{Range}
+
+abbrev pub range_table : Table Range
+range_table =
+    required (integer (context 1)) (λ v. v.starting_position)
+    ⨾ required (integer (context 2)) (λ v. v.number_of_records)
+    ⨾ ended
+
+unfoldable pub range_parts : Elements Range
+range_parts =
+    of_table range_table (λ a b. record { starting_position = a; number_of_records = b }) (λ v. refl) (λ x. refl) refl
+
+abbrev pub whole_range : Place Range
+whole_range = within (universal 16) range_parts

@@ -1,0 +1,41 @@
+-- The query of a SearchRequest (Z39.50-2003, 4.1: Query).
+use Rattle.std.specs.Prelude.{◌≡◌, [], ◌∷◌, ◌⊎◌, refl}
+use Rattle.std.proofs.Common.{inl, inr}
+use Rattle.zber.specs.AsnTags.{context}
+use Rattle.zber.specs.Elements.{Element}
+use Rattle.zproductions.specs.Place.{Place}
+use Rattle.zproductions.specs.Choice.{Choice, finally, Pick, picked}
+use Rattle.zasn.specs.Places.{lawful, of_choice}
+use Rattle.zquery.specs.Trees.{RpnQuery}
+use Rattle.zquery.specs.Element.AnyQueries.{WritesWithin, query_within, within_spelt}
+use Rattle.zquery.proofs.ElementTheory.AnyQueryPlaces.{any_query_place, any_query_spelled}
+use Rattle.zapdu.specs.declared.productions.search_query.SearchQuery.{SearchQuery}
+use Rattle.zapdu.specs.declared.productions.search_query.SearchQuery.TheVariants.{Rpn, Other}
+
+-- query [21] Query, whose tag is explicit
+abbrev pub either_query : Place (RpnQuery ⊎ Element)
+either_query =
+    lawful {P = WritesWithin (context 21)} {tags = context 21 ∷ []} {meaning = query_within}
+    {spelt = within_spelt (context 21)} (any_query_place (context 21)) (any_query_spelled (context 21))
+
+abbrev pub of_sum : RpnQuery ⊎ Element → SearchQuery
+of_sum (inl q) = Rpn q
+of_sum (inr m) = Other m
+
+abbrev pub queries : Choice SearchQuery
+queries = finally either_query of_sum
+
+abbrev pub query_pick : SearchQuery → Pick queries
+query_pick (Rpn q) = inl q
+query_pick (Other m) = inr m
+
+pub query-same : (q : SearchQuery) → picked queries (query_pick q) ≡ q
+query-same (Rpn q) = refl
+query-same (Other m) = refl
+
+pub query-back : (x : Pick queries) → query_pick (picked queries x) ≡ x
+query-back (inl q) = refl
+query-back (inr m) = refl
+
+unfoldable pub search_query : Place SearchQuery
+search_query = of_choice queries query_pick query-same query-back refl

@@ -1,0 +1,19 @@
+-- Tags of ASN.1: a class and a number (X.690, 8.1.2).
+use Rattle.std.specs.Prelude.{ℕ, ◌≡◌, ◌<◌, ◌^◌}
+use Rattle.zber.specs.declared.tag.Class.{Class}
+use Rattle.zber.specs.declared.tag.Class.TheVariants.{Universal, Context}
+
+pub record AsnTag : Type 0 where
+  pub class : Class
+  pub number : ℕ
+
+-- the tags that elements have: each number fits 32 bits, and UNIVERSAL 0 is none
+pub record IsTag (n : AsnTag) : Type 0 where
+  pub named : n.class ≡ Universal → 0 < n.number
+  pub fits : n.number < 2 ^ 32
+
+abbrev pub context : ℕ → AsnTag
+context number = record { class = Context; number = number }
+
+abbrev pub universal : ℕ → AsnTag
+universal number = record { class = Universal; number = number }

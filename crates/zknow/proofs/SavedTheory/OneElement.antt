@@ -1,0 +1,59 @@
+-- One element of a saved file: it has octets, and octets begin with at most one.
+use Rattle.std.proofs.Common.{◌≡◌, ◌≢◌, ◌<◌, ℕ, Bool, List, [], ◌∷◌, ◌++◌, length, Option, Some, None, refl, sym, ap, subst, ◌∙◌, arith, length-append}
+use Rattle.std.proofs.lemmas.List.{append_cancel_left}
+use Rattle.zber.specs.AsnTags.{AsnTag}
+use Rattle.zber.specs.Elements.{Element, height}
+use Rattle.zber.specs.Canonical.{canonical, IsLawful}
+use Rattle.zber.specs.Spelling.{Identifier, low, high, Spells, primitive, definite, indefinite}
+use Rattle.zproductions.specs.Place.{Place}
+use Rattle.zber.proofs.CanonicalLemmas.{canonical_is_spelling}
+use Rattle.zber.proofs.OneSpelling.{one_spelling}
+use Rattle.zknow.specs.Encodings.{encoding, octets_of}
+use Rattle.zknow.specs.Saved.Saved.{IsElement, Fits}
+use Rattle.zknow.specs.Saved.Loaded.{BeginsWith}
+
+identifier_some : {n : AsnTag} {c : Bool} {i : List ℕ} → Identifier n c i → 0 < length i
+identifier_some (low t p) = omega arith
+identifier_some (high t p g) = omega arith
+
+pub spelled_some : {room : ℕ} {e : Element} {x : List ℕ} → Spells room e x → 0 < length x
+spelled_some (primitive {i = i} {l = l} {xs = xs} id len) = omega (arith, identifier_some id, length-append i (l ++ xs))
+spelled_some (definite {i = i} {l = l} {xs = xs} id len all) = omega (arith, identifier_some id, length-append i (l ++ xs))
+spelled_some (indefinite {i = i} {xs = xs} id all) = omega (arith, identifier_some id, length-append i (128 ∷ (xs ++ (0 ∷ 0 ∷ []))))
+
+module _ {A : Type 0} (p : Place A) where
+  pub element_some : (x : A) (s : List ℕ) → IsElement p x s → 0 < length s
+  element_some x s e = spelled_some e.message.spelled
+
+  same_value : (x y : A) (m n : Element) → p.stands x m → p.stands y n → m ≡ n → x ≡ y
+  same_value x y m n sx sy same =
+      let of_x = p.finds x m sx in
+      let of_y = p.finds y n sy in
+      (cc)
+
+  pub one_element : (x y : A) (s t a b : List ℕ) → IsElement p x s → IsElement p y t → s ++ a ≡ t ++ b → (x ≡ y) × (s ≡ t)
+  one_element x y s t a b ex ey same =
+      let one = one_spelling a b ex.message.spelled ey.message.spelled same in
+      (same_value x y ex.node ey.node ex.says ey.says one.0, one.1)
+
+  -- and then what follows is the same
+  pub same_rest : (x y : A) (s t a b : List ℕ) → IsElement p x s → IsElement p y t → s ++ a ≡ t ++ b → a ≡ b
+  same_rest x y s t a b ex ey same =
+      let one = one_element x y s t a b ex ey same in
+      append_cancel_left t a b (ap (λ l. l ++ a) (sym one.1) ∙ same)
+
+  module _ (x : A) (lawful : (n : Element) → p.spelt x ≡ Some n → IsLawful n) (octets spelling rest : List ℕ) (begins : BeginsWith p x octets spelling rest) where
+    -- where the octets begin with the canonical element, that is their element
+    canonical_spelling : (o : Option Element) → p.spelt x ≡ o → (after : List ℕ) → octets ≡ encoding p x ++ after → spelling ≡ encoding p x
+    canonical_spelling None is after front = absurd (p.none x is begins.element.node begins.element.says)
+    canonical_spelling (Some n) is after front =
+        let spelled = canonical_is_spelling (height n) n (lawful n is) (omega arith) in
+        let written : encoding p x ≡ canonical n = ap octets_of is in
+        let lined : spelling ++ rest ≡ canonical n ++ after = sym begins.cut ∙ front ∙ ap (λ l. l ++ after) written in
+        (one_spelling rest after begins.element.message.spelled spelled lined).1 ∙ sym written
+
+    pub canonical_front : (after : List ℕ) → octets ≡ encoding p x ++ after → Fits p x
+    canonical_front after front = subst (IsElement p x) (canonical_spelling (p.spelt x) refl after front) begins.element
+
+    pub odd_front : ((after : List ℕ) → octets ≡ encoding p x ++ after → ⊥) → spelling ≢ encoding p x
+    odd_front never same = never rest (begins.cut ∙ ap (λ l. l ++ rest) same)

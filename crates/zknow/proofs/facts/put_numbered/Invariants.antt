@@ -1,7 +1,0 @@
-use Rattle.std.proofs.Common.{◌≡◌, ◌++◌, map}
-use Rattle.zknow.specs.FactRefs.{fact_of}
-use Rattle.zknow.specs.Sections.{section}
-use Rattle.zknow.proofs.facts.put_numbered.Given as goal
-
-abbrev pub invariant-loop-number : goal.invariant-loop-number
-invariant-loop-number g l = map fact_of l.out.items ++ section (λ xs. xs) (g.T.Numbered.fact l.key) l.number-iterator ≡ map fact_of l.fn.out.items ++ section (λ xs. xs) (g.T.Numbered.fact l.key) l.values

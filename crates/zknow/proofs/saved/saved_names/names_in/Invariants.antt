@@ -1,0 +1,8 @@
+use Rattle.std.proofs.Common.{◌≡◌, drop}
+use Rattle.zproductions.specs.Within.{all_of, whole_of}
+use Rattle.zasn.proofs.Lists.{behind}
+use Rattle.zknow.specs.Saved.SavedFacts.{saved_name}
+use Rattle.zknow.proofs.saved.saved_names.names_in.Given as goal
+
+abbrev pub invariant-loop-node : goal.invariant-loop-node
+invariant-loop-node l = behind l.names.items (all_of (whole_of saved_name) (drop l.node-index l.nodes)) ≡ all_of (whole_of saved_name) l.nodes

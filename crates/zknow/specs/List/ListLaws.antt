@@ -1,0 +1,78 @@
+-- The laws of what a list of facts says at one place, and of its printed list.
+use Rattle.std.specs.Prelude.{◌≡◌, ◌≢◌, ◌↔◌, ◌≤◌, ℕ, ℤ, Bool, List, ◌++◌, length, codes, Contains}
+use Rattle.std.specs.declared.cmp.Ordering.{Ordering}
+use Rattle.std.specs.Fmt.{decimal, signed_decimal}
+use Rattle.std.specs.List.{flat_map}
+use Rattle.std.specs.List.Sorted.{IsStrictlySortedBy}
+use Rattle.zapdu.specs.declared.productions.record.Record.{Record}
+use Rattle.zapdu.specs.Text.{record_text}
+use Rattle.zknow.specs.declared.fact.Fact.{Fact}
+use Rattle.zknow.specs.declared.fact.Fact.TheVariants.{Count, Seen}
+use Rattle.zknow.specs.declared.fact.Mode.{Mode}
+use Rattle.zknow.specs.declared.tables.keys.SetKey.{SetKey}
+use Rattle.zknow.specs.declared.tables.keys.RowKey.{RowKey}
+use Rattle.zknow.specs.Facts.{AreFacts}
+use Rattle.zknow.specs.Tables.Keys.{set_cmp, row_cmp}
+use Rattle.zknow.specs.Known.{counts_at, records_at}
+use Rattle.zknow.specs.List.Listing.{ascending, name_text, is_hex, listing}
+use Rattle.zknow.specs.Tables.Tables.{AreCounts, AreRecords}
+
+-- two different records are seen at the position
+pub record IsConflict (target set : ℕ) (position : ℤ) (facts : List Fact) : Type 0 where
+  pub one : Record
+  pub other : Record
+  pub differ : one ≢ other
+  pub sees_one : Contains facts (Seen target set position one)
+  pub sees_other : Contains facts (Seen target set position other)
+
+-- what the facts say of a set: its counts, in order and each once
+pub record CountLaws (t s : ℕ) (facts : List Fact) : Type 0 where
+  pub members : (n : ℤ) → Contains (counts_at t s facts) n ↔ Contains facts (Count t s n)
+  pub once : AreFacts facts → AreCounts (counts_at t s facts)
+
+-- what they say of a position: its records, in order and each once, two or more exactly where two different ones are
+-- seen
+pub record RecordLaws (t s : ℕ) (p : ℤ) (facts : List Fact) : Type 0 where
+  pub members : (r : Record) → Contains (records_at t s p facts) r ↔ Contains facts (Seen t s p r)
+  pub once : AreFacts facts → AreRecords (records_at t s p facts)
+  pub conflict : AreFacts facts → (2 ≤ length (records_at t s p facts)) ↔ IsConflict t s p facts
+
+pub record PlaceLaws : Type 0 where
+  pub counts : (t s : ℕ) (facts : List Fact) → CountLaws t s facts
+  pub records : (t s : ℕ) (p : ℤ) (facts : List Fact) → RecordLaws t s p facts
+
+-- the keys are those of the list, in order and each once
+pub record AreKeysOf {K : Type 0} (cmp : K → K → Ordering) (list keys : List K) : Type 0 where
+  pub ordered : IsStrictlySortedBy cmp keys
+  pub members : (k : K) → Contains keys k ↔ Contains list k
+
+-- a text stands within another
+pub record StandsIn (part whole : List ℕ) : Type 0 where
+  pub before : List ℕ
+  pub behind : List ℕ
+  pub cut : whole ≡ before ++ (part ++ behind)
+
+-- how many records are in conflict, and a line for each
+abbrev pub conflict_lines : Bool → List Record → List ℕ
+conflict_lines hex records =
+    codes " conflict " ++ decimal (length records) ++ codes "\n"
+    ++ flat_map (λ r. codes "  " ++ record_text hex r ++ codes "\n") records
+
+-- the row of a conflict
+abbrev pub conflict_text : List (List ℕ) → Bool → RowKey → List Record → List ℕ
+conflict_text names hex k records =
+    signed_decimal k.position ++ codes " " ++ name_text names k.target ++ codes " " ++ decimal k.set
+    ++ conflict_lines hex records
+
+-- a conflict is listed as one, with all its records
+abbrev pub IsListedWhole : List (List ℕ) → Mode → List Fact → RowKey → Type 0
+IsListedWhole names mode facts k =
+    let records = records_at k.target k.set k.position facts in
+    2 ≤ length records → StandsIn (conflict_text names (is_hex mode) k records) (listing names mode facts)
+
+-- the list has each block and each row once, in order, and each conflict whole
+pub record ListLaws : Type 0 where
+  pub blocks : (keys : List SetKey) → AreKeysOf set_cmp keys (ascending set_cmp keys)
+  pub rows : (keys : List RowKey) → AreKeysOf row_cmp keys (ascending row_cmp keys)
+  pub conflict : (names : List (List ℕ)) (mode : Mode) (facts : List Fact) (k : RowKey)
+      → IsListedWhole names mode facts k

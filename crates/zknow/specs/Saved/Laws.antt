@@ -1,0 +1,15 @@
+-- The laws of saved files.
+use Rattle.std.specs.Prelude.{◌≡◌, ◌≢◌, ℕ, List}
+use Rattle.zknow.specs.declared.fact.Fact.{Fact}
+use Rattle.zknow.specs.declared.saved.loading.LoadError.{LoadError}
+use Rattle.zknow.specs.declared.saved.loading.LoadError.TheVariants.{Memory}
+use Rattle.zknow.specs.Saved.Saved.{IsSaved}
+use Rattle.zknow.specs.Saved.Loaded.{IsFault}
+
+-- a file is that of one list of names and one of facts, or has one fault, and not both; Memory says nothing of the file
+pub record OneAnswer : Type 0 where
+  pub one_file : (file : List ℕ) (names others : List (List ℕ)) (facts more : List Fact) → IsSaved names facts file
+      → IsSaved others more file → (names ≡ others) × (facts ≡ more)
+  pub one_fault : (file : List ℕ) (e f : LoadError) → e ≢ Memory → f ≢ Memory → IsFault file e → IsFault file f → e ≡ f
+  pub either : (file : List ℕ) (names : List (List ℕ)) (facts : List Fact) (e : LoadError) → e ≢ Memory
+      → IsSaved names facts file → IsFault file e → ⊥

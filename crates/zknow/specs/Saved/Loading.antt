@@ -1,0 +1,45 @@
+-- A file that is being read.
+use Rattle.std.specs.Prelude.{◌≡◌, ℕ, ◌<◌, ◌≤◌, List, [], ◌∷◌, ◌++◌, length, take, Option, Some, None, ⊤}
+use Rattle.std.specs.declared.cmp.Ordering.{Ordering}
+use Rattle.std.specs.declared.cmp.Ordering.TheVariants.{Less}
+use Rattle.std.specs.Ordering.{nat_cmp, int_cmp, ordering_then}
+use Rattle.zknow.specs.declared.fact.Fact.{Fact}
+use Rattle.zknow.specs.declared.saved.front.FrontError.{FrontError}
+use Rattle.zknow.specs.declared.saved.front.FrontError.TheVariants as front
+use Rattle.zknow.specs.declared.saved.loading.LoadError.{LoadError}
+use Rattle.zknow.specs.declared.saved.loading.LoadError.TheVariants.{NotKnowledge, NotCanonical, Memory}
+use Rattle.zknow.specs.declared.saved.loading.Loading.{Loading}
+use Rattle.zknow.specs.Facts.{fact_cmp, kind_of, target_of, set_of, number_of}
+use Rattle.zknow.specs.Saved.Saved.{IsSaved}
+
+-- the fault of the element with this index
+abbrev pub fault_at : ℕ → FrontError → LoadError
+fault_at at front.NoValue = NotKnowledge at
+fault_at at front.NotCanonical = NotCanonical at
+fault_at at front.Memory = Memory
+
+-- the fact order, but for the record or diagnostic
+abbrev pub key_cmp : Fact → Fact → Ordering
+key_cmp a b =
+    ordering_then (nat_cmp (kind_of a) (kind_of b))
+    (ordering_then (nat_cmp (target_of a) (target_of b))
+    (ordering_then (nat_cmp (set_of a) (set_of b))
+    (int_cmp (number_of a) (number_of b))))
+
+-- the fact is above the last one
+abbrev pub IsAbove : Option Fact → Fact → Type 0
+IsAbove None f = ⊤
+IsAbove (Some g) f = fact_cmp g f ≡ Less
+
+-- the last of the facts
+abbrev pub IsLast : List Fact → Option Fact → Type 0
+IsLast facts None = facts ≡ []
+IsLast facts (Some g) = (front : List Fact) × (facts ≡ front ++ g ∷ [])
+
+-- so many octets of the file are the saved file of these names and facts
+pub record IsLoadedUpTo (file : List ℕ) (l : Loading) : Type 0 where
+  pub within : l.at ≤ length file
+  pub saved : IsSaved l.names l.knowledge (take l.at file)
+  pub last : IsLast l.knowledge l.last
+  pub count : l.count ≡ length l.knowledge
+  pub some : l.count < l.at

@@ -1,0 +1,74 @@
+-- Numbers that fit 32 bits, as INTEGERs (X.690, 8.3).
+use Rattle.std.specs.Prelude.{◌≡◌, ℕ, ℤ, pos, negsuc, ◌^◌, ◌<◌, nat_lt, Bool, true, false, List, [], ◌∷◌, Option, Some, None, if◌then◌else◌}
+use Rattle.std.proofs.Common.{refl, ap, subst, ◌∙◌, cond, arith}
+use Rattle.std.proofs.lemmas.Bool.{ltb-true, lt-ltb}
+use Rattle.zber.specs.AsnTags.{AsnTag}
+use Rattle.zber.specs.Elements.{Element, Primitive}
+use Rattle.zber.specs.Integers.{integer_octets}
+use Rattle.zproductions.specs.Standing.{tagged}
+use Rattle.zproductions.specs.Laws.{IsPlace, IsSpelled}
+use Rattle.zproductions.specs.Meanings.{int_of, is_i64}
+use Rattle.zproductions.specs.Building.{◌>>=◌}
+use Rattle.zproductions.specs.Place.{Place}
+use Rattle.zproductions.proofs.Meanings.{int_spelled}
+use Rattle.zproductions.proofs.Readings.{tagged_place}
+use Rattle.zproductions.proofs.Builds.{fitting_spelled}
+use Rattle.zasn.specs.Places.{lawful}
+use Rattle.zknow.specs.declared.saved.natural.Natural.{Natural}
+
+abbrev pub is_natural : ℕ → Bool
+is_natural n = nat_lt n (2 ^ 32)
+
+abbrev pub natural_in : ℤ → Option Natural
+natural_in (pos n) = if is_natural n then Some (record { number = n }) else None
+natural_in (negsuc n) = None
+
+-- what an element means as such a number
+abbrev pub natural_of : Element → Option Natural
+natural_of e = int_of e >>= natural_in
+
+abbrev pub natural_octets : Natural → List ℕ
+natural_octets v = integer_octets (pos v.number)
+
+abbrev pub fits : Natural → Bool
+fits v = is_natural v.number
+
+abbrev pub natural_spelt : AsnTag → Natural → Option Element
+natural_spelt tag v = if fits v then Some (Primitive tag (natural_octets v)) else None
+
+-- ---- the laws of its place
+
+as_integer : (tag : AsnTag) (v : Natural) → fits v ≡ true
+    → int_of (Primitive tag (natural_octets v)) ≡ Some (pos v.number)
+as_integer tag v is =
+    let below : v.number < 2 ^ 32 = ltb-true v.number (2 ^ 32) is in
+    let within : is_i64 (pos v.number) ≡ true = lt-ltb v.number (2 ^ 63) (omega arith) in
+    ((int_spelled tag).makes (pos v.number) (Primitive tag (natural_octets v))
+    (ap (λ (b : Bool). cond b (Some (Primitive tag (natural_octets v))) None) within)).1
+
+natural_back : (tag : AsnTag) (v : Natural) → fits v ≡ true → natural_of (Primitive tag (natural_octets v)) ≡ Some v
+natural_back tag v is =
+    ap (λ (o : Option ℤ). o >>= natural_in) (as_integer tag v is) ∙ ap (λ (b : Bool). cond b (Some v) None) is
+
+by_test : (n : ℕ) (v : Natural) (b : Bool) → is_natural n ≡ b → cond b (Some (record { number = n })) None ≡ Some v
+    → fits v ≡ true
+by_test n v true is e = let same : record { number = n } ≡ v = cc in subst (λ (w : Natural). fits w ≡ true) same is
+by_test n v false is e = absurd cc
+
+found_fits : (v : Natural) (o : Option ℤ) → (o >>= natural_in) ≡ Some v → fits v ≡ true
+found_fits v None e = absurd cc
+found_fits v (Some (pos n)) e = by_test n v (is_natural n) refl e
+found_fits v (Some (negsuc n)) e = absurd cc
+
+pub natural_place : (tag : AsnTag) → IsPlace (tagged tag natural_of) (tag ∷ []) natural_of
+natural_place tag = tagged_place tag natural_of (record { number = 0 }) (Primitive tag (0 ∷ [])) refl refl
+
+pub natural_spelled : (tag : AsnTag) → IsSpelled (tagged tag natural_of) (natural_spelt tag)
+natural_spelled tag =
+    fitting_spelled tag natural_of natural_octets fits (natural_back tag) (λ v n e. found_fits v (int_of n) e)
+
+-- INTEGER, from 0 to 4,294,967,295
+abbrev pub natural : AsnTag → Place Natural
+natural tag =
+    lawful {P = tagged tag natural_of} {tags = tag ∷ []} {meaning = natural_of} {spelt = natural_spelt tag}
+    (natural_place tag) (natural_spelled tag)

@@ -1,0 +1,38 @@
+-- A file that is being written.
+use Rattle.std.specs.Prelude.{◌≡◌, ◌⊎◌, ℕ, true, false, List, ◌++◌, Result, Ok, Err, ⊤}
+use Rattle.std.specs.List.{AllByRecursion}
+use Rattle.zproductions.specs.Place.{Place}
+use Rattle.zknow.specs.declared.fact.Fact.{Fact}
+use Rattle.zknow.specs.declared.saved.saving.Saving.{Saving}
+use Rattle.zknow.specs.declared.saved.saving.SaveError.{SaveError}
+use Rattle.zknow.specs.declared.saved.saving.SaveError.TheVariants.{TooDeep, TooLong, Memory}
+use Rattle.zknow.specs.Encodings.{encoding}
+use Rattle.zknow.specs.Saved.SavedFacts.{saved_names, saved_fact}
+use Rattle.zknow.specs.Saved.Saved.{saved, Fits, IsTooDeep, IsTooLong, HasDeep, HasLong}
+
+-- the value's element was added, or it is too long
+pub record IsAdded {A : Type 0} (p : Place A) (x : A) (old new : Saving) : Type 0 where
+  pub long : new.long ≡ old.long
+  pub octets : new.octets.items ≡ old.octets.items ++ encoding p x
+  pub fits : Fits p x
+  pub short : IsTooLong p x → ⊥
+
+pub record IsLeftOut {A : Type 0} (p : Place A) (x : A) (old new : Saving) : Type 0 where
+  pub long : new.long ≡ true
+  pub is : IsTooLong p x
+
+-- what putting a value into the file answers
+abbrev pub Adds : {A : Type 0} → Place A → A → Saving → Result (Unit {0}) SaveError → Saving → Type 0
+Adds p x old (Ok u) new = (IsTooDeep p x → ⊥) × (IsAdded p x old new ⊎ IsLeftOut p x old new)
+Adds p x old (Err TooDeep) new = IsTooDeep p x
+Adds p x old (Err TooLong) new = ⊥
+Adds p x old (Err Memory) new = ⊤
+
+-- all elements of the names and facts are there, unless one was too long
+pub record IsSavedUpTo (names : List (List ℕ)) (facts : List Fact) (s : Saving) : Type 0 where
+  pub shallow : HasDeep names facts → ⊥
+  pub long : s.long ≡ true → HasLong names facts
+  pub short : s.long ≡ false → HasLong names facts → ⊥
+  pub octets : s.long ≡ false → s.octets.items ≡ saved names facts
+  pub names_fit : s.long ≡ false → Fits saved_names names
+  pub facts_fit : s.long ≡ false → AllByRecursion (Fits saved_fact) facts

@@ -1,0 +1,35 @@
+-- The facts of the tables, in fact order: what every contract of a knowledge sees.
+use Rattle.std.specs.Prelude.{ℤ, List, [], ◌∷◌, ◌++◌, map, if◌then◌else◌}
+use Rattle.std.specs.List.{flat_map}
+use Rattle.zknow.specs.declared.tables.keys.Mark.{Mark}
+use Rattle.zknow.specs.declared.tables.Tables.{Tables}
+use Rattle.zknow.specs.declared.fact.Fact.{Fact}
+use Rattle.zknow.specs.declared.fact.Fact.TheVariants.{Count, Failed, Seen, Diag}
+
+-- the items of one table: those of each key in turn
+abbrev pub section : {K J I F : Type 0} → (J → List I) → (K → I → F) → List (K × J) → List F
+section items make t = flat_map (λ e. map (make e.0) (items e.1)) t
+
+-- a mark's items
+abbrev pub marked : Mark → List (Unit {0})
+marked m = if m.is_set then tt ∷ [] else []
+
+-- values with their numbers
+abbrev pub numbered : {T : Type 0} → List (ℤ × List T) → List (ℤ × T)
+numbered t = section (λ xs. xs) (λ p x. (p, x)) t
+
+-- the facts of each kind
+abbrev pub counts_of : Tables → List Fact
+counts_of k = section (λ xs. xs) (λ e n. Count e.target e.set n) k.counts
+
+abbrev pub failed_of : Tables → List Fact
+failed_of k = section marked (λ e u. Failed e.target e.set) k.failed
+
+abbrev pub seen_of : Tables → List Fact
+seen_of k = section numbered (λ e x. Seen e.target e.set x.0 x.1) k.seen
+
+abbrev pub diags_of : Tables → List Fact
+diags_of k = section numbered (λ e x. Diag e.target e.set x.0 x.1) k.diags
+
+abbrev pub facts_of : Tables → List Fact
+facts_of k = counts_of k ++ (failed_of k ++ (seen_of k ++ diags_of k))

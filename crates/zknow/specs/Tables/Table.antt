@@ -1,0 +1,42 @@
+-- A table of joins: the list of its keys in order, each with its value. Its items are pairs of a key and an item of
+-- that key's value.
+use Rattle.std.specs.Prelude.{◌≡◌, ℕ, ◌<◌, List, [], Option, Some, Result, length, slice_index_or, IsSomeAnd, unwrap_or}
+use Rattle.std.specs.Result.{MatchResult}
+use Rattle.std.specs.declared.cmp.Ordering.{Ordering}
+use Rattle.std.specs.BTreeMap.{is_at}
+use Rattle.std.specs.Map.{lookup, keys_of}
+use Rattle.std.specs.List.Sorted.{IsStrictlySortedBy}
+use Rattle.zknow.specs.Tables.Search.{IsGap}
+
+-- what the table has at the key
+abbrev pub value_at : {K J : Type 0} → (K → K → Ordering) → List (K × J) → K → Option J
+value_at cmp t k = lookup (is_at (cmp k)) t
+
+-- the items at the key that M has
+abbrev pub AtKey : {K I : Type 0} → K → (I → Type 0) → K × I → Type 0
+AtKey key M x = (x.0 ≡ key) × M x.1
+
+module _ {K J I : Type 0} (cmp : K → K → Ordering) (holds : J → I → Type 0) where
+  -- the value at the item's key has the item
+  abbrev pub HasItem : List (K × J) → K × I → Type 0
+  HasItem t x = IsSomeAnd (value_at cmp t x.0) (λ j. holds j x.1)
+
+  -- the keys ascend, and the value at each is lawful and has an item
+  pub record IsLawfulTable (lawful : J → Type 0) (t : List (K × J)) : Type 0 where
+    pub ordered : IsStrictlySortedBy cmp (keys_of t)
+    pub values : (k : K) (j : J) → value_at cmp t k ≡ Some j → lawful j
+    pub some : (k : K) (j : J) → value_at cmp t k ≡ Some j → (x : I) × holds j x
+
+-- the values of a list at the key, none where it is missing
+abbrev pub values_at : {K V : Type 0} → (K → K → Ordering) → List (K × List V) → K → List V
+values_at cmp t k = unwrap_or (value_at cmp t k) []
+
+module _ {K J : Type 0} (cmp : K → K → Ordering) where
+  -- the key stands at the place
+  pub record IsEntry (t : List (K × J)) (key : K) (i : ℕ) : Type 0 where
+    pub within : i < length t
+    pub is : (d : K × J) → (slice_index_or t i d).0 ≡ key
+
+  -- where the key stands, or where it would go
+  abbrev pub IsPlace : List (K × J) → K → Result ℕ ℕ → Type 0
+  IsPlace t key r = MatchResult r (IsEntry t key) (IsGap (λ e. cmp e.0 key) t)

@@ -1,0 +1,84 @@
+//! The keys of the list's blocks and rows, in order and each once.
+ghost use Rattle.std.specs.Prelude.{◌≡◌, ◌++◌, map, IfOk, OnOk};
+ghost use Rattle.std.specs.Map.{keys_of};
+ghost use Rattle.std.specs.List.{filter_map};
+ghost use Rattle.zknow.specs.Tables.Keys.{set_cmp, row_cmp};
+ghost use Rattle.zknow.specs.List.Listing.{ascending, block_of, row_of};
+ghost use Rattle.zknow.specs.Tables.Sections.{section, facts_of};
+ghost use Rattle.zknow.specs.Tables.Tables.{AreLawful};
+
+use crate::tables::distinct::Distinct;
+use crate::tables::join::{Join, Key};
+use crate::tables::keys::{RowKey, SetKey};
+use crate::tables::table::Table;
+use crate::tables::{ByNumber, Tables};
+use std::alloc::{AllocError, Global};
+use zapdu::Record;
+
+/// The keys in order, each once.
+fn sorted<K: Key>(mut keys: Vec<K>) -> Vec<K>
+    ensures { result.items ≡ ascending K.cmp keys.items }
+{
+    keys.sort_unstable();
+    keys.dedup();
+    keys
+}
+
+fn put_keys<J: Join>(table: &Table<SetKey, J>, out: &mut Vec<SetKey>) -> Result<(), AllocError>
+    ensures { OnOk result (out.new.items ≡ out.old.items ++ keys_of table.now) }
+{
+    for (key, _) in table.iter() {
+        out.push(*key)?;
+    }
+    Ok(())
+}
+
+/// The keys of the blocks.
+pub(crate) fn block_keys(alloc: Global, tables: &Tables) -> Result<Vec<SetKey>, AllocError>
+    requires { AreLawful tables.now }
+    ensures { IfOk result (λ keys. keys.items ≡ ascending set_cmp (filter_map block_of (facts_of tables.now))) }
+{
+    let mut keys = Vec::new(alloc);
+    put_keys(&tables.counts, &mut keys)?;
+    put_keys(&tables.failed, &mut keys)?;
+    put_keys(&tables.diags, &mut keys)?;
+    Ok(sorted(keys))
+}
+
+fn put_rows(
+    key: SetKey,
+    rows: &Table<i64, Distinct<Record>>,
+    out: &mut Vec<RowKey>,
+) -> Result<(), AllocError>
+    ensures { OnOk result (out.new.items ≡ out.old.items
+        ++ map (λ p. record { position = p; target = key.target; set = key.set }) (keys_of rows.now)) }
+{
+    for (position, _) in rows.iter() {
+        out.push(RowKey {
+            position: *position,
+            target: key.target,
+            set: key.set,
+        })?;
+    }
+    Ok(())
+}
+
+fn put_all_rows(table: &ByNumber<Record>, out: &mut Vec<RowKey>) -> Result<(), AllocError>
+    ensures { OnOk result (out.new.items ≡ out.old.items
+        ++ section keys_of (λ e p. record { position = p; target = e.target; set = e.set }) table.now) }
+{
+    for (key, rows) in table.iter() {
+        put_rows(*key, rows, out)?;
+    }
+    Ok(())
+}
+
+/// The keys of the rows.
+pub(crate) fn row_keys(alloc: Global, tables: &Tables) -> Result<Vec<RowKey>, AllocError>
+    requires { AreLawful tables.now }
+    ensures { IfOk result (λ keys. keys.items ≡ ascending row_cmp (filter_map row_of (facts_of tables.now))) }
+{
+    let mut keys = Vec::new(alloc);
+    put_all_rows(&tables.seen, &mut keys)?;
+    Ok(sorted(keys))
+}

@@ -1,0 +1,115 @@
+//! The element at the front of a file's octets.
+ghost use Rattle.std.specs.Prelude.{◌≡◌, IfOk, IfErr};
+ghost use Rattle.zknow.specs.Saved.Fronts.{FrontElement, FrontValue, IsTaken, IsFrontFault, ShowsFront};
+
+use crate::encoding::encoded;
+use crate::saved::saving::LONGEST;
+use std::alloc::{AllocError, Global};
+use zasn::{PartError, Tagged};
+use zber::{FrameError, Framer, Node};
+
+/// Why no value was taken from the front of octets.
+#[derive(Clone, Copy, Debug, PartialEq, Eq, Drop)]
+pub(crate) enum FrontError {
+    /// No element stands there, or one that says no such value.
+    NoValue,
+    /// One does, and is not spelled canonically.
+    NotCanonical,
+    /// No memory was found.
+    Memory,
+}
+
+impl From<AllocError> for FrontError {
+    ghost use Rattle.std.specs.Prelude.{◌≡◌};
+    ghost use Rattle.zknow.specs.declared.saved.front.FrontError.TheVariants.{Memory};
+
+    ghost from_gives = { λ _ e. e ≡ Memory };
+
+    fn from(_: AllocError) -> FrontError {
+        FrontError::Memory
+    }
+}
+
+/// What octets show of the element at their front.
+#[derive(Drop)]
+pub(crate) enum Front {
+    /// All of it.
+    Whole(Node),
+    /// A fault, whatever octets follow.
+    Fault,
+    /// Neither yet.
+    Unfinished,
+}
+
+/// The first octets that are read for an element; most elements have no more.
+const WINDOW: usize = 256;
+
+/// What these octets show.
+fn front_of(alloc: Global, octets: &[u8]) -> Result<Front, AllocError>
+    ensures { IfOk result (ShowsFront octets.now) }
+{
+    let mut framer = Framer::new(alloc, LONGEST);
+    framer.feed(octets)?;
+    match framer.next() {
+        Ok(Some(node)) => Ok(Front::Whole(node)),
+        Ok(None) => Ok(Front::Unfinished),
+        Err(FrameError::Fault { .. }) => Ok(Front::Fault),
+        Err(FrameError::Memory) => Err(AllocError),
+    }
+}
+
+/// The element that octets begin with.
+///
+/// It looks at `WINDOW` octets, then at twice as many each time, until they show the element or a fault. Beyond
+/// `WINDOW` these are fewer than twice the octets that show it, and they are never more than `LONGEST`.
+fn front_element(alloc: Global, octets: &[u8]) -> Result<Option<Node>, AllocError>
+    ensures { IfOk result (FrontElement octets.now) }
+{
+    let limit = octets.len().min(LONGEST as usize);
+    let mut size = WINDOW;
+    loop {
+        let (window, _) = octets.split_at(size.min(limit));
+        match front_of(alloc, window)? {
+            Front::Whole(node) => return Ok(Some(node)),
+            Front::Fault => return Ok(None),
+            Front::Unfinished => {
+                if size >= limit {
+                    return Ok(None);
+                }
+                size *= 2;
+            }
+        }
+    }
+}
+
+/// The value that the element says with which octets begin.
+fn front_value<T: Tagged>(alloc: Global, octets: &[u8]) -> Result<Option<T>, AllocError>
+    ensures { IfOk result (FrontValue T.place octets.now) }
+{
+    let Some(node) = front_element(alloc, octets)? else {
+        return Ok(None);
+    };
+    if !T::has(node.tag) {
+        return Ok(None);
+    }
+    match T::of_element(alloc, &node) {
+        Ok(value) => Ok(Some(value)),
+        Err(PartError::Misfit) => Ok(None),
+        Err(PartError::Memory) => Err(AllocError),
+    }
+}
+
+/// The value whose canonical element octets begin with, and the length of that element.
+pub(crate) fn take_front<T: Tagged>(alloc: Global, octets: &[u8]) -> Result<(T, usize), FrontError>
+    ensures taken { IfOk result (λ r. IsTaken T.place octets.now r.0 r.1) }
+    ensures fault { IfErr result (IsFrontFault T.place octets.now) }
+{
+    let Some(value) = front_value::<T>(alloc, octets)? else {
+        return Err(FrontError::NoValue);
+    };
+    let canonical = encoded(alloc, &value)?;
+    if !octets.starts_with(canonical.as_slice()) {
+        return Err(FrontError::NotCanonical);
+    }
+    Ok((value, canonical.len()))
+}

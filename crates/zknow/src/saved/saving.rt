@@ -1,0 +1,199 @@
+//! Writing a saved file.
+ghost use Rattle.std.specs.Prelude.{◌≡◌, ◌∷◌, ◌++◌, List, ℕ, [], Some, false, Contains, map, IfOk, IfErr, OnOk, OnErr};
+ghost use Rattle.std.specs.List.{AllByRecursion};
+ghost use Rattle.zknow.specs.Encodings.{IsSpellable};
+ghost use Rattle.zknow.specs.Tables.FactRefs.{fact_of};
+ghost use Rattle.zknow.specs.Facts.{IsFact};
+ghost use Rattle.zknow.specs.Saved.Saved.{saved, longest, IsSaved, IsRefused, AreWithin};
+ghost use Rattle.zknow.specs.Saved.SavedFacts.{saved_fact};
+ghost use Rattle.zknow.specs.Saved.Saving.{Adds, IsSavedUpTo};
+ghost use Rattle.zknow.specs.Saved.Refusals.{save_word};
+
+use crate::fact::{Fact, Names};
+use crate::knowledge::Knowledge;
+use crate::saved::fits::fits;
+use crate::saved::saved_fact::fact_node;
+use crate::saved::saved_names::SavedNames;
+use crate::tables::fact_ref::FactRef;
+use std::alloc::{AllocError, Global};
+use thiserror::Error;
+use zasn::{BuildError, Tagged};
+use zber::{EncodeError, Node};
+
+/// The most octets of an element of a saved file.
+pub(crate) const LONGEST: u32 = 4_194_304;
+
+/// Why a knowledge is not saved.
+#[derive(Clone, Copy, Debug, PartialEq, Eq, Drop, Error)]
+pub enum SaveError {
+    /// An element has more than 64 constructed elements within one another.
+    #[error("more than 64 constructed elements stand within one another")]
+    TooDeep,
+    /// No element is too deep, but one has more than 4,194,304 octets.
+    #[error("an element is longer than 4,194,304 octets")]
+    TooLong,
+    /// No memory was found.
+    #[error("out of memory")]
+    Memory,
+}
+
+impl SaveError {
+    /// Its name, as it is written here, in ASCII letters. It takes no memory.
+    pub fn word(&self) -> &'static str
+        ensures { result.now ≡ save_word self.now }
+    {
+        match self {
+            SaveError::TooDeep => "TooDeep",
+            SaveError::TooLong => "TooLong",
+            SaveError::Memory => "Memory",
+        }
+    }
+}
+
+impl From<AllocError> for SaveError {
+    ghost use Rattle.std.specs.Prelude.{◌≡◌};
+    ghost use Rattle.zknow.specs.declared.saved.saving.SaveError.TheVariants.{Memory};
+
+    ghost from_gives = { λ _ e. e ≡ Memory };
+
+    fn from(_: AllocError) -> SaveError {
+        SaveError::Memory
+    }
+}
+
+/// The octets of the elements that are written, and whether one was too long and left out.
+#[derive(Drop)]
+pub(crate) struct Saving {
+    octets: Vec<u8>,
+    long: bool,
+}
+
+/// The element that stands for a value.
+fn element_of<T: Tagged>(alloc: Global, value: &T) -> Result<Node, AllocError>
+    requires { IsSpellable T.place value.now }
+    ensures { IfOk result (λ n. T.place.spelt value.now ≡ Some n) }
+{
+    match value.to_element(alloc) {
+        Ok(node) => Ok(node),
+        Err(BuildError::NotSpellable) => unreachable!(),
+        Err(BuildError::Memory) => Err(AllocError),
+    }
+}
+
+/// The element that stands for a fact.
+fn element_of_fact(alloc: Global, fact: &FactRef<'_>) -> Result<Node, AllocError>
+    requires { IsSpellable saved_fact (fact_of fact.now) }
+    ensures { IfOk result (λ n. saved_fact.spelt (fact_of fact.now) ≡ Some n) }
+{
+    match fact_node(alloc, fact) {
+        Ok(node) => Ok(node),
+        Err(BuildError::NotSpellable) => unreachable!(),
+        Err(BuildError::Memory) => Err(AllocError),
+    }
+}
+
+impl Saving {
+    /// Nothing is written.
+    fn new(alloc: Global) -> Saving
+        ensures octets { result.octets.items ≡ [] }
+        ensures long { result.long ≡ false }
+    {
+        Saving {
+            octets: Vec::new(alloc),
+            long: false,
+        }
+    }
+
+    /// Writes an element, unless it is too long.
+    fn put<T: Tagged>(&mut self, alloc: Global, node: &Node) -> Result<(), SaveError>
+        ensures { (value : T) → T.place.spelt value ≡ Some node.now → Adds T.place value self.old result self.new }
+    {
+        match node.encode(alloc, LONGEST, &mut self.octets) {
+            Ok(()) => Ok(()),
+            Err(EncodeError::TooLong) => {
+                self.long = true;
+                Ok(())
+            }
+            Err(EncodeError::TooDeep) => Err(SaveError::TooDeep),
+            Err(EncodeError::Memory) => Err(SaveError::Memory),
+        }
+    }
+
+    /// Writes the names, first of all.
+    fn put_names(&mut self, alloc: Global, names: &Names) -> Result<(), SaveError>
+        requires octets { self.old.octets.items ≡ [] }
+        requires long { self.old.long ≡ false }
+        ensures ok { OnOk result (IsSavedUpTo names.now [] self.new) }
+        ensures err { IfErr result (λ e. (facts : List _) → IsRefused names.now facts e) }
+    {
+        let names = SavedNames::of(alloc, names)?;
+        let node = element_of(alloc, &names)?;
+        self.put::<SavedNames>(alloc, &node)
+    }
+
+    /// Writes one fact more.
+    fn put_fact(&mut self, alloc: Global, fact: &FactRef<'_>) -> Result<(), SaveError>
+        requires { IsFact (fact_of fact.now) }
+        ensures ok { OnOk result ((names : List (List ℕ)) (facts : List _) → IsSavedUpTo names facts self.old
+            → IsSavedUpTo names (facts ++ fact_of fact.now ∷ []) self.new) }
+        ensures err { IfErr result (λ e. (names : List (List ℕ)) (facts : List _) → Contains facts (fact_of fact.now)
+            → IsRefused names facts e) }
+    {
+        fits(fact);
+        let node = element_of_fact(alloc, fact)?;
+        self.put::<Fact>(alloc, &node)
+    }
+
+    /// Writes facts in order.
+    fn put_facts(&mut self, alloc: Global, facts: &[FactRef<'_>]) -> Result<(), SaveError>
+        requires { AllByRecursion IsFact (map fact_of facts.now) }
+        ensures ok { OnOk result ((names : List (List ℕ)) → IsSavedUpTo names [] self.old
+            → IsSavedUpTo names (map fact_of facts.now) self.new) }
+        ensures err { IfErr result (λ e. (names : List (List ℕ)) → IsRefused names (map fact_of facts.now) e) }
+    {
+        for fact in facts {
+            self.put_fact(alloc, fact)?;
+        }
+        Ok(())
+    }
+}
+
+/// The octets of the file.
+fn octets_of(alloc: Global, knowledge: &Knowledge, names: &Names) -> Result<Vec<u8>, SaveError>
+    ensures ok { IfOk result (λ octets. IsSaved names.now knowledge.now octets.items) }
+    ensures within { OnOk result (AreWithin names.now knowledge.now) }
+    ensures refused { IfErr result (IsRefused names.now knowledge.now) }
+{
+    let facts = knowledge.fact_refs()?;
+    knowledge.lawful();
+    let mut saving = Saving::new(alloc);
+    saving.put_names(alloc, names)?;
+    saving.put_facts(alloc, facts.as_slice())?;
+    let Saving { octets, long } = saving;
+    if long {
+        return Err(SaveError::TooLong);
+    }
+    Ok(octets)
+}
+
+/// Appends the saved file of what is known: the canonical element of the names, and then those of the facts in fact
+/// order.
+///
+/// `TooDeep` exactly where an element has more than 64 constructed elements within one another, `TooLong` exactly where
+/// none has and one is longer than 4,194,304 octets; either unless memory ran out before. Every refusal leaves `out` as
+/// it was. `load` gives the same knowledge and names back. It takes time by the number of facts and their octets.
+pub fn save(
+    alloc: Global,
+    knowledge: &Knowledge,
+    names: &Names,
+    out: &mut Vec<u8>,
+) -> Result<(), SaveError>
+    ensures ok { OnOk result ((file : List ℕ) × (out.new.items ≡ out.old.items ++ file) × IsSaved names.now knowledge.now file) }
+    ensures within { OnOk result (AreWithin names.now knowledge.now) }
+    ensures refused { IfErr result (IsRefused names.now knowledge.now) }
+    ensures err { OnErr result (out.new.items ≡ out.old.items) }
+{
+    let octets = octets_of(alloc, knowledge, names)?;
+    out.extend_from_slice(&octets)?;
+    Ok(())
+}

@@ -1,0 +1,73 @@
+//! The keys of the tables, and the mark of a set that failed.
+ghost use Rattle.zknow.specs.Tables.Keys.{set_exact, row_exact};
+
+use crate::tables::join::{Join, Key};
+use std::alloc::{AllocError, Global};
+
+/// A target's set.
+#[derive(Clone, Copy, Debug, PartialEq, Eq, PartialOrd, Ord)]
+pub(crate) struct SetKey {
+    pub(crate) target: u32,
+    pub(crate) set: u32,
+}
+
+impl Key for SetKey {
+    ghost exact = { set_exact };
+}
+
+/// A row of the list: a position in a target's set.
+#[derive(Clone, Copy, Debug, PartialEq, Eq, PartialOrd, Ord)]
+pub(crate) struct RowKey {
+    pub(crate) position: i64,
+    pub(crate) target: u32,
+    pub(crate) set: u32,
+}
+
+impl Key for RowKey {
+    ghost exact = { row_exact };
+}
+
+impl Key for i64 {
+    ghost use Rattle.std.proofs.lemmas.Map.Lookups.{exact_signed};
+
+    ghost exact = { exact_signed };
+}
+
+/// Whether something happened: its one item is that it did.
+#[derive(Clone, Copy, Debug, PartialEq, Eq)]
+pub(crate) struct Mark {
+    pub(crate) is_set: bool,
+}
+
+impl Join for Mark {
+    type Item = ();
+
+    ghost use Rattle.zknow.specs.Tables.Keys.{IsMarked, IsAnyMark, same_marks};
+    ghost use Rattle.std.specs.Prelude.{⊤};
+
+    ghost holds = { IsMarked };
+
+    ghost is_lawful = { IsAnyMark };
+
+    ghost can_add = { λ _. ⊤ };
+
+    ghost same = { same_marks };
+
+    fn empty(_alloc: Global) -> Self {
+        Mark { is_set: false }
+    }
+
+    fn add(&mut self, _item: &()) -> Result<(), AllocError> {
+        self.is_set = true;
+        Ok(())
+    }
+
+    fn absorb(&mut self, other: &Self) -> Result<(), AllocError> {
+        if other.is_set {
+            self.is_set = true;
+        }
+        Ok(())
+    }
+
+    fn lawful(&self) {}
+}

@@ -1,0 +1,22 @@
+-- The notation: a text is read from the left as its one query or refused at its one fault, and what is printed is read again.
+pub mod Completing
+pub mod Filling
+pub mod Leading
+pub mod Levels
+pub mod NumberLemmas
+pub mod OneAnswers
+pub mod OneLexing
+pub mod Opening
+pub mod PairLemmas
+pub mod PrintedNumbers
+pub mod PrintedPhrases
+pub mod PrintedTexts
+pub mod PrintedTokens
+pub mod PrintedWords
+pub mod Quoting
+pub mod ReadPlain
+pub mod ReadTexts
+pub mod Refusing
+pub mod SetLemmas
+pub mod TokenLists
+pub mod Unique

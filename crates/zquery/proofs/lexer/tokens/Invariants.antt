@@ -1,9 +1,0 @@
-use Rattle.std.proofs.Common.{length}
-use Rattle.zquery.proofs.TokenLists.{Lexed}
-use Rattle.zquery.proofs.lexer.tokens.Given as goal
-
-abbrev pub invariant-loop-octet : goal.invariant-loop-octet
-invariant-loop-octet l = Lexed l.text l.out.items l.left
-
-abbrev pub decreases-loop-octet : goal.decreases-loop-octet
-decreases-loop-octet l = length l.left

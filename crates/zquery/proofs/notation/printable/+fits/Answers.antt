@@ -1,0 +1,6 @@
+use Rattle.zquery.specs.QueryTrees.{seen}
+use Rattle.zquery.proofs.Heights.{no-room}
+use Rattle.zquery.proofs.notation.printable.+fits.Goals as goal
+
+pub returns-then-room-eq0 : goal.returns-then-room-eq0
+returns-then-room-eq0 t c = no-room (seen c.args.rpn.now) c.args.room c.if-room-eq0.true

@@ -1,0 +1,16 @@
+-- What the parts of the lexer return.
+use Rattle.std.specs.Prelude.{◌≡◌, ℕ, List, ◌∷◌, ◌++◌, Bool, false, map}
+use Rattle.zquery.specs.Notation.Tokens.{ArePieces, spelled, AllAre, is_white, Ends}
+
+-- the octets behind an opening quote begin with this text and a closing quote
+pub record Closes (octets text after : List ℕ) : Type 0 where
+  pub pieces : List (ℕ × Bool)
+  pub lawful : ArePieces pieces
+  pub text_is : text ≡ map (λ x. x.0) pieces
+  pub whole : octets ≡ spelled pieces ++ 34 ∷ after
+
+-- the octets up to white space
+pub record WordFront (octets text after : List ℕ) : Type 0 where
+  pub whole : octets ≡ text ++ after
+  pub word : AllAre is_white false text
+  pub ends : Ends after

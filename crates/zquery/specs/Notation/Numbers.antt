@@ -1,0 +1,31 @@
+-- Numbers in decimal.
+use Rattle.std.specs.Prelude.{ℕ, ◌-◌, ◌^◌, ℤ, pos, neg_ℤ, List, [], ◌∷◌, drop, Bool, false, ◌==◌, ◌&&◌, not, length, Option, Some, None, nat_le, if◌then◌else◌}
+use Rattle.std.specs.Option.{option_map}
+use Rattle.std.specs.Char.{is_ascii_digit}
+use Rattle.std.specs.List.{list_all}
+use Rattle.std.specs.Str.Parse.{digits_value}
+
+-- one decimal digit or more
+abbrev pub is_numeral : List ℕ → Bool
+is_numeral text = not (length text == 0) && list_all is_ascii_digit text
+
+-- the number that digits write, if it is no larger
+unfoldable pub number_of : ℕ → List ℕ → Option ℕ
+number_of most text =
+    if is_numeral text && nat_le (digits_value 10 text) most then Some (digits_value 10 text) else None
+
+abbrev pub positive : ℕ → ℤ
+positive n = pos n
+
+abbrev pub negative : ℕ → ℤ
+negative n = neg_ℤ (pos n)
+
+abbrev pub has_minus : List ℕ → Bool
+has_minus [] = false
+has_minus (b ∷ bs) = b == 45
+
+-- the number that digits write, with a minus before them or without, if it fits 64 bits
+unfoldable pub integer_of : List ℕ → Option ℤ
+integer_of text =
+    if has_minus text then option_map negative (number_of (2 ^ 63) (drop 1 text))
+    else option_map positive (number_of (2 ^ 63 - 1) text)

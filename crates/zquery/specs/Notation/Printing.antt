@@ -1,0 +1,99 @@
+-- The text that is printed for a query, and which queries have one.
+use Rattle.std.specs.Prelude.{ℕ, ℤ, pos, negsuc, List, [], ◌∷◌, ◌++◌, Bool, true, false, ◌==◌, ◌||◌, ◌&&◌, not, codes, Option, Some, None, nat_le, if◌then◌else◌}
+use Rattle.std.specs.Fmt.{signed_decimal}
+use Rattle.std.specs.List.{flat_map, list_any}
+use Rattle.std.specs.Str.{bytes_eq}
+use Rattle.zber.specs.Dotted.{dotted}
+use Rattle.zquery.specs.declared.query.Attr.{Attr}
+use Rattle.zquery.specs.declared.query.AttrValue.{AttrValue}
+use Rattle.zquery.specs.declared.query.AttrValue.TheVariants.{Number, Complex}
+use Rattle.zquery.specs.declared.query.TermValue.{TermValue}
+use Rattle.zquery.specs.declared.query.TermValue.TheVariants.{General, Numeric, Text, Other}
+use Rattle.zquery.specs.declared.notation.word.Operator.{Operator}
+use Rattle.zquery.specs.declared.notation.word.Operator.TheVariants.{And, Or, Not}
+use Rattle.zquery.specs.InForce.{alike}
+use Rattle.zquery.specs.Notation.Sets.{bib1}
+use Rattle.zquery.specs.Trees.{Tree, OfTerm, OfSet, OfSetAttrs, Of, Near, RpnQuery, height}
+use Rattle.zquery.specs.Notation.Values.{most}
+
+-- a backslash stands before a quote and a backslash
+abbrev pub escaped : ℕ → List ℕ
+escaped b = if (b == 34) || (b == 92) then 92 ∷ b ∷ [] else b ∷ []
+
+abbrev pub in_quotes : List ℕ → List ℕ
+in_quotes text = 34 ∷ (flat_map escaped text ++ 34 ∷ [])
+
+abbrev pub set_text : Option (List ℕ) → List ℕ
+set_text None = []
+set_text (Some set) = dotted set ++ codes " "
+
+abbrev pub value_text : AttrValue → List ℕ
+value_text (Number n) = signed_decimal n
+value_text (Complex e) = []
+
+abbrev pub attr_text : Attr → List ℕ
+attr_text a =
+    codes "@attr " ++ (set_text a.attr_set
+    ++ (signed_decimal a.kind ++ (codes "=" ++ (value_text a.value ++ codes " "))))
+
+abbrev pub term_text : TermValue → List ℕ
+term_text (General text) = in_quotes text
+term_text (Numeric n) = codes "@term numeric " ++ in_quotes (signed_decimal n)
+term_text (Text text) = codes "@term string " ++ in_quotes text
+term_text (Other e) = []
+
+abbrev pub operator_text : Operator → List ℕ
+operator_text And = codes "@and "
+operator_text Or = codes "@or "
+operator_text Not = codes "@not "
+
+abbrev pub tree_text : Tree → List ℕ
+tree_text (OfTerm xs v) = flat_map attr_text xs ++ term_text v
+tree_text (OfSet name) = codes "@set " ++ in_quotes name
+tree_text (OfSetAttrs name xs) = flat_map attr_text xs ++ (codes "@set " ++ in_quotes name)
+tree_text (Of o a b) = operator_text o ++ (tree_text a ++ (codes " " ++ tree_text b))
+tree_text (Near e a b) = []
+
+abbrev pub opening_text : List ℕ → List ℕ
+opening_text own = if bytes_eq own bib1 then [] else codes "@attrset " ++ (dotted own ++ codes " ")
+
+abbrev pub query_text : RpnQuery → List ℕ
+query_text q = opening_text q.attr_set ++ tree_text q.root
+
+-- a number of an attribute that the notation has
+abbrev pub in_range : ℤ → Bool
+in_range (pos n) = nat_le n most
+in_range (negsuc n) = false
+
+abbrev pub plain_value : AttrValue → Bool
+plain_value (Number n) = in_range n
+plain_value (Complex e) = false
+
+-- it names the query's own set
+abbrev pub names : List ℕ → Option (List ℕ) → Bool
+names own None = false
+names own (Some set) = bytes_eq own set
+
+abbrev pub plain_attr : List ℕ → Attr → Bool
+plain_attr own a = not (names own a.attr_set) && (in_range a.kind && plain_value a.value)
+
+-- each has a text, and no two have the same set and type
+abbrev pub plain_attrs : List ℕ → List Attr → Bool
+plain_attrs own [] = true
+plain_attrs own (a ∷ xs) = plain_attr own a && (not (list_any (alike a) xs) && plain_attrs own xs)
+
+abbrev pub plain_term : TermValue → Bool
+plain_term (Other e) = false
+plain_term _ = true
+
+abbrev pub plain_tree : List ℕ → Tree → Bool
+plain_tree own (OfTerm xs v) = plain_attrs own xs && plain_term v
+plain_tree own (OfSet name) = true
+plain_tree own (OfSetAttrs name []) = false
+plain_tree own (OfSetAttrs name (a ∷ xs)) = plain_attrs own (a ∷ xs)
+plain_tree own (Of o a b) = plain_tree own a && plain_tree own b
+plain_tree own (Near e a b) = false
+
+-- a query that has a text
+abbrev pub printable : RpnQuery → Bool
+printable q = nat_le (height q.root) 32 && plain_tree q.attr_set q.root

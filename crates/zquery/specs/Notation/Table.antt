@@ -1,0 +1,89 @@
+-- What may stand at each place, and what is wrong with a token that may not.
+use Rattle.std.specs.Prelude.{ℕ, ◌+◌, List, [], ◌∷◌, ◌++◌, Bool, true, false, Option, Some, None, Result, Ok, Err, nat_lt, if◌then◌else◌}
+use Rattle.zquery.specs.declared.notation.token.Token.{Token}
+use Rattle.zquery.specs.declared.notation.word.Word.{Word}
+use Rattle.zquery.specs.declared.notation.word.Word.TheVariants.{AttrSet, Attribute, Op, NamedSet, TypeOfTerm, Unknown, Plain}
+use Rattle.zquery.specs.declared.notation.word.TermKind.{TermKind}
+use Rattle.zquery.specs.declared.notation.word.TermKind.TheVariants.{GeneralTerm}
+use Rattle.zquery.specs.declared.notation.error.PqfError.{PqfError}
+use Rattle.zquery.specs.declared.notation.error.PqfErrorKind.{PqfErrorKind}
+use Rattle.zquery.specs.declared.notation.error.PqfErrorKind.TheVariants as kind
+use Rattle.zquery.specs.Notation.Words.{word}
+use Rattle.zquery.specs.Notation.Sets.{set_of}
+use Rattle.zquery.specs.Notation.Values.{numbers_of, has_equals, kind_of, value_of}
+
+-- what is still to come: an operand below a type of term on a level, the set or the numbers of an attribute, a type of
+-- term, a name, the query's set
+pub data Expected : Type 0 where
+  Operand : TermKind → ℕ → Expected
+  SetOrNumbers : TermKind → ℕ → Expected
+  Numbers : TermKind → ℕ → Expected
+  Kind : ℕ → Expected
+  Name : Expected
+  OwnSet : Expected
+
+abbrev pub unless_deep : Bool → List Expected → Result (List Expected) PqfErrorKind
+unless_deep true next = Err kind.TooDeep
+unless_deep false next = Ok next
+
+abbrev pub next_if : {A : Type 0} → PqfErrorKind → Option A → (A → Result (List Expected) PqfErrorKind)
+    → Result (List Expected) PqfErrorKind
+next_if e None next = Err e
+next_if e (Some x) next = next x
+
+-- a word in the place of an operand
+abbrev pub operand : (ℕ → Bool) → TermKind → ℕ → List ℕ → Word → Result (List Expected) PqfErrorKind
+operand deep k n text Attribute = Ok (SetOrNumbers k n ∷ [])
+operand deep k n text TypeOfTerm = Ok (Kind n ∷ [])
+operand deep k n text (Op o) = unless_deep (deep n) (Operand k (n + 1) ∷ Operand k (n + 1) ∷ [])
+operand deep k n text NamedSet = unless_deep (deep n) (Name ∷ [])
+operand deep k n text Plain = next_if kind.BadNumber (value_of k text) (λ _. unless_deep (deep n) [])
+operand deep k n text Unknown = Err kind.UnknownWord
+operand deep k n text AttrSet = Err kind.UnknownWord
+
+abbrev pub numbers : TermKind → ℕ → List ℕ → Result (List Expected) PqfErrorKind
+numbers k n text = next_if kind.BadAttribute (numbers_of text) (λ _. Ok (Operand k n ∷ []))
+
+-- what is to come after a token in a place
+abbrev pub stepped : (ℕ → Bool) → Expected → Token → Result (List Expected) PqfErrorKind
+stepped deep (Operand k n) t = operand deep k n t.text (word t)
+stepped deep (SetOrNumbers k n) t =
+    if has_equals t.text then numbers k n t.text
+    else next_if kind.UnknownSet (set_of t.text) (λ _. Ok (Numbers k n ∷ []))
+stepped deep (Numbers k n) t = numbers k n t.text
+stepped deep (Kind n) t = next_if kind.BadTermType (kind_of t.text) (λ k. Ok (Operand k n ∷ []))
+stepped deep Name t = Ok []
+stepped deep OwnSet t = next_if kind.UnknownSet (set_of t.text) (λ _. Ok [])
+
+abbrev pub error_at : Token → PqfErrorKind → PqfError
+error_at t e = record { at = t.at; kind = e }
+
+abbrev pub after : Token → Result (List Expected) PqfErrorKind → (List Expected → Result (List Expected) PqfError)
+    → Result (List Expected) PqfError
+after t (Ok next) go = go next
+after t (Err e) go = Err (error_at t e)
+
+-- what is to come after tokens, or the first fault
+abbrev pub walk : (ℕ → Bool) → List Token → List Expected → Result (List Expected) PqfError
+walk deep [] ps = Ok ps
+walk deep (t ∷ ts) [] = Err (error_at t kind.Trailing)
+walk deep (t ∷ ts) (p ∷ ps) = after t (stepped deep p t) (λ next. walk deep ts (next ++ ps))
+
+-- at the first token a set may be named
+abbrev pub opening : Word → List Expected
+opening AttrSet = Name ∷ OwnSet ∷ Operand GeneralTerm 1 ∷ []
+opening _ = Operand GeneralTerm 1 ∷ []
+
+-- more than 32 levels
+abbrev pub below_limit : ℕ → Bool
+below_limit n = nat_lt 32 n
+
+-- the fault that is left at the end of a text of this length
+abbrev pub fault : ℕ → Result (List Expected) PqfError → Option PqfError
+fault len (Ok []) = None
+fault len (Ok (p ∷ ps)) = Some (record { at = len; kind = kind.MissingOperand })
+fault len (Err e) = Some e
+
+abbrev pub refusal : ℕ → List Token → Option PqfError
+refusal len [] = Some (record { at = 0; kind = kind.Empty })
+refusal len (t ∷ ts) = fault len (walk below_limit (t ∷ ts) (opening (word t)))

@@ -1,0 +1,19 @@
+-- Texts: of a query, and refused.
+use Rattle.std.specs.Prelude.{◌≡◌, ℕ, List, length, Some, ◌⊎◌}
+use Rattle.zquery.specs.declared.notation.token.Token.{Token}
+use Rattle.zquery.specs.declared.notation.error.PqfError.{PqfError}
+use Rattle.zquery.specs.declared.notation.error.PqfErrorKind.TheVariants as kind
+use Rattle.zquery.specs.Trees.{RpnQuery}
+use Rattle.zquery.specs.Notation.Tokens.{AreTokens, IsOpenAt}
+use Rattle.zquery.specs.Notation.Grammar.{IsQuery}
+use Rattle.zquery.specs.Notation.Table.{refusal}
+
+-- the text's tokens stand for the query
+abbrev pub IsText : List ℕ → RpnQuery → Type 0
+IsText text q = (ts : List Token) × AreTokens ts text × IsQuery ts q
+
+-- a quote stays open, or the text's tokens have this fault
+abbrev pub IsFault : List ℕ → PqfError → Type 0
+IsFault text e =
+    ((e.kind ≡ kind.OpenQuote) × IsOpenAt e.at text)
+    ⊎ ((ts : List Token) × AreTokens ts text × (refusal (length text) ts ≡ Some e))

@@ -1,0 +1,40 @@
+-- What the tokens within a query's parts mean.
+use Rattle.std.specs.Prelude.{ℕ, List, Bool, ◌==◌, Option, Some, None, codes, if◌then◌else◌}
+use Rattle.std.specs.Option.{option_map}
+use Rattle.std.specs.Str.{bytes_eq}
+use Rattle.std.specs.List.{list_any, before_first, after_first}
+use Rattle.zquery.specs.declared.notation.word.TermKind.{TermKind}
+use Rattle.zquery.specs.declared.notation.word.TermKind.TheVariants.{GeneralTerm, NumericTerm, TextTerm}
+use Rattle.zquery.specs.declared.query.TermValue.{TermValue}
+use Rattle.zquery.specs.declared.query.TermValue.TheVariants.{General, Numeric, Text}
+use Rattle.zquery.specs.Notation.Numbers.{number_of, integer_of}
+
+abbrev pub is_equals : ℕ → Bool
+is_equals b = b == 61
+
+unfoldable pub has_equals : List ℕ → Bool
+has_equals text = list_any is_equals text
+
+-- the greatest type and the greatest value of an attribute
+abbrev pub most : ℕ
+most = 2147483647
+
+-- a type and a value
+abbrev pub pair_of : Option ℕ → Option ℕ → Option (ℕ × ℕ)
+pair_of (Some a) (Some b) = Some (a, b)
+pair_of (Some a) None = None
+pair_of None o = None
+
+unfoldable pub numbers_of : List ℕ → Option (ℕ × ℕ)
+numbers_of text = pair_of (number_of most (before_first is_equals text)) (number_of most (after_first is_equals text))
+
+unfoldable pub kind_of : List ℕ → Option TermKind
+kind_of text =
+    if bytes_eq text (codes "general") then Some GeneralTerm else
+    if bytes_eq text (codes "numeric") then Some NumericTerm else
+    if bytes_eq text (codes "string") then Some TextTerm else None
+
+unfoldable pub value_of : TermKind → List ℕ → Option TermValue
+value_of GeneralTerm text = Some (General text)
+value_of TextTerm text = Some (Text text)
+value_of NumericTerm text = option_map Numeric (integer_of text)

@@ -1,0 +1,21 @@
+-- What a token is in the place of a query.
+use Rattle.std.specs.Prelude.{codes, nat_eq, if◌then◌else◌}
+use Rattle.std.specs.Str.{bytes_eq}
+use Rattle.std.specs.List.{starts_with}
+use Rattle.zquery.specs.declared.notation.token.Token.{Token}
+use Rattle.zquery.specs.declared.notation.word.Word.{Word}
+use Rattle.zquery.specs.declared.notation.word.Word.TheVariants.{AttrSet, Attribute, Op, NamedSet, TypeOfTerm, Unknown, Plain}
+use Rattle.zquery.specs.declared.notation.word.Operator.TheVariants.{And, Or, Not}
+
+-- a quoted token is a term; another that begins with @ is a word of the notation, or unknown
+unfoldable pub word : Token → Word
+word t =
+    if t.quoted then Plain else
+    if bytes_eq t.text (codes "@attrset") then AttrSet else
+    if bytes_eq t.text (codes "@attr") then Attribute else
+    if bytes_eq t.text (codes "@and") then Op And else
+    if bytes_eq t.text (codes "@or") then Op Or else
+    if bytes_eq t.text (codes "@not") then Op Not else
+    if bytes_eq t.text (codes "@set") then NamedSet else
+    if bytes_eq t.text (codes "@term") then TypeOfTerm else
+    if starts_with nat_eq t.text (codes "@") then Unknown else Plain

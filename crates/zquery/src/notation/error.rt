@@ -1,0 +1,97 @@
+// Why a text is no query, and why a query has no text.
+ghost use Rattle.std.specs.Prelude.{◌≡◌};
+ghost use Rattle.zquery.specs.declared.notation.error.PqfErrorKind.TheVariants as kind;
+ghost use Rattle.zquery.specs.Notation.Errors.{kind_word};
+
+use std::alloc::{AllocError, AllocFailed};
+use thiserror::Error;
+
+/// What is wrong with a text of the prefix notation.
+#[derive(Clone, Copy, Debug, PartialEq, Eq, Error)]
+pub enum PqfErrorKind {
+    /// No quote closes the one that opens here.
+    #[error("OpenQuote")]
+    OpenQuote,
+    /// The text has no token.
+    #[error("Empty")]
+    Empty,
+    /// A token in the place of a query begins with `@` and is no word of the notation there.
+    #[error("UnknownWord")]
+    UnknownWord,
+    /// The text ends before the query does.
+    #[error("MissingOperand")]
+    MissingOperand,
+    /// An attribute is not a type and a value, both decimal digits and at most 2,147,483,647.
+    #[error("BadAttribute")]
+    BadAttribute,
+    /// An attribute set is neither `bib-1` nor an object identifier.
+    #[error("UnknownSet")]
+    UnknownSet,
+    /// A type of term is not `general`, `numeric` or `string`.
+    #[error("BadTermType")]
+    BadTermType,
+    /// A numeric term is not decimal digits, with a minus before them or without, within 64 bits.
+    #[error("BadNumber")]
+    BadNumber,
+    /// An operand or operator stands below 32 operators.
+    #[error("TooDeep")]
+    TooDeep,
+    /// A token stands behind the whole query.
+    #[error("Trailing")]
+    Trailing,
+    /// No memory was found.
+    #[error("Memory")]
+    Memory,
+}
+
+impl PqfErrorKind {
+    /// The name of the variant, as in `OpenQuote`.
+    pub fn word(self) -> &'static str
+        ensures { result.now ≡ kind_word self }
+    {
+        match self {
+            PqfErrorKind::OpenQuote => "OpenQuote",
+            PqfErrorKind::Empty => "Empty",
+            PqfErrorKind::UnknownWord => "UnknownWord",
+            PqfErrorKind::MissingOperand => "MissingOperand",
+            PqfErrorKind::BadAttribute => "BadAttribute",
+            PqfErrorKind::UnknownSet => "UnknownSet",
+            PqfErrorKind::BadTermType => "BadTermType",
+            PqfErrorKind::BadNumber => "BadNumber",
+            PqfErrorKind::TooDeep => "TooDeep",
+            PqfErrorKind::Trailing => "Trailing",
+            PqfErrorKind::Memory => "Memory",
+        }
+    }
+}
+
+/// Why a text is refused, and where: the octet at which the token at fault begins, the text's
+/// length where a token is missing, and 0 where there is none or memory ran out.
+#[derive(Clone, Copy, Debug, PartialEq, Eq, Error)]
+#[error("{kind} at {at}")]
+pub struct PqfError {
+    pub at: usize,
+    pub kind: PqfErrorKind,
+}
+
+impl From<AllocError> for PqfError {
+    ghost from_gives = { λ _ e. e ≡ record { at = 0; kind = kind.Memory } };
+
+    fn from(_: AllocError) -> PqfError {
+        PqfError {
+            at: 0,
+            kind: PqfErrorKind::Memory,
+        }
+    }
+}
+
+impl<T: Drop> From<AllocFailed<T>> for PqfError {
+    ghost from_gives = { λ _ e. e ≡ record { at = 0; kind = kind.Memory } };
+
+    fn from(_: AllocFailed<T>) -> PqfError {
+        PqfError {
+            at: 0,
+            kind: PqfErrorKind::Memory,
+        }
+    }
+}

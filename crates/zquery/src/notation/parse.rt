@@ -1,0 +1,324 @@
+// Queries from tokens, by descent.
+ghost use Rattle.std.specs.Prelude.{◌≡◌, ℕ, ◌≤◌, length, [], ◌∷◌, List, Bool, Option, Some, Err, IfOk, IfErr, OnOk, ◌⊎◌};
+ghost use Rattle.zquery.specs.declared.query.Attr.{Attr};
+ghost use Rattle.zquery.specs.declared.query.TermValue.{TermValue};
+ghost use Rattle.zquery.specs.declared.notation.token.Token.{Token};
+ghost use Rattle.zquery.specs.declared.notation.word.Word.TheVariants.{Plain};
+ghost use Rattle.zquery.specs.Notation.Values.{most, value_of};
+ghost use Rattle.zquery.specs.InForce.{in_force};
+ghost use Rattle.zquery.specs.Trees.{OfTerm, Of, height};
+ghost use Rattle.zquery.specs.QueryTrees.{seen};
+ghost use Rattle.zquery.specs.Notation.Grammar.{attr, set_tree, IsQuery};
+ghost use Rattle.zquery.specs.Notation.Table.{Expected, Operand, walk, fault, below_limit, operand, error_at, refusal};
+ghost use Rattle.zquery.specs.Notation.Faults.{memory, missing, Refuses};
+ghost use Rattle.zquery.specs.Notation.Reading.{Takes, numbers_at, attribute_at, kind_at, own_at, opened_at, NoPrefix, Leads, IsRead};
+ghost use Rattle.zquery.specs.Notation.Texts.{IsText, IsFault};
+
+use crate::attribute::{copies, kept, put};
+use crate::notation::cursor::Cursor;
+use crate::notation::error::{PqfError, PqfErrorKind};
+use crate::notation::lexer::tokens;
+use crate::notation::token::Token;
+use crate::notation::value::{bib_1, has_equals, kind, numbers, set_named, value};
+use crate::notation::word::{Operator, TermKind, Word, word_of};
+use crate::query::{Attr, AttrValue, Query, Rpn};
+use bytes::Bytes;
+use std::alloc::{AllocError, Global};
+use zber::{Oid, Seq};
+
+/// The lowest level on which an operand or operator may stand.
+const DEEPEST: u32 = 32;
+
+fn error_of(token: &Token, kind: PqfErrorKind) -> PqfError
+    ensures { result ≡ error_at token.now kind }
+{
+    PqfError { at: token.at, kind }
+}
+
+fn missing_at(end: usize) -> PqfError
+    ensures { result ≡ missing end }
+{
+    PqfError {
+        at: end,
+        kind: PqfErrorKind::MissingOperand,
+    }
+}
+
+fn attribute(attr_set: Option<Oid>, kind: u64, value: u64) -> Attr
+    requires kind { kind ≤ most }
+    requires value { value ≤ most }
+    ensures { result ≡ attr attr_set (kind, value) }
+{
+    Attr {
+        attr_set,
+        kind: kind as i64,
+        value: AttrValue::Number(value as i64),
+    }
+}
+
+/// An attribute of this set, whose type and value come next.
+fn attribute_in(
+    cursor: &mut Cursor<'_>,
+    end: usize,
+    attr_set: Option<Oid>,
+) -> Result<Attr, PqfError>
+    ensures gives { Takes (numbers_at end attr_set cursor.old) result cursor.new }
+    ensures shorter { length cursor.new ≤ length cursor.old }
+{
+    let Some(token) = cursor.next() else {
+        return Err(missing_at(end));
+    };
+    match numbers(token.text.as_slice()) {
+        Some((kind, value)) => Ok(attribute(attr_set, kind, value)),
+        None => Err(error_of(token, PqfErrorKind::BadAttribute)),
+    }
+}
+
+/// What comes behind `@attr`.
+fn next_attribute(
+    alloc: Global,
+    cursor: &mut Cursor<'_>,
+    end: usize,
+    own: &Oid,
+) -> Result<Attr, PqfError>
+    ensures gives { Takes (attribute_at end own.now cursor.old) result cursor.new }
+    ensures shorter { length cursor.new ≤ length cursor.old }
+{
+    let Some(token) = cursor.first() else {
+        return Err(missing_at(end));
+    };
+    if has_equals(token.text.as_slice()) {
+        return attribute_in(cursor, end, None);
+    }
+    match set_named(alloc, token.text.as_slice())? {
+        Some(set) => {
+            cursor.skip();
+            attribute_in(cursor, end, kept(own, set))
+        }
+        None => Err(error_of(token, PqfErrorKind::UnknownSet)),
+    }
+}
+
+/// What comes behind `@term`.
+fn next_kind(cursor: &mut Cursor<'_>, end: usize) -> Result<TermKind, PqfError>
+    ensures gives { Takes (kind_at end cursor.old) result cursor.new }
+    ensures shorter { length cursor.new ≤ length cursor.old }
+{
+    let Some(token) = cursor.next() else {
+        return Err(missing_at(end));
+    };
+    match kind(token.text.as_slice()) {
+        Some(kind) => Ok(kind),
+        None => Err(error_of(token, PqfErrorKind::BadTermType)),
+    }
+}
+
+/// Puts the attributes that come next in force, and gives the type of term below them.
+fn prefixes(
+    alloc: Global,
+    cursor: &mut Cursor<'_>,
+    end: usize,
+    own: &Oid,
+    attrs: &mut Vec<Attr>,
+    kind: TermKind,
+) -> Result<TermKind, PqfError>
+    ensures ok { IfOk result (λ k. (xs : List Attr) → attrs.old.items ≡ in_force xs
+        → Leads own.now xs kind cursor.old attrs.new.items k cursor.new) }
+    ensures walks { IfOk result (λ k. (deep : ℕ → Bool) (n : ℕ) (rest : List Expected)
+        → walk deep cursor.old (Operand kind n ∷ rest) ≡ walk deep cursor.new (Operand k n ∷ rest)) }
+    ensures stops { OnOk result (NoPrefix cursor.new) }
+    ensures err { (deep : ℕ → Bool) (n : ℕ) (rest : List Expected)
+        → Refuses (fault end (walk deep cursor.old (Operand kind n ∷ rest))) result }
+{
+    let mut kind = kind;
+    loop {
+        let Some(token) = cursor.first() else {
+            return Ok(kind);
+        };
+        match word_of(token) {
+            Word::Attribute => {
+                cursor.skip();
+                let attr = next_attribute(alloc, cursor, end, own)?;
+                put(attrs, attr)?;
+            }
+            Word::TypeOfTerm => {
+                cursor.skip();
+                kind = next_kind(cursor, end)?;
+            }
+            _ => return Ok(kind),
+        }
+    }
+}
+
+fn term_of(token: &Token, attrs: Vec<Attr>, kind: TermKind, level: u32) -> Result<Rpn, PqfError>
+    ensures ok { IfOk result (λ r. (level ≤ 32)
+        × ((v : TermValue) × (value_of kind token.now.text ≡ Some v) × (seen r ≡ OfTerm attrs.items v))) }
+    ensures err { IfErr result (λ e. (e ≡ memory) ⊎ ((e ≡ error_at token.now e.kind)
+        × (operand below_limit kind level token.now.text Plain ≡ Err e.kind))) }
+{
+    match value(kind, &token.text)? {
+        None => Err(error_of(token, PqfErrorKind::BadNumber)),
+        Some(term) => {
+            if level > DEEPEST {
+                return Err(error_of(token, PqfErrorKind::TooDeep));
+            }
+            Ok(Rpn::Term {
+                attrs: Seq::from_vec(attrs),
+                term,
+            })
+        }
+    }
+}
+
+fn set_of(name: &Bytes, attrs: Vec<Attr>) -> Result<Rpn, AllocError>
+    ensures { IfOk result (λ r. seen r ≡ set_tree name.now attrs.items) }
+{
+    let name = name.clone()?;
+    if attrs.is_empty() {
+        Ok(Rpn::ResultSet { name })
+    } else {
+        Ok(Rpn::SetAttrs {
+            name,
+            attrs: Seq::from_vec(attrs),
+        })
+    }
+}
+
+fn joined(alloc: Global, operator: Operator, left: Rpn, right: Rpn) -> Result<Rpn, PqfError>
+    ensures ok { IfOk result (λ r. seen r ≡ Of operator (seen left) (seen right)) }
+    ensures err { IfErr result (λ e. e ≡ memory) }
+{
+    let left = Box::new(alloc, left)?;
+    let right = Box::new(alloc, right)?;
+    Ok(match operator {
+        Operator::And => Rpn::And(left, right),
+        Operator::Or => Rpn::Or(left, right),
+        Operator::Not => Rpn::Not(left, right),
+    })
+}
+
+/// A query on a level, below the attributes and the type of term of others.
+fn query(
+    alloc: Global,
+    cursor: &mut Cursor<'_>,
+    end: usize,
+    own: &Oid,
+    outer: &[Attr],
+    kind: TermKind,
+    level: u32,
+) -> Result<Rpn, PqfError>
+    requires { level ≤ 33 }
+    ensures ok { IfOk result (λ r. (xs : List Attr) → outer.now ≡ in_force xs
+        → IsRead own.now xs kind level cursor.old cursor.new (seen r)) }
+    ensures walks { OnOk result ((rest : List Expected)
+        → walk below_limit cursor.old (Operand kind level ∷ rest) ≡ walk below_limit cursor.new rest) }
+    ensures err { (rest : List Expected)
+        → Refuses (fault end (walk below_limit cursor.old (Operand kind level ∷ rest))) result }
+{
+    let mut attrs = copies(alloc, outer)?;
+    let kind = prefixes(alloc, cursor, end, own, &mut attrs, kind)?;
+    let Some(token) = cursor.next() else {
+        return Err(missing_at(end));
+    };
+    match word_of(token) {
+        Word::Op(operator) => {
+            if level > DEEPEST {
+                return Err(error_of(token, PqfErrorKind::TooDeep));
+            }
+            let left = query(alloc, cursor, end, own, attrs.as_slice(), kind, level + 1)?;
+            let right = query(alloc, cursor, end, own, attrs.as_slice(), kind, level + 1)?;
+            let both = joined(alloc, operator, left, right)?;
+            Ok(both)
+        }
+        Word::NamedSet => {
+            if level > DEEPEST {
+                return Err(error_of(token, PqfErrorKind::TooDeep));
+            }
+            let Some(name) = cursor.next() else {
+                return Err(missing_at(end));
+            };
+            let set = set_of(&name.text, attrs)?;
+            Ok(set)
+        }
+        Word::Plain => {
+            let term = term_of(token, attrs, kind, level)?;
+            Ok(term)
+        }
+        _ => Err(error_of(token, PqfErrorKind::UnknownWord)),
+    }
+}
+
+/// The set that comes behind `@attrset`.
+fn own_set(alloc: Global, cursor: &mut Cursor<'_>, end: usize) -> Result<Oid, PqfError>
+    ensures { Takes (own_at end cursor.old) result cursor.new }
+{
+    let Some(token) = cursor.next() else {
+        return Err(missing_at(end));
+    };
+    match set_named(alloc, token.text.as_slice())? {
+        Some(set) => Ok(set),
+        None => Err(error_of(token, PqfErrorKind::UnknownSet)),
+    }
+}
+
+/// The query's set: the one that is named first, or bib-1.
+fn opened(alloc: Global, cursor: &mut Cursor<'_>, end: usize) -> Result<Oid, PqfError>
+    ensures { Takes (opened_at end cursor.old) result cursor.new }
+{
+    if let Some(first) = cursor.first() {
+        if word_of(first) == Word::AttrSet {
+            cursor.skip();
+            return own_set(alloc, cursor, end);
+        }
+    }
+    Ok(bib_1(alloc)?)
+}
+
+/// The query that the tokens of a text of this length stand for.
+fn parse_tokens(alloc: Global, tokens: &[Token], end: usize) -> Result<Query, PqfError>
+    ensures ok { IfOk result (λ q. IsQuery tokens.now q × (height q.root ≤ 32)) }
+    ensures err { Refuses (refusal end tokens.now) result }
+{
+    let mut cursor = Cursor::new(tokens);
+    let Some(_) = cursor.first() else {
+        return Err(PqfError {
+            at: 0,
+            kind: PqfErrorKind::Empty,
+        });
+    };
+    let own = opened(alloc, &mut cursor, end)?;
+    let root = match query(alloc, &mut cursor, end, &own, &[], TermKind::GeneralTerm, 1) {
+        Ok(root) => root,
+        Err(e) => return Err(e),
+    };
+    match cursor.next() {
+        None => Ok(Query {
+            attr_set: own,
+            root,
+        }),
+        Some(extra) => Err(error_of(extra, PqfErrorKind::Trailing)),
+    }
+}
+
+/// The query that a text of the prefix notation stands for, of height 32 at most.
+///
+/// The notation is `[@attrset set] q`, where `q` is `@attr [set] type=value q`, `@and q q`,
+/// `@or q q`, `@not q q`, `@set name`, `@term type q` or a term. A set is `bib-1` in any case,
+/// which is also the query's where none is named, or a dotted object identifier. A type of term is
+/// `general`, `numeric` or `string`. Attributes hold for all operands below them, and an inner one
+/// replaces an outer one of the same set and type.
+///
+/// Refusals: `OpenQuote`, before all others, at the quote; `Empty`, at 0, where there is no token;
+/// else at the first token that no query goes on with, or that is an operand or operator below 32
+/// operators, as the kinds say; `MissingOperand`, at the text's length, where the text is only the
+/// beginning of a query; and `Memory`.
+pub fn parse_pqf(alloc: Global, text: &[u8]) -> Result<Query, PqfError>
+    ensures ok { IfOk result (λ q. IsText text.now q × (height q.root ≤ 32)) }
+    ensures err { IfErr result (λ e. (e ≡ memory) ⊎ IsFault text.now e) }
+{
+    let found = match tokens(alloc, text) {
+        Ok(found) => found,
+        Err(e) => return Err(e),
+    };
+    parse_tokens(alloc, found.as_slice(), text.len())
+}
