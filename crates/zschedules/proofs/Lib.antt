@@ -1,0 +1,7 @@
+pub mod Complete
+pub mod Replies
+pub mod Openings
+pub mod Sets
+pub mod Same
+pub mod Answered
+pub mod Schedules
