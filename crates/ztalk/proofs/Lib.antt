@@ -3,3 +3,6 @@ pub mod Speaking
 pub mod Devices
 pub mod Ending
 pub mod Answering
+pub mod Apart
+pub mod Joining
+pub mod Together

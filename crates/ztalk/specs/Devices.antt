@@ -1,5 +1,6 @@
 -- What reading and writing does to a device.
-use Rattle.std.specs.Prelude.{◌≡◌, ◌⊎◌, ℕ, ◌+◌, ◌-◌, ◌^◌, ◌<◌, min, List, ◌++◌, Option, Result, Ok, Err}
+use Rattle.std.specs.Prelude.{◌≡◌, ◌⊎◌, ℕ, ◌+◌, ◌-◌, ◌^◌, ◌<◌, min, List, ◌++◌, Option, None, Some, Result, Ok, Err}
+use Rattle.std.specs.Io.{ReadsAtMost}
 use Rattle.std.specs.Io.KnownBytes.{Keeps, Appends, ReadConsumes, WriteAppends}
 
 -- The octets that a device has left or holds, where they are known, and how many calls of it failed.
@@ -49,3 +50,20 @@ WritesAll old new octets (Err _) = AppendsFront old.octets new.octets octets × 
 pub record Rests (old new : DeviceState) : Type 0 where
   pub octets : Keeps old.octets new.octets
   pub failures : new.failures ≡ old.failures
+
+-- ---- a device that need not wait
+
+-- a poll that gave octets gave no more than there was room for
+abbrev pub PollsAtMost : {E : Type 0} → Result (Option ℕ) E → List ℕ → Type 0
+PollsAtMost {E} (Ok (Some n)) piece = ReadsAtMost {E = E} (Ok n) piece
+PollsAtMost _ piece = Unit {0}
+
+-- a poll reads, or nothing came yet
+abbrev pub Polls : {E : Type 0} → DeviceState → DeviceState → Result (Option ℕ) E → List ℕ → Type 0
+Polls {E} old new (Ok (Some n)) piece = Reads {E = E} old new (Ok n) piece
+Polls old new (Ok None) piece = Rests old new
+Polls {E} old new (Err e) piece = Reads {E = E} old new (Err e) piece
+
+-- the count rose by so many, or stands at its largest value
+abbrev pub HasRisen : ℕ → ℕ → ℕ → Type 0
+HasRisen n old new = (new ≡ old + n) ⊎ (new ≡ most_failures)

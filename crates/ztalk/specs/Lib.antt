@@ -5,3 +5,7 @@ pub mod Turns
 pub mod Talking
 pub mod Pushes
 pub mod Answers
+pub mod Among
+pub mod Arrivals
+pub mod Rounds
+pub mod AtOnce

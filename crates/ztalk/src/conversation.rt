@@ -59,9 +59,14 @@ impl From<PushError> for TalkError {
     }
 }
 
-/// Makes the calls that are due and writes what waits, first and after each message; whether the connection was stopped,
-/// or else no message is there.
-fn settle<W: Sink>(alloc: Global, meta: &mut Meta, c: u32, sink: &mut W) -> Result<bool, PushError>
+/// Makes the calls that are due and writes what waits, first and after each message; whether the connection was
+/// stopped, or else no message is there.
+pub(crate) fn settle<W: Sink>(
+    alloc: Global,
+    meta: &mut Meta,
+    c: u32,
+    sink: &mut W,
+) -> Result<bool, PushError>
     requires { c < length meta.old.pool.connections }
     ensures settles { Settles c result meta.old meta.new (W.state sink.old) (W.state sink.new) }
     ensures stopped { IsBroken c result meta.new }
@@ -125,7 +130,7 @@ fn take_last(meta: &mut Meta, c: u32) -> Result<(), AllocError>
 }
 
 /// Ends the input of a connection, and takes what is left of it.
-fn finish(meta: &mut Meta, c: u32) -> Result<(), TalkError>
+pub(crate) fn finish(meta: &mut Meta, c: u32) -> Result<(), TalkError>
     requires { c < length meta.old.pool.connections }
     ensures finishes { Finishes c result meta.old meta.new }
     ensures size { length meta.new.pool.connections ≡ length meta.old.pool.connections }
@@ -177,9 +182,9 @@ fn converse<R: Source, W: Sink>(
 /// `Ok` where the connection is Closed, or failed for its messages, or was stopped before. What was read is what it was
 /// fed, and all that it sent was written. Else the connection has failed for the reason that is answered.
 ///
-/// Refusals: `Read` and `Write`, where that device failed; `Ended`, where the input ended behind a whole message and the
-/// connection was not Closing; `Turns`, where that many reads gave octets, and the connection did not end after them;
-/// `Memory`, where of what the last message says a part may be known.
+/// Refusals: `Read` and `Write`, where that device failed; `Ended`, where the input ended behind a whole message and
+/// the connection was not Closing; `Turns`, where that many reads gave octets, and the connection did not end after
+/// them; `Memory`, where of what the last message says a part may be known.
 pub fn talk<R: Source, W: Sink>(
     alloc: Global,
     meta: &mut Meta,
