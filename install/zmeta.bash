@@ -35,7 +35,7 @@ _zmeta_options() {
 # Word $2 of command $1, of which $3 is typed; the first is 0.
 _zmeta_word() {
     case $1.$2 in
-        ask.0 | run.0 | loop.0 | join.[01] | serve.2) _zmeta_files '' "$3" ;;
+        ask.0 | run.0 | loop.0 | join.* | serve.2) _zmeta_files '' "$3" ;;
         help.0) _zmeta_choose "$_zmeta_commands" "$3" ;;
     esac
 }

@@ -55,7 +55,7 @@ complete -c zmeta -f
 complete -c zmeta -n __zmeta_first -a ask -d 'Asks library catalogues'
 complete -c zmeta -n __zmeta_first -a run -d 'Runs searches against catalogues in memory'
 complete -c zmeta -n __zmeta_first -a loop -d 'Runs searches against catalogues in memory, over this machine\'s network'
-complete -c zmeta -n __zmeta_first -a join -d 'Puts together what two searches of the same catalogues brought'
+complete -c zmeta -n __zmeta_first -a join -d 'Puts together what searches of the same catalogues brought'
 complete -c zmeta -n __zmeta_first -a serve -d 'Serves a catalogue in memory to other programs'
 complete -c zmeta -n __zmeta_first -a show -d 'Shows what recorded Z39.50 messages say'
 complete -c zmeta -n __zmeta_first -a pqf -d 'Shows how a query is understood, and how it goes out'
@@ -67,5 +67,5 @@ complete -c zmeta -n '__zmeta_in ask run loop join; and __zmeta_lacks --hex' -l 
 complete -c zmeta -n '__zmeta_in ask run loop; and __zmeta_lacks --save' -l save -r -F -d 'Saves what was brought in the file OUT'
 
 complete -c zmeta -n '__zmeta_at 1 ask run loop join' -F
-complete -c zmeta -n '__zmeta_at 2 join' -F
+complete -c zmeta -n '__zmeta_in join; and not __zmeta_at 1 join' -F
 complete -c zmeta -n '__zmeta_at 3 serve' -F
