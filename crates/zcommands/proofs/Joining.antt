@@ -131,13 +131,13 @@ other_refused octets names before others i p old new f lt is joined a =
     append_assoc before (paths_of (take i others)) (p.now ∷ paths_of (drop (i + 1) others))
     ∙ ap (λ z. before ++ z) (sym (split others i p lt is)) in
     subst (λ z. IsRefusedAmong octets z f) at
-        (among octets names (before ++ paths_of (take i others)) p.now (paths_of (drop (i + 1) others)) old new f joined a)
+    (among octets names (before ++ paths_of (take i others)) p.now (paths_of (drop (i + 1) others)) old new f joined a)
 
 pub all_refused : (octets : List ℕ → Option (List ℕ)) (names : List (List ℕ)) (others : List (Bor (List ℕ)))
     (old was now : List Fact) (i : ℕ) (p : Bor (List ℕ)) (g f : Fault) (r : Result (Unit {0}) Fault) → r ≡ Err f → f ≡ g
     → i < length others → p ≡ get_or others i p
     → ((before : List (List ℕ)) → AreJoined octets names before old
-        → AreJoined octets names (before ++ paths_of (take i others)) was)
+    → AreJoined octets names (before ++ paths_of (take i others)) was)
     → Absorbs octets names p.now was now (Err g) → AbsorbsAll octets names (paths_of others) old now r
 all_refused octets names others old was now i p g f r is of lt at so a =
     rw (is, of) (λ before joined. other_refused octets names before others i p was now g lt at (so before joined) a)
