@@ -11,14 +11,15 @@ const ASKED: &str = "\
 zmeta|show => Show
 zmeta|pqf|dune => Pqf { text: \"dune\" }
 zmeta|pqf|-5 => Pqf { text: \"-5\" }
-zmeta|join|a|b|--hex => Join { first: \"a\", second: \"b\", mode: Hex }
+zmeta|join|a|b|--hex => Join { first: \"a\", others: [\"b\"], mode: Hex }
 zmeta|run|w|--save|s => Run { world: \"w\", saved: Some(\"s\"), mode: Text }
 zmeta|run|--hex|w => Run { world: \"w\", saved: None, mode: Hex }
 zmeta|ask|w|--save|s|--hex => Ask { world: \"w\", saved: Some(\"s\"), mode: Hex }
 zmeta|loop|w|--hex|--save|s => Loop { world: \"w\", saved: Some(\"s\"), mode: Hex }
 zmeta|serve|h:1|a b|w|0 => Serve { address: \"h:1\", name: \"a b\", world: \"w\", count: 0 }
 zmeta|serve|h:1|a|w|1000000 => Serve { address: \"h:1\", name: \"a\", world: \"w\", count: 1000000 }
-zmeta|join|a|b => Join { first: \"a\", second: \"b\", mode: Text }
+zmeta|join|a|b => Join { first: \"a\", others: [\"b\"], mode: Text }
+zmeta|join|a|--hex|b|c => Join { first: \"a\", others: [\"b\", \"c\"], mode: Hex }
 ";
 
 fn asked(alloc: Global, line: &str) -> Result<String, Unread> {
