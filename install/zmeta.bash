@@ -1,6 +1,7 @@
 # bash completion for zmeta
 
-_zmeta_commands='ask run loop join serve show pqf help'
+_zmeta_commands='ask run loop join records serve show pqf help'
+_zmeta_syntaxes='1.2.840.10003.5.10 1.2.840.10003.5.1 1.2.840.10003.5.109.10'
 
 # Files, where $1 stands before their names in the word, and $2 is what is typed of a name.
 _zmeta_files() {
@@ -12,67 +13,76 @@ _zmeta_files() {
     done
 }
 
-# Of the words in $1 those that begin with $2.
+# Of the words in $1 those that begin with $2, with $3 before each.
 _zmeta_choose() {
-    mapfile -t COMPREPLY < <(compgen -W "$1" -- "$2")
+    mapfile -t COMPREPLY < <(compgen -P "${3-}" -W "$1" -- "$2")
 }
 
-# Options of command $1 that begin with $2: --hex where $3 is empty, --save where $4 is.
+# Options of command $1 that begin with $2, without those in $3, which stand there; --only may stand there again.
 _zmeta_options() {
-    local options='-h --help'
+    local options='' left='-h --help' option
     case $1 in
-        ask | run | loop)
-            [ -z "$3" ] && options+=' --hex'
-            [ -z "$4" ] && options+=' --save'
-            ;;
-        join) [ -z "$3" ] && options+=' --hex' ;;
+        ask) options='--at-once --only --hex --save' ;;
+        run | loop) options='--hex --save' ;;
+        join) options='--hex' ;;
+        records) options='--syntax --conflicts' ;;
         serve | show | pqf) ;;
-        *) options= ;;
+        *) left= ;;
     esac
-    _zmeta_choose "$options" "$2"
+    for option in $options; do
+        [[ $option != --only && " $3 " == *" $option "* ]] || left+=" $option"
+    done
+    _zmeta_choose "$left" "$2"
+}
+
+# The value of option $1, of which $2 is typed, and $3 stands before it in the word.
+_zmeta_value() {
+    case $1 in
+        --save) _zmeta_files "$3" "$2" ;;
+        --syntax) _zmeta_choose "$_zmeta_syntaxes" "$2" "$3" ;;
+    esac
 }
 
 # Word $2 of command $1, of which $3 is typed; the first is 0.
 _zmeta_word() {
     case $1.$2 in
-        ask.0 | run.0 | loop.0 | join.* | serve.2) _zmeta_files '' "$3" ;;
+        ask.0 | run.0 | loop.0 | join.* | records.* | serve.2) _zmeta_files '' "$3" ;;
         help.0) _zmeta_choose "$_zmeta_commands" "$3" ;;
     esac
 }
 
 # What is typed last is $cur, behind the words in $words.
 _zmeta_any() {
-    local command=${words[1]-} place=0 saves='' hex='' save='' ended='' i
+    local command=${words[1]-} place=0 valued='' given='' ended='' last i
     case $command in
         '')
             _zmeta_choose "$_zmeta_commands -h --help" "$cur"
             return
             ;;
         -*) return ;;
-        ask | run | loop) saves=1 ;;
+        ask) valued=' --only --save ' ;;
+        run | loop) valued=' --save ' ;;
+        records) valued=' --syntax ' ;;
     esac
     for ((i = 2; i < ${#words[@]}; i++)); do
-        case $ended${words[i]} in
+        last=${words[i]}
+        case $ended$last in
             --) ended=1 ;;
-            --hex) hex=1 ;;
-            --save=*) save=1 ;;
-            --save)
-                save=1
-                [ -n "$saves" ] && i=$((i + 1))
+            --*)
+                given+=" ${last%%=*}"
+                [[ $valued == *" $last "* ]] && i=$((i + 1))
                 ;;
             -?*) ;;
             *) place=$((place + 1)) ;;
         esac
     done
-    # The value of a --save that stands last is typed.
+    # The value of an option that stands last is typed.
     if ((i > ${#words[@]})); then
-        _zmeta_files '' "$cur"
-        return
-    fi
-    if [ -n "$saves" ] && [ -z "$ended" ] && [[ $cur == --save=* ]]; then
-        _zmeta_files --save= "${cur#--save=}"
+        _zmeta_value "$last" "$cur" ''
+    elif [ -z "$ended" ] && [[ $cur == --*=* && $valued == *" ${cur%%=*} "* ]]; then
+        _zmeta_value "${cur%%=*}" "${cur#*=}" "${cur%%=*}="
     elif [ -z "$ended" ] && [[ $cur == -* ]]; then
-        _zmeta_options "$command" "$cur" "$hex" "$save"
+        _zmeta_options "$command" "$cur" "$given"
     else
         _zmeta_word "$command" "$place" "$cur"
     fi

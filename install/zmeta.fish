@@ -15,7 +15,7 @@ function __zmeta_words
             switch $word
                 case --
                     set ended yes
-                case --save
+                case --only --save --syntax
                     set skip yes
                 case '-?*'
                 case '*'
@@ -37,10 +37,10 @@ function __zmeta_at
     test (count $words) = $argv[1]; and contains -- $words[1] $argv[2..-1]
 end
 
-# Whether no word before the cursor is this option; not counted is a --save whose value is typed.
+# Whether no word before the cursor is this option; not counted is one whose value is typed.
 function __zmeta_lacks
     set -l words (commandline -opc)
-    if test "$words[-1]" = --save
+    if contains -- "$words[-1]" --save --syntax
         set -e words[-1]
     end
     not string match -qr -- "^$argv[1](=|\$)" $words
@@ -54,18 +54,31 @@ end
 complete -c zmeta -f
 complete -c zmeta -n __zmeta_first -a ask -d 'Asks library catalogues'
 complete -c zmeta -n __zmeta_first -a run -d 'Runs searches against catalogues in memory'
-complete -c zmeta -n __zmeta_first -a loop -d 'Runs searches against catalogues in memory, over this machine\'s network'
+complete -c zmeta -n __zmeta_first -a loop \
+    -d 'Runs searches against catalogues in memory, over this machine\'s network'
 complete -c zmeta -n __zmeta_first -a join -d 'Puts together what searches of the same catalogues brought'
+complete -c zmeta -n __zmeta_first -a records -d 'Writes the records that searches of the same catalogues brought'
 complete -c zmeta -n __zmeta_first -a serve -d 'Serves a catalogue in memory to other programs'
 complete -c zmeta -n __zmeta_first -a show -d 'Shows what recorded Z39.50 messages say'
 complete -c zmeta -n __zmeta_first -a pqf -d 'Shows how a query is understood, and how it goes out'
 complete -c zmeta -n __zmeta_first -a help -d 'Print this message or the help of the given subcommand(s)'
-complete -c zmeta -n '__zmeta_at 1 help' -a 'ask run loop join serve show pqf help'
+complete -c zmeta -n '__zmeta_at 1 help' -a 'ask run loop join records serve show pqf help'
 
 complete -c zmeta -n 'not __zmeta_in help' -s h -l help -d 'Print help'
-complete -c zmeta -n '__zmeta_in ask run loop join; and __zmeta_lacks --hex' -l hex -d 'Prints the octets of records in hexadecimal'
-complete -c zmeta -n '__zmeta_in ask run loop; and __zmeta_lacks --save' -l save -r -F -d 'Saves what was brought in the file OUT'
+complete -c zmeta -n '__zmeta_in ask; and __zmeta_lacks --at-once' -l at-once \
+    -d 'Asks all catalogues at once, and not one after the other'
+complete -c zmeta -n '__zmeta_in ask' -l only -x \
+    -d 'Asks just the question of this name; may be given several times'
+complete -c zmeta -n '__zmeta_in ask run loop join; and __zmeta_lacks --hex' -l hex \
+    -d 'Prints the octets of records in hexadecimal'
+complete -c zmeta -n '__zmeta_in ask run loop; and __zmeta_lacks --save' -l save -r -F \
+    -d 'Saves what was brought in the file OUT'
+complete -c zmeta -n '__zmeta_in records; and __zmeta_lacks --syntax' -l syntax -x \
+    -a '1.2.840.10003.5.10 1.2.840.10003.5.1 1.2.840.10003.5.109.10' \
+    -d 'Writes just the records of this record syntax'
+complete -c zmeta -n '__zmeta_in records; and __zmeta_lacks --conflicts' -l conflicts \
+    -d 'Writes all records of a place that has several, and not none of them'
 
-complete -c zmeta -n '__zmeta_at 1 ask run loop join' -F
-complete -c zmeta -n '__zmeta_in join; and not __zmeta_at 1 join' -F
+complete -c zmeta -n '__zmeta_at 1 ask run loop join records' -F
+complete -c zmeta -n '__zmeta_in join records; and not __zmeta_at 1 join records' -F
 complete -c zmeta -n '__zmeta_at 3 serve' -F

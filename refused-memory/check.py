@@ -23,6 +23,7 @@ RUNS = [
     (["run", "examples/libraries.world"], None),
     (["loop", "examples/libraries.world"], None),
     (["join", "examples/monday.saved", "examples/tuesday.saved"], None),
+    (["records", "examples/monday.saved", "examples/tuesday.saved"], None),
 ]
 TESTS = [
     ("zencodings", "pieces::a_session_goes_on_where_memory_was_refused"),

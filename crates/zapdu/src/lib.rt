@@ -27,5 +27,7 @@ pub use productions::record_composition::RecordComposition;
 pub use productions::search_query::SearchQuery;
 pub use productions::search_request::SearchRequest;
 pub use productions::search_response::SearchResponse;
-pub use text::{print_default_diag, print_diag, print_given_record, print_record, quote};
+pub use text::{
+    octet_aligned, print_default_diag, print_diag, print_given_record, print_record, quote,
+};
 pub use zasn::BuildError;

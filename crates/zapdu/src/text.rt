@@ -171,8 +171,9 @@ fn put_diag(alloc: Global, diag: &DiagRec, out: &mut Vec<u8>) -> Result<(), Allo
     }
 }
 
-/// The object identifier and the octets, where the EXTERNAL has no more than these.
-fn octets_of(external: &External) -> Option<(&Oid, &Bytes)>
+/// The syntax of a record and its octets, where the EXTERNAL has no more than a direct reference and octet-aligned
+/// contents (Z39.50-2003, 3.6; X.690, 8.18). It takes no memory.
+pub fn octet_aligned(external: &External) -> Option<(&Oid, &Bytes)>
     ensures { let v = external.now in
         MatchOption result (octets_alone v.direct v.indirect v.descriptor v.content ≡ None)
         (λ p. octets_alone v.direct v.indirect v.descriptor v.content ≡ Some (p.0.now, p.1.now)) }
@@ -209,7 +210,7 @@ fn put_retrieval(
         OnOk result (out.new.items ≡ out.old.items
         ++ retrieval_text hex value.now (octets_alone v.direct v.indirect v.descriptor v.content)) }
 {
-    match octets_of(external) {
+    match octet_aligned(external) {
         Some((oid, octets)) => {
             out.extend_from_slice(b"rec ")?;
             put_oid(alloc, oid, out)?;
@@ -242,7 +243,7 @@ fn is_ber(value: &Record) -> bool
     ensures { IsTrue result → (hex : Bool) → record_text hex value.now ≡ ber_text (whole_record.spelt value.now) }
 {
     match &value.body {
-        RecordBody::Retrieval(external) => octets_of(external).is_none(),
+        RecordBody::Retrieval(external) => octet_aligned(external).is_none(),
         RecordBody::Surrogate(_) => false,
         RecordBody::Fragment(_) => true,
     }

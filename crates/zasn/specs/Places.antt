@@ -11,7 +11,7 @@ use Rattle.zproductions.specs.Meanings.{octets_of, octets_spelt, oid_of, oid_spe
 use Rattle.zproductions.specs.Place.{Place}
 use Rattle.zproductions.specs.Within.{sequence_of, around, itself, any_at, is_kept, each, list_of, whole_of, all_spelt}
 use Rattle.zproductions.specs.Choice.{Choice, Pick, picked, Says, choice_of, choice_spelt, choice_tags, distinct}
-use Rattle.zproductions.specs.Table.{Table, required, ended, Elements, Fields, fields, Maker, make_of, Stand, walk, put, tags_of, clear}
+use Rattle.zproductions.specs.Table.{ComponentTable, required, ended, Elements, Fields, fields, Maker, make_of, Stand, walk, put, tags_of, clear}
 use Rattle.zproductions.proofs.Readings.{constructed_at_tag}
 use Rattle.zproductions.proofs.Builds.{constructed_spelled}
 use Rattle.zproductions.proofs.Meanings.{octets_place, octets_spelled, oid_place, oid_spelled, bits_place, bits_spelled, int_place, int_spelled, bool_place, bool_spelled}
@@ -20,7 +20,7 @@ use Rattle.zproductions.proofs.Choices.{pick_some, choice_begins, pick_reads, pi
 use Rattle.zproductions.proofs.Withins.{within_place, within_spelled, any_place, any_spelled, kept_place, kept_spelled, list_place, list_spelled}
 
 -- the elements of a value that is made of the table's fields
-abbrev pub of_table : {V : Type 0} (t : Table V) (make : Maker t V) → ((v : V) → make_of t make (fields t v) ≡ v)
+abbrev pub of_table : {V : Type 0} (t : ComponentTable V) (make : Maker t V) → ((v : V) → make_of t make (fields t v) ≡ v)
     → ((x : Fields t) → fields t (make_of t make x) ≡ x) → clear t ≡ true → Elements V
 of_table t make same back c = record {
   tags = tags_of t;

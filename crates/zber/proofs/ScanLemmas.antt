@@ -3,7 +3,6 @@ use Rattle.std.proofs.Common.{◌≡◌, ℕ, suc, ◌+◌, ◌<◌, ◌≤◌, 
 use Rattle.std.proofs.lemmas.List.{append-nil, take-append-le}
 use Rattle.zber.specs.declared.fault.HeaderPlace.{HeaderPlace}
 use Rattle.zber.specs.declared.scan.Finished.{Finished}
-use Rattle.zber.specs.declared.scan.Finished.TheVariants.{Prim}
 use Rattle.zber.specs.declared.scan.Open.{Open}
 use Rattle.zber.specs.AsnTags.{AsnTag}
 use Rattle.zber.specs.Elements.{Element, forest, prim, cons, Primitive, Constructed}

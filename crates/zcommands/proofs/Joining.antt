@@ -1,5 +1,5 @@
 -- What saved files say together.
-use Rattle.std.proofs.Common.{◌≡◌, ◌∙◌, ℕ, zero, suc, ◌+◌, ◌<◌, Bool, false, List, [], ◌∷◌, ◌++◌, map, take, drop, length, get_or, append_assoc, Option, Some, None, Result, Ok, Err, IsTrue, refl, ap, sym, subst, arith}
+use Rattle.std.proofs.Common.{◌≡◌, ◌∙◌, ℕ, zero, suc, ◌+◌, ◌<◌, Bool, false, List, [], ◌∷◌, ◌++◌, take, drop, length, get_or, append_assoc, Option, Some, None, Result, Ok, Err, IsTrue, refl, ap, sym, subst, arith}
 use Rattle.std.specs.Prelude.{IfSome, IfErr, Contains, slice_index_or}
 use Rattle.std.specs.Borrow.{Bor}
 use Rattle.std.proofs.KnownBytes.{Keeps-refl}
@@ -13,13 +13,14 @@ use Rattle.zknow.specs.declared.saved.loading.LoadError.{LoadError}
 use Rattle.zknow.specs.declared.saved.loading.LoadError.TheVariants as loads
 use Rattle.zknow.specs.Saved.Loaded.{IsFault}
 use Rattle.zcommands.specs.Faults.{of_load}
+use Rattle.zcommands.specs.Files.{texts_of}
 use Rattle.zcommands.specs.Join.{Loads, IsOfFile, IsSavedAt, IsFaultAt, LoadsAt, HasOtherNames, Absorbs, AreJoined, IsRefusedAmong, AbsorbsAll, LoadsAll, IsListOf, IsKnownStatus, PutsList, Joins}
 use Rattle.zcommands.specs.Join.AreJoined.{one, more}
 use Rattle.zcommands.specs.Join.IsRefusedAmong.{first, later, differs}
 use Rattle.zcommands.specs.Devices.{Device, Stays}
 use Rattle.zcommands.specs.declared.fault.Fault.{Fault}
 use Rattle.zcommands.specs.declared.fault.Status.{Status}
-use Rattle.zcommands.specs.declared.fault.Fault.TheVariants.{Read, Write, NotKnowledge, NotCanonical, NamesDiffer, Memory}
+use Rattle.zcommands.specs.declared.fault.Fault.TheVariants.{Read, Write, NotKnowledge, NotCanonical, NamesDiffer, NotOid, Memory}
 
 -- ---- one file
 
@@ -84,32 +85,29 @@ absorbed octets names others path old theirs new saved same ordered union =
 
 -- ---- all files
 
-abbrev pub paths_of : List (Bor (List ℕ)) → List (List ℕ)
-paths_of others = map (λ path. path.now) others
-
 until : (others : List (Bor (List ℕ))) (i : ℕ) (p : Bor (List ℕ)) → i < length others → p ≡ get_or others i p
     → take (i + 1) others ≡ take i others ++ p ∷ []
 until others i p lt is = take_more others i p lt ∙ ap (λ z. take i others ++ z ∷ []) (sym is)
 
 pub joined_more : (octets : List ℕ → Option (List ℕ)) (names before : List (List ℕ)) (others : List (Bor (List ℕ)))
     (i : ℕ) (p : Bor (List ℕ)) (old new : List Fact) → i < length others → p ≡ get_or others i p
-    → AreJoined octets names (before ++ paths_of (take i others)) old → Absorbs octets names p.now old new (Ok tt)
-    → AreJoined octets names (before ++ paths_of (take (i + 1) others)) new
+    → AreJoined octets names (before ++ texts_of (take i others)) old → Absorbs octets names p.now old new (Ok tt)
+    → AreJoined octets names (before ++ texts_of (take (i + 1) others)) new
 joined_more octets names before others i p old new lt is joined a =
-    let to : paths_of (take (i + 1) others) ≡ paths_of (take i others) ++ p.now ∷ [] =
-    ap paths_of (until others i p lt is) ∙ map-append (λ (path : Bor (List ℕ)). path.now) (take i others) (p ∷ []) in
-    let at : (before ++ paths_of (take i others)) ++ p.now ∷ [] ≡ before ++ paths_of (take (i + 1) others) =
-    append_assoc before (paths_of (take i others)) (p.now ∷ []) ∙ ap (λ z. before ++ z) (sym to) in
+    let to : texts_of (take (i + 1) others) ≡ texts_of (take i others) ++ p.now ∷ [] =
+    ap texts_of (until others i p lt is) ∙ map-append (λ (path : Bor (List ℕ)). path.now) (take i others) (p ∷ []) in
+    let at : (before ++ texts_of (take i others)) ++ p.now ∷ [] ≡ before ++ texts_of (take (i + 1) others) =
+    append_assoc before (texts_of (take i others)) (p.now ∷ []) ∙ ap (λ z. before ++ z) (sym to) in
     subst (λ z. AreJoined octets names z new) at (more p.now old a.0 joined a.1 a.2 a.3)
 
 split : (others : List (Bor (List ℕ))) (i : ℕ) (p : Bor (List ℕ)) → i < length others → p ≡ get_or others i p
-    → paths_of others ≡ paths_of (take i others) ++ p.now ∷ paths_of (drop (i + 1) others)
+    → texts_of others ≡ texts_of (take i others) ++ p.now ∷ texts_of (drop (i + 1) others)
 split others i p lt is =
-    ap paths_of (sym (take-append-drop (i + 1) others))
+    ap texts_of (sym (take-append-drop (i + 1) others))
     ∙ map-append (λ (path : Bor (List ℕ)). path.now) (take (i + 1) others) (drop (i + 1) others)
-    ∙ ap (λ z. z ++ paths_of (drop (i + 1) others)) (ap paths_of (until others i p lt is)
+    ∙ ap (λ z. z ++ texts_of (drop (i + 1) others)) (ap texts_of (until others i p lt is)
     ∙ map-append (λ (path : Bor (List ℕ)). path.now) (take i others) (p ∷ []))
-    ∙ append_assoc (paths_of (take i others)) (p.now ∷ []) (paths_of (drop (i + 1) others))
+    ∙ append_assoc (texts_of (take i others)) (p.now ∷ []) (texts_of (drop (i + 1) others))
 
 among : (octets : List ℕ → Option (List ℕ)) (names : List (List ℕ)) (paths : List (List ℕ)) (path : List ℕ)
     (rest : List (List ℕ)) (old new : List Fact) (f : Fault) → AreJoined octets names paths old
@@ -124,21 +122,21 @@ among octets names paths path rest old new f joined a = absurd a
 -- one of them is refused
 pub other_refused : (octets : List ℕ → Option (List ℕ)) (names before : List (List ℕ)) (others : List (Bor (List ℕ)))
     (i : ℕ) (p : Bor (List ℕ)) (old new : List Fact) (f : Fault) → i < length others → p ≡ get_or others i p
-    → AreJoined octets names (before ++ paths_of (take i others)) old → Absorbs octets names p.now old new (Err f)
-    → IsRefusedAmong octets (before ++ paths_of others) f
+    → AreJoined octets names (before ++ texts_of (take i others)) old → Absorbs octets names p.now old new (Err f)
+    → IsRefusedAmong octets (before ++ texts_of others) f
 other_refused octets names before others i p old new f lt is joined a =
-    let at : (before ++ paths_of (take i others)) ++ p.now ∷ paths_of (drop (i + 1) others) ≡ before ++ paths_of others =
-    append_assoc before (paths_of (take i others)) (p.now ∷ paths_of (drop (i + 1) others))
+    let at : (before ++ texts_of (take i others)) ++ p.now ∷ texts_of (drop (i + 1) others) ≡ before ++ texts_of others =
+    append_assoc before (texts_of (take i others)) (p.now ∷ texts_of (drop (i + 1) others))
     ∙ ap (λ z. before ++ z) (sym (split others i p lt is)) in
     subst (λ z. IsRefusedAmong octets z f) at
-    (among octets names (before ++ paths_of (take i others)) p.now (paths_of (drop (i + 1) others)) old new f joined a)
+    (among octets names (before ++ texts_of (take i others)) p.now (texts_of (drop (i + 1) others)) old new f joined a)
 
 pub all_refused : (octets : List ℕ → Option (List ℕ)) (names : List (List ℕ)) (others : List (Bor (List ℕ)))
     (old was now : List Fact) (i : ℕ) (p : Bor (List ℕ)) (g f : Fault) (r : Result (Unit {0}) Fault) → r ≡ Err f → f ≡ g
     → i < length others → p ≡ get_or others i p
     → ((before : List (List ℕ)) → AreJoined octets names before old
-    → AreJoined octets names (before ++ paths_of (take i others)) was)
-    → Absorbs octets names p.now was now (Err g) → AbsorbsAll octets names (paths_of others) old now r
+    → AreJoined octets names (before ++ texts_of (take i others)) was)
+    → Absorbs octets names p.now was now (Err g) → AbsorbsAll octets names (texts_of others) old now r
 all_refused octets names others old was now i p g f r is of lt at so a =
     rw (is, of) (λ before joined. other_refused octets names before others i p was now g lt at (so before joined) a)
 
@@ -163,12 +161,13 @@ first_refused octets path rest g f r is of h = rw (is, of) (first path rest h)
 
 -- ---- what is printed
 
-kept : (s : Device) → Stays s s
+pub kept : (s : Device) → Stays s s
 kept s = record { kept = Keeps-refl s.known; path = refl; sound = refl }
 
--- no fault of the files is one of the stream that is written
-abbrev IsOfReading : Fault → Type 0
+-- no fault of the files is one of the stream that is written, or of a syntax
+abbrev pub IsOfReading : Fault → Type 0
 IsOfReading (Write told) = ⊥
+IsOfReading (NotOid told) = ⊥
 IsOfReading _ = Unit {0}
 
 at_reading : (octets : List ℕ → Option (List ℕ)) (path : List ℕ) (f : Fault) → IsFaultAt octets path f → IsOfReading f
@@ -178,7 +177,7 @@ at_reading octets path (NotCanonical at) h = tt
 at_reading octets path Memory h = tt
 at_reading octets path f h = absurd h
 
-no_write : (octets : List ℕ → Option (List ℕ)) (paths : List (List ℕ)) (f : Fault) → IsRefusedAmong octets paths f
+pub no_write : (octets : List ℕ → Option (List ℕ)) (paths : List (List ℕ)) (f : Fault) → IsRefusedAmong octets paths f
     → IsOfReading f
 no_write octets paths f (first p rest fault) = at_reading octets p f fault
 no_write octets paths f (later before names rest facts p joined fault) = at_reading octets p f fault

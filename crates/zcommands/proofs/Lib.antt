@@ -1,6 +1,8 @@
 pub mod OneShowing
 pub mod Showing
+pub mod Choosing
 pub mod Joining
+pub mod Extracting
 mod Querying
 pub mod DeviceSteps
 pub mod Reading

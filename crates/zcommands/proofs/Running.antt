@@ -39,23 +39,23 @@ not_saved r saved output printed errors told g f answer is of h s =
 
 -- ---- a command that asks
 
-finished : (is : Finished → Type 0) (wrong : ℕ → Type 0) (serves : Type 0) (r : Finished) (saved : Option (List ℕ))
+finished : (says : Result Finished Fault → Type 0) (r : Finished) (saved : Option (List ℕ))
     (output printed errors told : Device) (answer : Result Status Fault)
-    → is r → Finishes r saved output printed errors told answer → Concludes is wrong serves output printed errors told answer
-finished is wrong serves r saved output printed errors told (Ok status) h f = (r, h, f.0, f.1)
-finished is wrong serves r saved output printed errors told (Err (Write path)) h (inl f) = (r, h, inl f.0)
-finished is wrong serves r saved output printed errors told (Err (Write path)) h (inr f) = (r, h, inr (f.1, f.2))
-finished is wrong serves r saved output printed errors told (Err Memory) h (inl f) = inl f
-finished is wrong serves r saved output printed errors told (Err Memory) h (inr f) = inr (r, h, f)
-finished is wrong serves r saved output printed errors told (Err f) h g = absurd g
+    → says (Ok r) → Finishes r saved output printed errors told answer → Concludes says output printed errors told answer
+finished says r saved output printed errors told (Ok status) h f = (r, h, f.0, f.1)
+finished says r saved output printed errors told (Err (Write path)) h (inl f) = (r, h, inl f.0)
+finished says r saved output printed errors told (Err (Write path)) h (inr f) = (r, h, inr (f.1, f.2))
+finished says r saved output printed errors told (Err Memory) h (inl f) = inl f
+finished says r saved output printed errors told (Err Memory) h (inr f) = inr (r, h, f)
+finished says r saved output printed errors told (Err f) h g = absurd g
 
-pub concludes : (is : List ℕ → Finished → Type 0) (wrong : List ℕ → ℕ → Type 0) (serves : List ℕ → Type 0)
+pub concludes : (says : List ℕ → Result Finished Fault → Type 0)
     (file : Option (List ℕ)) (r : Finished) (saved : Option (List ℕ)) (output printed errors told : Device) (answer : Result Status Fault)
-    → IfSome file (λ octets. is octets r) → Finishes r saved output printed errors told answer
-    → IfSome file (λ octets. Concludes (is octets) (wrong octets) (serves octets) output printed errors told answer)
-concludes is wrong serves None r saved output printed errors told answer h f = tt
-concludes is wrong serves (Some octets) r saved output printed errors told answer h f =
-    finished (is octets) (wrong octets) (serves octets) r saved output printed errors told answer h f
+    → IfSome file (λ octets. says octets (Ok r)) → Finishes r saved output printed errors told answer
+    → IfSome file (λ octets. Concludes (says octets) output printed errors told answer)
+concludes says None r saved output printed errors told answer h f = tt
+concludes says (Some octets) r saved output printed errors told answer h f =
+    finished (says octets) r saved output printed errors told answer h f
 
 -- ---- a target that is served
 

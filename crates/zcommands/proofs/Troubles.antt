@@ -1,14 +1,14 @@
 -- Connections that have trouble, and the lines of those that failed.
-use Rattle.std.proofs.Common.{◌≡◌, ◌∙◌, sym, ap, subst, refl, ℕ, ◌+◌, ◌<◌, ◌≤◌, Bool, true, false, not, ◌||◌, List, [], ◌∷◌, ◌++◌, length, take, get_or, arith, append-nil, append_assoc}
+use Rattle.std.proofs.Common.{◌≡◌, ◌∙◌, sym, ap, subst, refl, ℕ, ◌+◌, ◌<◌, ◌≤◌, Bool, true, false, not, ◌||◌, Option, List, [], ◌∷◌, ◌++◌, length, take, get_or, arith, append-nil, append_assoc}
 use Rattle.std.proofs.lemmas.List.{take_more, length-take-le}
 use Rattle.zoom.specs.declared.state.State.{State}
-use Rattle.zoom.specs.Heard.{Heard, HasHeard, state_at}
+use Rattle.zoom.specs.Heard.{state_at}
 use Rattle.zoom.specs.History.{only, AfterUpTo}
 use Rattle.zoom.specs.Befalling.{IsStateAt}
 use Rattle.zoom.specs.Laws.{OneHearing, UpToLaw}
-use Rattle.zoom.specs.Metas.{MetaLinks, MetaAfter, Tells, is_skipped, is_complete, settings_of}
+use Rattle.zoom.specs.Metas.{MetaLinks, Tells, is_skipped, is_complete, settings_of}
 use Rattle.zoom.proofs.Metas.{heard_at}
-use Rattle.zcommands.specs.Finished.{is_failed, has_failed, is_troubled, failure_line, AreLinesFrom}
+use Rattle.zcommands.specs.Finished.{is_failed, has_failed, is_troubled, is_asked, IsTroubledAt, failure_line, AreLinesFrom}
 
 -- what is told of a connection's state
 failed_tells : UpToLaw → OneHearing → (c : ℕ) (meta : MetaLinks) (state : State) → c < length meta.pool.connections
@@ -26,6 +26,12 @@ trouble_tells law hearing c meta state failed complete skipped answer lt is f k 
     e ∙ ap (λ z. z || not complete || skipped) (f ∙ failed_tells law hearing c meta state lt is q s h p a heard)
     ∙ ap (λ z. has_failed p || not z || skipped) (k q s h p a heard)
     ∙ ap (λ z. has_failed p || not (is_complete p) || z) (n q s h p a heard)
+
+-- of a question that was to be asked
+pub troubled_at : (addresses : List (Option (List ℕ))) (c : ℕ) (meta : MetaLinks) (answer : Bool) → is_asked addresses c ≡ true
+    → Tells c meta is_troubled answer → IsTroubledAt addresses c meta answer
+troubled_at addresses c meta true asked tells = (asked, tells)
+troubled_at addresses c meta false asked tells = λ _. tells
 
 -- ---- lines
 

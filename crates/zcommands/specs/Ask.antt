@@ -1,14 +1,15 @@
 -- What `ask` prints of a world file, what it tells, and how it ends.
-use Rattle.std.specs.Prelude.{◌⊎◌, ℕ, List, Result, Ok, Err}
+use Rattle.std.specs.Prelude.{◌≡◌, ◌⊎◌, ℕ, List, Option, Result, Ok, Err}
 use Rattle.zknow.specs.declared.fact.Mode.{Mode}
 use Rattle.zworld.specs.declared.world.World.{World}
 use Rattle.zworld.specs.declared.enquiry.Enquiry.{Enquiry}
 use Rattle.zworld.specs.Worlds.{IsWorld, IsRefused}
 use Rattle.zworld.specs.Enquiries.{IsEnquiry, IsOfFirstTarget}
-use Rattle.znet.specs.Asking.{IsAsked}
+use Rattle.znet.specs.Asking.{has, IsAsked}
+use Rattle.zcommands.specs.Choice.{Manner, IsChosen, IsFirstUnknown}
 use Rattle.zcommands.specs.Devices.{Device}
 use Rattle.zcommands.specs.declared.fault.Fault.{Fault}
-use Rattle.zcommands.specs.declared.fault.Fault.TheVariants.{Read, Line, Memory}
+use Rattle.zcommands.specs.declared.fault.Fault.TheVariants.{Read, Line, NoQuestion, Memory}
 use Rattle.zcommands.specs.declared.fault.Status.{Status}
 use Rattle.zcommands.specs.declared.finished.Finished.{Finished}
 use Rattle.zcommands.specs.Finished.{asker, IsListed, Concludes, Command, DoesAnswer}
@@ -38,28 +39,51 @@ Enquires file (Err _) = ⊥
 
 -- ---- hosts that were asked
 
--- each question was put to its host, and this is the list of what is known then
-abbrev pub IsAskedOf : Mode → Enquiry → Finished → Type 0
-IsAskedOf mode e r = IsAsked e.questions e.settings r.meta × IsListed r.meta e.names mode r
+-- each question that was chosen was put to its host, and this is the list of what is known then
+pub record IsAskedOf (manner : Manner) (mode : Mode) (e : Enquiry) (r : Finished) : Type 0 where
+  pub chosen : List (Option (List ℕ))
+  pub picks : IsChosen manner.only e.names e.addresses chosen
+  pub asked : IsAsked e.questions e.settings manner.at_once (has chosen) r.meta
+  pub listed : IsListed r.meta e.names chosen mode r
 
 -- the hosts of the file were asked
-abbrev pub AreAsked : Mode → List ℕ → Finished → Type 0
-AreAsked mode file r = (e : Enquiry) × IsEnquiryFile file e × IsAskedOf mode e r
+abbrev pub AreAsked : Manner → Mode → List ℕ → Finished → Type 0
+AreAsked manner mode file r = (e : Enquiry) × IsEnquiryFile file e × IsAskedOf manner mode e r
 
-abbrev pub AsksFile : Mode → List ℕ → Result Finished Fault → Type 0
-AsksFile mode file (Ok r) = AreAsked mode file r
-AsksFile mode file (Err (Line number)) = IsLineUnasked file number
-AsksFile mode file (Err (Read path)) = Unit {0}
-AsksFile mode file (Err Memory) = Unit {0}
-AsksFile mode file (Err _) = ⊥
+-- the name is the first that no question of the file has
+abbrev pub HasNoQuestion : List (List ℕ) → List ℕ → List ℕ → Type 0
+HasNoQuestion only file name = (e : Enquiry) × IsEnquiryFile file e × IsFirstUnknown only e.names name
+
+abbrev pub AsksFile : Manner → Mode → List ℕ → Result Finished Fault → Type 0
+AsksFile manner mode file (Ok r) = AreAsked manner mode file r
+AsksFile manner mode file (Err (Line number)) = IsLineUnasked file number
+AsksFile manner mode file (Err (NoQuestion told)) = HasNoQuestion manner.only file told.now
+AsksFile manner mode file (Err (Read path)) = Unit {0}
+AsksFile manner mode file (Err Memory) = Unit {0}
+AsksFile manner mode file (Err _) = ⊥
+
+-- an answer of asking the hosts of an enquiry
+abbrev pub AsksEnquiry : Manner → Mode → Enquiry → Result Finished Fault → Type 0
+AsksEnquiry manner mode e (Ok r) = IsAskedOf manner mode e r
+AsksEnquiry manner mode e (Err (NoQuestion told)) = IsFirstUnknown manner.only e.names told.now
+AsksEnquiry manner mode e (Err Memory) = Unit {0}
+AsksEnquiry manner mode e (Err _) = ⊥
+
+-- a fault of asking the hosts of the file at a path
+abbrev pub IsOfAsking : List ℕ → Fault → Type 0
+IsOfAsking path (Read told) = told.now ≡ path
+IsOfAsking path (Line number) = Unit {0}
+IsOfAsking path (NoQuestion told) = Unit {0}
+IsOfAsking path Memory = Unit {0}
+IsOfAsking path _ = ⊥
 
 -- ---- the command
 
 -- what an answer of `ask` says of the world file, and of what was written and told
-abbrev pub AsksHosts : Mode → List ℕ → Device → Device → Device → Device → Result Status Fault → Type 0
-AsksHosts mode file output printed errors told answer =
-    Concludes (AreAsked mode file) (IsLineUnasked file) ⊥ output printed errors told answer
+abbrev pub AsksHosts : Manner → Mode → List ℕ → Device → Device → Device → Device → Result Status Fault → Type 0
+AsksHosts manner mode file output printed errors told answer =
+    Concludes (AsksFile manner mode file) output printed errors told answer
 
 -- what `ask` does with the world file at a path: what it writes and tells, and its status
-abbrev pub DoesAsk : Mode → Command
-DoesAsk mode = DoesAnswer (AsksHosts mode)
+abbrev pub DoesAsk : Manner → Mode → Command
+DoesAsk manner mode = DoesAnswer (AsksHosts manner mode)

@@ -25,7 +25,7 @@ use Rattle.znet.specs.declared.service.ServeError.TheVariants as serves
 use Rattle.zcommands.specs.declared.fault.Fault.{Fault}
 use Rattle.zcommands.specs.declared.fault.Fault.TheVariants.{Read, Write, Hex, Frame, NotApdu, Malformed, Query}
 use Rattle.zcommands.specs.declared.fault.Fault.TheVariants.{NotPrintable, NotKnowledge, NotCanonical, NamesDiffer}
-use Rattle.zcommands.specs.declared.fault.Fault.TheVariants.{Line, Serve, Memory}
+use Rattle.zcommands.specs.declared.fault.Fault.TheVariants.{Line, NoQuestion, NotOid, Serve, Memory}
 use Rattle.zcommands.specs.declared.fault.Status.{Status}
 use Rattle.zcommands.specs.declared.fault.Status.TheVariants as statuses
 
@@ -53,6 +53,8 @@ fault_text (NotCanonical at) =
     codes "knowledge refused: " ++ load_word (loads.NotCanonical at) ++ codes " at " ++ decimal at
 fault_text NamesDiffer = codes "names differ"
 fault_text (Line number) = codes "line " ++ decimal number ++ codes " refused"
+fault_text (NoQuestion name) = codes "no question " ++ name.now
+fault_text (NotOid text) = codes "no OID " ++ text.now
 fault_text Serve = codes "cannot serve"
 fault_text Memory = codes "out of memory"
 

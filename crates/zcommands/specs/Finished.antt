@@ -1,6 +1,6 @@
 -- What is known once all was asked: what is printed, told and saved of it, and how the command ends.
 use Rattle.std.specs.Prelude.{◌≡◌, ◌⊎◌, ℕ, ◌+◌, ◌<◌, ◌^◌, Bool, true, false, not, ◌||◌, List, [], ◌∷◌, ◌++◌, length}
-use Rattle.std.specs.Prelude.{codes, Option, Some, Result, Ok, Err, IfSome}
+use Rattle.std.specs.Prelude.{codes, slice_get, Option, Some, None, Result, Ok, Err, IfSome}
 use Rattle.zapdu.specs.Text.{quoted}
 use Rattle.zknow.specs.declared.fact.Mode.{Mode}
 use Rattle.zknow.specs.Known.{HasFailed}
@@ -15,7 +15,7 @@ use Rattle.zoom.specs.Metas.{MetaLinks, Tells, is_skipped, is_complete}
 use Rattle.zcommands.specs.Faults.{end_status}
 use Rattle.zcommands.specs.Devices.{Device, Stays, Gains, Stops, TellsAnswer}
 use Rattle.zcommands.specs.declared.fault.Fault.{Fault}
-use Rattle.zcommands.specs.declared.fault.Fault.TheVariants.{Read, Write, Line, Serve, Memory}
+use Rattle.zcommands.specs.declared.fault.Fault.TheVariants.{Read, Write, Line, Memory}
 use Rattle.zcommands.specs.declared.fault.Status.{Status}
 use Rattle.zcommands.specs.declared.fault.Status.TheVariants as statuses
 use Rattle.zcommands.specs.declared.finished.Finished.{Finished}
@@ -24,9 +24,12 @@ use Rattle.zcommands.specs.declared.finished.Finished.{Finished}
 abbrev pub asker : List ℕ
 asker = codes "zmeta"
 
--- the list of what is known of these
-pub record IsListed (meta : MetaLinks) (names : List (List ℕ)) (mode : Mode) (r : Finished) : Type 0 where
+-- the list of what is known of these, of whom the questions at these addresses were asked, or all, where there are none
+pub record IsListed
+    (meta : MetaLinks) (names : List (List ℕ)) (addresses : List (Option (List ℕ))) (mode : Mode) (r : Finished)
+    : Type 0 where
   pub of : r.meta ≡ meta
+  pub at : r.addresses.items ≡ addresses
   pub named : r.names ≡ names
   pub list : r.list.items ≡ listing names mode meta.pool.knowledge
 
@@ -81,15 +84,35 @@ has_failed p = is_failed (state_at p)
 abbrev pub is_troubled : Heard → Bool
 is_troubled p = has_failed p || not (is_complete p) || is_skipped p
 
--- whether some connection is
-abbrev pub HasTrouble : MetaLinks → Bool → Type 0
-HasTrouble meta true = (c : ℕ) × (c < length meta.pool.connections) × Tells c meta is_troubled true
-HasTrouble meta false = (c : ℕ) → c < length meta.pool.connections → Tells c meta is_troubled false
+-- what stands at a place among addresses: none, where a question was left out
+abbrev pub is_address : Option (Option (List ℕ)) → Bool
+is_address None = true
+is_address (Some None) = false
+is_address (Some (Some address)) = true
 
-abbrev pub IsFinishedStatus : MetaLinks → Status → Type 0
-IsFinishedStatus meta statuses.Failed = HasFailed meta.pool.knowledge ⊎ HasTrouble meta true
-IsFinishedStatus meta statuses.Done = (HasFailed meta.pool.knowledge → ⊥) × HasTrouble meta false
-IsFinishedStatus meta _ = ⊥
+-- whether a question was to be asked
+abbrev pub is_asked : List (Option (List ℕ)) → ℕ → Bool
+is_asked addresses c = is_address (slice_get addresses c)
+
+-- whether a connection is so whose question was to be asked
+abbrev pub IsTroubledAt : List (Option (List ℕ)) → ℕ → MetaLinks → Bool → Type 0
+IsTroubledAt addresses c meta true = (is_asked addresses c ≡ true) × Tells c meta is_troubled true
+IsTroubledAt addresses c meta false = is_asked addresses c ≡ true → Tells c meta is_troubled false
+
+-- whether some connection is
+abbrev pub HasTrouble : List (Option (List ℕ)) → MetaLinks → Bool → Type 0
+HasTrouble addresses meta true =
+    (c : ℕ) × (c < length meta.pool.connections) × IsTroubledAt addresses c meta true
+HasTrouble addresses meta false = (c : ℕ) → c < length meta.pool.connections → IsTroubledAt addresses c meta false
+
+-- the status, of questions at these addresses
+abbrev pub IsStatusOf : List (Option (List ℕ)) → MetaLinks → Status → Type 0
+IsStatusOf addresses meta statuses.Failed = HasFailed meta.pool.knowledge ⊎ HasTrouble addresses meta true
+IsStatusOf addresses meta statuses.Done = (HasFailed meta.pool.knowledge → ⊥) × HasTrouble addresses meta false
+IsStatusOf addresses meta _ = ⊥
+
+abbrev pub IsFinishedStatus : Finished → Status → Type 0
+IsFinishedStatus r status = IsStatusOf r.addresses.items r.meta status
 
 -- ---- saving
 
@@ -112,7 +135,7 @@ IsOfSaving path _ = ⊥
 abbrev pub Finishes
     : Finished → Option (List ℕ) → Device → Device → Device → Device → Result Status Fault → Type 0
 Finishes r saved output printed errors told (Ok status) =
-    Prints r output printed errors told × IsFinishedStatus r.meta status
+    Prints r output printed errors told × IsFinishedStatus r status
 Finishes r saved output printed errors told (Err (Write path)) =
     (Prints r output printed errors told × (saved ≡ Some path.now))
     ⊎ ((path.now ≡ output.path) × Stops output printed r.list.items × (told ≡ errors))
@@ -129,22 +152,18 @@ IsOfWorld path (Line number) = Unit {0}
 IsOfWorld path Memory = Unit {0}
 IsOfWorld path _ = ⊥
 
--- What an answer of a command that asks says of what was written and told: in the end such connections are finished; or
--- a line like this is at fault; or it cannot serve, where it would.
+-- What an answer of a command that asks says of what was written and told, by what it says of the world file: in the
+-- end such connections are finished; or it is at fault before anything is written.
 abbrev pub Concludes
-    : (Finished → Type 0) → (ℕ → Type 0) → Type 0 → Device → Device → Device → Device → Result Status Fault → Type 0
-Concludes is wrong serves output printed errors told (Ok status) =
-    (r : Finished) × is r × Prints r output printed errors told × IsFinishedStatus r.meta status
-Concludes is wrong serves output printed errors told (Err (Line number)) =
-    wrong number × Stays output printed × (told ≡ errors)
-Concludes is wrong serves output printed errors told (Err (Read path)) = Stays output printed × (told ≡ errors)
-Concludes is wrong serves output printed errors told (Err Serve) = serves × Stays output printed × (told ≡ errors)
-Concludes is wrong serves output printed errors told (Err (Write path)) =
-    (r : Finished) × is r
+    : (Result Finished Fault → Type 0) → Device → Device → Device → Device → Result Status Fault → Type 0
+Concludes says output printed errors told (Ok status) =
+    (r : Finished) × says (Ok r) × Prints r output printed errors told × IsFinishedStatus r status
+Concludes says output printed errors told (Err (Write path)) =
+    (r : Finished) × says (Ok r)
     × (Prints r output printed errors told ⊎ (Stops output printed r.list.items × (told ≡ errors)))
-Concludes is wrong serves output printed errors told (Err Memory) =
-    (Stays output printed × (told ≡ errors)) ⊎ ((r : Finished) × is r × Prints r output printed errors told)
-Concludes is wrong serves output printed errors told (Err _) = ⊥
+Concludes says output printed errors told (Err Memory) =
+    (Stays output printed × (told ≡ errors)) ⊎ ((r : Finished) × says (Ok r) × Prints r output printed errors told)
+Concludes says output printed errors told (Err f) = says (Err f) × Stays output printed × (told ≡ errors)
 
 -- Which file or stream a fault is told of: the world file; or the stream of the list, of which a write failed; or the
 -- file in which is saved.

@@ -1,4 +1,5 @@
 pub mod Ask
+pub mod Choice
 pub mod Devices
 pub mod Digits
 pub mod Faults
@@ -10,6 +11,7 @@ pub mod Lines
 pub mod Loop
 pub mod Pieces
 pub mod Pqf
+pub mod Records
 pub mod Run
 pub mod Searches
 pub mod Serve

@@ -31,7 +31,7 @@ LoopsFile mode file (Err _) = ⊥
 -- what an answer of `loop` says of the world file, and of what was written and told
 abbrev pub Loops : Mode → List ℕ → Device → Device → Device → Device → Result Status Fault → Type 0
 Loops mode file output printed errors told answer =
-    Concludes (IsRun mode file) (IsLineAtFault file) (CanRun file) output printed errors told answer
+    Concludes (LoopsFile mode file) output printed errors told answer
 
 -- what `loop` does with the world file at a path: what it writes and tells, and its status
 abbrev pub DoesLoop : Mode → Command

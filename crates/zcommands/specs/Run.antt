@@ -1,5 +1,5 @@
 -- What `run` prints of a world file, what it tells, and how it ends.
-use Rattle.std.specs.Prelude.{◌⊎◌, ℕ, List, Result, Ok, Err}
+use Rattle.std.specs.Prelude.{◌⊎◌, ℕ, List, [], Result, Ok, Err}
 use Rattle.zknow.specs.declared.fact.Mode.{Mode}
 use Rattle.zworld.specs.declared.world.World.{World}
 use Rattle.zworld.specs.declared.fitness.Arrangement.{Arrangement}
@@ -40,7 +40,7 @@ Arranges file (Err _) = ⊥
 
 -- it was run as it is arranged: each target was asked its question, and this is the list of what is known then
 abbrev pub IsRunOf : Mode → Arrangement → Finished → Type 0
-IsRunOf mode a r = Ran a.questions a.settings a.targets r.meta × IsListed r.meta a.names mode r
+IsRunOf mode a r = Ran a.questions a.settings a.targets r.meta × IsListed r.meta a.names [] mode r
 
 -- the world of the file was run
 abbrev pub IsRun : Mode → List ℕ → Finished → Type 0
@@ -58,7 +58,7 @@ RunsFile mode file (Err _) = ⊥
 -- what an answer of `run` says of the world file, and of what was written and told
 abbrev pub Runs : Mode → List ℕ → Device → Device → Device → Device → Result Status Fault → Type 0
 Runs mode file output printed errors told answer =
-    Concludes (IsRun mode file) (IsLineAtFault file) ⊥ output printed errors told answer
+    Concludes (RunsFile mode file) output printed errors told answer
 
 -- what `run` does with the world file at a path: what it writes and tells, and its status
 abbrev pub DoesRun : Mode → Command

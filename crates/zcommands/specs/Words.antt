@@ -1,5 +1,5 @@
 -- What the words of a command line ask for.
-use Rattle.std.specs.Prelude.{◌≡◌, ◌⊎◌, ℕ, List, ◌∷◌, map, Option, Some, None, true, codes}
+use Rattle.std.specs.Prelude.{◌≡◌, ◌⊎◌, ℕ, Bool, true, false, List, [], ◌∷◌, Option, Some, None, codes}
 use Rattle.std.specs.Borrow.{Bor}
 use Rattle.std.specs.Option.{option_map}
 use Rattle.std.specs.Str.Parse.{digits_value, without_leading_plus}
@@ -11,9 +11,11 @@ use Rattle.clap.specs.declared.parser.matches.Found.{Found}
 use Rattle.zknow.specs.declared.fact.Mode.{Mode}
 use Rattle.zknow.specs.declared.fact.Mode.TheVariants as modes
 use Rattle.zcommands.specs.Ask.{DoesAsk}
+use Rattle.zcommands.specs.Files.{texts_of}
 use Rattle.zcommands.specs.Join.{DoesJoin}
 use Rattle.zcommands.specs.Loop.{DoesLoop}
 use Rattle.zcommands.specs.Pqf.{DoesPqf}
+use Rattle.zcommands.specs.Records.{DoesRecords}
 use Rattle.zcommands.specs.Run.{DoesRun}
 use Rattle.zcommands.specs.Serve.{DoesServe}
 use Rattle.zcommands.specs.Show.{DoesShow}
@@ -22,20 +24,29 @@ use Rattle.zcommands.specs.declared.fault.Fault.TheVariants as faults
 use Rattle.zcommands.specs.declared.fault.Status.{Status}
 use Rattle.zcommands.specs.declared.fault.Status.TheVariants as statuses
 use Rattle.zcommands.specs.declared.words.Words.{Words}
-use Rattle.zcommands.specs.declared.words.Words.TheVariants.{Show, Pqf, Join, Run, Ask, Loop, Serve}
+use Rattle.zcommands.specs.declared.words.Words.TheVariants.{Show, Pqf, Join, Records, Run, Ask, Loop, Serve}
 
 -- the words of a command give this value to an argument
 abbrev pub Gives : Found → List ℕ → List ℕ → Type 0
 Gives found id value = first_value found id ≡ Some value
 
--- the words of a command give these values to an argument, in their order
-abbrev pub GivesAll : Found → List ℕ → List (List ℕ) → Type 0
-GivesAll found id values = option_map raw_values (matched_of found id) ≡ Some values
+abbrev pub or_none : Option (List (List ℕ)) → List (List ℕ)
+or_none None = []
+or_none (Some values) = values
+
+-- the words of a command give these values to an argument, in their order, or none
+abbrev pub GivesAny : Found → List ℕ → List (List ℕ) → Type 0
+GivesAny found id values = or_none (option_map raw_values (matched_of found id)) ≡ values
 
 -- the words give this number in decimal digits
 abbrev pub GivesNumber : Found → List ℕ → ℕ → Type 0
 GivesNumber found id n =
     (text : List ℕ) → one_text found id ≡ Some text → n ≡ digits_value 10 (without_leading_plus text)
+
+-- an option without a value is given, exactly where this holds
+pub record HasFlag (found : Found) (id : List ℕ) (given : Bool) : Type 0 where
+  pub holds : one_text found id ≡ Some (codes "true") → given ≡ true
+  pub left_out : (one_text found id ≡ None) ⊎ (one_text found id ≡ Some (codes "false")) → given ≡ false
 
 -- records are printed in hexadecimal exactly where the option is given
 pub record HasMode (found : Found) (mode : Mode) : Type 0 where
@@ -57,9 +68,14 @@ abbrev pub Asks : List ℕ → Found → Words → Type 0
 Asks name found Show = name ≡ codes "show"
 Asks name found (Pqf text) = (name ≡ codes "pqf") × Gives found (codes "TEXT") text.now
 Asks name found (Join first others mode) = (name ≡ codes "join") × Gives found (codes "A") first.now
-    × GivesAll found (codes "B") (map (λ path. path.now) others.items) × HasMode found mode
+    × GivesAny found (codes "B") (texts_of others.items) × HasMode found mode
+Asks name found (Records first others syntax conflicts) = (name ≡ codes "records") × Gives found (codes "A") first.now
+    × GivesAny found (codes "B") (texts_of others.items)
+    × (now_of syntax ≡ first_value found (codes "syntax")) × HasFlag found (codes "conflicts") conflicts
 Asks name found (Run world saved mode) = (name ≡ codes "run") × AsksSearch found world.now (now_of saved) mode
-Asks name found (Ask world saved mode) = (name ≡ codes "ask") × AsksSearch found world.now (now_of saved) mode
+Asks name found (Ask world saved at_once only mode) =
+    (name ≡ codes "ask") × AsksSearch found world.now (now_of saved) mode
+    × HasFlag found (codes "at-once") at_once × GivesAny found (codes "only") (texts_of only.items)
 Asks name found (Loop world saved mode) = (name ≡ codes "loop") × AsksSearch found world.now (now_of saved) mode
 Asks name found (Serve address whose world count) = (name ≡ codes "serve") × Gives found (codes "ADDRESS") address.now
     × Gives found (codes "NAME") whose.now × Gives found (codes "FILE") world.now × GivesNumber found (codes "N") count
@@ -72,11 +88,14 @@ Does octets Show input rest output printed errors told status =
 Does octets (Pqf text) input rest output printed errors told status =
     (rest ≡ input) × DoesPqf text.now output printed errors told status
 Does octets (Join first others mode) input rest output printed errors told status = (rest ≡ input)
-    × DoesJoin mode octets (first.now ∷ map (λ path. path.now) others.items) output printed errors told status
+    × DoesJoin mode octets (first.now ∷ texts_of others.items) output printed errors told status
+Does octets (Records first others syntax conflicts) input rest output printed errors told status = (rest ≡ input)
+    × DoesRecords (record { syntax = now_of syntax; conflicts = conflicts }) octets (first.now ∷ texts_of others.items)
+    output printed errors told status
 Does octets (Run world saved mode) input rest output printed errors told status = (rest ≡ input)
     × DoesRun mode world.now (now_of saved) (octets world.now) output printed errors told status
-Does octets (Ask world saved mode) input rest output printed errors told status = (rest ≡ input)
-    × DoesAsk mode world.now (now_of saved) (octets world.now) output printed errors told status
+Does octets (Ask world saved at_once only mode) input rest output printed errors told status = (rest ≡ input)
+    × DoesAsk (record { at_once = at_once; only = texts_of only.items }) mode world.now (now_of saved) (octets world.now) output printed errors told status
 Does octets (Loop world saved mode) input rest output printed errors told status = (rest ≡ input)
     × DoesLoop mode world.now (now_of saved) (octets world.now) output printed errors told status
 Does octets (Serve address name world count) input rest output printed errors told status =

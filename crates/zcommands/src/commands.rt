@@ -4,6 +4,7 @@ ghost use Rattle.zcommands.specs.Devices.{left, held};
 ghost use Rattle.zcommands.specs.Words.{Does, TellsWords, IsWrong};
 
 use crate::ask::ask_named;
+use crate::choice::Choice;
 use crate::fault::{Fault, Status};
 use crate::files::Folder;
 use crate::finished::Paths;
@@ -12,6 +13,7 @@ use crate::join::join_named;
 use crate::looped::loop_named;
 use crate::output::Output;
 use crate::pqf::pqf;
+use crate::records::{Extract, SavedFiles, records_named};
 use crate::run::run_named;
 use crate::serve::{Service, serve_named};
 use crate::show::show;
@@ -24,14 +26,15 @@ use std::net::Net;
 use std::time::Clock;
 
 /// Does what the words ask for, the first being the program's name. Without words they are not UTF-8, or memory ran
-/// out.
-pub fn run<'a, S: Folder + Net + Clock, R: Read, W: Write, E: Write>(
+/// out. While catalogues are asked, the screen, where there is one, is told how far that is.
+pub fn run<'a, S: Folder + Net + Clock, R: Read, W: Write, E: Write, P: Write + Drop>(
     alloc: Global,
     system: &S,
     words: Result<&[String], ErrorKind>,
     input: &mut Input<'a, R>,
     output: &mut Output<'a, W>,
     errors: &mut Output<'a, E>,
+    screen: Option<P>,
 ) -> Status
     ensures { IfErr words.entry (λ _. IsWrong result) }
 {
@@ -43,19 +46,21 @@ pub fn run<'a, S: Folder + Net + Clock, R: Read, W: Write, E: Write>(
             input,
             output,
             errors,
+            screen,
         ),
         Err(kind) => refuse(alloc, kind, output, errors),
     }
 }
 
 /// Does what was asked for, or tells why nothing was.
-fn answer<'a, S: Folder + Net + Clock, R: Read, W: Write, E: Write>(
+fn answer<'a, S: Folder + Net + Clock, R: Read, W: Write, E: Write, P: Write + Drop>(
     alloc: Global,
     system: &S,
     asked: Result<Words<'_>, Error>,
     input: &mut Input<'a, R>,
     output: &mut Output<'a, W>,
     errors: &mut Output<'a, E>,
+    screen: Option<P>,
 ) -> Status
     ensures { MatchResult asked.entry
         (λ asked. Does (S.octets system.now) asked (left R.remaining input.old) (left R.remaining input.new)
@@ -65,7 +70,7 @@ fn answer<'a, S: Folder + Net + Clock, R: Read, W: Write, E: Write>(
         (held E.contents errors.old) (held E.contents errors.new) result) }
 {
     match asked {
-        Ok(asked) => call(alloc, system, asked, input, output, errors),
+        Ok(asked) => call(alloc, system, asked, input, output, errors, screen),
         Err(error) => words::tell(&error, output, errors),
     }
 }
@@ -91,13 +96,14 @@ fn refuse<'a, W: Write, E: Write>(
 }
 
 /// Does what the words ask for.
-fn call<'a, S: Folder + Net + Clock, R: Read, W: Write, E: Write>(
+fn call<'a, S: Folder + Net + Clock, R: Read, W: Write, E: Write, P: Write + Drop>(
     alloc: Global,
     system: &S,
     asked: Words<'_>,
     input: &mut Input<'a, R>,
     output: &mut Output<'a, W>,
     errors: &mut Output<'a, E>,
+    screen: Option<P>,
 ) -> Status
     ensures { Does (S.octets system.now) asked.entry (left R.remaining input.old) (left R.remaining input.new)
         (held W.contents output.old) (held W.contents output.new)
@@ -122,8 +128,32 @@ fn call<'a, S: Folder + Net + Clock, R: Read, W: Write, E: Write>(
         Words::Run { world, saved, mode } => {
             run_named(alloc, system, Paths { world, saved }, mode, output, errors)
         }
-        Words::Ask { world, saved, mode } => {
-            ask_named(alloc, system, Paths { world, saved }, mode, output, errors)
+        Words::Records {
+            first,
+            others,
+            syntax,
+            conflicts,
+        } => {
+            let saved = SavedFiles {
+                first,
+                others: others.as_slice(),
+            };
+            let wanted = Extract { syntax, conflicts };
+            records_named(alloc, system, saved, wanted, output, errors)
+        }
+        Words::Ask {
+            world,
+            saved,
+            at_once,
+            only,
+            mode,
+        } => {
+            let choice = Choice {
+                at_once,
+                only: only.as_slice(),
+            };
+            let paths = Paths { world, saved };
+            ask_named(alloc, system, paths, choice, mode, screen, output, errors)
         }
         Words::Loop { world, saved, mode } => {
             loop_named(alloc, system, Paths { world, saved }, mode, output, errors)

@@ -73,6 +73,10 @@ pub enum Fault<'a> {
     /// The line of a world file, from 1, says nothing, or cannot stand where it does, or asks whom the command does
     /// not.
     Line(u64),
+    /// There is no question of this name.
+    NoQuestion(&'a str),
+    /// The text is no object identifier in dotted form.
+    NotOid(&'a str),
     /// There is no such target, the address cannot be taken, or no connection can.
     Serve,
     /// No memory was found.
@@ -111,6 +115,8 @@ impl fmt::Display for Fault<'_> {
             }
             Fault::NamesDiffer => write!(f, "names differ"),
             Fault::Line(number) => write!(f, "line {number} refused"),
+            Fault::NoQuestion(name) => write!(f, "no question {name}"),
+            Fault::NotOid(text) => write!(f, "no OID {text}"),
             Fault::Serve => write!(f, "cannot serve"),
             Fault::Memory => write!(f, "out of memory"),
         }

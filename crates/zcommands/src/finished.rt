@@ -11,6 +11,7 @@ use crate::fault::{Fault, Status};
 use crate::files::Folder;
 use crate::output::Output;
 use crate::trouble::finished_status;
+use bytes::Bytes;
 use std::alloc::{AllocError, Global};
 use std::io::Write;
 use zknow::{Mode, Names, SaveError, print_list, save};
@@ -24,6 +25,8 @@ pub(crate) const NAME: &[u8] = b"zmeta";
 pub(crate) struct Finished {
     pub meta: Meta,
     pub names: Names,
+    /// Of the questions that were put to hosts, at which addresses: none for one that was left out.
+    pub addresses: Vec<Option<Bytes>>,
     pub list: Vec<u8>,
 }
 
@@ -40,13 +43,19 @@ impl Finished {
         alloc: Global,
         meta: Meta,
         names: Names,
+        addresses: Vec<Option<Bytes>>,
         mode: Mode,
     ) -> Result<Finished, AllocError>
-        ensures { IfOk result (IsListed meta names mode) }
+        ensures { IfOk result (IsListed meta names addresses.items mode) }
     {
         let mut list = Vec::new(alloc);
         print_list(alloc, meta.knowledge(), &names, mode, &mut list)?;
-        Ok(Finished { meta, names, list })
+        Ok(Finished {
+            meta,
+            names,
+            addresses,
+            list,
+        })
     }
 }
 
@@ -121,5 +130,5 @@ pub(crate) fn finish<'a, 'o: 'a, F: Folder, W: Write, E: Write>(
 {
     put_finished(alloc, finished, output, errors)?;
     save_finished(alloc, files, saved, finished)?;
-    Ok(finished_status(&finished.meta))
+    Ok(finished_status(finished))
 }

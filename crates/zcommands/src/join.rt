@@ -1,5 +1,6 @@
 //! The command `join`: what saved files know together.
-ghost use Rattle.std.specs.Prelude.{◌≡◌, ◌↔◌, ◌∷◌, map, IsTrue, IfSome, IfErr, Result};
+ghost use Rattle.std.specs.Prelude.{◌≡◌, ◌↔◌, ◌∷◌, IsTrue, IfSome, IfErr, Result};
+ghost use Rattle.zcommands.specs.Files.{texts_of};
 ghost use Rattle.zcommands.specs.Join.{IsKnownStatus, Loads, LoadsAt, LoadsAll, Absorbs, AbsorbsAll, IsOfFile, PutsList, Joins, DoesJoin};
 ghost use Rattle.zcommands.specs.Devices.{held};
 ghost use Rattle.zcommands.specs.declared.fault.Fault.{Fault};
@@ -26,7 +27,7 @@ pub fn join_named<'a, 'o: 'a, F: Folder, W: Write, E: Write>(
     output: &mut Output<'o, W>,
     errors: &mut Output<'_, E>,
 ) -> Status
-    ensures { DoesJoin mode (F.octets files.now) (first.entry.now ∷ map (λ path. path.now) others.now)
+    ensures { DoesJoin mode (F.octets files.now) (first.entry.now ∷ texts_of others.now)
         (held W.contents output.old) (held W.contents output.new)
         (held E.contents errors.old) (held E.contents errors.new) result }
 {
@@ -45,7 +46,7 @@ fn join_files<'a, 'o: 'a, F: Folder, W: Write>(
     mode: Mode,
     output: &mut Output<'o, W>,
 ) -> Result<Status, Fault<'a>>
-    ensures { Joins mode (F.octets files.now) (first.entry.now ∷ map (λ path. path.now) others.now)
+    ensures { Joins mode (F.octets files.now) (first.entry.now ∷ texts_of others.now)
         (held W.contents output.old) (held W.contents output.new) result }
 {
     let (knowledge, names) = load_all(alloc, files, first, others)?;
@@ -70,7 +71,7 @@ fn put_list<'o, W: Write>(
 }
 
 /// The status of a command that knows this.
-fn known_status(knowledge: &Knowledge) -> Status
+pub(crate) fn known_status(knowledge: &Knowledge) -> Status
     ensures { IsKnownStatus knowledge.now result }
 {
     if knowledge.has_failed() {
@@ -81,13 +82,13 @@ fn known_status(knowledge: &Knowledge) -> Status
 }
 
 /// What the files at all paths say together.
-fn load_all<'a, F: Folder>(
+pub(crate) fn load_all<'a, F: Folder>(
     alloc: Global,
     files: &'a F,
     first: &'a str,
     others: &[&'a str],
 ) -> Result<(Knowledge, Names), Fault<'a>>
-    ensures { LoadsAll (F.octets files.now) (first.entry.now ∷ map (λ path. path.now) others.now) result }
+    ensures { LoadsAll (F.octets files.now) (first.entry.now ∷ texts_of others.now) result }
 {
     let (mut knowledge, names) = load_named(alloc, files, first)?;
     absorb_all(alloc, files, others, &mut knowledge, &names)?;
@@ -102,7 +103,7 @@ fn absorb_all<'a, F: Folder>(
     knowledge: &mut Knowledge,
     names: &Names,
 ) -> Result<(), Fault<'a>>
-    ensures { AbsorbsAll (F.octets files.now) names.now (map (λ path. path.now) paths.now)
+    ensures { AbsorbsAll (F.octets files.now) names.now (texts_of paths.now)
         knowledge.old knowledge.new result }
 {
     for path in paths {

@@ -2,6 +2,7 @@
 #![tactic(auto)]
 
 pub mod ask;
+pub mod choice;
 pub mod commands;
 mod digits;
 pub mod failures;
@@ -15,6 +16,8 @@ mod lines;
 pub mod looped;
 pub mod output;
 pub mod pqf;
+mod progress;
+pub mod records;
 pub mod run;
 mod search;
 pub mod serve;

@@ -102,5 +102,5 @@ fn loop_arranged<'a, N: Net>(
         settings,
         targets.into_vec(),
     )?;
-    Ok(Finished::new(alloc, meta, names, mode)?)
+    Ok(Finished::new(alloc, meta, names, Vec::new(alloc), mode)?)
 }

@@ -115,5 +115,10 @@ fn run_arranged(alloc: Global, arrangement: Arrangement, mode: Mode) -> Result<F
         mode,
         &mut list,
     )?;
-    Ok(Finished { meta, names, list })
+    Ok(Finished {
+        meta,
+        names,
+        addresses: Vec::new(alloc),
+        list,
+    })
 }

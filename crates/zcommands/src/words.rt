@@ -4,7 +4,8 @@ ghost use Rattle.std.specs.Prelude.{◌≡◌, IfOk, IfSome, codes};
 ghost use Rattle.clap.specs.Words.{kind_of, found_of};
 ghost use Rattle.clap.specs.declared.error.kind.ErrorKind.TheVariants.{InvalidValue};
 ghost use Rattle.zcommands.specs.Devices.{held};
-ghost use Rattle.zcommands.specs.Words.{Asks, HasMode, TellsWords};
+ghost use Rattle.zcommands.specs.Files.{texts_of};
+ghost use Rattle.zcommands.specs.Words.{Asks, GivesAny, HasMode, TellsWords};
 
 use crate::fault::{Fault, Status};
 use crate::output::Output;
@@ -35,10 +36,21 @@ pub enum Words<'a> {
         saved: Option<&'a str>,
         mode: Mode,
     },
-    /// Print the list of what the hosts of a world file answer over TCP, and save what is known then, if it is to be.
+    /// Write the records that saved files know together: of one syntax, or of any, and of places that have several none
+    /// or all.
+    Records {
+        first: &'a str,
+        others: Vec<&'a str>,
+        syntax: Option<&'a str>,
+        conflicts: bool,
+    },
+    /// Print the list of what the hosts of a world file answer over TCP, asked at once or one after the other, of
+    /// questions of these names or of all, and save what is known then, if it is to be.
     Ask {
         world: &'a str,
         saved: Option<&'a str>,
+        at_once: bool,
+        only: Vec<&'a str>,
         mode: Mode,
     },
     /// As `Run`, over TCP on 127.0.0.1 and without moves.
@@ -56,6 +68,59 @@ pub enum Words<'a> {
     },
 }
 
+/// An option that a command may be given.
+#[derive(Clone, Copy)]
+struct Extra {
+    id: &'static str,
+    help: &'static str,
+    /// The name that help gives its value, where it has one.
+    value: Option<&'static str>,
+    /// Whether it may be given more than once.
+    is_many: bool,
+}
+
+const HEX: Extra = Extra {
+    id: "hex",
+    help: "Prints the octets of records in hexadecimal",
+    value: None,
+    is_many: false,
+};
+
+const SAVE: Extra = Extra {
+    id: "save",
+    help: "Saves what was brought, in the file OUT",
+    value: Some("OUT"),
+    is_many: false,
+};
+
+const AT_ONCE: Extra = Extra {
+    id: "at-once",
+    help: "Asks all catalogues at once, and not one after the other",
+    value: None,
+    is_many: false,
+};
+
+const ONLY: Extra = Extra {
+    id: "only",
+    help: "Asks just the question of this name; may be given several times",
+    value: Some("NAME"),
+    is_many: true,
+};
+
+const SYNTAX: Extra = Extra {
+    id: "syntax",
+    help: "Writes just the records of this record syntax",
+    value: Some("OID"),
+    is_many: false,
+};
+
+const CONFLICTS: Extra = Extra {
+    id: "conflicts",
+    help: "Writes all records of a place for which several are known",
+    value: None,
+    is_many: false,
+};
+
 /// The most connections that one command serves.
 const MOST_CONNECTIONS: i64 = 1_000_000;
 
@@ -66,8 +131,7 @@ struct Form {
     about: &'static str,
     example: &'static str,
     wants: &'static [Word],
-    has_hex: bool,
-    has_save: bool,
+    may: &'static [Extra],
 }
 
 /// A word that a command wants, under the name that help gives it.
@@ -81,6 +145,8 @@ struct Word {
     is_count: bool,
     /// Whether more than one may be given.
     is_many: bool,
+    /// Whether one has to be given.
+    is_needed: bool,
 }
 
 const ABOUT: &str = "Asks library catalogues over Z39.50, and shows what they answer";
@@ -107,8 +173,7 @@ Example, the message with which a catalogue ends a session:
 prints
   close - 0",
     wants: &[],
-    has_hex: false,
-    has_save: false,
+    may: &[],
 };
 
 const PQF: Form = Form {
@@ -127,9 +192,9 @@ prints first
         has_hyphen: true,
         is_count: false,
         is_many: false,
+        is_needed: true,
     }],
-    has_hex: false,
-    has_save: false,
+    may: &[],
 };
 
 const JOIN: Form = Form {
@@ -151,6 +216,7 @@ prints lines as
             has_hyphen: false,
             is_count: false,
             is_many: false,
+            is_needed: true,
         },
         Word {
             id: "B",
@@ -158,10 +224,43 @@ prints lines as
             has_hyphen: false,
             is_count: false,
             is_many: true,
+            is_needed: true,
         },
     ],
-    has_hex: true,
-    has_save: false,
+    may: &[HEX],
+};
+
+const RECORDS: Form = Form {
+    name: "records",
+    about: "Writes the records that searches of the same catalogues brought",
+    example: "A and each B are saved files, of the same catalogues in the same order; one is enough.
+Writes the octets of the records, one after the other in the order of the list of 'zmeta join',
+as cataloguing tools read them. Where several records are known for one place, all of these are
+left out, or none with --conflicts. What is left out is told on standard error: such places,
+diagnostics that stand for records, and records that have no octets of their own.
+
+Example, the MARC 21 records that a search brought:
+  zmeta ask --save books.saved catalogues
+  zmeta records --syntax 1.2.840.10003.5.10 books.saved > books.mrc",
+    wants: &[
+        Word {
+            id: "A",
+            help: "A file of what one search brought",
+            has_hyphen: false,
+            is_count: false,
+            is_many: false,
+            is_needed: true,
+        },
+        Word {
+            id: "B",
+            help: "Files of what other searches brought",
+            has_hyphen: false,
+            is_count: false,
+            is_many: true,
+            is_needed: false,
+        },
+    ],
+    may: &[SYNTAX, CONFLICTS],
 };
 
 const RUN: Form = Form {
@@ -190,9 +289,9 @@ prints lines as
         has_hyphen: false,
         is_count: false,
         is_many: false,
+        is_needed: true,
     }],
-    has_hex: true,
-    has_save: true,
+    may: &[HEX, SAVE],
 };
 
 const ASK: Form = Form {
@@ -205,12 +304,14 @@ const ASK: Form = Form {
                               SYNTAX may be -; WANT is a number, or as 1-3,10-12
 Connects to all of them, asks each, and prints one list of all that they answer. A catalogue that
 cannot be reached, or is silent for 30 seconds, is told of, and the others are listed: status 1.
+With --at-once no catalogue waits for another. With --only just the questions of these names are
+asked, so that saved files of parts can be joined; status 3 where there is no such question.
 
 Example, a file with the two lines
   host loc lx2.loc.gov:210
   ask loc LCDB 1.2.840.10003.5.10 5 \"@attr 1=4 dune\"
 is asked by
-  zmeta ask catalogues
+  zmeta ask --at-once catalogues
 and prints lines as
   target \"loc\" set 1 count 2
   1 \"loc\" 1 rec 1.2.840.10003.5.10 \"LCDB\" \"first record\"",
@@ -220,9 +321,9 @@ and prints lines as
         has_hyphen: false,
         is_count: false,
         is_many: false,
+        is_needed: true,
     }],
-    has_hex: true,
-    has_save: true,
+    may: &[AT_ONCE, ONLY, HEX, SAVE],
 };
 
 const SERVE: Form = Form {
@@ -241,6 +342,7 @@ Example, one client asks the catalogue of a city library:
             has_hyphen: false,
             is_count: false,
             is_many: false,
+            is_needed: true,
         },
         Word {
             id: "NAME",
@@ -248,6 +350,7 @@ Example, one client asks the catalogue of a city library:
             has_hyphen: false,
             is_count: false,
             is_many: false,
+            is_needed: true,
         },
         Word {
             id: "FILE",
@@ -255,6 +358,7 @@ Example, one client asks the catalogue of a city library:
             has_hyphen: false,
             is_count: false,
             is_many: false,
+            is_needed: true,
         },
         Word {
             id: "N",
@@ -262,10 +366,10 @@ Example, one client asks the catalogue of a city library:
             has_hyphen: false,
             is_count: true,
             is_many: false,
+            is_needed: true,
         },
     ],
-    has_hex: false,
-    has_save: false,
+    may: &[],
 };
 
 const LOOP: Form = Form {
@@ -287,17 +391,17 @@ prints lines as
         has_hyphen: false,
         is_count: false,
         is_many: false,
+        is_needed: true,
     }],
-    has_hex: true,
-    has_save: true,
+    may: &[HEX, SAVE],
 };
 
-const FORMS: [Form; 7] = [ASK, RUN, LOOP, JOIN, SERVE, SHOW, PQF];
+const FORMS: [Form; 8] = [ASK, RUN, LOOP, JOIN, RECORDS, SERVE, SHOW, PQF];
 
 fn argument(alloc: Global, word: &Word) -> Arg<'static> {
     let argument = Arg::new(alloc, word.id)
         .help(word.help)
-        .required(true)
+        .required(word.is_needed)
         .allow_hyphen_values(word.has_hyphen)
         .action(ArgAction::Set);
     if word.is_count {
@@ -309,19 +413,17 @@ fn argument(alloc: Global, word: &Word) -> Arg<'static> {
     }
 }
 
-fn hex_option(alloc: Global) -> Arg<'static> {
-    Arg::new(alloc, "hex")
-        .long("hex")
-        .help("Prints the octets of records in hexadecimal")
-        .action(ArgAction::SetTrue)
-}
-
-fn save_option(alloc: Global) -> Arg<'static> {
-    Arg::new(alloc, "save")
-        .long("save")
-        .value_name("OUT")
-        .help("Saves what was brought in the file OUT")
-        .action(ArgAction::Set)
+fn option(alloc: Global, extra: &Extra) -> Arg<'static> {
+    let option = Arg::new(alloc, extra.id).long(extra.id).help(extra.help);
+    let Some(value) = extra.value else {
+        return option.action(ArgAction::SetTrue);
+    };
+    let option = option.value_name(value);
+    if extra.is_many {
+        option.action(ArgAction::Append)
+    } else {
+        option.action(ArgAction::Set)
+    }
 }
 
 fn subcommand<'a>(alloc: Global, form: &Form) -> Result<Command<'a>, AllocError> {
@@ -331,11 +433,8 @@ fn subcommand<'a>(alloc: Global, form: &Form) -> Result<Command<'a>, AllocError>
     for word in form.wants {
         command = command.arg(argument(alloc, word))?;
     }
-    if form.has_hex {
-        command = command.arg(hex_option(alloc))?;
-    }
-    if form.has_save {
-        command = command.arg(save_option(alloc))?;
+    for extra in form.may {
+        command = command.arg(option(alloc, extra))?;
     }
     Ok(command)
 }
@@ -373,10 +472,27 @@ fn words_of<'a>(
 ) -> Result<Option<Words<'a>>, AllocError>
     ensures asks { IfOk result (λ words. IfSome words (Asks name.now (found_of found.now))) }
 {
-    if name == "join" {
-        return joins_of(alloc, found);
+    match name {
+        "join" => joins_of(alloc, found),
+        "records" => records_of(alloc, found),
+        "ask" => asks_of(alloc, found),
+        _ => Ok(single_of(name, found)),
     }
-    Ok(single_of(name, found))
+}
+
+/// The values of an argument, in their order: none, where it is not given.
+fn values_of<'a>(
+    alloc: Global,
+    found: &ArgMatches<'a>,
+    id: &str,
+) -> Result<Vec<&'a str>, AllocError>
+    ensures { IfOk result (λ values. GivesAny (found_of found.now) id.now (texts_of values.items)) }
+{
+    let mut values = Vec::new(alloc);
+    if let Some(given) = found.get_strs(id) {
+        values.extend_from_slice(given)?;
+    }
+    Ok(values)
 }
 
 /// What `join` asks for: files, the first and the others.
@@ -386,11 +502,7 @@ fn joins_of<'a>(alloc: Global, found: &ArgMatches<'a>) -> Result<Option<Words<'a
     let Some(first) = found.get_str("A") else {
         return Ok(None);
     };
-    let Some(values) = found.get_strs("B") else {
-        return Ok(None);
-    };
-    let mut others = Vec::new(alloc);
-    others.extend_from_slice(values)?;
+    let others = values_of(alloc, found, "B")?;
     Ok(Some(Words::Join {
         first,
         others,
@@ -398,7 +510,40 @@ fn joins_of<'a>(alloc: Global, found: &ArgMatches<'a>) -> Result<Option<Words<'a
     }))
 }
 
-/// What a command asks for that wants a fixed number of words.
+/// What `records` asks for: files, and which records.
+fn records_of<'a>(alloc: Global, found: &ArgMatches<'a>) -> Result<Option<Words<'a>>, AllocError>
+    ensures asks { IfOk result (λ words. IfSome words (Asks (codes "records") (found_of found.now))) }
+{
+    let Some(first) = found.get_str("A") else {
+        return Ok(None);
+    };
+    let others = values_of(alloc, found, "B")?;
+    Ok(Some(Words::Records {
+        first,
+        others,
+        syntax: found.get_str("syntax"),
+        conflicts: found.get_flag("conflicts"),
+    }))
+}
+
+/// What `ask` asks for: a world file, and which of its questions how.
+fn asks_of<'a>(alloc: Global, found: &ArgMatches<'a>) -> Result<Option<Words<'a>>, AllocError>
+    ensures asks { IfOk result (λ words. IfSome words (Asks (codes "ask") (found_of found.now))) }
+{
+    let Some(world) = found.get_str("FILE") else {
+        return Ok(None);
+    };
+    let only = values_of(alloc, found, "only")?;
+    Ok(Some(Words::Ask {
+        world,
+        saved: found.get_str("save"),
+        at_once: found.get_flag("at-once"),
+        only,
+        mode: mode_of(found),
+    }))
+}
+
+/// What a command asks for that takes a fixed number of words.
 fn single_of<'a>(name: &str, found: &ArgMatches<'a>) -> Option<Words<'a>>
     ensures asks { IfSome result (Asks name.now (found_of found.now)) }
 {
@@ -408,11 +553,6 @@ fn single_of<'a>(name: &str, found: &ArgMatches<'a>) -> Option<Words<'a>>
             text: found.get_str("TEXT")?,
         }),
         "run" => Some(Words::Run {
-            world: found.get_str("FILE")?,
-            saved: found.get_str("save"),
-            mode: mode_of(found),
-        }),
-        "ask" => Some(Words::Ask {
             world: found.get_str("FILE")?,
             saved: found.get_str("save"),
             mode: mode_of(found),

@@ -1,4 +1,4 @@
-//! What is known of the targets' result sets: facts, joins, the printed list and the saved file.
+//! What is known of the targets' result sets: facts, joins, the printed list and its rows, and the saved file.
 #![tactic(auto)]
 
 mod encoding;
@@ -16,3 +16,4 @@ pub use list::print_list;
 pub use saved::loading::{LoadError, load};
 pub use saved::saving::{SaveError, save};
 pub use tables::join::Join;
+pub use tables::keys::RowKey;

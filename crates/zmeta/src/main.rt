@@ -5,7 +5,7 @@ ghost use Rattle.std.specs.Prelude.{◌≡◌};
 ghost use Rattle.std.specs.Process.{exit_status};
 ghost use Rattle.zcommands.specs.Faults.{code_of};
 
-use std::io::ErrorKind;
+use std::io::{ErrorKind, IsTerminal, Stderr};
 use std::process::ExitCode;
 use std::{env, io};
 use zcommands::commands::run;
@@ -22,7 +22,26 @@ fn main(rt: HostRuntime) -> ExitCode {
         Ok(words) => Ok(words.as_slice()),
         Err(error) => Err(error.kind()),
     };
-    exit_of(run(rt.alloc(), &rt, given, &mut input, &mut output, &mut errors))
+    let screen = screen_of(&rt);
+    exit_of(run(
+        rt.alloc(),
+        &rt,
+        given,
+        &mut input,
+        &mut output,
+        &mut errors,
+        screen,
+    ))
+}
+
+/// Standard error, where it is a terminal.
+fn screen_of(rt: &HostRuntime) -> Option<Stderr> {
+    let errors = rt.stderr();
+    if errors.is_terminal() {
+        Some(errors)
+    } else {
+        None
+    }
 }
 
 /// The words of the command line.

@@ -1,1 +1,4 @@
-pub mod Asking
+pub mod Alike
+pub mod Openings
+pub mod InTurn
+pub mod AtOnce

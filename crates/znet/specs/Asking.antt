@@ -1,6 +1,6 @@
 -- Connections that are asked over sockets: how the deeds of each follow one another, and that each is over
 -- (Z39.50-2003, 3.2).
-use Rattle.std.specs.Prelude.{◌≡◌, ℕ, ◌+◌, ◌<◌, ◌≤◌, Bool, true, false, List, [], ◌∷◌, ◌++◌, length, Option}
+use Rattle.std.specs.Prelude.{◌≡◌, ℕ, ◌<◌, ◌≤◌, Bool, true, false, List, [], ◌∷◌, ◌++◌, length, Option}
 use Rattle.std.specs.Option.{is_some}
 use Rattle.zorigin.specs.Standings.{Call}
 use Rattle.zoom.specs.declared.question.Question.{Question}
@@ -10,7 +10,12 @@ use Rattle.zoom.specs.declared.state.Reason.TheVariants as reasons
 use Rattle.zoom.specs.Heard.{Gives, Stops}
 use Rattle.zoom.specs.History.{History, only}
 use Rattle.zoom.specs.Metas.{MetaLinks, MetaAfter, made}
-use Rattle.ztalk.specs.Talks.{Stage, Listening, Waiting, Over, Ended, Follows, IsIdle, IsStoppedAt}
+use Rattle.ztalk.specs.Among.{ends_at}
+use Rattle.ztalk.specs.Talks.{Stage, Listening, Waiting, Ended, Follows, IsIdle, IsStoppedAt}
+
+-- whether there is something of a connection
+abbrev pub has : {A : Type 0} → List (Option A) → ℕ → Bool
+has xs c = is_some (ends_at xs c)
 
 -- ---- the deeds of one connection
 
@@ -24,56 +29,60 @@ pub data Opening (questions : List Question) (s : MetaSettings) (c : ℕ) (h : H
   unsent : (calls : List Call) (octets : List ℕ) → IsIdle questions s c (made c calls ++ h)
       → Opening questions s c h ((c, Stops reasons.Write) ∷ (c, Gives octets) ∷ made c calls) false
 
--- at which stage of a talk, after how many reads, a connection is stopped for which reason
-abbrev pub StopsFor : Stage → ℕ → Reason → Type 0
-StopsFor Listening reads reasons.Write = Unit {0}
-StopsFor Waiting reads reasons.Read = Unit {0}
-StopsFor Waiting reads reasons.Turns = reads ≡ 1000000
-StopsFor Ended reads reasons.Ended = Unit {0}
-StopsFor _ reads reason = ⊥
+-- after how many reads a talk may be stopped for `Turns`: one alone; one that goes on among others at once, whose source
+-- may have had nothing yet at the other polls
+abbrev pub TurnsOut : Bool → ℕ → Type 0
+TurnsOut false reads = reads ≡ 1000000
+TurnsOut true reads = reads ≤ 1000000000
+
+-- at which stage of a talk, alone or at once, after how many reads, a connection is stopped for which reason
+abbrev pub StopsFor : Bool → Stage → ℕ → Reason → Type 0
+StopsFor at_once Listening reads reasons.Write = Unit {0}
+StopsFor at_once Waiting reads reasons.Read = Unit {0}
+StopsFor at_once Waiting reads reasons.Turns = TurnsOut at_once reads
+StopsFor at_once Ended reads reasons.Ended = Unit {0}
+StopsFor at_once _ reads reason = ⊥
 
 -- A talk to its end: the connection is then over by itself, or stopped.
-pub data Talking (questions : List Question) (s : MetaSettings) (c : ℕ) (h : History) : History → Type 0 where
+pub data Talking (questions : List Question) (s : MetaSettings) (at_once : Bool) (c : ℕ) (h : History)
+    : History → Type 0 where
   ends_itself : {more : History} {read written : List ℕ} {reads : ℕ} {stage : Stage}
       → Follows questions s c h more read written reads stage → IsStoppedAt s c (more ++ h)
-      → Talking questions s c h more
+      → Talking questions s at_once c h more
   is_stopped : {more : History} {read written : List ℕ} {reads : ℕ} {stage : Stage} (reason : Reason)
-      → Follows questions s c h more read written reads stage → StopsFor stage reads reason
-      → Talking questions s c h ((c, Stops reason) ∷ more)
+      → Follows questions s c h more read written reads stage → StopsFor at_once stage reads reason
+      → Talking questions s at_once c h ((c, Stops reason) ∷ more)
 
 -- the host is talked with, where it can be
-abbrev pub TalksIf : List Question → MetaSettings → ℕ → History → Bool → History → Type 0
-TalksIf questions s c h true more = Talking questions s c h more
-TalksIf questions s c h false more = more ≡ []
+abbrev pub TalksIf : List Question → MetaSettings → Bool → ℕ → History → Bool → History → Type 0
+TalksIf questions s at_once c h true more = Talking questions s at_once c h more
+TalksIf questions s at_once c h false more = more ≡ []
 
--- ---- within a history
-
--- the way to the host of a connection was opened, and nothing else befell the connection
-pub record IsOpened (questions : List Question) (s : MetaSettings) (c : ℕ) (reached : Bool) (h : History) : Type 0 where
-  pub later : History
-  pub more : History
-  pub before : History
-  pub splits : h ≡ later ++ (more ++ before)
-  pub opening : Opening questions s c before more reached
-  pub first : only c before ≡ []
-  pub last : only c later ≡ []
+-- ---- among the deeds of the others
 
 -- The way to its host was opened, the host was then talked with, where it can be, and nothing else befell the
 -- connection, which is over.
-pub record IsTalkedOut (questions : List Question) (s : MetaSettings) (c : ℕ) (h : History) : Type 0 where
-  pub later : History
-  pub more : History
-  pub before : History
-  pub splits : h ≡ later ++ (more ++ before)
+pub record IsTalkedOut (questions : List Question) (s : MetaSettings) (at_once : Bool) (c : ℕ) (h : History)
+    : Type 0 where
+  pub opened : History
   pub reached : Bool
-  pub opened : IsOpened questions s c reached before
-  pub talked : TalksIf questions s c before reached more
-  pub last : only c later ≡ []
+  pub opening : Opening questions s c [] opened reached
+  pub more : History
+  pub talked : TalksIf questions s at_once c opened reached more
+  pub mine : only c h ≡ only c (more ++ opened)
   pub over : IsStoppedAt s c h
 
--- Some history left the connections, in which each was opened and its host talked with, where there is a way to it; and
--- each is Closed or Failed.
-pub record IsAsked (questions : List Question) (s : MetaSettings) (meta : MetaLinks) : Type 0 where
+-- nothing befell a connection that was not chosen
+abbrev pub IsTalkedOutIf : Bool → List Question → MetaSettings → Bool → ℕ → History → Type 0
+IsTalkedOutIf true questions s at_once c h = IsTalkedOut questions s at_once c h
+IsTalkedOutIf false questions s at_once c h = only c h ≡ []
+
+-- Some history left the connections, in which the way to the host of each that is chosen was opened and the host talked
+-- with, one alone after the other or all at once, where there is a way to it; each of these is Closed or Failed, and
+-- nothing befell the others.
+pub record IsAsked
+    (questions : List Question) (s : MetaSettings) (at_once : Bool) (chosen : ℕ → Bool) (meta : MetaLinks)
+    : Type 0 where
   pub history : History
   pub after : MetaAfter questions s history meta
-  pub each : (c : ℕ) → c < length questions → IsTalkedOut questions s c history
+  pub each : (c : ℕ) → c < length questions → IsTalkedOutIf (chosen c) questions s at_once c history

@@ -1,12 +1,11 @@
 -- What the steps of asking do, each for every history that can have left the connections.
-use Rattle.std.specs.Prelude.{◌≡◌, ℕ, ◌+◌, ◌<◌, ◌≤◌, Bool, true, List, [], ◌∷◌, ◌++◌, length, Option}
-use Rattle.std.specs.Option.{is_some}
+use Rattle.std.specs.Prelude.{◌≡◌, ℕ, ◌<◌, ◌≤◌, Bool, true, false, List, [], ◌++◌, length, Option}
 use Rattle.zoom.specs.declared.question.Question.{Question}
 use Rattle.zoom.specs.declared.question.MetaSettings.{MetaSettings}
 use Rattle.zoom.specs.History.{History, only}
 use Rattle.zoom.specs.Metas.{MetaLinks, MetaAfter}
 use Rattle.ztalk.specs.Talks.{IsStoppedAt}
-use Rattle.znet.specs.Asking.{Opening, TalksIf, IsOpened, IsTalkedOut}
+use Rattle.znet.specs.Asking.{has, Opening, TalksIf, IsTalkedOutIf}
 
 -- ---- one connection
 
@@ -22,11 +21,16 @@ pub record Opens (c : ℕ) (reached : Bool) (old new : MetaLinks) : Type 0 where
   pub on : (questions : List Question) (s : MetaSettings) (h : History)
       → MetaAfter questions s h old → Opened questions s c h reached new
 
+-- where it is chosen
+abbrev pub OpensIf : Bool → ℕ → Bool → MetaLinks → MetaLinks → Type 0
+OpensIf true c reached old new = Opens c reached old new
+OpensIf false c reached old new = (reached ≡ false) × (new ≡ old)
+
 pub record TalkedOut
     (questions : List Question) (s : MetaSettings) (c : ℕ) (h : History) (reached : Bool) (new : MetaLinks)
     : Type 0 where
   pub more : History
-  pub talked : TalksIf questions s c h reached more
+  pub talked : TalksIf questions s false c h reached more
   pub after : MetaAfter questions s (more ++ h) new
   pub over : reached ≡ true → IsStoppedAt s c (more ++ h)
 
@@ -35,39 +39,46 @@ pub record TalksOut (c : ℕ) (reached : Bool) (old new : MetaLinks) : Type 0 wh
   pub on : (questions : List Question) (s : MetaSettings) (h : History)
       → MetaAfter questions s h old → TalkedOut questions s c h reached new
 
--- ---- all of them
+-- ---- among the deeds of the others
 
--- the ways to the hosts of the connections from this number on were opened; those are reached for which there is a line
-abbrev pub AreOpened : {A : Type 0} → List Question → MetaSettings → ℕ → List (Option A) → History → Type 0
-AreOpened questions s c [] h = Unit {0}
-AreOpened questions s c (line ∷ lines) h =
-    IsOpened questions s c (is_some line) h × AreOpened questions s (c + 1) lines h
+-- the way to the host of a connection was opened, and nothing else befell the connection
+pub record IsOpened (questions : List Question) (s : MetaSettings) (c : ℕ) (reached : Bool) (h : History)
+    : Type 0 where
+  pub more : History
+  pub opening : Opening questions s c [] more reached
+  pub mine : only c h ≡ only c more
 
--- the ways to the first hosts were opened, and nothing befell the other connections
+-- where it was chosen
+abbrev pub IsOpenedIf : Bool → List Question → MetaSettings → ℕ → Bool → History → Type 0
+IsOpenedIf true questions s c reached h = IsOpened questions s c reached h
+IsOpenedIf false questions s c reached h = (reached ≡ false) × (only c h ≡ [])
+
+-- The ways to the first hosts, of those that are chosen, were opened; those are reached for which there is a line; and
+-- nothing befell the other connections.
 pub record AllOpened {A : Type 0}
-    (questions : List Question) (s : MetaSettings) (lines : List (Option A)) (new : MetaLinks)
+    (questions : List Question) (s : MetaSettings) (chosen : ℕ → Bool) (lines : List (Option A)) (new : MetaLinks)
     : Type 0 where
   pub history : History
   pub after : MetaAfter questions s history new
-  pub opened : AreOpened questions s 0 lines history
+  pub opened : (c : ℕ) → c < length lines → IsOpenedIf (chosen c) questions s c (has lines c) history
   pub others : (c : ℕ) → length lines ≤ c → only c history ≡ []
 
 -- after no deed
-pub record OpensAll {A : Type 0} (lines : List (Option A)) (old new : MetaLinks) : Type 0 where
+pub record OpensAll {A : Type 0} (chosen : ℕ → Bool) (lines : List (Option A)) (old new : MetaLinks) : Type 0 where
   pub on : (questions : List Question) (s : MetaSettings)
-      → MetaAfter questions s [] old → AllOpened questions s lines new
+      → MetaAfter questions s [] old → AllOpened questions s chosen lines new
 
--- the first so many hosts were talked with, and the ways to the others were opened
+-- the first so many hosts were talked with, and the ways to the others were opened, of those that are chosen
 pub record AllTalkedOut {A : Type 0}
-    (questions : List Question) (s : MetaSettings) (n : ℕ) (left : List (Option A)) (new : MetaLinks)
+    (questions : List Question) (s : MetaSettings) (chosen : ℕ → Bool) (lines : List (Option A)) (n : ℕ)
+    (new : MetaLinks)
     : Type 0 where
   pub history : History
   pub after : MetaAfter questions s history new
-  pub opened : AreOpened questions s n left history
-  pub talked : (c : ℕ) → c < n → IsTalkedOut questions s c history
+  pub talked : (c : ℕ) → c < n → IsTalkedOutIf (chosen c) questions s false c history
+  pub opened : (c : ℕ) → n ≤ c → c < length lines → IsOpenedIf (chosen c) questions s c (has lines c) history
 
 -- after their ways were opened
-pub record TalksAllOut {A : Type 0} (lines : List (Option A)) (n : ℕ) (left : List (Option A)) (old new : MetaLinks)
-    : Type 0 where
-  pub on : (questions : List Question) (s : MetaSettings)
-      → AllOpened questions s lines old → AllTalkedOut questions s n left new
+pub record TalksAllOut {A : Type 0} (lines : List (Option A)) (n : ℕ) (old new : MetaLinks) : Type 0 where
+  pub on : (questions : List Question) (s : MetaSettings) (chosen : ℕ → Bool)
+      → AllOpened questions s chosen lines old → AllTalkedOut questions s chosen lines n new

@@ -1,12 +1,16 @@
 //! Connections to catalogues over TCP, and catalogues that are served over it, with time limits.
 #![tactic(auto)]
 
-mod hosts;
+mod at_once;
+mod in_turn;
 mod line;
 mod loopback;
+mod opening;
+mod polling;
 mod service;
 
-pub use hosts::ask;
+pub use at_once::ask_at_once;
+pub use in_turn::ask;
 pub use line::Line;
 pub use loopback::run_loopback;
 pub use service::{ServeError, serve};

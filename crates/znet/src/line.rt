@@ -18,15 +18,15 @@ pub const HOUR: u64 = 3600;
 pub struct Timed<'a, C, S> {
     clock: &'a C,
     begun: Instant,
-    stream: S,
+    pub(crate) stream: S,
 }
 
 impl<'a, C: Clock, S> Timed<'a, C, S> {
-    /// An error where the time is up, or the clock fails.
-    fn check(&self) -> io::Result<()> {
-        let taken = self.begun.elapsed(self.clock)?;
-        if taken < Duration::from_secs(HOUR) {
-            Ok(())
+    /// The time, or an error where that of the conversation is up, or the clock fails.
+    pub(crate) fn now(&self) -> io::Result<Instant> {
+        let now = Instant::now(self.clock)?;
+        if now.duration_since(self.begun) < Duration::from_secs(HOUR) {
+            Ok(now)
         } else {
             Err(io::Error::from(ErrorKind::TimedOut))
         }
@@ -35,14 +35,14 @@ impl<'a, C: Clock, S> Timed<'a, C, S> {
 
 impl<'a, C: Clock, S: Read> Read for Timed<'a, C, S> {
     fn read(&mut self, buf: &mut [u8]) -> io::Result<usize> {
-        self.check()?;
+        self.now()?;
         self.stream.read(buf)
     }
 }
 
 impl<'a, C: Clock, S: Write> Write for Timed<'a, C, S> {
     fn write(&mut self, buf: &[u8]) -> io::Result<usize> {
-        self.check()?;
+        self.now()?;
         self.stream.write(buf)
     }
 

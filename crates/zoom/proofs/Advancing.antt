@@ -8,34 +8,33 @@ use Rattle.std.proofs.lemmas.Bool.Decides.{nat_tests}
 use Rattle.std.proofs.Math.ListN.{length-set}
 use Rattle.zapdu.specs.declared.apdu.Apdu.{Apdu}
 use Rattle.zorigin.specs.declared.settings.Settings.{Settings}
-use Rattle.zorigin.specs.declared.answer.Sent.{Sent}
 use Rattle.zorigin.specs.declared.refusal.CallRefused.{CallRefused}
 use Rattle.zorigin.specs.declared.refusal.CallRefused.TheVariants as calls
 use Rattle.zorigin.specs.Standings.{Call, Standing}
 use Rattle.zorigin.specs.Calls.{refusal, call_answer, answer_by}
 use Rattle.zorigin.specs.Sending.{request_of, sent_of}
 use Rattle.zorigin.specs.Laws.{IsSent}
-use Rattle.zorigin.specs.Log.{Log, Made, Past, past, standing, state_of, admit_unless, IsCalled}
+use Rattle.zorigin.specs.Log.{Log, Made, Past, past, standing, state_of, admit_unless}
 use Rattle.zoom.specs.declared.question.Question.{Question}
 use Rattle.zoom.specs.declared.question.MetaSettings.{MetaSettings}
 use Rattle.zoom.specs.declared.state.State.{State}
 use Rattle.zoom.specs.declared.call.Call.{Call as RustCall}
 use Rattle.zoom.specs.CallsOf.{call_of}
 use Rattle.zoom.specs.States.{state_as, or_else, is_stopped}
-use Rattle.zoom.specs.Heard.{Heard, HasHeard, Hears, Deed, Calls, hears_call, called_as, dropped, past_of, state_at}
+use Rattle.zoom.specs.Heard.{Heard, HasHeard, Deed, Calls, hears_call, called_as, dropped, past_of, state_at}
 use Rattle.zoom.specs.Links.{Link, Links}
-use Rattle.zoom.specs.History.{History, only, Stands, After, AfterUpTo}
+use Rattle.zoom.specs.History.{History, only, After}
 use Rattle.zoom.specs.Befalling.{Befell, IsStateAt, IsCallAnswer, IsPoolFinished}
-use Rattle.zoom.specs.Laws.{OneHearing, UpToLaw}
-use Rattle.zoom.specs.Steering.{Errand, errand_of, IsNextCall}
+use Rattle.zoom.specs.Laws.{OneHearing}
+use Rattle.zoom.specs.Steering.{Errand, errand_of}
 use Rattle.zoom.specs.Drivers.{DriverState, IsDriver, Stays, Offers, GivesNext, KnowsSent, KnowsRefused}
-use Rattle.zoom.specs.Metas.{MetaLinks, settings_of, AreDriven, MetaAfter, made, NoneIsNext, IsRefusedNext, Progress, Drives}
+use Rattle.zoom.specs.Metas.{MetaLinks, settings_of, AreDriven, MetaAfter, made, IsRefusedNext, Progress, Drives}
 use Rattle.zoom.specs.Metas.{left_of, left_at, Gave, AdvancesBy, AdvancesTo, IssuesTo, DrivesTo}
 use Rattle.zoom.specs.Metas.{Tells, is_skipped, is_complete, IsFinished}
 use Rattle.zoom.specs.declared.meta.Turn.{Turn}
 use Rattle.zoom.specs.declared.meta.Turn.TheVariants as turns
-use Rattle.zoom.proofs.Pools.{only_same, only_other, after_up_to}
-use Rattle.zoom.proofs.Metas.{goes, driven_more, known_still, heard_at, get_same, get_other, got_driver, slice_some}
+use Rattle.zoom.proofs.Pools.{only_same, after_up_to}
+use Rattle.zoom.proofs.Metas.{goes, driven_more, heard_at, get_same, get_other, got_driver, slice_some}
 
 -- ---- calls as deeds
 

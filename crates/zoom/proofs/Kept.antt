@@ -1,25 +1,23 @@
 -- What drives a connection still knows its log, once an entry more came.
-use Rattle.std.proofs.Common.{◌≡◌, ◌⊎◌, inl, inr, ℕ, zero, suc, ◌+◌, ◌-◌, ◌<◌, ◌≤◌, Bool, true, false, cond, not, List, [], ◌∷◌, ◌++◌, map, length, Option, None, Some, Result, Ok, Err, refl, sym, ap, subst, ◌∙◌, arith, true≢false}
+use Rattle.std.proofs.Common.{◌≡◌, ◌⊎◌, inl, inr, ℕ, ◌+◌, ◌-◌, ◌<◌, ◌≤◌, Bool, true, false, cond, not, List, [], ◌∷◌, ◌++◌, map, length, Option, None, Some, Ok, Err, refl, sym, ap, subst, ◌∙◌, arith, true≢false}
 use Rattle.std.specs.Prelude.{◌||◌, ◌&&◌, is_none}
-use Rattle.std.specs.List.{list_any, find}
+use Rattle.std.specs.List.{list_any}
 use Rattle.zapdu.specs.declared.apdu.Apdu.{Apdu}
 use Rattle.zplan.specs.Plan as plan
-use Rattle.zplan.specs.Plan.{Operation, Event, Sends, Receives, Closes, Opens, Finds, Shows, IsAsked, IsDue, IsDriven, asked_in, replies_in, outstanding_in, start_of, number}
+use Rattle.zplan.specs.Plan.{Operation, Event, Sends, Closes, IsDue, IsDriven, asked_in, replies_in, outstanding_in, start_of, number}
 use Rattle.zplan.specs.Positions.{IsIn, IsFrom, Ascends, IsWanted, first_of, up_to}
-use Rattle.zplan.specs.Agenda.{Agenda, IsAgenda, IsSent, SameAgenda, put_list, whole_agenda}
+use Rattle.zplan.specs.Agenda.{Agenda, IsAgenda, IsSent, SameAgenda, whole_agenda}
 use Rattle.zplan.specs.Laws.{AgendaLaws, NumberLaw}
 use Rattle.zplan.proofs.Order.{sent_asked}
 use Rattle.zorigin.specs.declared.settings.Settings.{Settings}
 use Rattle.zorigin.specs.declared.settings.Ask.{Ask}
 use Rattle.zorigin.specs.declared.range.Range.{Range}
-use Rattle.zorigin.specs.declared.state.State.{State}
-use Rattle.zorigin.specs.declared.answer.Taken.{Taken}
 use Rattle.zorigin.specs.declared.answer.Taken.TheVariants as taken
 use Rattle.zorigin.specs.declared.answer.Answer.{Answer}
 use Rattle.zorigin.specs.declared.refusal.CallRefused.{CallRefused}
 use Rattle.zorigin.specs.declared.refusal.CallRefused.TheVariants as reasons
 use Rattle.zorigin.specs.declared.refusal.Refused.{Refused}
-use Rattle.zorigin.specs.Standings.{is_fresh, is_ready, is_open}
+use Rattle.zorigin.specs.Standings.{is_ready, is_open}
 use Rattle.zorigin.specs.Standings as origin
 use Rattle.zorigin.specs.Ranges.{positions}
 use Rattle.zorigin.specs.Calls.{refusal}
@@ -27,10 +25,10 @@ use Rattle.zorigin.specs.Replies.{verdict}
 use Rattle.zorigin.specs.Log.{Log, Made, Got, Past, past, standing, state_of, state_from, opening, force_after, is_close_call, is_init_call, admit, admit_unless, after_verdict}
 use Rattle.zoom.specs.declared.phase.Phase.{Phase}
 use Rattle.zoom.specs.declared.phase.Phase.TheVariants as phases
-use Rattle.zoom.specs.Driving.{plan_of, events_of, made_event, got_event, can_search, can_present, IsDueEvent, IsDueCall, DrivenLaws}
-use Rattle.zoom.specs.Steering.{Errand, IsOf, IsNextCall, IsSteeredCall, is_skip, may_call, skipped_in, complete_in, is_rejected, room_in}
-use Rattle.zoom.specs.Drivers.{DriverState, IsDriver, IsAt, AtFresh, AtOpening, AtOpened, AtSearching, AtCounted, AtAsking, AtDone, AtClosed, HasOpening, AllAnswered, NoneBegins, BeginApart, events_at, opened_events, searched_events, found_events, left_in, Stays, Offers, IsOffered, IsPrepared, Prepares, IsSamePhase, IsSentAgenda, SendsAt, KnowsSent, KnowsRefused, GoesOn, RefusedLaw, is_search_call, is_skip_reason}
-use Rattle.zoom.proofs.Phases.{unready, unfresh, uncallable, any_last, none_due, length_put, apart_put}
+use Rattle.zoom.specs.Driving.{plan_of, made_event, got_event, can_search, can_present, IsDueEvent, IsDueCall, DrivenLaws}
+use Rattle.zoom.specs.Steering.{Errand, IsNextCall, IsSteeredCall, is_skip, may_call, skipped_in, complete_in, is_rejected, room_in}
+use Rattle.zoom.specs.Drivers.{DriverState, IsDriver, IsAt, AtFresh, AtOpened, AtCounted, AtAsking, AtDone, AtClosed, HasOpening, AllAnswered, NoneBegins, BeginApart, events_at, opened_events, searched_events, found_events, left_in, Stays, Offers, IsPrepared, Prepares, IsSamePhase, IsSentAgenda, SendsAt, KnowsSent, KnowsRefused, RefusedLaw, is_search_call, is_skip_reason}
+use Rattle.zoom.proofs.Phases.{uncallable, any_last, none_due, length_put, apart_put}
 use Rattle.zoom.proofs.Nexts.{room_few}
 
 no_some : {A : Type 0} {x : A} → Some x ≡ None → ⊥

@@ -1,5 +1,5 @@
 -- How much is asked of a connection that is driven follows from its log.
-use Rattle.std.proofs.Common.{◌≡◌, ℕ, zero, suc, List, [], ◌∷◌, length, slice_get, Some, refl, sym}
+use Rattle.std.proofs.Common.{◌≡◌, ℕ, zero, suc, List, [], ◌∷◌, length, slice_get, Some, refl}
 use Rattle.zorigin.specs.Ranges.{positions}
 use Rattle.zoom.specs.declared.question.Question.{Question}
 use Rattle.zoom.specs.Driving.{DrivenLaws}
@@ -10,7 +10,7 @@ use Rattle.zoom.specs.Metas.{settings_of}
 use Rattle.zoom.specs.MetaLaws.{FewRequests, SameList}
 
 -- each question has what drives its connection
-driver_of : (qs : List Question) (ds : List DriverState) (c : ℕ) (q : Question) → length ds ≡ length qs
+pub driver_of : (qs : List Question) (ds : List DriverState) (c : ℕ) (q : Question) → length ds ≡ length qs
     → slice_get qs c ≡ Some q → (d : DriverState) × (slice_get ds c ≡ Some d)
 driver_of [] ds c q e at = absurd (cc)
 driver_of (x ∷ qs) [] c q e at = absurd (cc)

@@ -1,6 +1,6 @@
 -- One event more of connections that are driven.
-use Rattle.std.proofs.Common.{◌≡◌, ◌⊎◌, ◌↔◌, inl, inr, ℕ, zero, suc, ◌+◌, ◌<◌, ◌≤◌, ◌==◌, Bool, true, false, cond}
-use Rattle.std.proofs.Common.{List, [], ◌∷◌, ◌++◌, map, length, slice_get, slice_set, get_or, Option, None, Some}
+use Rattle.std.proofs.Common.{◌≡◌, ◌⊎◌, ◌↔◌, ℕ, zero, suc, ◌+◌, ◌<◌, ◌≤◌, ◌==◌, Bool, true, false, cond}
+use Rattle.std.proofs.Common.{List, [], ◌∷◌, ◌++◌, length, slice_get, slice_set, get_or, Option, None, Some}
 use Rattle.std.proofs.Common.{Result, Ok, Err, refl, sym, ap, subst, ◌∙◌, arith, true≢false}
 use Rattle.std.specs.Prelude.{is_some, ◌||◌}
 use Rattle.std.proofs.lemmas.Bool.Decides.{nat_tests}
@@ -10,11 +10,9 @@ use Rattle.zapdu.specs.declared.apdu.Apdu.{Apdu}
 use Rattle.zorigin.specs.declared.settings.Settings.{Settings}
 use Rattle.zorigin.specs.declared.answer.Taken.{Taken}
 use Rattle.zorigin.specs.declared.refusal.Refused.{Refused}
-use Rattle.zorigin.specs.declared.refusal.CallRefused.{CallRefused}
 use Rattle.zorigin.specs.Standings.{Call}
-use Rattle.zorigin.specs.Calls.{refusal}
 use Rattle.zorigin.specs.Replies.{verdict}
-use Rattle.zorigin.specs.Log.{Log, Made, Got, past, standing, state_of}
+use Rattle.zorigin.specs.Log.{Made, Got, standing, state_of}
 use Rattle.zoom.specs.declared.question.Question.{Question}
 use Rattle.zoom.specs.declared.question.MetaSettings.{MetaSettings}
 use Rattle.zoom.specs.declared.state.State.{State}
@@ -27,9 +25,9 @@ use Rattle.zoom.specs.declared.answer.TakeError.TheVariants as errors
 use Rattle.zoom.specs.States.{state_as, or_else, is_stopped, is_closing}
 use Rattle.zoom.specs.Coming.{Met, Stopped, Message, Foreign, Fault, Rest, Nothing}
 use Rattle.zoom.specs.Heard.{Heard, HasHeard, Hears, Deed, Calls, Feeds, Takes, Ends, Gives, Stops, Meets, take_at, heed}
-use Rattle.zoom.specs.Heard.{hears_call, hears_piece, stop_by, end_by, truncated, past_of, state_at, silence, told_by, told_as, IsDone}
-use Rattle.zoom.specs.Links.{Link, Links}
-use Rattle.zoom.specs.History.{History, only, Stands, After, AfterUpTo}
+use Rattle.zoom.specs.Heard.{hears_call, hears_piece, stop_by, end_by, truncated, past_of, state_at, told_by, told_as, IsDone}
+use Rattle.zoom.specs.Links.{Link}
+use Rattle.zoom.specs.History.{History, only, Stands, After}
 use Rattle.zoom.specs.Steering.{Errand, errand_with, errand_of, IsAskable, AreFit}
 use Rattle.zoom.specs.Drivers.{DriverState, IsDriver, KnowsTold, RefusedLaw}
 use Rattle.zoom.specs.Metas.{MetaLinks, settings_of, AreDriven, MetaAfter, MetaAfterUpTo, MetaTook, MetaKeeps, KnowsTake, LearnsTold, AreAskable, StandFor}

@@ -1,11 +1,11 @@
 -- What drives a connection gives the call that is next, and none where none is.
-use Rattle.std.proofs.Common.{◌≡◌, ◌⊎◌, inl, inr, ℕ, zero, suc, ◌+◌, ◌-◌, ◌<◌, ◌≤◌, Bool, true, false, cond, List, [], ◌∷◌, length, Option, None, Some, refl, sym, ap, subst, ◌∙◌, arith, true≢false}
+use Rattle.std.proofs.Common.{◌≡◌, ◌⊎◌, inl, inr, ℕ, ◌+◌, ◌-◌, ◌<◌, ◌≤◌, Bool, true, false, cond, [], ◌∷◌, Option, None, Some, refl, sym, ap, subst, ◌∙◌, arith, true≢false}
 use Rattle.std.specs.Prelude.{◌||◌, is_none}
 use Rattle.std.specs.List.{list_any}
 use Rattle.zplan.specs.Plan as plan
-use Rattle.zplan.specs.Plan.{Operation, Event, Sends, Receives, Closes, Opens, Finds, Shows, IsAsked, first, search, IsDue, IsDriven, IsNext, asked_in, replies_in, outstanding_in, start_of}
+use Rattle.zplan.specs.Plan.{Operation, Sends, Closes, first, search, IsDue, IsDriven, IsNext, asked_in, outstanding_in, start_of}
 use Rattle.zplan.specs.Positions.{IsIn, IsWanted, first_of}
-use Rattle.zplan.specs.Agenda.{Agenda, IsAgenda}
+use Rattle.zplan.specs.Agenda.{Agenda}
 use Rattle.zplan.specs.Laws.{NextLaws}
 use Rattle.zorigin.specs.declared.settings.Settings.{Settings}
 use Rattle.zorigin.specs.declared.refusal.CallRefused.{CallRefused}
@@ -20,9 +20,9 @@ use Rattle.zoom.specs.declared.phase.Phase.{Phase}
 use Rattle.zoom.specs.declared.phase.Phase.TheVariants as phases
 use Rattle.zoom.specs.CallsOf.{call_of}
 use Rattle.zoom.specs.States.{state_as}
-use Rattle.zoom.specs.Driving.{plan_of, events_of, DrivenLaws}
-use Rattle.zoom.specs.Steering.{Errand, IsOf, IsNextCall, IsSteeredCall, room_in, may_call}
-use Rattle.zoom.specs.Drivers.{DriverState, IsDriver, IsAt, AtFresh, AtOpening, AtOpened, AtSearching, AtAsking, AtDone, AtClosed, HasOpening, events_at, opened_events, Offers, IsOffered, GivesNext, GivesAt, GivesIf, GivesAsked, GivesInRoom, AsksFirst, ClosesIdle, room_for, has_room, is_fresh_state}
+use Rattle.zoom.specs.Driving.{plan_of, DrivenLaws}
+use Rattle.zoom.specs.Steering.{Errand, IsNextCall, IsSteeredCall, room_in, may_call}
+use Rattle.zoom.specs.Drivers.{DriverState, IsDriver, IsAt, AtFresh, AtOpening, AtOpened, AtSearching, AtAsking, HasOpening, events_at, opened_events, Offers, IsOffered, GivesNext, GivesAt, GivesIf, GivesAsked, GivesInRoom, AsksFirst, room_for, has_room, is_fresh_state}
 use Rattle.zoom.proofs.Phases.{unready, unfresh, concurrent_by, room_ready, no_room, fresh_as, no_call, call_ready, none_due, none_next, full_next}
 
 -- ---- states

@@ -1,14 +1,12 @@
 -- What a log says at each phase of what drives a connection.
-use Rattle.std.proofs.Common.{◌≡◌, ◌⊎◌, inl, inr, ℕ, zero, suc, ◌+◌, ◌-◌, ◌<◌, ◌≤◌, Bool, true, false, cond, List, [], ◌∷◌, ◌++◌, map, length, Option, None, Some, refl, sym, ap, subst, ◌∙◌, arith, true≢false}
-use Rattle.std.proofs.lemmas.Bool.Decides.{nat_tests}
-use Rattle.std.proofs.lemmas.Bool.{cases_order}
+use Rattle.std.proofs.Common.{◌≡◌, ◌⊎◌, inl, inr, ℕ, suc, ◌+◌, ◌-◌, ◌<◌, ◌≤◌, Bool, true, false, cond, List, [], ◌∷◌, ◌++◌, length, Option, None, Some, refl, sym, ap, ◌∙◌, arith, true≢false}
 use Rattle.std.specs.Prelude.{◌||◌, nat_lt}
 use Rattle.std.specs.List.{list_any}
 use Rattle.zapdu.specs.declared.apdu.Apdu.{Apdu}
 use Rattle.zapdu.specs.declared.apdu.Apdu.TheVariants as apdus
 use Rattle.zplan.specs.Plan as plan
-use Rattle.zplan.specs.Plan.{Operation, Event, Sends, Receives, Closes, Reply, Opens, Finds, Shows, IsAsked, first, search, cut, rest, IsDue, IsDriven, IsNext, asked_in, replies_in, outstanding_in, start_of}
-use Rattle.zplan.specs.Positions.{IsIn, IsWanted, first_of}
+use Rattle.zplan.specs.Plan.{Operation, Event, Sends, Receives, Closes, Opens, Finds, Shows, IsAsked, first, search, cut, rest, IsDue, IsNext, asked_in, replies_in, outstanding_in}
+use Rattle.zplan.specs.Positions.{IsIn, first_of}
 use Rattle.zplan.specs.Agenda.{put_list}
 use Rattle.zorigin.specs.declared.state.State.{State}
 use Rattle.zorigin.specs.declared.state.State.TheVariants as origins
@@ -19,7 +17,6 @@ use Rattle.zorigin.specs.Changes.{force_in}
 use Rattle.zorigin.specs.Log.{state_from, state_by, closing_state, force_by, force_after, is_close_call}
 use Rattle.zoom.specs.States.{state_as}
 use Rattle.zoom.specs.Steering.{may_call}
-use Rattle.zoom.specs.Driving.{plan_of}
 use Rattle.zoom.specs.Drivers.{NoneBegins, BeginApart, room_for, is_fresh_state}
 
 -- ---- states

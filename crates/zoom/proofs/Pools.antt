@@ -24,7 +24,6 @@ use Rattle.zorigin.specs.Replies.{verdict}
 use Rattle.zorigin.specs.Facts.{facts_of}
 use Rattle.zorigin.specs.Sending.{encoding_of}
 use Rattle.zorigin.specs.Log.{Made, Got, Past, standing, state_of, admit_unless, after_verdict}
-use Rattle.zoom.specs.declared.state.State.{State}
 use Rattle.zoom.specs.Links.{Link, Links, waiting_in, waiting_at, stop_in, stop_at}
 use Rattle.zoom.specs.declared.answer.Told.{Told}
 use Rattle.zoom.specs.declared.answer.TakeError.{TakeError}

@@ -18,7 +18,6 @@ use Rattle.zorigin.specs.declared.answer.What.TheVariants as what
 use Rattle.zorigin.specs.Fitting.{records_in, diagnostics_in}
 use Rattle.zorigin.specs.Ranges.{positions, first_of}
 use Rattle.zorigin.specs.Facts.{seen_at, told_at, count_or_failed, facts_by, facts_of}
-use Rattle.zorigin.specs.declared.settings.Settings.{Settings}
 use Rattle.zoom.specs.Heard.{Heard}
 use Rattle.zoom.specs.History.{accepted, IsKnown}
 use Rattle.zoom.specs.Conflicts.{IsShownBy, Differ, ConflictLaw}

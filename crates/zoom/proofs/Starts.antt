@@ -1,5 +1,5 @@
 -- What drives a connection that is Fresh.
-use Rattle.std.proofs.Common.{◌≡◌, ℕ, ◌+◌, ◌<◌, ◌≤◌, false, List, [], ◌∷◌, map, None, refl, sym, ap, subst, ◌∙◌, arith}
+use Rattle.std.proofs.Common.{◌≡◌, ℕ, ◌+◌, ◌<◌, ◌≤◌, false, List, [], ◌∷◌, map, refl, ap, subst, ◌∙◌, arith}
 use Rattle.zplan.specs.declared.range.Range.{Range as PlanRange}
 use Rattle.zplan.specs.Positions.{IsWanted}
 use Rattle.zplan.specs.Ranges.{AreWanted}

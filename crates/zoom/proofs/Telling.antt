@@ -1,7 +1,7 @@
 -- What drives a connection knows what a reply told.
-use Rattle.std.proofs.Common.{◌≡◌, ◌⊎◌, inl, inr, ℕ, zero, suc, ◌+◌, ◌-◌, ◌<◌, ◌≤◌, Bool, true, false, cond, not, List, [], ◌∷◌, ◌++◌, map, length, Option, None, Some, Result, Ok, Err, refl, sym, ap, subst, ◌∙◌, arith, true≢false}
+use Rattle.std.proofs.Common.{◌≡◌, ◌⊎◌, inl, inr, ℕ, suc, ◌+◌, ◌-◌, ◌<◌, ◌≤◌, Bool, true, false, cond, not, List, [], ◌∷◌, ◌++◌, length, Option, None, Some, Result, Ok, Err, refl, sym, ap, subst, ◌∙◌, arith, true≢false}
 use Rattle.std.proofs.lemmas.Bool.Decides.{nat_tests}
-use Rattle.std.specs.Prelude.{◌||◌, ◌&&◌, ◌==◌, nat_lt, ℤ}
+use Rattle.std.specs.Prelude.{◌||◌, ◌&&◌, ◌==◌}
 use Rattle.std.specs.List.{list_any, find}
 use Rattle.zapdu.specs.declared.apdu.Apdu.{Apdu}
 use Rattle.zapdu.specs.declared.apdu.Apdu.TheVariants as apdus
@@ -9,13 +9,12 @@ use Rattle.zapdu.specs.declared.productions.init_response.InitResponse.{InitResp
 use Rattle.zapdu.specs.declared.productions.search_response.SearchResponse.{SearchResponse}
 use Rattle.zapdu.specs.declared.productions.present_response.PresentResponse.{PresentResponse}
 use Rattle.zplan.specs.Plan as plan
-use Rattle.zplan.specs.Plan.{Operation, Event, Sends, Receives, Closes, Reply, Opens, Finds, Shows, IsDue, IsDriven, asked_in, replies_in, outstanding_in, number, same}
+use Rattle.zplan.specs.Plan.{Operation, Event, Sends, Receives, Reply, Opens, Finds, Shows, IsDue, IsDriven, asked_in, replies_in, outstanding_in, number, same}
 use Rattle.zplan.specs.Positions.{IsIn, IsWanted, first_of}
 use Rattle.zplan.specs.Agenda.{Agenda, IsAgenda, IsAnswered, HasWaiting, without}
 use Rattle.zplan.specs.Laws.{AgendaLaws, NumberLaw}
-use Rattle.zplan.proofs.Order.{sent_asked, same_self, received_extends}
+use Rattle.zplan.proofs.Order.{sent_asked}
 use Rattle.zorigin.specs.declared.settings.Settings.{Settings}
-use Rattle.zorigin.specs.declared.settings.Ask.{Ask}
 use Rattle.zorigin.specs.declared.range.Range.{Range}
 use Rattle.zorigin.specs.declared.answer.Asked.{Asked}
 use Rattle.zorigin.specs.declared.answer.Answer.{Answer}
@@ -25,19 +24,19 @@ use Rattle.zorigin.specs.declared.answer.Taken.{Taken}
 use Rattle.zorigin.specs.declared.answer.Taken.TheVariants as taken
 use Rattle.zorigin.specs.declared.refusal.Refused.{Refused}
 use Rattle.zorigin.specs.declared.refusal.Refused.TheVariants as refused
-use Rattle.zorigin.specs.Standings.{Standing, is_open, is_ready, ready, nothing_in_force}
+use Rattle.zorigin.specs.Standings.{Standing, is_open, ready, nothing_in_force}
 use Rattle.zorigin.specs.declared.state.State.TheVariants as origins
 use Rattle.zorigin.specs.Ranges.{positions}
 use Rattle.zorigin.specs.Fitting.{fault_of, search_fault, present_fault, records_in}
 use Rattle.zorigin.specs.Replies.{verdict, answered, against, judged, named, taken_by}
 use Rattle.zorigin.specs.Changes.{force_in}
 use Rattle.zorigin.specs.Laws.{IsOrderly}
-use Rattle.zorigin.specs.Log.{Log, Got, Past, past, standing, state_of, state_from, opening, opens, is_init, force_after, force_by, closing_state, state_by, accept, after_verdict, is_close_call, is_init_call}
+use Rattle.zorigin.specs.Log.{Log, Got, Past, past, standing, state_from, opening, opens, is_init, force_after, force_by, closing_state, state_by, accept, after_verdict, is_close_call, is_init_call}
 use Rattle.zoom.specs.declared.phase.Phase.{Phase}
 use Rattle.zoom.specs.declared.phase.Phase.TheVariants as phases
-use Rattle.zoom.specs.Driving.{operation_for, reply_for, got_event, events_of, can_search, can_present, counted, DrivenLaws}
+use Rattle.zoom.specs.Driving.{operation_for, reply_for, got_event, can_search, can_present, counted, DrivenLaws}
 use Rattle.zoom.specs.Steering.{Errand, may_call, complete_in, is_rejected, is_rejection}
-use Rattle.zoom.specs.Drivers.{DriverState, IsDriver, IsAt, AtOpening, AtOpened, AtSearching, AtCounted, AtAsking, AtDone, AtClosed, HasOpening, AllAnswered, NoneBegins, BeginApart, events_at, opened_events, searched_events, found_events, left_in, opened_phase, counted_phase, IsAnsweredAgenda, AnswersAt, TellsAt, KnowsTold, is_rejection_of}
+use Rattle.zoom.specs.Drivers.{DriverState, IsDriver, IsAt, AtOpening, AtOpened, AtSearching, AtAsking, AtClosed, HasOpening, AllAnswered, NoneBegins, BeginApart, events_at, searched_events, left_in, opened_phase, counted_phase, IsAnsweredAgenda, AnswersAt, TellsAt, KnowsTold, is_rejection_of}
 use Rattle.zoom.proofs.Phases.{none_due}
 use Rattle.zoom.proofs.Kept.{closed_reply}
 use Rattle.zoom.proofs.Drivings.{answered_number}

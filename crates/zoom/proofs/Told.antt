@@ -5,7 +5,6 @@ use Rattle.zorigin.specs.declared.answer.Taken.{Taken}
 use Rattle.zorigin.specs.declared.refusal.Refused.{Refused}
 use Rattle.zorigin.specs.Replies.{verdict}
 use Rattle.zorigin.specs.Log.{standing}
-use Rattle.zoom.specs.declared.answer.Step.{Step}
 use Rattle.zoom.specs.declared.answer.Step.TheVariants as steps
 use Rattle.zoom.specs.declared.answer.Told.{Told}
 use Rattle.zoom.specs.declared.answer.Told.TheVariants as told

@@ -1,6 +1,6 @@
 -- Ranges of a question, and of its schedule.
 use Rattle.std.proofs.Common.{◌≡◌, ℕ, zero, suc, ◌+◌, ◌<◌, ◌≤◌, List, [], ◌∷◌, ◌++◌, map, refl, sym, ap, subst, ◌∙◌, arith}
-use Rattle.std.specs.Prelude.{ℤ, pos, negsuc, flat_map, slice_index_or, ◌^◌}
+use Rattle.std.specs.Prelude.{ℤ, pos, negsuc, slice_index_or, ◌^◌}
 use Rattle.std.specs.List.{range_with_len}
 use Rattle.zplan.specs.declared.range.Range.{Range as PlanRange}
 use Rattle.zplan.specs.Positions.{IsWanted, first_of}

@@ -1,5 +1,5 @@
 -- What drives one connection for its question.
-use Rattle.std.specs.Prelude.{◌≡◌, ◌⊎◌, ℕ, pos, ◌+◌, ◌-◌, ◌<◌, ◌≤◌, Bool, true, false, ◌&&◌, if◌then◌else◌, List, [], ◌∷◌, length, Option, None, Some, Ok, Err}
+use Rattle.std.specs.Prelude.{◌≡◌, ◌⊎◌, ℕ, ◌+◌, ◌-◌, ◌<◌, ◌≤◌, Bool, true, false, ◌&&◌, if◌then◌else◌, List, [], ◌∷◌, length, Option, None, Some, Ok, Err}
 use Rattle.zapdu.specs.declared.apdu.Apdu.{Apdu}
 use Rattle.zapdu.specs.declared.apdu.Apdu.TheVariants as apdus
 use Rattle.zplan.specs.declared.range.Range.{Range as PlanRange}
@@ -19,7 +19,7 @@ use Rattle.zorigin.specs.declared.refusal.CallRefused.TheVariants as reasons
 use Rattle.zorigin.specs.declared.refusal.Refused.{Refused}
 use Rattle.zorigin.specs.Standings.{is_ready}
 use Rattle.zorigin.specs.Standings as origin
-use Rattle.zorigin.specs.Ranges.{natural, positions}
+use Rattle.zorigin.specs.Ranges.{positions}
 use Rattle.zorigin.specs.Fitting.{records_in}
 use Rattle.zorigin.specs.Changes.{force_in}
 use Rattle.zorigin.specs.Calls.{refusal}
@@ -33,7 +33,7 @@ use Rattle.zoom.specs.declared.phase.Phase.TheVariants as phases
 use Rattle.zoom.specs.CallsOf.{call_of}
 use Rattle.zoom.specs.States.{state_as}
 use Rattle.zoom.specs.Driving.{can_search, can_present, counted, events_of, IsDrivenLog}
-use Rattle.zoom.specs.Steering.{Errand, IsOf, IsNextCall, IsSteered, IsSteeredCall, is_skip, may_call, skipped_in, complete_in}
+use Rattle.zoom.specs.Steering.{Errand, IsNextCall, IsSteered, IsSteeredCall, may_call, skipped_in, complete_in}
 
 -- The errand; how far it is; how many calls can at most be made before a reply comes; whether the question was skipped;
 -- whether the association was rejected or closed.

@@ -3,7 +3,7 @@ use Rattle.std.specs.Prelude.{◌≡◌, ℕ, ℤ, ◌<◌, ◌≤◌, ◌+◌, 
 use Rattle.zapdu.specs.declared.apdu.Apdu.{Apdu}
 use Rattle.zapdu.specs.declared.apdu.Apdu.TheVariants as apdus
 use Rattle.zplan.specs.Plan as plan
-use Rattle.zplan.specs.Plan.{Operation, Event, Sends, Receives, Closes, Reply, Opens, Finds, Shows, IsDue, IsAnsweredWhole, number, asked_in, replies_in, count_in}
+use Rattle.zplan.specs.Plan.{Operation, Event, Sends, Receives, Closes, Reply, Opens, Finds, Shows, IsDue, IsAnsweredWhole, number, replies_in, count_in}
 use Rattle.zplan.specs.Positions.{IsWanted, up_to}
 use Rattle.zorigin.specs.declared.settings.Settings.{Settings}
 use Rattle.zorigin.specs.declared.settings.Ask.{Ask}

@@ -3,7 +3,7 @@ use Rattle.std.proofs.Common.{ℕ, zero, suc, List, [], ◌∷◌, Option, Some,
 use Rattle.std.specs.List.{AllByRecursion}
 use Rattle.zber.specs.Elements.{Element, Primitive, Constructed, elements}
 use Rattle.zproductions.specs.Standing as standing
-use Rattle.zproductions.specs.Table.{Table, required, optional, ended, also, fields, Stand}
+use Rattle.zproductions.specs.Table.{ComponentTable, required, optional, ended, also, fields, Stand}
 use Rattle.zproductions.specs.Within.{each}
 use Rattle.zapdu.specs.declared.apdu.Apdu.{Apdu}
 use Rattle.zapdu.specs.declared.apdu.Apdu.TheVariants as apdus
@@ -26,7 +26,7 @@ AreSpelled rs = AllByRecursion (λ r. IsSpellable whole_record r) rs
 -- ---- the places of a table
 
 -- the table without its first places
-abbrev after : {V : Type 0} → ℕ → Table V → Table V
+abbrev after : {V : Type 0} → ℕ → ComponentTable V → ComponentTable V
 after zero t = t
 after (suc k) ended = ended
 after (suc k) (required p get more) = after k more
@@ -34,7 +34,7 @@ after (suc k) (optional p get more) = after k more
 after (suc k) (also e get) = also e get
 
 -- some elements stand for what is left
-later : {V : Type 0} (k : ℕ) (t : Table V) (v : V) (ns : List Element) → Stand t (fields t v) ns → (ms : List Element) × Stand (after k t) (fields (after k t) v) ms
+later : {V : Type 0} (k : ℕ) (t : ComponentTable V) (v : V) (ns : List Element) → Stand t (fields t v) ns → (ms : List Element) × Stand (after k t) (fields (after k t) v) ms
 later zero t v ns h = (ns, h)
 later (suc k) ended v ns h = (ns, h)
 later (suc k) (required p get more) v [] h = absurd h

@@ -1,5 +1,5 @@
 -- Values are read as they are spelled, under whatever tag.
-use Rattle.std.proofs.Common.{◌≡◌, ℕ, ℤ, pos, negsuc, FitsSigned, List, [], ◌∷◌, Bool, true, false, Option, Some, None, Result, Ok, Err, refl, ap}
+use Rattle.std.proofs.Common.{◌≡◌, ℕ, ℤ, pos, negsuc, FitsSigned, List, [], ◌∷◌, Bool, true, false, Some, Result, Ok, Err, refl, ap}
 use Rattle.zber.specs.declared.value.ValueError.{ValueError}
 use Rattle.zber.specs.AsnTags.{AsnTag}
 use Rattle.zber.specs.Elements.{Element, Primitive, Constructed}
@@ -8,7 +8,7 @@ use Rattle.std.proofs.lemmas.Bool.{ltb-true, lt-ltb}
 use Rattle.zber.specs.Values.{bool_octets}
 use Rattle.zber.specs.Integers.{as_int, integer_octets}
 use Rattle.zber.specs.Oids.{as_oid, is_oid, oid_octets}
-use Rattle.zber.specs.Bits.{as_bits, bit_octets}
+use Rattle.zber.specs.Bits.{bit_octets}
 use Rattle.zproductions.specs.Standing.{tagged}
 use Rattle.zproductions.specs.Meanings.{meant, octets_of, octets_spelt, oid_of, oid_spelt, bits_of, bits_spelt, is_i64, int_of, int_spelt, bool_of, bool_spelt}
 use Rattle.zproductions.specs.Laws.{IsPlace, IsSpelled}

@@ -1,12 +1,12 @@
 -- One law for all productions: reading from left to right finds exactly what is written, and stops at the
 -- first element that nothing written begins with.
-use Rattle.std.proofs.Common.{◌≡◌, ℕ, List, [], ◌∷◌, ◌++◌, Option, Some, None, Result, Ok, Err, Bool, true, false, cond, refl, sym, ap, subst, ◌∙◌, inl, inr}
-use Rattle.std.specs.Prelude.{◌||◌, ◌&&◌, ◌==◌, ◌⊎◌, pos, replicate}
+use Rattle.std.proofs.Common.{◌≡◌, ℕ, List, [], ◌∷◌, ◌++◌, Option, Some, None, Result, Ok, Err, Bool, true, false, cond, refl, ap, ◌∙◌, inl, inr}
+use Rattle.std.specs.Prelude.{◌||◌, ◌&&◌, ◌==◌, ◌⊎◌}
 use Rattle.std.proofs.lemmas.Bool.{eqb-true, eq-eqb}
 use Rattle.zber.specs.declared.tag.Class.{Class}
 use Rattle.zber.specs.declared.tag.Class.TheVariants.{Universal, Application, Context, Private}
 use Rattle.zber.specs.AsnTags.{AsnTag}
-use Rattle.zber.specs.Elements.{Element, Primitive, Constructed, end, tag_of}
+use Rattle.zber.specs.Elements.{Element, Constructed, end, tag_of}
 use Rattle.zber.proofs.Tests.{both_true}
 use Rattle.zproductions.specs.Standing.{tagged, required, optional, ended}
 use Rattle.zber.specs.Tags.{apart, same_class, same_tag, among}

@@ -4,7 +4,7 @@ use Rattle.zber.specs.Elements.{Element}
 use Rattle.zber.specs.Tags.{apart}
 use Rattle.zproductions.specs.Laws.{IsPlace, IsRead, IsMisfit, IsExact, IsSpelled, IsMade}
 use Rattle.zproductions.specs.Place.{Place}
-use Rattle.zproductions.specs.Table.{Table, ended, required, optional, also, Elements, Fields, fields, Maker, make_of, Stand, walk, put, tags_of, clear}
+use Rattle.zproductions.specs.Table.{ComponentTable, ended, required, optional, also, Elements, Fields, fields, Maker, make_of, Stand, walk, put, tags_of, clear}
 use Rattle.zber.proofs.Tests.{both_true}
 use Rattle.zproductions.proofs.Readings.{end_read, required_read, optional_read, mapped_read}
 use Rattle.zproductions.proofs.Builds.{end_made, required_made, optional_made}
@@ -15,7 +15,7 @@ is_place p = record { some = p.some; begins = p.begins; reads = p.reads; finds =
 pub is_spelled : {A : Type 0} (p : Place A) → IsSpelled p.stands p.spelt
 is_spelled p = record { makes = p.makes; none = p.none }
 
-pub table_read : {V W : Type 0} (t : Table V) (make : Maker t W) → clear t ≡ true → IsRead (Stand t) (make_of t make) (walk t make) (tags_of t)
+pub table_read : {V W : Type 0} (t : ComponentTable V) (make : Maker t W) → clear t ≡ true → IsRead (Stand t) (make_of t make) (walk t make) (tags_of t)
 table_read ended make c = end_read make
 table_read (required p get more) make c =
     required_read p.stands p.tags p.meaning (is_place p) (Stand more) (λ x. make_of more (make x.0) x.1) (λ a. walk more (make a)) (tags_of more)
@@ -26,14 +26,14 @@ table_read (optional p get more) make c =
     (λ o. table_read more (make o) h.1) h.0
 table_read (also e get) make c = mapped_read e.stand (λ w. w) e.at e.tags make e.read
 
-pub table_made : {V : Type 0} (t : Table V) → IsMade (Stand t) (λ out x. put t x out)
+pub table_made : {V : Type 0} (t : ComponentTable V) → IsMade (Stand t) (λ out x. put t x out)
 table_made ended = end_made
 table_made (required p get more) = required_made p.stands p.spelt (is_spelled p) (Stand more) (λ out x. put more x out) (table_made more)
 table_made (optional p get more) = optional_made p.stands p.spelt (is_spelled p) (Stand more) (λ out x. put more x out) (table_made more)
 table_made (also e get) = e.build
 
 -- the same of a value that has the table's fields
-module _ {V : Type 0} (t : Table V) (maker : Maker t V) (same : (v : V) → make_of t maker (fields t v) ≡ v) (back : (x : Fields t) → fields t (make_of t maker x) ≡ x) where
+module _ {V : Type 0} (t : ComponentTable V) (maker : Maker t V) (same : (v : V) → make_of t maker (fields t v) ≡ v) (back : (x : Fields t) → fields t (make_of t maker x) ≡ x) where
   abbrev make : Fields t → V
   make = make_of t maker
 

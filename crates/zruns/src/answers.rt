@@ -31,7 +31,16 @@ fn status<'a, S: Folder + Net + Clock, W: Write, E: Write>(
     errors: &mut Output<'a, E>,
 ) -> Status {
     let mut input = Input::new("-", input);
-    run(alloc, system, words, &mut input, output, errors)
+    let screen: Option<Vec<u8>> = None;
+    run(
+        alloc,
+        system,
+        words,
+        &mut input,
+        output,
+        errors,
+        screen,
+    )
 }
 
 /// What the words of a command line do, on an input that is read without a failure.

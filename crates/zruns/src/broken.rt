@@ -54,7 +54,16 @@ fn status<'a, E: Write>(
     };
     let mut input = Input::new("-", reader);
     let mut output = Output::new("-", writer);
-    run(alloc, &SHELF, Ok(words), &mut input, &mut output, errors)
+    let screen: Option<Vec<u8>> = None;
+    run(
+        alloc,
+        &SHELF,
+        Ok(words),
+        &mut input,
+        &mut output,
+        errors,
+        screen,
+    )
 }
 
 fn told(alloc: Global, words: &[String], calls: Breaks) -> (Status, Vec<u8>) {

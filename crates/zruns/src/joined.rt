@@ -1,6 +1,6 @@
 // What saved files know together, and why they are not joined.
 use crate::answers::is_done;
-use crate::shelf::{COUNT, MORE};
+use crate::shelf::{COUNT, MORE, UNLIKE};
 use std::alloc::Global;
 use std::process::Abort;
 use std::test::Fail;
@@ -22,7 +22,7 @@ fn is_saved_alike(alloc: Global, file: &[u8]) -> Result<bool, Unread> {
 
 #[test]
 fn what_is_saved_is_loaded(rt: HostRuntime) {
-    for file in [COUNT, MORE, b"\xa4\x00"] {
+    for file in [COUNT, MORE, UNLIKE, b"\xa4\x00"] {
         assert!(rt;
             is_saved_alike(rt.alloc(), file).unwrap_or(false),
             "{file:?}"
@@ -36,6 +36,26 @@ zmeta|join|count|more => 1 > target \"a\" set 1 count 4%0atarget \"a\" set 1 cou
 zmeta|join|more|count => 1 > target \"a\" set 1 count 4%0atarget \"a\" set 1 count 5%0atarget \"a\" set 2 failed%0a > -
 zmeta|join|other|other => 0 > - > -
 ";
+
+// `record` has r1 at position 1, and `unlike` r2 there, at position 2 a diagnostic, and at 3 a record in pieces.
+const WRITTEN: &str = "\
+zmeta|records|record => 0 > r1 > -
+zmeta|records|record|record => 0 > r1 > -
+zmeta|records|record|unlike => 0 > - > zmeta: positions with several records left out: 1%0azmeta: diagnostics left out: 1%0azmeta: records without octets left out: 1%0a
+zmeta|records|unlike|record|--conflicts => 0 > r1r2 > zmeta: diagnostics left out: 1%0azmeta: records without octets left out: 1%0a
+zmeta|records|unlike => 0 > r2 > zmeta: diagnostics left out: 1%0azmeta: records without octets left out: 1%0a
+zmeta|records|record|--syntax|1.2.840.10003.5.10 => 0 > r1 > -
+zmeta|records|record|--syntax|1.2.840.10003.5.1 => 0 > - > -
+zmeta|records|record|--syntax|1.2.840.10003.5.01 => 3 > - > zmeta: no OID 1.2.840.10003.5.01%0a
+zmeta|records|more => 1 > - > -
+zmeta|records|count|other => 3 > - > zmeta: names differ%0a
+zmeta|records|count|cut => 3 > - > zmeta: knowledge refused: NotKnowledge at 1%0a
+";
+
+#[test]
+fn writes_the_records_that_either_has(rt: HostRuntime) -> Result<(), Fail> {
+    each_row(rt.alloc(), WRITTEN, &is_done)
+}
 
 #[test]
 fn prints_what_either_knows(rt: HostRuntime) -> Result<(), Fail> {

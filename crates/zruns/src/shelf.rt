@@ -11,6 +11,13 @@ pub(crate) const MORE: &[u8] =
 /// The same name, and a record at position 1 of the set.
 pub(crate) const RECORD: &[u8] = b"\xa4\x03\x80\x01a\xa2\x1e\x80\x01\x00\x81\x01\x01\x82\x01\x01\
     \x30\x13\xa1\x11\xa1\x0f\x28\x0d\x06\x07\x2a\x86\x48\xce\x13\x05\x0a\x81\x02r1";
+/// The same name, another record at that position, a diagnostic at position 2, and a fragment at position 3.
+pub(crate) const UNLIKE: &[u8] = b"\xa4\x03\x80\x01a\xa2\x1e\x80\x01\x00\x81\x01\x01\x82\x01\x01\
+    \x30\x13\xa1\x11\xa1\x0f\x28\x0d\x06\x07\x2a\x86\x48\xce\x13\x05\x0a\x81\x02r2\
+    \xa2\x1f\x80\x01\x00\x81\x01\x01\x82\x01\x02\
+    \x30\x14\xa1\x12\xa2\x10\x30\x0e\x06\x07\x2a\x86\x48\xce\x13\x04\x01\x02\x01\x0e\x1a\x00\
+    \xa2\x13\x80\x01\x00\x81\x01\x01\x82\x01\x03\
+    \x30\x08\xa1\x06\xa3\x04\x04\x02r3";
 /// No names, and two facts that are out of order.
 const TURNED: &[u8] =
     b"\xa4\x00\xa0\x09\x80\x01\x01\x81\x01\x01\x82\x01\x00\xa0\x09\x80\x01\x00\x81\x01\x01\x82\x01\x04";
@@ -74,7 +81,10 @@ const HOSTED: &[u8] = b"target a 1 -\nhost b h:210\nask a d - 1 dune\nask b d - 
 /// A catalogue at an address.
 pub(crate) const HOSTS: &[u8] = b"host b 127.0.0.1:1\nask b d - 1 dune\n";
 
-const FILES: [Kept<'static>; 15] = [
+/// Two catalogues at addresses.
+const TWO: &[u8] = b"host a 127.0.0.1:1\nhost b 127.0.0.1:1\nask a d - 1 dune\nask b d - 1 dune\n";
+
+const FILES: [Kept<'static>; 17] = [
     Kept {
         path: "world",
         octets: WORLD,
@@ -113,6 +123,16 @@ const FILES: [Kept<'static>; 15] = [
     Kept {
         path: "record",
         octets: RECORD,
+        fails_at: 0,
+    },
+    Kept {
+        path: "unlike",
+        octets: UNLIKE,
+        fails_at: 0,
+    },
+    Kept {
+        path: "two",
+        octets: TWO,
         fails_at: 0,
     },
     Kept {

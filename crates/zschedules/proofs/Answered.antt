@@ -1,11 +1,11 @@
 -- Each answer that was accepted is a reply of the plan; and a connection that is complete answered all that is asked.
-use Rattle.std.proofs.Common.{◌≡◌, ◌⊎◌, inl, inr, ℕ, zero, suc, ◌<◌, Bool, true, false, cond, List, [], ◌∷◌, ◌++◌, map, length, Option, None, Some, Result, Ok, Err, refl, sym, ap, subst, ◌∙◌, arith, true≢false}
+use Rattle.std.proofs.Common.{◌≡◌, ◌⊎◌, inl, inr, ℕ, ◌<◌, Bool, true, false, cond, List, [], ◌∷◌, ◌++◌, map, Option, None, Some, Result, Ok, Err, refl, sym, ap, subst, ◌∙◌, arith, true≢false}
 use Rattle.std.specs.Prelude.{◌||◌, ◌&&◌, not, nat_eq}
 use Rattle.std.specs.List.{list_any, find, IsDistinct, AllByRecursion}
 use Rattle.std.proofs.lemmas.Bool.Decides.{nat_tests}
 use Rattle.std.proofs.lemmas.Map.Keys.{IsDistinct-head, IsDistinct-tail}
 use Rattle.zplan.specs.Plan as plan
-use Rattle.zplan.specs.Plan.{Operation, Event, Receives, Reply, Opens, same, number, asked_in, replies_in, IsAsked, IsDriven, IsAnsweredWhole}
+use Rattle.zplan.specs.Plan.{Operation, Event, Receives, Reply, Opens, same, number, replies_in, IsAnsweredWhole}
 use Rattle.zplan.specs.Positions.{IsIn}
 use Rattle.zplan.proofs.Order.{same_self}
 use Rattle.zapdu.specs.declared.apdu.Apdu.{Apdu}
@@ -23,11 +23,11 @@ use Rattle.zorigin.specs.Calls.{refusal}
 use Rattle.zorigin.specs.Replies.{verdict}
 use Rattle.zorigin.specs.Log.{Log, Made, Got, Past, past, standing, state_of, opening, opens, asked, is_close_call, admit_unless, after_verdict}
 use Rattle.zorigin.specs.Laws.{IsOrderly, answered_op}
-use Rattle.zoom.specs.Driving.{operation_for, reply_for, plan_of, can_search, got_event, made_event, events_of, IsDrivenLog}
+use Rattle.zoom.specs.Driving.{operation_for, reply_for, can_search, got_event, made_event, events_of, IsDrivenLog}
 use Rattle.zoom.specs.Steering.{is_rejected, is_rejection, complete_in}
 use Rattle.zoom.proofs.Drivings.{contained, among, in_parts, replies_call, numbered}
-use Rattle.zschedules.proofs.Complete.{closed_whole}
-use Rattle.zschedules.proofs.Replies.{CameFrom, came}
+use Rattle.zschedules.proofs.Complete.{either_true, closed_whole}
+use Rattle.zschedules.proofs.Replies.{came}
 use Rattle.zschedules.proofs.Openings.{init_replied}
 use Rattle.zschedules.proofs.Same.{for_opens}
 
@@ -122,10 +122,6 @@ find_in (z ∷ xs) x e =
           (subst (λ y. IsIn y (z ∷ xs)) same (inl refl), subst (λ y. opens y ≡ true) same is)
       | false ↦ λ is f. let r = find_in xs x f in (inr r.0, r.1)
     ] refl e
-
-either_true : (a b : Bool) → a || b ≡ true → (a ≡ true) ⊎ (b ≡ true)
-either_true true b e = inl refl
-either_true false b e = inr e
 
 module _ (ask : Ask) (wanted : List ℕ) (step : ℕ) (settings : Settings)
     (orderly : (s : Settings) (l : Log) → IsOrderly (past s l)) where

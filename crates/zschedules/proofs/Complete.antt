@@ -1,14 +1,12 @@
 -- Once all that is asked was answered, nothing more is asked.
-use Rattle.std.proofs.Common.{◌≡◌, ◌⊎◌, inl, inr, ℕ, Bool, true, false, cond, List, [], ◌∷◌, ◌++◌, Option, None, Some, Result, Ok, Err, refl, sym, ap, subst, ◌∙◌}
+use Rattle.std.proofs.Common.{◌≡◌, ◌⊎◌, inl, inr, ℕ, Bool, true, false, cond, List, [], ◌∷◌, ◌++◌, Option, None, Some, Result, Ok, Err, refl, sym, ap, ◌∙◌}
 use Rattle.std.specs.Prelude.{◌||◌}
 use Rattle.std.specs.List.{list_any}
 use Rattle.std.proofs.lemmas.List.Folds.{list_any-append}
-use Rattle.zplan.specs.Plan.{Operation, Event, Sends, Receives, Closes, Reply, asked_in, replies_in, IsAsked, IsDriven, IsAnsweredWhole}
-use Rattle.zplan.specs.Positions.{IsIn}
+use Rattle.zplan.specs.Plan.{Event, Sends, Receives, Closes, IsDriven, IsAnsweredWhole}
 use Rattle.zplan.proofs.Order.{answered_sent, sent_asked}
 use Rattle.zorigin.specs.declared.settings.Settings.{Settings}
 use Rattle.zorigin.specs.declared.settings.Ask.{Ask}
-use Rattle.zorigin.specs.declared.answer.Answer.{Answer}
 use Rattle.zorigin.specs.declared.answer.Taken.{Taken}
 use Rattle.zorigin.specs.declared.answer.Taken.TheVariants as taken
 use Rattle.zorigin.specs.declared.refusal.CallRefused.{CallRefused}
@@ -20,6 +18,10 @@ use Rattle.zorigin.specs.Log.{Log, Made, Got, Past, past, standing, state_of, is
 use Rattle.zorigin.specs.Laws.{IsOrderly}
 use Rattle.zoom.specs.Driving.{plan_of, operation_for, reply_for, got_event, made_event, events_of, IsDueCall, IsDueEvent, IsDrivenLog}
 use Rattle.zoom.proofs.Drivings.{driven}
+
+pub either_true : (a b : Bool) → a || b ≡ true → (a ≡ true) ⊎ (b ≡ true)
+either_true true b e = inl refl
+either_true false b e = inr e
 
 module _ (wanted : List ℕ) (step : ℕ) where
   -- it stays answered whole, and nothing is sent any more
@@ -68,10 +70,6 @@ module _ (wanted : List ℕ) (step : ℕ) where
   same_admitted p (Err r) =
       elim (is_open (state_of p)) as (λ b. (cond b (record p { fault = Some r }) p).admitted ≡ p.admitted)
       [ true ↦ refl | false ↦ refl ]
-
-  either_true : (a b : Bool) → a || b ≡ true → (a ≡ true) ⊎ (b ≡ true)
-  either_true true b e = inl refl
-  either_true false b e = inr e
 
   one_true : (b : Bool) → b || false ≡ true → b ≡ true
   one_true true e = refl

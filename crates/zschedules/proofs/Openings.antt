@@ -1,18 +1,15 @@
 -- What the reply to Init puts in force, it alone decides.
 use Rattle.std.proofs.Common.{◌≡◌, ◌⊎◌, inl, inr, ℕ, Bool, true, false, cond, List, [], ◌∷◌, ◌++◌, Option, None, Some, Result, Ok, Err, refl, sym, ap, subst, ◌∙◌}
 use Rattle.std.specs.Prelude.{◌||◌, Contains}
-use Rattle.std.specs.List.{list_any, find}
+use Rattle.std.specs.List.{find}
 use Rattle.zplan.specs.Plan as plan
-use Rattle.zplan.specs.Plan.{Operation, Event, Receives, Reply, Opens, same, asked_in, replies_in, IsAsked, first, search, cut, rest, IsDriven}
+use Rattle.zplan.specs.Plan.{Operation, Receives, Reply, Opens, same, replies_in, IsAsked, first, search, cut, rest, IsDriven}
 use Rattle.zplan.specs.Positions.{IsIn}
-use Rattle.zplan.proofs.Order.{sent_asked, same_self}
+use Rattle.zplan.proofs.Order.{sent_asked}
 use Rattle.zapdu.specs.declared.apdu.Apdu.{Apdu}
 use Rattle.zapdu.specs.declared.apdu.Apdu.TheVariants as apdus
 use Rattle.zorigin.specs.declared.settings.Settings.{Settings}
 use Rattle.zorigin.specs.declared.settings.Ask.{Ask}
-use Rattle.zorigin.specs.declared.state.State.{State}
-use Rattle.zorigin.specs.declared.state.State.TheVariants as states
-use Rattle.zorigin.specs.declared.answer.Asked.{Asked}
 use Rattle.zorigin.specs.declared.answer.What.{What}
 use Rattle.zorigin.specs.declared.answer.What.TheVariants as what
 use Rattle.zorigin.specs.declared.answer.Answer.{Answer}
@@ -25,7 +22,7 @@ use Rattle.zorigin.specs.Standings.{Call, Init, Search, Present, Close, is_open,
 use Rattle.zorigin.specs.Calls.{refusal}
 use Rattle.zorigin.specs.declared.refusal.Refused.TheVariants as refused
 use Rattle.zorigin.specs.Replies.{verdict, answered}
-use Rattle.zorigin.specs.Log.{Log, Made, Got, Past, past, standing, state_of, state_from, opening, opens, force_after, is_close_call, asked, admit_unless, accept, after_verdict}
+use Rattle.zorigin.specs.Log.{Log, Made, Got, Past, past, standing, state_of, state_from, opens, force_after, asked, admit_unless, accept, after_verdict}
 use Rattle.zorigin.specs.Laws.{IsOrderly}
 use Rattle.zoom.specs.Heard.{answer_in}
 use Rattle.zoom.specs.Driving.{plan_of, operation_for, reply_for, can_search, got_event, made_event, events_of, IsDueCall, IsDueEvent, IsDrivenLog}

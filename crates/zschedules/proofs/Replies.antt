@@ -1,6 +1,6 @@
 -- Where a reply of a log came from.
-use Rattle.std.proofs.Common.{◌≡◌, ◌⊎◌, inl, inr, ℕ, Bool, true, false, cond, List, [], ◌∷◌, ◌++◌, Option, None, Some, Result, Ok, Err, refl, sym, ap, subst, ◌∙◌}
-use Rattle.zplan.specs.Plan.{Operation, Event, Receives, Reply, same, asked_in, replies_in, IsDriven}
+use Rattle.std.proofs.Common.{◌≡◌, ◌⊎◌, ℕ, true, false, cond, List, [], ◌∷◌, ◌++◌, Option, None, Some, Result, Ok, Err, refl, sym, subst, ◌∙◌}
+use Rattle.zplan.specs.Plan.{Operation, Receives, Reply, same, asked_in, replies_in, IsDriven}
 use Rattle.zplan.specs.Positions.{IsIn}
 use Rattle.zapdu.specs.declared.apdu.Apdu.{Apdu}
 use Rattle.zorigin.specs.declared.settings.Settings.{Settings}
@@ -13,10 +13,10 @@ use Rattle.zorigin.specs.declared.refusal.Refused.{Refused}
 use Rattle.zorigin.specs.Standings.{Call, is_open}
 use Rattle.zorigin.specs.Calls.{refusal}
 use Rattle.zorigin.specs.Replies.{verdict}
-use Rattle.zorigin.specs.Log.{Log, Made, Got, Past, past, standing, state_of, admit_unless, accept, after_verdict}
+use Rattle.zorigin.specs.Log.{Log, Made, Got, Past, past, standing, state_of, admit_unless, after_verdict}
 use Rattle.zorigin.specs.Laws.{IsOrderly}
 use Rattle.zoom.specs.Heard.{answer_in}
-use Rattle.zoom.specs.Driving.{plan_of, operation_for, reply_for, got_event, made_event, events_of, IsDueCall, IsDrivenLog}
+use Rattle.zoom.specs.Driving.{operation_for, reply_for, got_event, made_event, events_of, IsDrivenLog}
 use Rattle.zoom.proofs.Drivings.{in_last, in_front, same_is, replies_call, driven}
 
 -- An answer was accepted for the operation, and its reply came to this, at a moment of the log at which the operation

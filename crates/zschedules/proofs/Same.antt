@@ -1,40 +1,29 @@
 -- Equal replies to equal operations make the same known.
-use Rattle.std.proofs.Common.{◌≡◌, ◌⊎◌, inl, inr, ⊎_elim, ℕ, zero, suc, ◌<◌, Bool, true, false, cond, List, [], ◌∷◌, ◌++◌, map, length, slice_get, Option, None, Some, Result, Ok, Err, refl, sym, ap, subst, ◌∙◌, arith}
+use Rattle.std.proofs.Common.{◌≡◌, ◌⊎◌, inl, inr, ⊎_elim, ℕ, ◌<◌, Bool, true, false, cond, List, [], ◌∷◌, ◌++◌, length, Some, refl, sym, ap, ◌∙◌}
 use Rattle.std.specs.Prelude.{◌||◌, ◌&&◌, Contains}
-use Rattle.std.specs.List.{list_any, find, flat_map}
-use Rattle.std.proofs.lemmas.Bool.Decides.{nat_tests}
-use Rattle.zknow.specs.declared.fact.Fact.{Fact}
-use Rattle.zknow.specs.declared.fact.Mode.{Mode}
-use Rattle.zknow.specs.FactLaws.{same_facts}
-use Rattle.zknow.specs.List.Listing.{listing}
-use Rattle.zknow.specs.Tables.DistinctLaws.{none_in_nil}
+use Rattle.std.specs.List.{find}
 use Rattle.zplan.specs.Plan as plan
-use Rattle.zplan.specs.Plan.{Operation, Reply, Opens, Finds, Shows, Replies, asked_in, replies_in, IsAsked, IsDriven, IsAnsweredWhole, Agree}
+use Rattle.zplan.specs.Plan.{Operation, Reply, Opens, Finds, Shows, replies_in, Agree}
 use Rattle.zplan.specs.Positions.{IsIn}
-use Rattle.zplan.proofs.Order.{answered_sent, sent_asked, order_free}
+use Rattle.zplan.proofs.Order.{sent_asked}
 use Rattle.zapdu.specs.declared.apdu.Apdu.{Apdu}
 use Rattle.zapdu.specs.declared.apdu.Apdu.TheVariants as apdus
 use Rattle.zorigin.specs.declared.settings.Settings.{Settings}
 use Rattle.zorigin.specs.declared.settings.Ask.{Ask}
-use Rattle.zorigin.specs.declared.answer.Asked.{Asked}
 use Rattle.zorigin.specs.declared.answer.What.{What}
 use Rattle.zorigin.specs.declared.answer.What.TheVariants as what
 use Rattle.zorigin.specs.declared.answer.Answer.{Answer}
-use Rattle.zorigin.specs.declared.answer.Taken.{Taken}
 use Rattle.zorigin.specs.Replies.{verdict}
-use Rattle.zorigin.specs.Ranges.{positions}
 use Rattle.zorigin.specs.Fitting.{Fits, records_in}
 use Rattle.zorigin.specs.Accepts.{IsAccepted}
 use Rattle.zorigin.specs.Changes.{force_in}
 use Rattle.zorigin.specs.Log.{Log, Got, Past, past, standing, opening, opens, is_init, force_after}
 use Rattle.zorigin.specs.Laws.{IsOrderly}
-use Rattle.zoom.specs.declared.question.Question.{Question}
-use Rattle.zoom.specs.declared.question.MetaSettings.{MetaSettings}
 use Rattle.zoom.specs.Driving.{operation_for, reply_for, can_search, can_present, counted, events_of, IsDrivenLog}
 use Rattle.zoom.specs.Laws.{plain}
-use Rattle.zoom.proofs.Drivings.{contained, among, replied, driven}
+use Rattle.zoom.proofs.Drivings.{contained, replied, driven}
 use Rattle.zschedules.proofs.Replies.{CameFrom, came, kept_reply}
-use Rattle.zschedules.proofs.Openings.{init_replied, at_opening, opened_past, search_same, shows_after, shows_same}
+use Rattle.zschedules.proofs.Openings.{init_replied, at_opening, search_same, shows_after, shows_same}
 
 -- ---- a reply, by what is in force
 

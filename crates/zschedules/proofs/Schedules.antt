@@ -1,21 +1,17 @@
 -- Two runs with equal replies know the same.
-use Rattle.std.proofs.Common.{◌≡◌, ◌⊎◌, inl, inr, ℕ, zero, suc, ◌<◌, ◌≤◌, Bool, true, false, List, [], ◌∷◌, length, slice_get, Some, refl, sym, ap, subst, ◌∙◌, arith}
+use Rattle.std.proofs.Common.{◌≡◌, ◌⊎◌, inl, inr, ℕ, zero, suc, ◌<◌, ◌≤◌, true, false, List, [], ◌∷◌, length, slice_get, Some, refl, sym, ap, subst, ◌∙◌, arith}
 use Rattle.std.specs.Prelude.{Contains, nat_lt}
 use Rattle.std.proofs.lemmas.Bool.Decides.{nat_tests}
-use Rattle.std.specs.List.{flat_map}
 use Rattle.zknow.specs.declared.fact.Fact.{Fact}
 use Rattle.zknow.specs.FactLaws.{same_facts}
 use Rattle.zknow.specs.List.Listing.{listing}
 use Rattle.zknow.specs.Tables.DistinctLaws.{none_in_nil}
-use Rattle.zplan.specs.Plan.{Operation, IsAsked, replies_in, IsAnsweredWhole}
 use Rattle.zplan.specs.Positions.{IsIn}
 use Rattle.zplan.proofs.Order.{order_free, answered_sent, sent_asked}
 use Rattle.zorigin.specs.declared.settings.Settings.{Settings}
-use Rattle.zorigin.specs.declared.answer.Asked.{Asked}
 use Rattle.zorigin.specs.declared.answer.Answer.{Answer}
 use Rattle.zorigin.specs.Ranges.{positions}
 use Rattle.zorigin.specs.Accepts.{IsAccepted}
-use Rattle.zorigin.specs.Facts.{facts_of}
 use Rattle.zorigin.specs.Log.{Log, past, asked}
 use Rattle.zorigin.specs.Laws.{IsOrderly}
 use Rattle.zoom.specs.declared.question.Question.{Question}
@@ -25,23 +21,15 @@ use Rattle.zoom.specs.Steering.{ask_of, errand_of}
 use Rattle.zoom.specs.Drivers.{DriverState, IsDriver}
 use Rattle.zoom.specs.Heard.{Heard, HasHeard}
 use Rattle.zoom.specs.History.{History, only, accepted, facts_at, IsKnown}
-use Rattle.zoom.specs.Laws.{plain, KnowSame}
 use Rattle.zoom.specs.Metas.{MetaLinks, MetaAfter, settings_of}
 use Rattle.zoom.proofs.Drivings.{contained, among, replied, driven}
 use Rattle.zoom.proofs.Metas.{heard_at}
+use Rattle.zoom.proofs.MetaLaws.{driver_of}
 use Rattle.zoom.proofs.Orders.{from_answer, of_answer}
-use Rattle.zschedules.specs.Schedules.{IsComplete, replies_of, AnswersAsked, AskedLaw, HadEqualReplies, AreAlike, SameListLaw}
+use Rattle.zschedules.specs.Schedules.{IsComplete, AnswersAsked, AskedLaw, HadEqualReplies, SameListLaw}
 use Rattle.zschedules.proofs.Answered.{is_replied, complete_whole}
 use Rattle.zschedules.proofs.Sets.{set_for, of_set, same_answer}
 use Rattle.zschedules.proofs.Same.{agree}
-
--- each question has what drives its connection
-driver_of : (qs : List Question) (ds : List DriverState) (c : ℕ) (q : Question) → length ds ≡ length qs
-    → slice_get qs c ≡ Some q → (d : DriverState) × (slice_get ds c ≡ Some d)
-driver_of [] ds c q e at = absurd (cc)
-driver_of (x ∷ qs) [] c q e at = absurd (cc)
-driver_of (x ∷ qs) (d ∷ ds) zero q e at = (d, refl)
-driver_of (x ∷ qs) (d ∷ ds) (suc c) q e at = driver_of qs ds c q (cc) at
 
 question_at : (qs : List Question) (c : ℕ) → c < length qs → (q : Question) × (slice_get qs c ≡ Some q)
 question_at [] c lt = absurd (omega arith)

@@ -1,5 +1,5 @@
 -- Facts of an answer follow from its operation and its reply.
-use Rattle.std.proofs.Common.{◌≡◌, ◌⊎◌, inl, inr, ℕ, Bool, true, false, cond, List, [], ◌∷◌, ◌++◌, Option, None, Some, Result, Ok, Err, refl, sym, ap, subst, ◌∙◌}
+use Rattle.std.proofs.Common.{◌≡◌, ◌⊎◌, inl, inr, ℕ, List, [], ◌∷◌, ◌++◌, Option, None, Some, refl, sym, ap, subst, ◌∙◌}
 use Rattle.zknow.specs.declared.fact.Fact.{Fact}
 use Rattle.zplan.specs.Plan as plan
 use Rattle.zplan.specs.Plan.{Operation}
@@ -15,8 +15,7 @@ use Rattle.zorigin.specs.declared.refusal.CallRefused.{CallRefused}
 use Rattle.zorigin.specs.Standings.{Call, Init, Search, Present, Close}
 use Rattle.zorigin.specs.Calls.{refusal}
 use Rattle.zorigin.specs.Replies.{verdict}
-use Rattle.zorigin.specs.Ranges.{positions}
-use Rattle.zorigin.specs.Log.{Log, Made, Got, Past, past, standing, asked, operation_of, admit_unless}
+use Rattle.zorigin.specs.Log.{Log, Made, Got, past, standing, asked, operation_of, admit_unless}
 use Rattle.zorigin.specs.Facts.{facts_by, facts_of, init_facts, search_facts, present_facts}
 use Rattle.zoom.specs.Driving.{operation_for}
 use Rattle.zoom.specs.Steering.{Errand, IsOf, IsSteered, IsSteeredCall}

@@ -1,13 +1,13 @@
 -- What a target's answering does to an exchange.
-use Rattle.std.proofs.Common.{◌≡◌, ◌∙◌, sym, ap, subst, inl, inr, ◌⊎◌, ℕ, Bool, true, false, List, [], ◌∷◌, ◌++◌, None, Some, Result, Ok, Err, refl, true≢false}
+use Rattle.std.proofs.Common.{◌≡◌, ◌∙◌, sym, subst, inl, inr, ◌⊎◌, ℕ, Bool, true, false, List, [], ◌∷◌, ◌++◌, Ok, Err, refl, true≢false}
 use Rattle.std.specs.Io.KnownBytes.{Keeps, Appends, Consumes, IsAtEnd}
 use Rattle.std.proofs.KnownBytes.{Consumes-trans, Consumes-kept, Consumes-nil, Appends-trans, Appends-nil}
-use Rattle.zoom.specs.Hosts.{HostState, HostAfter, Holdings, Event, Fed, Released, Lost, HandedOut, Underwent, ReleasesAs, HasNone, IsTooLong}
-use Rattle.ztalk.specs.Devices.{DeviceState, AppendsFront, HasFailed}
+use Rattle.zoom.specs.Hosts.{HostState, HostAfter, Holdings, Event, Fed, Released, Lost, HandedOut, Underwent, ReleasesAs}
+use Rattle.ztalk.specs.Devices.{DeviceState, HasFailed}
 use Rattle.ztalk.specs.declared.replies.AnswerError.{AnswerError}
 use Rattle.ztalk.specs.declared.replies.AnswerError.TheVariants as errors
 use Rattle.std.specs.Prelude.{◌||◌}
-use Rattle.ztalk.specs.Answers.{Hands, AnswersPiece, Answers, IsAnswered, Exchanges, nothing, fed, released, lost, handed, Exchange, ExchangesOn, Serves, Unwritten, Interrupted, PieceFails}
+use Rattle.ztalk.specs.Answers.{Hands, AnswersPiece, Answers, IsAnswered, nothing, fed, released, lost, handed, Exchange, ExchangesOn, Serves, Unwritten, PieceFails}
 
 pub on_same : (h : HostState) (l k : DeviceState) → ExchangesOn h h l l k k
 on_same h l k = record { on = λ holdings events source sink x. x; reader = refl; writer = refl }

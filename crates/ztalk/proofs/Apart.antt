@@ -33,10 +33,10 @@ one_more c deed h k e = only_same c deed h ∙ ap (λ z. deed ∷ z) e ∙ sym (
 pub none_before : (i : ℕ) (a b : History) → only i a ≡ [] → only i (a ++ b) ≡ only i b
 none_before i a b p = only_append i a b ∙ rw p refl
 
-none_both : (i : ℕ) (a b : History) → only i a ≡ [] → only i b ≡ [] → only i (a ++ b) ≡ []
+pub none_both : (i : ℕ) (a b : History) → only i a ≡ [] → only i b ≡ [] → only i (a ++ b) ≡ []
 none_both i a b p q = none_before i a b p ∙ q
 
-others_made : (c i : ℕ) (calls : List Call) → (c == i) ≡ false → only i (made c calls) ≡ []
+pub others_made : (c i : ℕ) (calls : List Call) → (c == i) ≡ false → only i (made c calls) ≡ []
 others_made c i [] far = refl
 others_made c i (call ∷ calls) far = only_other c i (Calls call) (made c calls) far ∙ others_made c i calls far
 
@@ -61,7 +61,7 @@ others_follow {c = c} i (ends {more = more} f) far =
 abbrev pub AreAlike : History → History → Type 0
 AreAlike h k = (c : ℕ) → only c h ≡ only c k
 
-heard_alike : (settings : Settings) (c : ℕ) (h k : History) (p : Heard) → only c h ≡ only c k
+pub heard_alike : (settings : Settings) (c : ℕ) (h k : History) (p : Heard) → only c h ≡ only c k
     → HasHeard settings (only c k) p → HasHeard settings (only c h) p
 heard_alike settings c h k p e heard = subst (λ z. HasHeard settings z p) (sym e) heard
 
@@ -91,10 +91,10 @@ after_alike q s h k meta alike a = record {
   size = a.size;
 }
 
-idle_alike : (q : List Question) (s : MetaSettings) (c : ℕ) (h k : History) → only c h ≡ only c k → IsIdle q s c h → IsIdle q s c k
+pub idle_alike : (q : List Question) (s : MetaSettings) (c : ℕ) (h k : History) → only c h ≡ only c k → IsIdle q s c h → IsIdle q s c k
 idle_alike q s c h k e idle question p asks heard = idle question p asks (heard_alike (settings_of s) c h k p e heard)
 
-next_alike : (s : MetaSettings) (c : ℕ) (h k : History) (step : Step) → only c h ≡ only c k → AnswersNext s c h step
+pub next_alike : (s : MetaSettings) (c : ℕ) (h k : History) (step : Step) → only c h ≡ only c k → AnswersNext s c h step
     → AnswersNext s c k step
 next_alike s c h k step e next p heard = next p (heard_alike (settings_of s) c h k p e heard)
 

@@ -1,13 +1,11 @@
 -- What several calls of a device do, one after the other.
-use Rattle.std.proofs.Common.{◌≡◌, ◌∙◌, sym, ap, subst, inl, inr, ◌⊎◌, ℕ, ◌+◌, ◌-◌, ◌<◌, ◌≤◌, List, [], ◌++◌, length, take, drop, Option, None, Some, Result, Ok, Err, refl, append_assoc, append-nil, take-append-drop, arith}
-use Rattle.std.specs.Prelude.{min}
-use Rattle.std.specs.Io.KnownBytes.{Keeps, Appends, Consumes, ReadConsumes, WriteAppends}
-use Rattle.std.proofs.KnownBytes.{Appends-trans, Appends-kept, Appends-nil, Keeps-refl, Keeps-trans}
+use Rattle.std.proofs.Common.{◌≡◌, ◌∙◌, sym, ap, subst, inl, inr, ◌⊎◌, ℕ, ◌+◌, ◌-◌, ◌<◌, ◌≤◌, List, [], ◌++◌, length, take, drop, Option, None, Some, Ok, Err, refl, append_assoc, append-nil, take-append-drop, arith}
+use Rattle.std.specs.Io.KnownBytes.{Keeps, Appends, Consumes}
+use Rattle.std.proofs.KnownBytes.{Appends-trans, Appends-kept, Appends-nil}
 use Rattle.std.proofs.lemmas.List.{take_rest}
 use Rattle.std.proofs.lemmas.Bool.{cases_lt}
 use Rattle.std.proofs.Math.Nat.{min-eq_left, min-eq_right}
-use Rattle.ztalk.specs.Devices.{DeviceState, AppendsFront, HasFailed, most_failures, raised, Counts, Reads, Writes}
-use Rattle.ztalk.specs.Streams.{ReadsPiece, WritesPiece}
+use Rattle.ztalk.specs.Devices.{DeviceState, AppendsFront, HasFailed, most_failures, raised, Writes}
 
 -- ---- failures
 

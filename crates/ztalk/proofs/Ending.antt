@@ -1,5 +1,5 @@
 -- How a talk ends.
-use Rattle.std.proofs.Common.{◌≡◌, ◌∙◌, sym, ap, subst, inl, inr, ◌⊎◌, ℕ, suc, ◌+◌, ◌<◌, ◌≤◌, Bool, true, false, List, [], ◌∷◌, ◌++◌, length, None, Some, Result, Ok, Err, refl, true≢false, arith}
+use Rattle.std.proofs.Common.{◌≡◌, ◌∙◌, sym, ap, subst, inl, inr, ◌⊎◌, ℕ, suc, ◌+◌, ◌<◌, ◌≤◌, Bool, true, false, List, [], ◌∷◌, ◌++◌, length, Some, Result, Ok, Err, refl, true≢false, arith}
 use Rattle.std.specs.Io.KnownBytes.{Keeps, IsAtEnd, Consumes}
 use Rattle.std.proofs.KnownBytes.{Consumes-trans, Consumes-kept}
 use Rattle.zoom.specs.declared.question.Question.{Question}
@@ -9,17 +9,17 @@ use Rattle.zoom.specs.declared.state.Reason.TheVariants as reasons
 use Rattle.zoom.specs.declared.state.State.{State}
 use Rattle.zoom.specs.declared.state.State.TheVariants as states
 use Rattle.zoom.specs.States.{is_stopped}
-use Rattle.zoom.specs.Heard.{Feeds, Takes, Ends, Stops, Heard, HasHeard, state_at}
+use Rattle.zoom.specs.Heard.{Feeds, Takes, Ends, Stops, state_at}
 use Rattle.zoom.specs.Links.{stop_at}
 use Rattle.zoom.specs.Befalling.{IsStateAt}
 use Rattle.zoom.specs.Laws.{OneHearing, UpToLaw}
 use Rattle.zoom.specs.History.{History, only, AfterUpTo}
-use Rattle.zoom.specs.Metas.{MetaLinks, MetaAfter, MetaAfterUpTo, MetaBefell, MetaTook, Tells, settings_of}
+use Rattle.zoom.specs.Metas.{MetaLinks, MetaAfter, MetaAfterUpTo, MetaBefell, MetaTook, settings_of}
 use Rattle.zoom.proofs.Metas.{heard_at}
 use Rattle.ztalk.specs.declared.conversation.TalkError.TheVariants as errors
 use Rattle.ztalk.specs.Devices.{DeviceState, HasFailed}
 use Rattle.ztalk.specs.Talks.{reason_of, IsStoppedFor, Stage, Due, Waiting, Over, Ended, Talk, GoesOn, Stopped, Talks, reads, ends, same}
-use Rattle.ztalk.specs.Turns.{GoesAlone, BreaksOff}
+use Rattle.ztalk.specs.Turns.{GoesAlone}
 use Rattle.ztalk.specs.declared.conversation.TalkError.{TalkError}
 use Rattle.ztalk.specs.declared.outgoing.PushError.{PushError}
 use Rattle.ztalk.specs.declared.outgoing.PushError.TheVariants as pushes

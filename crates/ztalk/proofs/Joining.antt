@@ -22,7 +22,6 @@ use Rattle.ztalk.specs.Arrivals.{Arrives, Drains}
 use Rattle.ztalk.specs.declared.among.Arrival.{Arrival}
 use Rattle.ztalk.specs.declared.among.Arrival.TheVariants as arrivals
 use Rattle.ztalk.specs.Among.{Seen, TalkAmong, GoesAmong, StoppedAmong, closes, drains, fails_to_read, fails_to_write, is_cut_off, turns_out, PhaseAmong, IsAmong, StepsAmong}
-use Rattle.ztalk.specs.declared.conversation.TalkError.TheVariants as errors
 use Rattle.ztalk.proofs.Apart.{behind, one_more, others_follow, after_alike, follows_alike, rest, rest_mine, before_rest, reordered}
 
 -- ---- counts

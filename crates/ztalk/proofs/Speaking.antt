@@ -1,13 +1,12 @@
 -- What making the calls that are due, and writing what waits, does to a talk; and talks that go on.
-use Rattle.std.proofs.Common.{◌≡◌, ◌∙◌, sym, ap, subst, ℕ, suc, ◌<◌, ◌≤◌, Bool, true, false, List, [], ◌∷◌, ◌++◌, length, None, Some, Result, Ok, Err, refl, append_assoc}
-use Rattle.std.specs.Io.KnownBytes.{Keeps, Appends, Consumes}
-use Rattle.std.proofs.KnownBytes.{Appends-trans, Appends-nil, Consumes-trans, Consumes-nil}
+use Rattle.std.proofs.Common.{◌≡◌, ◌∙◌, sym, subst, ℕ, ◌<◌, ◌≤◌, List, [], ◌∷◌, ◌++◌, Result, Ok, Err, refl, append_assoc}
+use Rattle.std.specs.Io.KnownBytes.{Appends}
+use Rattle.std.proofs.KnownBytes.{Appends-trans, Appends-nil, Consumes-nil}
 use Rattle.zorigin.specs.Standings.{Call}
 use Rattle.zoom.specs.declared.question.Question.{Question}
 use Rattle.zoom.specs.declared.question.MetaSettings.{MetaSettings}
-use Rattle.zoom.specs.declared.state.Reason.{Reason}
 use Rattle.zoom.specs.declared.state.Reason.TheVariants as reasons
-use Rattle.zoom.specs.Heard.{Feeds, Gives, Stops}
+use Rattle.zoom.specs.Heard.{Gives, Stops}
 use Rattle.zoom.specs.History.{History}
 use Rattle.zoom.specs.Metas.{MetaLinks, MetaAfter, MetaBefell, DrivesTo, Drives, made}
 use Rattle.ztalk.specs.Devices.{DeviceState, AppendsFront, HasFailed}
@@ -16,10 +15,10 @@ use Rattle.ztalk.specs.declared.outgoing.PushError.TheVariants as pushes
 use Rattle.ztalk.specs.declared.turns.Turn.{Turn}
 use Rattle.ztalk.specs.declared.turns.Turn.TheVariants as turns
 use Rattle.ztalk.specs.Pushes.{MetaBroke, Pushes}
-use Rattle.ztalk.specs.Talks.{Stage, Due, Listening, Waiting, Over, Ended, StandsAt, Talk, GoesOn, Broken, Stopped, Follows, begins, speaks, reads, same}
+use Rattle.ztalk.specs.Talks.{Stage, Due, Listening, Waiting, Over, Talk, GoesOn, begins, speaks, reads, same}
 use Rattle.zoom.specs.Links.{waiting_at}
 use Rattle.ztalk.specs.Talking.{Settles}
-use Rattle.ztalk.specs.Turns.{GoesAlone, BreaksOff, Speaks, Hears, TakesTurn}
+use Rattle.ztalk.specs.Turns.{BreaksOff, Speaks, Hears, TakesTurn}
 
 -- ---- speaking
 

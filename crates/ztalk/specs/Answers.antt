@@ -1,7 +1,7 @@
 -- A target in memory that answers over devices: what it was fed, and what it handed out (Z39.50-2003, 3.2).
 use Rattle.std.specs.Prelude.{◌≡◌, ◌⊎◌, ℕ, Bool, true, false, List, [], ◌∷◌, ◌++◌, Result, Ok, Err}
 use Rattle.std.specs.Io.KnownBytes.{Keeps, Appends, Consumes, IsAtEnd}
-use Rattle.zoom.specs.Hosts.{HostState, HostAfter, Holdings, Event, Fed, FedPart, Released, Lost, HandedOut}
+use Rattle.zoom.specs.Hosts.{HostState, HostAfter, Holdings, Event, Fed, Released, Lost, HandedOut}
 use Rattle.ztalk.specs.declared.replies.AnswerError.{AnswerError}
 use Rattle.ztalk.specs.declared.replies.AnswerError.TheVariants as errors
 use Rattle.ztalk.specs.Devices.{DeviceState, AppendsFront, HasFailed}

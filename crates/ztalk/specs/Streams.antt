@@ -1,7 +1,7 @@
 -- What one read or write of a stream came to, be it made again.
 use Rattle.std.specs.Prelude.{ℕ, ◌<◌, List, length, Option, None, Some, Result, Ok, Err}
 use Rattle.std.specs.Io.{ReadsAtMost, WritesAtMost}
-use Rattle.std.specs.Io.KnownBytes.{Keeps, ReadConsumes, WriteAppends}
+use Rattle.std.specs.Io.KnownBytes.{ReadConsumes, WriteAppends}
 
 -- a call's answer, without the reason of a failure
 abbrev pub answer_of : Option ℕ → Result ℕ (Unit {0})

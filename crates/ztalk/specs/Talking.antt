@@ -1,8 +1,6 @@
 -- What the steps of a talk do.
 use Rattle.std.specs.Prelude.{◌≡◌, ℕ, suc, Bool, true, false, Some, Result, Ok, Err}
 use Rattle.std.specs.Io.KnownBytes.{Keeps, IsAtEnd}
-use Rattle.zoom.specs.declared.question.Question.{Question}
-use Rattle.zoom.specs.declared.question.MetaSettings.{MetaSettings}
 use Rattle.zoom.specs.declared.state.State.{State}
 use Rattle.zoom.specs.declared.state.State.TheVariants as states
 use Rattle.zoom.specs.declared.state.Reason.TheVariants as reasons

@@ -5,7 +5,7 @@ use Rattle.zoom.specs.declared.question.MetaSettings.{MetaSettings}
 use Rattle.zoom.specs.declared.answer.Step.{Step}
 use Rattle.zoom.specs.declared.answer.Step.TheVariants as steps
 use Rattle.zoom.specs.History.{History}
-use Rattle.zoom.specs.Metas.{MetaLinks, MetaAfter}
+use Rattle.zoom.specs.Metas.{MetaLinks}
 use Rattle.ztalk.specs.declared.turns.Turn.{Turn}
 use Rattle.ztalk.specs.declared.turns.Turn.TheVariants as turns
 use Rattle.ztalk.specs.declared.outgoing.PushError.{PushError}

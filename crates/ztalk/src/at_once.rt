@@ -7,6 +7,7 @@ ghost use Rattle.ztalk.specs.Rounds.{OptionSteps, Rounds, RoundsFrom, Leaves};
 
 use crate::among::{Ends, Part, Phase, take_leave, take_part};
 use crate::device::{Polled, Sink};
+use crate::watch::Watch;
 use std::alloc::{AllocError, Global};
 use zoom::Meta;
 
@@ -17,14 +18,15 @@ use zoom::Meta;
 ///
 /// Each of them is Closed or Failed then: by its messages, by its calls or by the end of its input, or for the reason
 /// `Read`, `Write` or `Ended`, as `talk` says, or for `Turns`, where it was polled that many times. One that fails
-/// costs its own connection alone. Nothing befalls a connection that has no ends.
+/// costs its own connection alone. Nothing befalls a connection that has no ends. Before each round `watch` looks on.
 ///
 /// An error only where no memory was found; of the connections nothing more is told then.
-pub fn talk_at_once<R: Polled, W: Sink>(
+pub fn talk_at_once<R: Polled, W: Sink, V: Watch>(
     alloc: Global,
     meta: &mut Meta,
     ends: &mut [Option<Ends<R, W>>],
     turns: u32,
+    watch: &mut V,
 ) -> Result<(), AllocError>
     requires few { length meta.old.pool.connections < 2 ^ 32 }
     requires equal { length ends.old ≡ length meta.old.pool.connections }
@@ -33,16 +35,17 @@ pub fn talk_at_once<R: Polled, W: Sink>(
         meta.old meta.new) }
     ensures size { length meta.new.pool.connections ≡ length meta.old.pool.connections }
 {
-    go_rounds(alloc, meta, ends, turns)?;
+    go_rounds(alloc, meta, ends, turns, watch)?;
     leave_all(alloc, meta, ends)
 }
 
 /// Goes as many rounds, fewer where each talk is over before.
-fn go_rounds<R: Polled, W: Sink>(
+fn go_rounds<R: Polled, W: Sink, V: Watch>(
     alloc: Global,
     meta: &mut Meta,
     ends: &mut [Option<Ends<R, W>>],
     turns: u32,
+    watch: &mut V,
 ) -> Result<(), AllocError>
     requires few { length meta.old.pool.connections < 2 ^ 32 }
     requires equal { length ends.old ≡ length meta.old.pool.connections }
@@ -56,6 +59,7 @@ fn go_rounds<R: Polled, W: Sink>(
         if are_over(ends) {
             return Ok(());
         }
+        watch.look(meta);
         idle = go_round(alloc, meta, ends, idle)?;
     }
     Ok(())

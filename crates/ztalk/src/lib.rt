@@ -9,6 +9,7 @@ mod outgoing;
 mod replies;
 mod stream;
 mod turns;
+mod watch;
 
 pub use among::{Ends, Phase};
 pub use at_once::talk_at_once;
@@ -17,3 +18,4 @@ pub use device::{Failed, Polled, Sink, Source};
 pub use outgoing::{PushError, push};
 pub use replies::{AnswerError, answer};
 pub use stream::Device;
+pub use watch::{Unwatched, Watch};

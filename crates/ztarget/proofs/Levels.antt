@@ -9,7 +9,7 @@ use Rattle.zproductions.specs.Building.{◌>>=◌ as and_then, optional_put}
 use Rattle.zproductions.specs.Meanings.{is_i64}
 use Rattle.zproductions.specs.Reading.{option_map}
 use Rattle.zproductions.specs.Place.{Place}
-use Rattle.zproductions.specs.Table.{Table, required, optional, also, ended, Fields, put}
+use Rattle.zproductions.specs.Table.{ComponentTable, required, optional, also, ended, Fields, put}
 use Rattle.zproductions.specs.Within.{around, onto, all_spelt}
 use Rattle.zber.specs.Integers.{integer_octets}
 use Rattle.zber.specs.Oids.{IsOid, oid_octets}
@@ -30,7 +30,7 @@ IfThere k spelt None = Unit {0}
 IfThere k spelt (Some x) = HasLevels k (spelt x)
 
 -- of the values of a table's places
-abbrev pub Fits : {V : Type 0} → ℕ → (t : Table V) → Fields t → Type 0
+abbrev pub Fits : {V : Type 0} → ℕ → (t : ComponentTable V) → Fields t → Type 0
 Fits k ended x = Unit {0}
 Fits k (required p get more) x = HasLevels k (p.spelt x.0) × Fits k more x.1
 Fits k (optional p get more) x = IfThere k p.spelt x.0 × Fits k more x.1
@@ -50,7 +50,7 @@ step-if : {A : Type 0} (k : ℕ) (spelt : A → Option Element) (o : Option A) (
 step-if k spelt None out rest l h f = f out h
 step-if k spelt (Some x) out rest l h f = step k (spelt x) out rest l h f
 
-pub of_table : {V : Type 0} (k : ℕ) (t : Table V) (x : Fields t) (out : List Element) → Fits k t x → AreWithin k out → HaveLevels k (put t x out)
+pub of_table : {V : Type 0} (k : ℕ) (t : ComponentTable V) (x : Fields t) (out : List Element) → Fits k t x → AreWithin k out → HaveLevels k (put t x out)
 of_table k ended x out f h = h
 of_table k (required p get more) x out f h = step k (p.spelt x.0) out (λ ns. put more x.1 ns) f.0 h (λ ns w. of_table k more x.1 ns f.1 w)
 of_table k (optional p get more) x out f h = step-if k p.spelt x.0 out (λ ns. put more x.1 ns) f.0 h (λ ns w. of_table k more x.1 ns f.1 w)

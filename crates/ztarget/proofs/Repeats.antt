@@ -5,7 +5,7 @@ use Rattle.std.proofs.lemmas.Bool.{true≢false, and_parts}
 use Rattle.std.specs.Bool.{OnTrue}
 use Rattle.std.specs.Cmp.Lexicographic.{pointwise, same_text}
 use Rattle.ztarget.specs.declared.database.Entry.{Entry}
-use Rattle.ztarget.specs.Asking.{Asked, Never, meets}
+use Rattle.ztarget.specs.Asking.{CriterionMeaning, Never, meets}
 
 -- words that are equal one by one
 pub same_words : (xs ys : List (List ℕ)) → pointwise (pointwise nat_eq) xs ys ≡ true → xs ≡ ys
@@ -29,13 +29,13 @@ not_itself true = refl
 not_itself false = refl
 
 -- of a criterion that is repeated
-pub both_same : (a b : Asked) → a ≡ b → meets a ≡ (λ e. meets a e && meets b e)
+pub both_same : (a b : CriterionMeaning) → a ≡ b → meets a ≡ (λ e. meets a e && meets b e)
 both_same a b same = fun_ext (λ e. with_itself (meets a e) ∙ ap (λ c. meets a e && meets c e) same)
 
-pub either_same : (a b : Asked) → a ≡ b → meets a ≡ (λ e. meets a e || meets b e)
+pub either_same : (a b : CriterionMeaning) → a ≡ b → meets a ≡ (λ e. meets a e || meets b e)
 either_same a b same = fun_ext (λ e. or_itself (meets a e) ∙ ap (λ c. meets a e || meets c e) same)
 
-pub none_same : (a b : Asked) → a ≡ b → meets Never ≡ (λ e. meets a e && not (meets b e))
+pub none_same : (a b : CriterionMeaning) → a ≡ b → meets Never ≡ (λ e. meets a e && not (meets b e))
 none_same a b same = fun_ext (λ e. not_itself (meets a e) ∙ ap (λ c. meets a e && not (meets c e)) same)
 
 -- part by part

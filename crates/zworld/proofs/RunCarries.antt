@@ -6,7 +6,7 @@ use Rattle.zoom.specs.declared.question.Question.{Question}
 use Rattle.zoom.specs.declared.question.MetaSettings.{MetaSettings}
 use Rattle.zoom.specs.Heard.{Deed, Feeds, Gives, given, fed}
 use Rattle.zoom.specs.History.{History, only}
-use Rattle.zoom.specs.Hosts.{HostState, HostAfter, Holdings, Event, Fed, FedPart, Released, Lost, HandedOut, Underwent, ReleasesAs, HasNone, IsTooLong, handed_out}
+use Rattle.zoom.specs.Hosts.{HostState, HostAfter, Holdings, Event, Fed, FedPart, Released, Lost, HandedOut, Underwent, ReleasesAs, handed_out}
 use Rattle.zoom.specs.Metas.{MetaLinks, MetaAfter, MetaBefell}
 use Rattle.zoom.proofs.Pools.{only_same, only_other}
 use Rattle.zworld.specs.declared.run.peers.Peer.{Peer}

@@ -11,11 +11,11 @@ use Rattle.zoom.specs.Heard.{Stops, Heard, HasHeard, state_at}
 use Rattle.zoom.specs.History.{History, only, AfterUpTo}
 use Rattle.zoom.specs.Befalling.{IsStateAt}
 use Rattle.zoom.specs.Laws.{OneHearing, UpToLaw}
-use Rattle.zoom.specs.Metas.{MetaLinks, MetaAfter, MetaBefell, Tells, IsFinished, settings_of}
+use Rattle.zoom.specs.Metas.{MetaLinks, MetaBefell, Tells, IsFinished, settings_of}
 use Rattle.zoom.proofs.Pools.{only_same, only_other}
 use Rattle.zoom.proofs.Metas.{heard_at}
 use Rattle.zworld.specs.Run.{is_over}
-use Rattle.zworld.specs.RunSteps.{AreSilent, GoesOn, Went, StopsAt, Halted, Halts}
+use Rattle.zworld.specs.RunSteps.{StopsAt, Halted, Halts}
 use Rattle.zworld.proofs.RunGoes.{all_silent, one_silent}
 
 -- what is told of a connection's state

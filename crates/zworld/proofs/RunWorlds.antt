@@ -1,6 +1,6 @@
 -- Worlds that go on.
 use Rattle.std.proofs.Common.{◌≡◌, ◌∙◌, sym, ap, subst, ℕ, zero, suc, ◌<◌, ◌≤◌, ◌==◌, Bool, true, false, List, [], ◌∷◌, ◌++◌, length, get_or, slice_get, slice_set}
-use Rattle.std.proofs.Common.{Option, Some, None, refl, arith, append-nil, true≢false}
+use Rattle.std.proofs.Common.{Some, refl, arith, append-nil, true≢false}
 use Rattle.std.proofs.lemmas.Bool.Decides.{nat_tests}
 use Rattle.std.proofs.lemmas.Option.{slice_get_within}
 use Rattle.std.proofs.Math.ListN.{length-set}

@@ -9,7 +9,6 @@ use Rattle.zoom.specs.Metas.{AreAskable}
 use Rattle.zoom.specs.Steering.{AreFit}
 use Rattle.zworld.specs.declared.world.World.{World}
 use Rattle.zworld.specs.declared.world.WorldError.{WorldError}
-use Rattle.zworld.specs.declared.world.WorldError.TheVariants as errors
 use Rattle.zworld.specs.declared.world.NamedTarget.{NamedTarget}
 use Rattle.zworld.specs.declared.world.Inquiry.{Inquiry}
 use Rattle.zworld.specs.declared.world.End.{End}

@@ -1,12 +1,12 @@
 -- What the steps of a world in memory do, each for every history that can have left it.
-use Rattle.std.specs.Prelude.{◌≡◌, ◌⊎◌, ℕ, ◌<◌, Bool, true, false, ◌==◌, List, [], ◌∷◌, ◌++◌, length, slice_get, Some}
+use Rattle.std.specs.Prelude.{◌≡◌, ◌⊎◌, ℕ, ◌<◌, true, false, ◌==◌, List, [], ◌∷◌, ◌++◌, length, slice_get, Some}
 use Rattle.ztarget.specs.Receiving.{TargetState}
 use Rattle.zoom.specs.declared.question.Question.{Question}
 use Rattle.zoom.specs.declared.question.MetaSettings.{MetaSettings}
 use Rattle.zoom.specs.declared.state.Reason.{Reason}
 use Rattle.zoom.specs.Heard.{Deed, Stops, Heard, HasHeard, given, fed}
 use Rattle.zoom.specs.History.{History, only}
-use Rattle.zoom.specs.Hosts.{HostState, HostAfter, Holdings, Event, holdings_of, handed_out}
+use Rattle.zoom.specs.Hosts.{HostAfter, Holdings, Event, holdings_of, handed_out}
 use Rattle.zoom.specs.Metas.{MetaLinks, MetaAfter, MetaBefell, Tells, settings_of}
 use Rattle.zworld.specs.declared.run.peers.Peer.{Peer}
 use Rattle.zworld.specs.Run.{fed_to, is_over, Ran}

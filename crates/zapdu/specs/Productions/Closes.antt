@@ -1,12 +1,12 @@
 -- Close [48] (Z39.50-2003, 4.1 and 3.2.11).
 use Rattle.std.specs.Prelude.{refl}
 use Rattle.zber.specs.AsnTags.{context, universal}
-use Rattle.zproductions.specs.Table.{Table, required, optional, ended, ◌⨾◌, Elements}
+use Rattle.zproductions.specs.Table.{ComponentTable, required, optional, ended, ◌⨾◌, Elements}
 use Rattle.zasn.specs.Places.{of_table, octets, integer, oid, opaque, within, explicit}
 use Rattle.zapdu.specs.declared.productions.close.Close.{Close}
 use Rattle.zapdu.specs.Productions.Externals.{external_parts}
 
-abbrev pub close_table : Table Close
+abbrev pub close_table : ComponentTable Close
 close_table =
     optional (octets (context 2)) (λ v. v.reference_id)
     ⨾ required (integer (context 211)) (λ v. v.close_reason)

@@ -2,11 +2,11 @@
 use Rattle.std.specs.Prelude.{ℕ, List, [], Option, refl}
 use Rattle.zber.specs.AsnTags.{context}
 use Rattle.zber.specs.Elements.{Element}
-use Rattle.zproductions.specs.Table.{Table, optional, ended, ◌⨾◌, Elements}
+use Rattle.zproductions.specs.Table.{ComponentTable, optional, ended, ◌⨾◌, Elements}
 use Rattle.zasn.specs.Places.{of_table, oid, opaque, kept}
 use Rattle.zapdu.specs.declared.productions.delivery.Delivery.{Delivery}
 
-abbrev pub delivery_table : Table Delivery
+abbrev pub delivery_table : ComponentTable Delivery
 delivery_table =
     optional (oid (context 104)) (λ v. v.preferred_record_syntax)
     ⨾ optional (kept (context 204) []) (λ v. v.max_segment_count)

@@ -5,7 +5,7 @@ use Rattle.zber.specs.AsnTags.{universal}
 use Rattle.zber.specs.Elements.{Element}
 use Rattle.zproductions.specs.Place.{Place}
 use Rattle.zproductions.specs.Choice.{Choice, either, finally, Pick, picked}
-use Rattle.zproductions.specs.Table.{Table, required, ended, ◌⨾◌, Elements}
+use Rattle.zproductions.specs.Table.{ComponentTable, required, ended, ◌⨾◌, Elements}
 use Rattle.zasn.specs.Places.{of_table, of_choice, octets, integer, oid, within}
 use Rattle.zapdu.specs.declared.productions.diagnostic.Info.{Info}
 use Rattle.zapdu.specs.declared.productions.diagnostic.Info.TheVariants.{V2, V3}
@@ -35,7 +35,7 @@ info-back (inr xs) = refl
 abbrev pub info : Place Info
 info = of_choice infos info_pick info-same info-back refl
 
-abbrev pub default_table : Table DefaultDiag
+abbrev pub default_table : ComponentTable DefaultDiag
 default_table =
     required (oid (universal 6)) (λ v. v.diag_set)
     ⨾ required (integer (universal 2)) (λ v. v.condition)

@@ -4,14 +4,14 @@ use Rattle.std.proofs.Common.{inl, inr}
 use Rattle.zber.specs.AsnTags.{context, universal}
 use Rattle.zproductions.specs.Place.{Place}
 use Rattle.zproductions.specs.Choice.{Choice, either, finally, Pick, picked}
-use Rattle.zproductions.specs.Table.{Table, required, ended, ◌⨾◌, Elements}
+use Rattle.zproductions.specs.Table.{ComponentTable, required, ended, ◌⨾◌, Elements}
 use Rattle.zasn.specs.Places.{of_table, of_choice, octets, within, list}
 use Rattle.zapdu.specs.declared.productions.element_set_names.DatabaseElementSet.{DatabaseElementSet}
 use Rattle.zapdu.specs.declared.productions.element_set_names.ElementSetNames.{ElementSetNames}
 use Rattle.zapdu.specs.declared.productions.element_set_names.ElementSetNames.TheVariants.{Generic, DatabaseSpecific}
 
 -- dbName DatabaseName [105], esn ElementSetName [103]
-abbrev pub database_element_set_table : Table DatabaseElementSet
+abbrev pub database_element_set_table : ComponentTable DatabaseElementSet
 database_element_set_table =
     required (octets (context 105)) (λ v. v.database_name)
     ⨾ required (octets (context 103)) (λ v. v.element_set_name)

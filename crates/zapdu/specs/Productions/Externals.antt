@@ -4,7 +4,7 @@ use Rattle.std.proofs.Common.{inl, inr}
 use Rattle.zber.specs.AsnTags.{context, universal}
 use Rattle.zproductions.specs.Place.{Place}
 use Rattle.zproductions.specs.Choice.{Choice, either, finally, Pick, picked}
-use Rattle.zproductions.specs.Table.{Table, required, optional, ended, ◌⨾◌, Elements}
+use Rattle.zproductions.specs.Table.{ComponentTable, required, optional, ended, ◌⨾◌, Elements}
 use Rattle.zasn.specs.Places.{of_table, of_choice, octets, integer, oid, bits, any}
 use Rattle.zapdu.specs.declared.productions.external.Content.{Content}
 use Rattle.zapdu.specs.declared.productions.external.Content.TheVariants.{Single, Aligned, Arbitrary}
@@ -35,7 +35,7 @@ content-back (inr (inr bs)) = refl
 abbrev pub content : Place Content
 content = of_choice contents content_pick content-same content-back refl
 
-abbrev pub external_table : Table External
+abbrev pub external_table : ComponentTable External
 external_table =
     optional (oid (universal 6)) (λ v. v.direct)
     ⨾ optional (integer (universal 2)) (λ v. v.indirect)

@@ -2,13 +2,13 @@
 use Rattle.std.specs.Prelude.{ℕ, List, Option, refl}
 use Rattle.zber.specs.AsnTags.{context, universal}
 use Rattle.zber.specs.Elements.{Element}
-use Rattle.zproductions.specs.Table.{Table, optional, ended, ◌⨾◌, Elements}
+use Rattle.zproductions.specs.Table.{ComponentTable, optional, ended, ◌⨾◌, Elements}
 use Rattle.zasn.specs.Places.{of_table, octets, opaque, within, explicit}
 use Rattle.zapdu.specs.declared.productions.external.External.{External}
 use Rattle.zapdu.specs.declared.productions.implementation.Implementation.{Implementation}
 use Rattle.zapdu.specs.Productions.Externals.{external_parts}
 
-abbrev pub implementation_table : Table Implementation
+abbrev pub implementation_table : ComponentTable Implementation
 implementation_table =
     optional (octets (context 110)) (λ v. v.implementation_id)
     ⨾ optional (octets (context 111)) (λ v. v.implementation_name)

@@ -1,14 +1,14 @@
 -- PresentRequest [24] (Z39.50-2003, 4.1 and 3.2.3).
 use Rattle.std.specs.Prelude.{◌≡◌, true, refl}
 use Rattle.zber.specs.AsnTags.{context}
-use Rattle.zproductions.specs.Table.{Table, required, optional, also, ◌⨾◌, Elements, clear}
+use Rattle.zproductions.specs.Table.{ComponentTable, required, optional, also, ◌⨾◌, Elements, clear}
 use Rattle.zasn.specs.Places.{of_table, octets, integer, list}
 use Rattle.zapdu.specs.declared.productions.present_request.PresentRequest.{PresentRequest}
 use Rattle.zapdu.specs.Productions.Ranges.{whole_range}
 use Rattle.zapdu.specs.Productions.RecordCompositions.{record_composition}
 use Rattle.zapdu.specs.Productions.Deliveries.{delivery, delivery_parts}
 
-abbrev pub present_request_table : Table PresentRequest
+abbrev pub present_request_table : ComponentTable PresentRequest
 present_request_table =
     optional (octets (context 2)) (λ v. v.reference_id)
     ⨾ required (octets (context 31)) (λ v. v.result_set_id)

@@ -1,12 +1,12 @@
 -- PresentResponse [25] (Z39.50-2003, 4.1 and 3.2.3).
 use Rattle.std.specs.Prelude.{refl}
 use Rattle.zber.specs.AsnTags.{context}
-use Rattle.zproductions.specs.Table.{Table, required, optional, ended, ◌⨾◌, Elements}
+use Rattle.zproductions.specs.Table.{ComponentTable, required, optional, ended, ◌⨾◌, Elements}
 use Rattle.zasn.specs.Places.{of_table, octets, integer, opaque}
 use Rattle.zapdu.specs.declared.productions.present_response.PresentResponse.{PresentResponse}
 use Rattle.zapdu.specs.Productions.Records.{records}
 
-abbrev pub present_response_table : Table PresentResponse
+abbrev pub present_response_table : ComponentTable PresentResponse
 present_response_table =
     optional (octets (context 2)) (λ v. v.reference_id)
     ⨾ required (integer (context 24)) (λ v. v.number_of_records_returned)

@@ -2,11 +2,11 @@
 use Rattle.std.specs.Prelude.{refl}
 use Rattle.zber.specs.AsnTags.{context, universal}
 use Rattle.zproductions.specs.Place.{Place}
-use Rattle.zproductions.specs.Table.{Table, required, ended, ◌⨾◌, Elements}
+use Rattle.zproductions.specs.Table.{ComponentTable, required, ended, ◌⨾◌, Elements}
 use Rattle.zasn.specs.Places.{of_table, integer, within}
 use Rattle.zapdu.specs.declared.productions.range.Range.{Range}
 
-abbrev pub range_table : Table Range
+abbrev pub range_table : ComponentTable Range
 range_table =
     required (integer (context 1)) (λ v. v.starting_position)
     ⨾ required (integer (context 2)) (λ v. v.number_of_records)

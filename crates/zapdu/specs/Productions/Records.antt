@@ -5,7 +5,7 @@ use Rattle.zber.specs.AsnTags.{context, universal}
 use Rattle.zber.specs.Elements.{Element}
 use Rattle.zproductions.specs.Place.{Place}
 use Rattle.zproductions.specs.Choice.{Choice, either, finally, Pick, picked}
-use Rattle.zproductions.specs.Table.{Table, required, optional, ended, ◌⨾◌, Elements}
+use Rattle.zproductions.specs.Table.{ComponentTable, required, optional, ended, ◌⨾◌, Elements}
 use Rattle.zasn.specs.Places.{of_table, of_choice, octets, within, explicit, kept, list}
 use Rattle.zapdu.specs.declared.productions.record.RecordBody.{RecordBody}
 use Rattle.zapdu.specs.declared.productions.record.RecordBody.TheVariants.{Retrieval, Surrogate, Fragment}
@@ -42,7 +42,7 @@ abbrev pub body : Place RecordBody
 body = of_choice bodies body_pick body-same body-back refl
 
 -- NamePlusRecord
-abbrev pub record_table : Table Record
+abbrev pub record_table : ComponentTable Record
 record_table =
     optional (octets (context 0)) (λ v. v.name)
     ⨾ required (explicit (context 1) body) (λ v. v.body)

@@ -1,14 +1,14 @@
 -- The last places of a SearchRequest (Z39.50-2003, 4.1 and 3.2.2).
 use Rattle.std.specs.Prelude.{◌≡◌, true, refl}
 use Rattle.zber.specs.AsnTags.{context}
-use Rattle.zproductions.specs.Table.{Table, required, optional, ended, ◌⨾◌, Elements, clear}
+use Rattle.zproductions.specs.Table.{ComponentTable, required, optional, ended, ◌⨾◌, Elements, clear}
 use Rattle.zasn.specs.Places.{of_table, oid, opaque, explicit}
 use Rattle.zapdu.specs.declared.productions.search_details.SearchDetails.{SearchDetails}
 use Rattle.zapdu.specs.declared.productions.search_request.SearchRequest.{SearchRequest}
 use Rattle.zapdu.specs.Productions.ElementSets.{element_set_names}
 use Rattle.zapdu.specs.Productions.SearchQueries.{search_query}
 
-abbrev pub search_details_table : Table SearchDetails
+abbrev pub search_details_table : ComponentTable SearchDetails
 search_details_table =
     optional (explicit (context 100) element_set_names) (λ v. v.small_set_element_set_names)
     ⨾ optional (explicit (context 101) element_set_names) (λ v. v.medium_set_element_set_names)

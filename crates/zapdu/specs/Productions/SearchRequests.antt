@@ -1,13 +1,13 @@
 -- SearchRequest [22] (Z39.50-2003, 4.1 and 3.2.2).
 use Rattle.std.specs.Prelude.{◌≡◌, true, refl}
 use Rattle.zber.specs.AsnTags.{context}
-use Rattle.zproductions.specs.Table.{Table, required, optional, also, ◌⨾◌, Elements, clear}
+use Rattle.zproductions.specs.Table.{ComponentTable, required, optional, also, ◌⨾◌, Elements, clear}
 use Rattle.zasn.specs.Places.{of_table, octets, integer, boolean, strings}
 use Rattle.zapdu.specs.declared.productions.search_request.SearchRequest.{SearchRequest}
 use Rattle.zapdu.specs.Productions.SearchQueries.{search_query}
 use Rattle.zapdu.specs.Productions.SearchDetails.{details_of, search_details_parts}
 
-abbrev pub search_request_table : Table SearchRequest
+abbrev pub search_request_table : ComponentTable SearchRequest
 search_request_table =
     optional (octets (context 2)) (λ v. v.reference_id)
     ⨾ required (integer (context 13)) (λ v. v.small_set_upper_bound)

@@ -1,12 +1,12 @@
 -- SearchResponse [23] (Z39.50-2003, 4.1 and 3.2.2).
 use Rattle.std.specs.Prelude.{refl}
 use Rattle.zber.specs.AsnTags.{context}
-use Rattle.zproductions.specs.Table.{Table, required, optional, ended, ◌⨾◌, Elements}
+use Rattle.zproductions.specs.Table.{ComponentTable, required, optional, ended, ◌⨾◌, Elements}
 use Rattle.zasn.specs.Places.{of_table, octets, integer, boolean, opaque}
 use Rattle.zapdu.specs.declared.productions.search_response.SearchResponse.{SearchResponse}
 use Rattle.zapdu.specs.Productions.Records.{records}
 
-abbrev pub search_response_table : Table SearchResponse
+abbrev pub search_response_table : ComponentTable SearchResponse
 search_response_table =
     optional (octets (context 2)) (λ v. v.reference_id)
     ⨾ required (integer (context 23)) (λ v. v.result_count)

@@ -6,7 +6,7 @@ use Rattle.zber.specs.Elements.{Element, Primitive, cons}
 use Rattle.zber.specs.Values.{in_octets}
 use Rattle.zproductions.specs.Place.{Place}
 use Rattle.zproductions.specs.Choice.{Choice, either, finally, Pick, picked}
-use Rattle.zproductions.specs.Table.{Table, required, ended, ◌⨾◌, Elements}
+use Rattle.zproductions.specs.Table.{ComponentTable, required, ended, ◌⨾◌, Elements}
 use Rattle.zproductions.specs.Standing.{tagged}
 use Rattle.zproductions.specs.Meanings.{meant, octets_spelt}
 use Rattle.zproductions.proofs.Readings.{tagged_place}
@@ -42,7 +42,7 @@ abbrev pub saved_names : Place (List (List ℕ))
 saved_names = list (context 4) saved_name
 
 -- Count [0]: target [0], set [1], count [2]
-abbrev pub count_table : Table SavedCount
+abbrev pub count_table : ComponentTable SavedCount
 count_table =
     required (natural (context 0)) (λ v. v.target)
     ⨾ required (natural (context 1)) (λ v. v.set)
@@ -53,7 +53,7 @@ unfoldable pub count_parts : Elements SavedCount
 count_parts = of_table count_table (λ a b c. record { target = a; set = b; count = c }) (λ v. refl) (λ x. refl) refl
 
 -- Failed [1]: target [0], set [1]
-abbrev pub failed_table : Table SavedFailed
+abbrev pub failed_table : ComponentTable SavedFailed
 failed_table =
     required (natural (context 0)) (λ v. v.target)
     ⨾ required (natural (context 1)) (λ v. v.set)
@@ -63,7 +63,7 @@ unfoldable pub failed_parts : Elements SavedFailed
 failed_parts = of_table failed_table (λ a b. record { target = a; set = b }) (λ v. refl) (λ x. refl) refl
 
 -- Seen [2]: target [0], set [1], position [2], NamePlusRecord
-abbrev pub seen_table : Table SavedSeen
+abbrev pub seen_table : ComponentTable SavedSeen
 seen_table =
     required (natural (context 0)) (λ v. v.target)
     ⨾ required (natural (context 1)) (λ v. v.set)
@@ -79,7 +79,7 @@ abbrev pub saved_seen : Natural → Natural → ℤ → Record → SavedSeen
 saved_seen target set position rec = record { target = target; set = set; position = position; rec = rec }
 
 -- Diag [3]: target [0], set [1], place [2], DiagRec
-abbrev pub diag_table : Table SavedDiag
+abbrev pub diag_table : ComponentTable SavedDiag
 diag_table =
     required (natural (context 0)) (λ v. v.target)
     ⨾ required (natural (context 1)) (λ v. v.set)

@@ -159,7 +159,11 @@ impl Saving {
 }
 
 /// The octets of the file.
-fn octets_of(alloc: Global, knowledge: &Knowledge, names: &Names) -> Result<Vec<u8>, SaveError>
+fn canonical_octets(
+    alloc: Global,
+    knowledge: &Knowledge,
+    names: &Names,
+) -> Result<Vec<u8>, SaveError>
     ensures ok { IfOk result (λ octets. IsSaved names.now knowledge.now octets.items) }
     ensures within { OnOk result (AreWithin names.now knowledge.now) }
     ensures refused { IfErr result (IsRefused names.now knowledge.now) }
@@ -193,7 +197,7 @@ pub fn save(
     ensures refused { IfErr result (IsRefused names.now knowledge.now) }
     ensures err { OnErr result (out.new.items ≡ out.old.items) }
 {
-    let octets = octets_of(alloc, knowledge, names)?;
+    let octets = canonical_octets(alloc, knowledge, names)?;
     out.extend_from_slice(&octets)?;
     Ok(())
 }

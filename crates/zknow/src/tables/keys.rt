@@ -17,10 +17,13 @@ impl Key for SetKey {
 
 /// A row of the list: a position in a target's set.
 #[derive(Clone, Copy, Debug, PartialEq, Eq, PartialOrd, Ord)]
-pub(crate) struct RowKey {
-    pub(crate) position: i64,
-    pub(crate) target: u32,
-    pub(crate) set: u32,
+pub struct RowKey {
+    /// The position, from 1 on.
+    pub position: i64,
+    /// The number of the target.
+    pub target: u32,
+    /// The number of the set.
+    pub set: u32,
 }
 
 impl Key for RowKey {

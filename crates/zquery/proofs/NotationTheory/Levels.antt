@@ -12,10 +12,10 @@ use Rattle.zquery.specs.Notation.Words.{word}
 use Rattle.zquery.specs.Notation.Sets.{set_of}
 use Rattle.zquery.specs.Notation.Values.{numbers_of, has_equals, kind_of, value_of}
 use Rattle.zquery.specs.Notation.Table.{Expected, Operand, SetOrNumbers, Numbers, Kind, Name, OwnSet, unless_deep, next_if, operand, numbers, stepped, after, walk, opening, fault, refusal, below_limit, error_at}
-use Rattle.zquery.specs.Notation.Fronts.{any_level, IsFront, IsAtToken, IsBelowLevels}
+use Rattle.zquery.specs.Notation.Fronts.{any_level, IsFront, IsBelowLevels}
 use Rattle.zquery.proofs.NotationTheory.Filling.{begin, front-walks}
-use Rattle.zquery.proofs.NotationTheory.Completing.{ok-same, unless-ok, next-ok, after-ok}
-use Rattle.zquery.proofs.NotationTheory.Refusing.{relaxed-step, relaxed, Faulty, faulty, begin-same, err-same, at-faulty, walks-front}
+use Rattle.zquery.proofs.NotationTheory.Completing.{ok-same, after-ok}
+use Rattle.zquery.proofs.NotationTheory.Refusing.{relaxed-step, relaxed, faulty, begin-same, err-same, at-faulty, walks-front}
 
 -- ---- one token
 

@@ -4,7 +4,7 @@ use Rattle.std.proofs.Common.{inl, inr}
 use Rattle.zber.specs.AsnTags.{AsnTag, context, universal}
 use Rattle.zproductions.specs.Place.{Place}
 use Rattle.zproductions.specs.Choice.{Choice, either, finally, Pick, picked}
-use Rattle.zproductions.specs.Table.{Table, required, optional, ended, ◌⨾◌, Elements}
+use Rattle.zproductions.specs.Table.{ComponentTable, required, optional, ended, ◌⨾◌, Elements}
 use Rattle.zasn.specs.Places.{of_table, of_choice, octets, integer, oid, opaque, kept, within, list}
 use Rattle.zquery.specs.declared.query.Attr.{Attr}
 use Rattle.zquery.specs.declared.query.AttrValue.{AttrValue}
@@ -34,7 +34,7 @@ abbrev pub value : Place AttrValue
 value = of_choice values value_pick value-same value-back refl
 
 -- AttributeElement: attributeSet [1] OPTIONAL, attributeType [120], attributeValue
-abbrev pub attribute_table : Table Attr
+abbrev pub attribute_table : ComponentTable Attr
 attribute_table =
     optional (oid (context 1)) (λ a. a.attr_set)
     ⨾ required (integer (context 120)) (λ a. a.kind)
@@ -88,14 +88,14 @@ unfoldable pub term : Place TermValue
 term = of_choice terms term_pick term-same term-back refl
 
 -- AttributesPlusTerm: attributes, term
-abbrev pub attributes_term_table : Table (List Attr × TermValue)
+abbrev pub attributes_term_table : ComponentTable (List Attr × TermValue)
 attributes_term_table = required attributes (λ p. p.0) ⨾ required term (λ p. p.1) ⨾ ended
 
 unfoldable pub attributes_term_parts : Elements (List Attr × TermValue)
 attributes_term_parts = of_table attributes_term_table (λ a b. (a, b)) (λ p. refl) (λ x. refl) refl
 
 -- ResultSetPlusAttributes: resultSet [31] IMPLICIT InternationalString, attributes
-abbrev pub set_attributes_table : Table (List ℕ × List Attr)
+abbrev pub set_attributes_table : ComponentTable (List ℕ × List Attr)
 set_attributes_table = required (octets (context 31)) (λ p. p.0) ⨾ required attributes (λ p. p.1) ⨾ ended
 
 unfoldable pub set_attributes_parts : Elements (List ℕ × List Attr)

@@ -1,14 +1,15 @@
-use Rattle.std.proofs.Common.{subst}
+use Rattle.std.proofs.Common.{subst, Ok}
 use Rattle.std.specs.Option.{IfSome, option_map}
 use Rattle.zcommands.specs.Devices.{held}
-use Rattle.zcommands.specs.Ask.{AreAsked, IsLineUnasked}
+use Rattle.zcommands.specs.Choice.{manner}
+use Rattle.zcommands.specs.Ask.{AsksFile}
 use Rattle.zcommands.proofs.Running.{concludes}
 use Rattle.zcommands.proofs.ask.ask_paths.Goals as goal
 
 pub returns-clause-asks : goal.returns-clause-asks
 returns-clause-asks g c =
-    let asked = subst (λ z. IfSome z (λ file. AreAsked c.args.mode file c.in_ok-finished.finished)) c.named-world.ensures.octets c.in_ok-finished.ensures.asked in
-    concludes (AreAsked c.args.mode) IsLineUnasked (λ _. ⊥) (g.S.Folder.octets c.args.system.now c.args.paths.world.now) c.in_ok-finished.finished
+    let asked = subst (λ z. IfSome z (λ file. AsksFile (manner c.args.choice) c.args.mode file (Ok c.in_ok-finished.finished))) c.named-world.ensures.octets c.in_ok-finished.ensures.asked in
+    concludes (AsksFile (manner c.args.choice) c.args.mode) (g.S.Folder.octets c.args.system.now c.args.paths.world.now) c.in_ok-finished.finished
     (option_map (λ path. path.now) c.args.paths.saved)
     (held g.W.Write.contents c.args.output.now) (held g.W.Write.contents c.finish.new.output) (held g.E.Write.contents c.args.errors.now) (held g.E.Write.contents c.finish.new.errors)
     c.finish.result asked c.finish.ensures

@@ -1,15 +1,14 @@
-use Rattle.std.proofs.Common.{subst}
+use Rattle.std.proofs.Common.{subst, Ok}
 use Rattle.std.specs.Option.{IfSome, option_map}
 use Rattle.zcommands.specs.Devices.{held}
-use Rattle.zcommands.specs.Loop.{CanRun}
-use Rattle.zcommands.specs.Run.{IsRun, IsLineAtFault}
+use Rattle.zcommands.specs.Loop.{LoopsFile}
 use Rattle.zcommands.proofs.Running.{concludes}
 use Rattle.zcommands.proofs.looped.loop_paths.Goals as goal
 
 pub returns-clause-loops : goal.returns-clause-loops
 returns-clause-loops g c =
-    let ran = subst (λ z. IfSome z (λ file. IsRun c.args.mode file c.in_ok-finished.finished)) c.named-world.ensures.octets c.in_ok-finished.ensures.ran in
-    concludes (IsRun c.args.mode) IsLineAtFault CanRun (g.S.Folder.octets c.args.system.now c.args.paths.world.now) c.in_ok-finished.finished
+    let ran = subst (λ z. IfSome z (λ file. LoopsFile c.args.mode file (Ok c.in_ok-finished.finished))) c.named-world.ensures.octets c.in_ok-finished.ensures.ran in
+    concludes (LoopsFile c.args.mode) (g.S.Folder.octets c.args.system.now c.args.paths.world.now) c.in_ok-finished.finished
     (option_map (λ path. path.now) c.args.paths.saved)
     (held g.W.Write.contents c.args.output.now) (held g.W.Write.contents c.finish.new.output) (held g.E.Write.contents c.args.errors.now) (held g.E.Write.contents c.finish.new.errors)
     c.finish.result ran c.finish.ensures

@@ -1,14 +1,14 @@
-use Rattle.std.proofs.Common.{subst}
+use Rattle.std.proofs.Common.{subst, Ok}
 use Rattle.std.specs.Option.{IfSome, option_map}
 use Rattle.zcommands.specs.Devices.{held}
-use Rattle.zcommands.specs.Run.{IsRun, IsLineAtFault}
+use Rattle.zcommands.specs.Run.{RunsFile}
 use Rattle.zcommands.proofs.Running.{concludes}
 use Rattle.zcommands.proofs.run.run_paths.Goals as goal
 
 pub returns-clause-runs : goal.returns-clause-runs
 returns-clause-runs g c =
-    let ran = subst (λ z. IfSome z (λ file. IsRun c.args.mode file c.in_ok-finished.finished)) c.named-world.ensures.octets c.in_ok-finished.ensures.ran in
-    concludes (IsRun c.args.mode) IsLineAtFault (λ _. ⊥) (g.F.Folder.octets c.args.files.now c.args.paths.world.now) c.in_ok-finished.finished
+    let ran = subst (λ z. IfSome z (λ file. RunsFile c.args.mode file (Ok c.in_ok-finished.finished))) c.named-world.ensures.octets c.in_ok-finished.ensures.ran in
+    concludes (RunsFile c.args.mode) (g.F.Folder.octets c.args.files.now c.args.paths.world.now) c.in_ok-finished.finished
     (option_map (λ path. path.now) c.args.paths.saved)
     (held g.W.Write.contents c.args.output.now) (held g.W.Write.contents c.finish.new.output) (held g.E.Write.contents c.args.errors.now) (held g.E.Write.contents c.finish.new.errors)
     c.finish.result ran c.finish.ensures

@@ -1,4 +1,4 @@
-use Rattle.std.proofs.Common.{◌≡◌, ◌<◌, ◌≤◌, length, subst, sym, ◌∙◌, rules, arith}
+use Rattle.std.proofs.Common.{◌≡◌, ◌<◌, ◌≤◌, length, subst, ◌∙◌, rules, arith}
 use Rattle.ztalk.proofs.Ending.{fed_on}
 use Rattle.ztalk.proofs.conversation.listen.Goals as goal
 

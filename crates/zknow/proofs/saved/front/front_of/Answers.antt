@@ -1,4 +1,4 @@
-use Rattle.std.proofs.Common.{◌++◌, ◌==◌, ◌&&◌, None, false, ap, ◌∙◌, length}
+use Rattle.std.proofs.Common.{◌++◌, ◌==◌, ◌&&◌, None, ap, ◌∙◌, length}
 use Rattle.zber.specs.Stream.{Counted}
 use Rattle.zknow.proofs.SavedTheory.FrontElements.{found_is, fault_is}
 use Rattle.zknow.proofs.saved.front.front_of.Goals as goal

@@ -1,4 +1,4 @@
-use Rattle.std.proofs.Common.{refl, rules, sym, ◌∙◌}
+use Rattle.std.proofs.Common.{refl, rules, ◌∙◌}
 use Rattle.zoom.specs.CallsOf.{call_of}
 use Rattle.zoom.proofs.Kept.{knows_refused, knows_skipped}
 use Rattle.zoom.proofs.driver.Driver.refused.Goals as goal

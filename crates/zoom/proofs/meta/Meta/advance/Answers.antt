@@ -1,4 +1,4 @@
-use Rattle.std.proofs.Common.{Ok, Err, refl, subst, sym, ◌∙◌, slice_set}
+use Rattle.std.proofs.Common.{refl, subst, sym, ◌∙◌, slice_set}
 use Rattle.zoom.specs.Drivers.{GivesNext}
 use Rattle.zoom.specs.Metas.{MetaLinks}
 use Rattle.zoom.proofs.Advancing.{stopped_to, idle_to, wanting_any, issued_to, driver_at}

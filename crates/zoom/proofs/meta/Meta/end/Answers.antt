@@ -2,7 +2,6 @@ use Rattle.std.proofs.Common.{refl}
 use Rattle.zoom.specs.Heard.{Ends}
 use Rattle.zoom.specs.Metas.{MetaLinks, settings_of}
 use Rattle.zoom.proofs.Metas.{quiet_after}
-use Rattle.zoom.proofs.Advancing.{drove_none}
 use Rattle.zoom.proofs.meta.Meta.end.Goals as goal
 
 pub returns-clause-after : goal.returns-clause-after

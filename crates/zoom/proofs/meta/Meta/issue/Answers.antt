@@ -1,4 +1,4 @@
-use Rattle.std.proofs.Common.{Ok, Err, refl, subst, sym, ap, slice_set}
+use Rattle.std.proofs.Common.{Ok, refl, subst, sym, ap, slice_set}
 use Rattle.std.specs.declared.alloc.AllocError.{AllocError}
 use Rattle.zoom.specs.CallsOf.{call_of}
 use Rattle.zoom.specs.Metas.{MetaLinks, IssuesTo}

@@ -1,4 +1,4 @@
-use Rattle.zknow.proofs.TableTheory.TableMerges.{joins_none, joins_part, joins_more, joins_all, next_some}
+use Rattle.zknow.proofs.TableTheory.TableMerges.{joins_none, joins_more, next_some}
 use Rattle.zknow.proofs.tables.table.TableJoin.absorb.Goals as goal
 
 pub loop-key-init : goal.loop-key-init

@@ -1,9 +1,0 @@
-use Rattle.std.proofs.Common.{◌≡◌, length}
-use Rattle.znet.specs.AskingSteps.{OpensAll}
-use Rattle.znet.proofs.hosts.open_all.Given as goal
-
-abbrev pub invariant-loop-c : goal.invariant-loop-c
-invariant-loop-c g l =
-    OpensAll l.lines.items l.initial.meta l.meta
-    × (length l.meta.pool.connections ≡ length l.initial.meta.pool.connections)
-    × (length l.lines.items ≡ l.c)
