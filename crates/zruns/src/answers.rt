@@ -32,15 +32,7 @@ fn status<'a, S: Folder + Net + Clock, W: Write, E: Write>(
 ) -> Status {
     let mut input = Input::new("-", input);
     let screen: Option<Vec<u8>> = None;
-    run(
-        alloc,
-        system,
-        words,
-        &mut input,
-        output,
-        errors,
-        screen,
-    )
+    run(alloc, system, words, &mut input, output, errors, screen)
 }
 
 /// What the words of a command line do, on an input that is read without a failure.

@@ -14,6 +14,7 @@ use ztalk::{Device, Ends, Failed, Polled, Unwatched, talk_at_once};
 
 // The most octets of a poll, and how often a source may be polled.
 const STEP: usize = 24;
+
 const TURNS: u32 = 20;
 
 // A source that has nothing yet at those of each four polls that its mask has.
