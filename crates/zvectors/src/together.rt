@@ -51,7 +51,7 @@ impl Polled for Late<'_> {
     }
 }
 
-fn late(octets: &[u8], mask: u32) -> Late<'_> {
+fn source_with(octets: &[u8], mask: u32) -> Late<'_> {
     Late {
         octets,
         mask,
@@ -100,8 +100,8 @@ fn sent_by(
 fn talked(alloc: Global, all: &[u8], masks: (u32, u32)) -> Result<(Ended, Ended), Unread> {
     let mut meta = asked_twice(alloc)?;
     has_two(&meta)?;
-    let first = Ends::new(late(all, masks.0), empty_sink(alloc));
-    let second = Ends::new(late(all, masks.1), empty_sink(alloc));
+    let first = Ends::new(source_with(all, masks.0), empty_sink(alloc));
+    let second = Ends::new(source_with(all, masks.1), empty_sink(alloc));
     let mut ends = vec![in alloc; Some(first), Some(second)]?;
     talk_at_once(alloc, &mut meta, &mut ends, TURNS, &mut Unwatched)?;
     has_two(&meta)?;
