@@ -16,6 +16,4 @@ mod sessions;
 #[cfg(test)]
 mod talks;
 #[cfg(test)]
-mod together;
-#[cfg(test)]
 mod windows;
