@@ -16,4 +16,6 @@ mod sessions;
 #[cfg(test)]
 mod talks;
 #[cfg(test)]
+mod together;
+#[cfg(test)]
 mod windows;

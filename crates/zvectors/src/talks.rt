@@ -18,7 +18,7 @@ use ztalk::{Device, answer, talk};
 
 // What can be read, how much a call moves, which read and which write fails (the first being 1), and how many reads there
 // may be; then the answer, the state, and what was written. The question wants no record.
-const TALKS: &str = "\
+pub(crate) const TALKS: &str = "\
 # All answers at once, octet by octet, and in the one read that there may be.
 b51c820400000000830205e0840301c006850310000086031000008c01ffb7128204000000019701019801009901019601ffbf30059f81530100 4096 0 0 9 | Ok(()) | Closed | b421820400000000830205e0840301c006850310000086031000009f6f057a6d657461b6418204000000018d01008e01018f01009001ff910131b2049f690164b524a12206072a8648ce130301a017bf6614bf2c0a30089f7801019f7901049f2d0464756e65bf30059f81530100
 b51c820400000000830205e0840301c006850310000086031000008c01ffb7128204000000019701019801009901019601ffbf30059f81530100 1 0 0 99 | Ok(()) | Closed | b421820400000000830205e0840301c006850310000086031000009f6f057a6d657461b6418204000000018d01008e01018f01009001ff910131b2049f690164b524a12206072a8648ce130301a017bf6614bf2c0a30089f7801019f7901049f2d0464756e65bf30059f81530100
@@ -77,7 +77,7 @@ impl Read for Given<'_> {
 
 // A writer that keeps what it takes.
 #[derive(Drop)]
-struct Kept {
+pub(crate) struct Kept {
     octets: Vec<u8>,
     step: usize,
     calls: usize,
@@ -141,8 +141,18 @@ fn sink_of(alloc: Global, case: Case) -> Device<Kept> {
     })
 }
 
+// A sink that takes all that it is given.
+pub(crate) fn empty_sink(alloc: Global) -> Device<Kept> {
+    Device::new(Kept {
+        octets: Vec::new(alloc),
+        step: usize::MAX,
+        calls: 0,
+        fails_at: 0,
+    })
+}
+
 // What was written, by its digits.
-fn written(alloc: Global, sink: Device<Kept>) -> Result<String, AllocError> {
+pub(crate) fn written(alloc: Global, sink: Device<Kept>) -> Result<String, AllocError> {
     let Kept {
         octets,
         step: _,
@@ -153,7 +163,7 @@ fn written(alloc: Global, sink: Device<Kept>) -> Result<String, AllocError> {
 }
 
 // What is found of a database `d` alone.
-fn question(alloc: Global) -> Result<Question, Unread>
+pub(crate) fn question(alloc: Global) -> Result<Question, Unread>
     ensures { IfOk result IsAskable }
 {
     let databases = vec![in alloc; Bytes::from_static(b"d")]?;

@@ -1,0 +1,154 @@
+// Two conversations at once over devices in memory, of which sources have nothing yet at some polls.
+ghost use Rattle.std.specs.Prelude.{◌≡◌, None, length, IfOk};
+
+use crate::talks::{Kept, TALKS, empty_sink, question, written};
+use bytes::Bytes;
+use std::alloc::Global;
+use std::test::Fail;
+use zber::Seq;
+use zencodings::boxes::boxed;
+use zencodings::rows::{held, octets, pair, parted};
+use zencodings::unread::Unread;
+use zoom::{Meta, MetaSettings, Reason, State};
+use ztalk::{Device, Ends, Failed, Polled, Unwatched, talk_at_once};
+
+// The most octets of a poll, and how often a source may be polled.
+const STEP: usize = 24;
+
+const TURNS: u32 = 20;
+
+// A source that has nothing yet at those of each four polls that its mask has.
+#[derive(Drop)]
+struct Late<'a> {
+    octets: &'a [u8],
+    mask: u32,
+    polls: u64,
+}
+
+// How a conversation ended, and what was written.
+#[derive(Drop)]
+struct Ended {
+    state: State,
+    written: String,
+}
+
+impl Polled for Late<'_> {
+    ghost state = { λ l. record { octets = None; failures = 0 } };
+
+    ghost polls = { λ l. l.polls };
+
+    fn poll(&mut self, piece: &mut [u8], _wait: bool) -> Result<Option<usize>, Failed> {
+        let place = (self.polls % 4) as u32;
+        self.polls = self.polls.saturating_add(1);
+        if (self.mask >> place) & 1 == 1 {
+            return Ok(None);
+        }
+        let count = self.octets.len().min(piece.len()).min(STEP);
+        let (given, rest) = self.octets.split_at(count);
+        piece[..count].copy_from_slice(given);
+        self.octets = rest;
+        Ok(Some(count))
+    }
+}
+
+fn source_with(octets: &[u8], mask: u32) -> Late<'_> {
+    Late {
+        octets,
+        mask,
+        polls: 0,
+    }
+}
+
+fn asked_twice(alloc: Global) -> Result<Box<Meta>, Unread> {
+    let questions = vec![in alloc; question(alloc)?, question(alloc)?]?;
+    let settings = MetaSettings {
+        name: Bytes::from_static(b"zmeta"),
+        step: 3,
+        window: 4,
+    };
+    let meta = Meta::new(alloc, Seq::from_vec(questions), settings)?;
+    Ok(boxed(alloc, meta)?)
+}
+
+fn has_two(meta: &Meta) -> Result<(), Unread>
+    ensures { IfOk result (λ _. length meta.now.pool.connections ≡ 2) }
+{
+    if meta.connections() == 2 {
+        Ok(())
+    } else {
+        Err(Unread)
+    }
+}
+
+// What was written on a connection.
+fn sent_by(
+    alloc: Global,
+    ends: Option<Option<Ends<Late<'_>, Device<Kept>>>>,
+) -> Result<String, Unread> {
+    let Some(Some(ends)) = ends else {
+        return Err(Unread);
+    };
+    let Ends {
+        source: _,
+        sink,
+        phase: _,
+    } = ends;
+    Ok(written(alloc, sink)?)
+}
+
+// How both conversations end, of which each source has all octets at the polls that its mask leaves.
+fn talked(alloc: Global, all: &[u8], masks: (u32, u32)) -> Result<(Ended, Ended), Unread> {
+    let mut meta = asked_twice(alloc)?;
+    has_two(&meta)?;
+    let first = Ends::new(source_with(all, masks.0), empty_sink(alloc));
+    let second = Ends::new(source_with(all, masks.1), empty_sink(alloc));
+    let mut ends = vec![in alloc; Some(first), Some(second)]?;
+    talk_at_once(alloc, &mut meta, &mut ends, TURNS, &mut Unwatched)?;
+    has_two(&meta)?;
+    let mut all = ends.into_iter();
+    let first = sent_by(alloc, all.next())?;
+    let second = sent_by(alloc, all.next())?;
+    Ok((
+        Ended {
+            state: meta.state(0),
+            written: first,
+        },
+        Ended {
+            state: meta.state(1),
+            written: second,
+        },
+    ))
+}
+
+// What can be read in a conversation that goes to its end, and what is written in it.
+fn whole() -> (&'static str, &'static str) {
+    let row = TALKS.lines().nth(1).unwrap_or("");
+    let (told, due) = parted(row, " | ");
+    let (_, rest) = parted(due, " | ");
+    let (_, sent) = parted(rest, " | ");
+    (pair(told).0, sent)
+}
+
+// Whether a conversation went as it does alone; one in which nothing ever comes is stopped for that.
+fn is_as_alone(ended: &Ended, mask: u32, sent: &str) -> bool {
+    if mask == 15 {
+        return ended.state == State::Failed(Reason::Turns);
+    }
+    ended.state == State::Closed && ended.written.as_str() == sent
+}
+
+fn are_as_alone(alloc: Global, masks: (u32, u32)) -> Result<bool, Unread> {
+    let (digits, sent) = whole();
+    let all = octets(alloc, digits)?;
+    let (first, second) = talked(alloc, all.as_slice(), masks)?;
+    Ok(is_as_alone(&first, masks.0, sent) && is_as_alone(&second, masks.1, sent))
+}
+
+#[test]
+fn talks_at_once_go_as_alone(rt: HostRuntime) -> Result<(), Fail> {
+    for mask in 0..16 {
+        assert!(rt; held(are_as_alone(rt.alloc(), (mask, 15 - mask))), "{mask}");
+        assert!(rt; held(are_as_alone(rt.alloc(), (0, mask))), "{mask}");
+    }
+    Ok(())
+}
