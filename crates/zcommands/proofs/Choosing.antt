@@ -6,7 +6,7 @@ use Rattle.std.specs.List.{list_any}
 use Rattle.std.specs.Str.{bytes_eq}
 use Rattle.std.proofs.lemmas.Bool.Decides.{nat_tests}
 use Rattle.zcommands.specs.Files.{texts_of}
-use Rattle.zcommands.specs.Choice.{is_among, is_picked, address_if, AreChosen, IsFirstUnknown}
+use Rattle.zcommands.specs.Choice.{is_among, is_picked, address_if, AreChosen, AreKnown, IsFirstUnknown}
 
 -- ---- elements in their places
 
@@ -73,11 +73,6 @@ chosen_more only names addresses chosen n dn da new size is all c name address l
         get_front chosen new c (omega (arith, below, size)) ∙ all c name address below named at
 
 -- ---- names that no question has
-
--- the first so many names are known
-abbrev pub AreKnown : List (List ℕ) → List (List ℕ) → ℕ → Type 0
-AreKnown only names n =
-    (c : ℕ) (other : List ℕ) → c < n → slice_get only c ≡ Some other → is_among names other ≡ true
 
 pub known_more : (only : List (Bor (List ℕ))) (names : List (List ℕ)) (n : ℕ) (d : Bor (List ℕ))
     → is_among names (slice_index_or only n d).now ≡ true → AreKnown (texts_of only) names n

@@ -6,7 +6,7 @@ use Rattle.zworld.specs.declared.enquiry.Enquiry.{Enquiry}
 use Rattle.zworld.specs.Worlds.{IsWorld, IsRefused}
 use Rattle.zworld.specs.Enquiries.{IsEnquiry, IsOfFirstTarget}
 use Rattle.znet.specs.Asking.{has, IsAsked}
-use Rattle.zcommands.specs.Choice.{Manner, IsChosen, IsFirstUnknown}
+use Rattle.zcommands.specs.Choice.{Manner, AllKnown, IsChosen, IsFirstUnknown}
 use Rattle.zcommands.specs.Devices.{Device}
 use Rattle.zcommands.specs.declared.fault.Fault.{Fault}
 use Rattle.zcommands.specs.declared.fault.Fault.TheVariants.{Read, Line, NoQuestion, Memory}
@@ -39,8 +39,10 @@ Enquires file (Err _) = ⊥
 
 -- ---- hosts that were asked
 
--- each question that was chosen was put to its host, and this is the list of what is known then
+-- Each of the names given is some question's; each question that was chosen was put to its host; and this is the list of
+-- what is known then.
 pub record IsAskedOf (manner : Manner) (mode : Mode) (e : Enquiry) (r : Finished) : Type 0 where
+  pub known : AllKnown manner.only e.names
   pub chosen : List (Option (List ℕ))
   pub picks : IsChosen manner.only e.names e.addresses chosen
   pub asked : IsAsked e.questions e.settings manner.at_once (has chosen) r.meta

@@ -38,23 +38,33 @@ pub record IsChosen (only names addresses : List (List ℕ)) (chosen : List (Opt
   pub size : length chosen ≡ length addresses
   pub each : AreChosen only names addresses (length chosen) chosen
 
+-- the first so many of the names are questions'
+abbrev pub AreKnown : List (List ℕ) → List (List ℕ) → ℕ → Type 0
+AreKnown only names n =
+    (c : ℕ) (name : List ℕ) → c < n → slice_get only c ≡ Some name → is_among names name ≡ true
+
+-- each of the names is some question's
+abbrev pub AllKnown : List (List ℕ) → List (List ℕ) → Type 0
+AllKnown only names = AreKnown only names (length only)
+
 -- the first of the names that no question has
 pub record IsFirstUnknown (only names : List (List ℕ)) (name : List ℕ) : Type 0 where
   pub at : ℕ
   pub stands : slice_get only at ≡ Some name
   pub unknown : is_among names name ≡ false
-  pub known : (c : ℕ) (other : List ℕ) → c < at → slice_get only c ≡ Some other → is_among names other ≡ true
+  pub known : AreKnown only names at
 
--- the addresses of the questions that are asked, or the name that no question has
+-- each of the names is some question's, and these are the addresses of the questions that are asked; or the name that
+-- no question has
 abbrev pub Chooses
     : List (List ℕ) → List (List ℕ) → List (List ℕ) → Result (List (Option (List ℕ))) Fault → Type 0
-Chooses only names addresses (Ok chosen) = IsChosen only names addresses chosen
+Chooses only names addresses (Ok chosen) = AllKnown only names × IsChosen only names addresses chosen
 Chooses only names addresses (Err (NoQuestion told)) = IsFirstUnknown only names told.now
 Chooses only names addresses (Err Memory) = Unit {0}
 Chooses only names addresses (Err _) = ⊥
 
--- each of the names is some question's, or the first that is none
+-- each of the names is some question's, or this is the first that is none
 abbrev pub Knows : List (List ℕ) → List (List ℕ) → Result (Unit {0}) Fault → Type 0
-Knows only names (Ok u) = Unit {0}
+Knows only names (Ok u) = AllKnown only names
 Knows only names (Err (NoQuestion told)) = IsFirstUnknown only names told.now
 Knows only names (Err _) = ⊥

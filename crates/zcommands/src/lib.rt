@@ -10,6 +10,7 @@ pub mod fault;
 mod fields;
 pub mod files;
 pub mod finished;
+mod forms;
 pub mod input;
 pub mod join;
 mod lines;

@@ -7,7 +7,8 @@ use Rattle.zknow.specs.Tables.DistinctLaws.{none_in_nil}
 use Rattle.std.specs.List.{flat_map}
 use Rattle.std.proofs.lemmas.Bool.Decides.{nat_tests}
 use Rattle.std.proofs.lemmas.Grind.{flat_map-append}
-use Rattle.std.proofs.lemmas.List.Elements.{Contains-append_cases, Contains-append_left, Contains-append_right}
+use Rattle.std.proofs.lemmas.List.{map-append}
+use Rattle.std.proofs.lemmas.List.Elements.{Contains-append_cases, Contains-append_left, Contains-append_right, filter-append}
 use Rattle.std.proofs.Math.ListN.{length-set}
 use Rattle.zknow.specs.declared.fact.Fact.{Fact}
 use Rattle.zknow.specs.Facts.{AreFacts}
@@ -46,6 +47,9 @@ only_same c deed h = rw (same_number c) refl
 
 pub only_other : (c d : ℕ) (deed : Deed) (h : History) → (c == d) ≡ false → only d ((c, deed) ∷ h) ≡ only d h
 only_other c d deed h e = rw e refl
+
+pub only_append : (c : ℕ) (more h : History) → only c (more ++ h) ≡ only c more ++ only c h
+only_append c more h = simp (filter-append, map-append)
 
 -- one connection heard more
 abbrev pub changed : ℕ → Heard → (ℕ → Heard) → ℕ → Heard

@@ -1,8 +1,6 @@
 -- Histories that tell the same of each connection, and a history in which one connection's deeds come first.
 use Rattle.std.proofs.Common.{◌≡◌, ◌∙◌, sym, ap, subst, ℕ, ◌==◌, Bool, true, false, cond, List, [], ◌∷◌, ◌++◌, refl, append-nil, arith}
 use Rattle.std.proofs.lemmas.Bool.Decides.{nat_tests}
-use Rattle.std.proofs.lemmas.List.{map-append}
-use Rattle.std.proofs.lemmas.List.Elements.{filter-append}
 use Rattle.zorigin.specs.Standings.{Call}
 use Rattle.zorigin.specs.declared.settings.Settings.{Settings}
 use Rattle.zoom.specs.declared.question.Question.{Question}
@@ -13,13 +11,10 @@ use Rattle.zoom.specs.Leaving.{Leaves}
 use Rattle.zoom.specs.Links.{Links}
 use Rattle.zoom.specs.History.{History, only, After}
 use Rattle.zoom.specs.Metas.{MetaLinks, MetaAfter, made, settings_of}
-use Rattle.zoom.proofs.Pools.{only_same, only_other}
+use Rattle.zoom.proofs.Pools.{only_same, only_other, only_append}
 use Rattle.ztalk.specs.Talks.{Stage, Follows, begins, speaks, hears, lacks, stops, reads, ends, IsIdle, AnswersNext, IsStoppedAt}
 
 -- ---- deeds of one connection
-
-pub only_append : (c : ℕ) (more h : History) → only c (more ++ h) ≡ only c more ++ only c h
-only_append c more h = simp (filter-append, map-append)
 
 -- the same deeds behind others
 pub behind : (c : ℕ) (more h k : History) → only c h ≡ only c k → only c (more ++ h) ≡ only c (more ++ k)

@@ -8,11 +8,11 @@ use Rattle.zoom.specs.Heard.{Deed, Feeds, Gives, given, fed}
 use Rattle.zoom.specs.History.{History, only}
 use Rattle.zoom.specs.Hosts.{HostState, HostAfter, Holdings, Event, Fed, FedPart, Released, Lost, HandedOut, Underwent, ReleasesAs, handed_out}
 use Rattle.zoom.specs.Metas.{MetaLinks, MetaAfter, MetaBefell}
-use Rattle.zoom.proofs.Pools.{only_same, only_other}
+use Rattle.zoom.proofs.Pools.{only_same, only_other, only_append}
 use Rattle.zworld.specs.declared.run.peers.Peer.{Peer}
 use Rattle.zworld.specs.Run.{fed_to}
 use Rattle.zworld.specs.RunSteps.{IsSilent, GoesOn, Went, Carried, Carries, ReleasesReplies}
-use Rattle.zworld.proofs.RunGoes.{only_append, given_append, fed_append, silent_more}
+use Rattle.zworld.proofs.RunGoes.{given_append, fed_append, silent_more}
 
 -- ---- what was carried by events one after the other
 

@@ -1,8 +1,6 @@
 -- Deeds more, that carry nothing.
 use Rattle.std.proofs.Common.{◌≡◌, ◌∙◌, sym, ap, subst, ℕ, ◌==◌, Bool, true, false, List, [], ◌∷◌, ◌++◌, Result, Ok, Err}
 use Rattle.std.proofs.Common.{refl, append_assoc, append-nil}
-use Rattle.std.proofs.lemmas.List.{map-append}
-use Rattle.std.proofs.lemmas.List.Elements.{filter-append}
 use Rattle.zorigin.specs.Standings.{Call}
 use Rattle.zoom.specs.declared.question.Question.{Question}
 use Rattle.zoom.specs.declared.question.MetaSettings.{MetaSettings}
@@ -10,12 +8,10 @@ use Rattle.zoom.specs.Heard.{Deed, Calls, Feeds, Takes, Ends, Gives, Stops, give
 use Rattle.zoom.specs.History.{History, only}
 use Rattle.zoom.specs.Laws.{UpToLaw}
 use Rattle.zoom.specs.Metas.{MetaLinks, MetaAfter, MetaAfterUpTo, MetaBefell, MetaTook, DrivesTo, Progress, settings_of, made}
+use Rattle.zoom.proofs.Pools.{only_append}
 use Rattle.zworld.specs.RunSteps.{IsSilent, AreSilent, Went, GoesOn}
 
 -- ---- what was carried by deeds one after the other
-
-pub only_append : (c : ℕ) (more h : History) → only c (more ++ h) ≡ only c more ++ only c h
-only_append c more h = simp (filter-append, map-append)
 
 pub given_append : (a b : List Deed) → given (a ++ b) ≡ given b ++ given a
 given_append [] b = sym (append-nil (given b))

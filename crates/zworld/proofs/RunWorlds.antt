@@ -11,10 +11,11 @@ use Rattle.zoom.specs.Heard.{Deed, given, fed}
 use Rattle.zoom.specs.History.{History, only}
 use Rattle.zoom.specs.Hosts.{holdings_of, handed_out}
 use Rattle.zoom.specs.Metas.{MetaLinks, MetaAfter}
+use Rattle.zoom.proofs.Pools.{only_append}
 use Rattle.zworld.specs.declared.run.peers.Peer.{Peer}
 use Rattle.zworld.specs.Run.{IsNew, AreNew, fed_to, Talked, Ran}
 use Rattle.zworld.specs.RunSteps.{IsSilent, GoesOn, Went, Halted, Halts, Carried, Carries, Tied, WorldAfter, WorldGoes, WorldEnds, IsPeerOf, ArePeersOf}
-use Rattle.zworld.proofs.RunGoes.{only_append, given_append, fed_append}
+use Rattle.zworld.proofs.RunGoes.{given_append, fed_append}
 use Rattle.zworld.proofs.RunCarries.{fed_to_append, handed_out_append, goes_through}
 
 -- ---- slices

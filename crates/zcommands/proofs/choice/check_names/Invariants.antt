@@ -1,5 +1,5 @@
 use Rattle.zcommands.specs.Files.{texts_of}
-use Rattle.zcommands.proofs.Choosing.{AreKnown}
+use Rattle.zcommands.specs.Choice.{AreKnown}
 use Rattle.zcommands.proofs.choice.check_names.Given as goal
 
 abbrev pub invariant-loop-text : goal.invariant-loop-text
