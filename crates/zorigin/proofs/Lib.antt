@@ -13,3 +13,7 @@ pub mod KnownFacts
 pub mod SpelledRecords
 pub mod Askable
 pub mod Orderly
+pub mod SendableSizes
+pub mod SendableParts
+pub mod SendableSearches
+pub mod Sendable

@@ -11,3 +11,4 @@ pub mod Changes
 pub mod Log
 pub mod Accepts
 pub mod Laws
+pub mod Sendable

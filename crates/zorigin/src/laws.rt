@@ -7,6 +7,7 @@ ghost use Rattle.zorigin.specs.Standings.{Call, Standing};
 ghost use Rattle.zorigin.specs.Calls.{refusal};
 ghost use Rattle.zorigin.specs.Accepts.{IsAccepted};
 ghost use Rattle.zorigin.specs.Laws.{IsOrderly, IsSent};
+ghost use Rattle.zorigin.specs.Sendable.{SendableLaws};
 ghost use Rattle.std.specs.List.{AllByRecursion};
 ghost use Rattle.zber.specs.Elements.{Element};
 ghost use Rattle.zapdu.specs.Writes.{Writes};
@@ -39,4 +40,11 @@ pub fn sent_requests()
 pub fn known_facts()
     ensures { (target : ℕ) (answer : Answer) (n : Element)
         → IsShowable answer → Writes answer.reply n → AllByRecursion IsFact (facts_of target answer) }
+{}
+
+/// An Init can be sent where the origin's name has at most 2,000,000 octets. Where a search can be sent, and asks for a
+/// syntax of at most 1,000 arcs or for none, so can each Present of at most 1,000 ranges in that syntax and with the
+/// search's element set, whatever the numbers of its set and of its operation. A Close can always be sent.
+pub fn sendable_requests()
+    ensures { SendableLaws }
 {}
