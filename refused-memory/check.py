@@ -1,7 +1,8 @@
 #!/usr/bin/env python3
-"""Refuses each allocation of the program's runs, and of tests, in turn, and looks at what they answer then.
+"""Refuses each allocation of the program's runs, and of tests, in turn, and looks at what they answer then: it alone, with the next, and
+with all that follow.
 
-A run has to end with status 4 and `out of memory`, or as it does with ample memory. A test has to tell that it wants memory while it
+A run has to end with status 4, `out of memory` and nothing printed, or as it does with ample memory. A test has to tell that it wants memory while it
 makes itself ready, and from then on to pass: what it tests asks again where memory was refused, and has to answer the same.
 
     python3 refused-memory/check.py       (in the repository, once the program and the vectors are built)
@@ -28,15 +29,18 @@ RUNS = [
 TESTS = [
     ("zencodings", "pieces::a_session_goes_on_where_memory_was_refused"),
     ("zvectors", "pool::memory::a_session_goes_on_where_memory_was_refused"),
+    ("zvectors", "failing::a_talk_tells_where_memory_was_refused"),
 ]
+# the last of all allocations
+ALL = (1 << 64) - 1
 # what a test says that could not make itself ready: `Unread` is what reading its rows says
 WANTS = re.compile(r"error: (Unread|AllocError|AllocFailed|Memory|OutOfMemory|PqfError \{ at: \d+, kind: Memory \})")
 
 
-def run(room, words, file, number):
-    """Runs a program with one allocation refused (none where the number is 0): its status, both outputs, and its allocations."""
+def run(room, words, file, first, last):
+    """Runs a program with allocations refused (none where the last is 0): its status, both outputs, and its allocations."""
     count = os.path.join(room, "count")
-    surroundings = dict(os.environ, LD_PRELOAD=os.path.join(room, "refuse.so"), REFUSE=str(number), COUNT=count)
+    surroundings = dict(os.environ, LD_PRELOAD=os.path.join(room, "refuse.so"), REFUSE=str(first), LAST=str(last), COUNT=count)
     with open(os.path.join(ROOT, file) if file else os.devnull, "rb") as given:
         ran = subprocess.run(words, stdin=given, capture_output=True, env=surroundings, cwd=ROOT, timeout=60)
     with open(count) as it:
@@ -44,23 +48,24 @@ def run(room, words, file, number):
 
 
 def look_at_run(room, words, file):
-    ample, count = run(room, [ZMETA, *words], file, 0)
+    ample, count = run(room, [ZMETA, *words], file, 1, 0)
     for number in range(1, count + 1):
-        answer, _ = run(room, [ZMETA, *words], file, number)
-        if answer != ample and (answer[0] != 4 or not answer[2].endswith(b"out of memory\n")):
-            return f"zmeta {' '.join(words)}: allocation {number} of {count} refused: {answer}"
-    print(f"zmeta {' '.join(words)}: each of {count} allocations refused")
+        for last in (number, number + 1, ALL):
+            answer, _ = run(room, [ZMETA, *words], file, number, last)
+            if answer != ample and (answer[:2] != (4, b"") or not answer[2].endswith(b"out of memory\n")):
+                return f"zmeta {' '.join(words)}: allocations {number} to {last} of {count} refused: {answer}"
+    print(f"zmeta {' '.join(words)}: each of {count} allocations refused, with the next, and with all that follow")
     return None
 
 
 def look_at_test(room, crate, name):
     tests = VECTORS.format(crate)
-    ample, count = run(room, [tests, name], None, 0)
+    ample, count = run(room, [tests, name], None, 1, 0)
     if ample[0]:
         return f"{name}: fails with ample memory: {ample}"
     passed = 0
     for number in range(1, count + 1):
-        answer, _ = run(room, [tests, name], None, number)
+        answer, _ = run(room, [tests, name], None, number, number)
         wants = WANTS.match(answer[2].decode(errors="replace"))
         if answer[0] and (passed or not wants):
             return f"{name}: allocation {number} of {count} refused: {answer}"

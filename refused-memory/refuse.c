@@ -1,5 +1,6 @@
-/* Stands before the C library's allocator (LD_PRELOAD) and refuses one allocation of a program: the one whose number, from 1 on, is in the
-   environment as REFUSE. The number of allocations is written to the file that COUNT names, where it names one. */
+/* Stands before the C library's allocator (LD_PRELOAD) and refuses allocations of a program: those whose numbers, from 1 on, are not below that
+   in REFUSE and not above that in LAST, both in the environment. The number of allocations is written to the file that COUNT names, where it
+   names one. */
 #define _GNU_SOURCE
 #include <dlfcn.h>
 #include <errno.h>
@@ -8,7 +9,7 @@
 #include <stdlib.h>
 #include <string.h>
 
-static unsigned long made, refused;
+static unsigned long made, first, last;
 
 /* What dlsym itself asks for before the real allocator is known. */
 static char early[65536];
@@ -28,15 +29,16 @@ static int is_early(void *block) { return (char *)block >= early && (char *)bloc
 static int refuses(void)
 {
     made++;
-    if (made != refused) return 0;
+    if (made < first || made > last) return 0;
     errno = ENOMEM;
     return 1;
 }
 
 __attribute__((constructor)) static void begin(void)
 {
-    const char *number = getenv("REFUSE");
-    refused = number ? strtoul(number, NULL, 10) : 0;
+    const char *from = getenv("REFUSE"), *to = getenv("LAST");
+    first = from ? strtoul(from, NULL, 10) : 1;
+    last = to ? strtoul(to, NULL, 10) : 0;
     made = 0;
 }
 
@@ -45,7 +47,7 @@ __attribute__((destructor)) static void end(void)
     const char *path = getenv("COUNT");
     unsigned long count = made;
     if (!path) return;
-    refused = 0;
+    last = 0;
     FILE *file = fopen(path, "w");
     if (file) { fprintf(file, "%lu\n", count); fclose(file); }
 }

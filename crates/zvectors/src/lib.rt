@@ -4,6 +4,8 @@
 #[cfg(test)]
 mod answers;
 #[cfg(test)]
+mod failing;
+#[cfg(test)]
 mod hosts;
 #[cfg(test)]
 mod metas;

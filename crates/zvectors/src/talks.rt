@@ -18,7 +18,7 @@ use ztalk::{Device, answer, talk};
 
 // What can be read, how much a call moves, which read and which write fails (the first being 1), and how many reads there
 // may be; then the answer, the state, and what was written. The question wants no record.
-pub(crate) const TALKS: &str = "\
+const TALKS: &str = "\
 # All answers at once, octet by octet, and in the one read that there may be.
 b51c820400000000830205e0840301c006850310000086031000008c01ffb7128204000000019701019801009901019601ffbf30059f81530100 4096 0 0 9 | Ok(()) | Closed | b421820400000000830205e0840301c006850310000086031000009f6f057a6d657461b6418204000000018d01008e01018f01009001ff910131b2049f690164b524a12206072a8648ce130301a017bf6614bf2c0a30089f7801019f7901049f2d0464756e65bf30059f81530100
 b51c820400000000830205e0840301c006850310000086031000008c01ffb7128204000000019701019801009901019601ffbf30059f81530100 1 0 0 99 | Ok(()) | Closed | b421820400000000830205e0840301c006850310000086031000009f6f057a6d657461b6418204000000018d01008e01018f01009001ff910131b2049f690164b524a12206072a8648ce130301a017bf6614bf2c0a30089f7801019f7901049f2d0464756e65bf30059f81530100
@@ -54,7 +54,7 @@ b421820400000000830205e0840301c006850310000086031000009f6f057a6d657461 1 0 0 9 |
 
 // A reader of some octets.
 #[derive(Drop)]
-struct Given<'a> {
+pub(crate) struct Given<'a> {
     octets: &'a [u8],
     step: usize,
     calls: usize,
@@ -104,11 +104,11 @@ impl Write for Kept {
 
 // How much a call moves, which calls fail, and how many reads there may be.
 #[derive(Clone, Copy)]
-struct Case {
-    step: usize,
-    read: usize,
-    write: usize,
-    turns: u32,
+pub(crate) struct Case {
+    pub step: usize,
+    pub read: usize,
+    pub write: usize,
+    pub turns: u32,
 }
 
 fn case_of(text: &str) -> Result<Case, Unread> {
@@ -123,7 +123,7 @@ fn case_of(text: &str) -> Result<Case, Unread> {
     })
 }
 
-fn source_of<'a>(octets: &'a [u8], case: Case) -> Device<Given<'a>> {
+pub(crate) fn source_of<'a>(octets: &'a [u8], case: Case) -> Device<Given<'a>> {
     Device::new(Given {
         octets,
         step: case.step,
@@ -132,7 +132,7 @@ fn source_of<'a>(octets: &'a [u8], case: Case) -> Device<Given<'a>> {
     })
 }
 
-fn sink_of(alloc: Global, case: Case) -> Device<Kept> {
+pub(crate) fn sink_of(alloc: Global, case: Case) -> Device<Kept> {
     Device::new(Kept {
         octets: Vec::new(alloc),
         step: case.step,
@@ -149,6 +149,28 @@ pub(crate) fn empty_sink(alloc: Global) -> Device<Kept> {
         calls: 0,
         fails_at: 0,
     })
+}
+
+// How often a source was read, and a sink written.
+pub(crate) fn reads_of(source: Device<Given<'_>>) -> usize {
+    let Given {
+        octets: _,
+        step: _,
+        calls,
+        fails_at: _,
+    } = source.into_inner();
+    calls
+}
+
+// What was written, and in how many calls.
+pub(crate) fn writes_of(sink: Device<Kept>) -> (Vec<u8>, usize) {
+    let Kept {
+        octets,
+        step: _,
+        calls,
+        fails_at: _,
+    } = sink.into_inner();
+    (octets, calls)
 }
 
 // What was written, by its digits.
@@ -177,7 +199,7 @@ pub(crate) fn question(alloc: Global) -> Result<Question, Unread>
     })
 }
 
-fn asked(alloc: Global) -> Result<Box<Meta>, Unread> {
+pub(crate) fn asked(alloc: Global) -> Result<Box<Meta>, Unread> {
     let question = question(alloc)?;
     let questions = vec![in alloc; question]?;
     let settings = MetaSettings {
@@ -189,7 +211,7 @@ fn asked(alloc: Global) -> Result<Box<Meta>, Unread> {
     Ok(boxed(alloc, meta)?)
 }
 
-fn has(meta: &Meta) -> Result<(), Unread>
+pub(crate) fn has(meta: &Meta) -> Result<(), Unread>
     ensures { IfOk result (λ _. 0 < length meta.now.pool.connections) }
 {
     if 0 < meta.connections() {
@@ -255,6 +277,15 @@ fn is_answer(alloc: Global, row: &str) -> Result<bool, Unread> {
     let answer = answered(alloc, &mut source, &mut sink, case.turns)?;
     let written = written(alloc, sink)?;
     Ok(tells(format!(in alloc; "{answer} | {written}"), due))
+}
+
+// What can be read in a conversation that goes to its end, and what is written in it, by their digits.
+pub(crate) fn whole() -> (&'static str, &'static str) {
+    let row = TALKS.lines().nth(1).unwrap_or("");
+    let (told, due) = parted(row, " | ");
+    let (_, rest) = parted(due, " | ");
+    let (_, sent) = parted(rest, " | ");
+    (pair(told).0, sent)
 }
 
 #[test]

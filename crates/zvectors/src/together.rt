@@ -1,13 +1,13 @@
 // Two conversations at once over devices in memory, of which sources have nothing yet at some polls.
 ghost use Rattle.std.specs.Prelude.{◌≡◌, None, length, IfOk};
 
-use crate::talks::{Kept, TALKS, empty_sink, question, written};
+use crate::talks::{Kept, empty_sink, question, whole, written};
 use bytes::Bytes;
 use std::alloc::Global;
 use std::test::Fail;
 use zber::Seq;
 use zencodings::boxes::boxed;
-use zencodings::rows::{held, octets, pair, parted};
+use zencodings::rows::{held, octets};
 use zencodings::unread::Unread;
 use zoom::{Meta, MetaSettings, Reason, State};
 use ztalk::{Device, Ends, Failed, Polled, Unwatched, talk_at_once};
@@ -118,15 +118,6 @@ fn talked(alloc: Global, all: &[u8], masks: (u32, u32)) -> Result<(Ended, Ended)
             written: second,
         },
     ))
-}
-
-// What can be read in a conversation that goes to its end, and what is written in it.
-fn whole() -> (&'static str, &'static str) {
-    let row = TALKS.lines().nth(1).unwrap_or("");
-    let (told, due) = parted(row, " | ");
-    let (_, rest) = parted(due, " | ");
-    let (_, sent) = parted(rest, " | ");
-    (pair(told).0, sent)
 }
 
 // Whether a conversation went as it does alone; one in which nothing ever comes is stopped for that.
