@@ -1,6 +1,7 @@
 # make quick: prints the records of an example by a build that nothing was proved of, in about a minute.
 # make show: proves and builds zmeta, and prints them. make demo: serves two catalogues on this machine, and asks both.
 # make test: passes the tests. make interop: asks the servers of others, and lets their clients ask, where they are there.
+# make hostile: sends it what strangers may send, a million times; nothing of the tests.
 # make install: puts what make show built, its man page and its completions below PREFIX, and DESTDIR before that.
 # make uninstall: takes them away again.
 
@@ -14,7 +15,7 @@ bash = $(DESTDIR)$(PREFIX)/share/bash-completion/completions
 zsh = $(DESTDIR)$(PREFIX)/share/zsh/site-functions
 fish = $(DESTDIR)$(PREFIX)/share/fish/vendor_completions.d
 
-.PHONY: quick show demo test interop install uninstall
+.PHONY: quick show demo test interop hostile install uninstall
 
 quick:
 	cd crates/zmeta && rt try -- show < ../../examples/present-response.hex
@@ -27,6 +28,9 @@ demo: show
 
 interop:
 	scripts/interop
+
+hostile:
+	scripts/hostile
 
 # Three checks at a time: each takes 6 GB at most, of 24. Left to itself rt ci reserves more, and has processors stand idle.
 test:
