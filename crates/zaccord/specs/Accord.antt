@@ -1,0 +1,119 @@
+-- What an origin sends its target takes, and what the target owes to that the origin takes (Z39.50-2003, 3.2 and 3.4).
+use Rattle.std.specs.Prelude.{◌≡◌, ◌≢◌, false, List, [], ◌∷◌, ◌++◌, reverse, None, Some, Ok, Contains, IsPermutation}
+use Rattle.zapdu.specs.declared.apdu.Apdu.{Apdu}
+use Rattle.zapdu.specs.declared.apdu.Apdu.TheVariants as apdus
+use Rattle.zapdu.specs.declared.productions.close.Close.{Close}
+use Rattle.zorigin.specs.declared.settings.Settings.{Settings}
+use Rattle.zorigin.specs.declared.answer.Asked.{Asked}
+use Rattle.zorigin.specs.declared.answer.Answer.{Answer as Accepted}
+use Rattle.zorigin.specs.declared.answer.Taken.{Taken}
+use Rattle.zorigin.specs.declared.answer.Taken.TheVariants as taken
+use Rattle.zorigin.specs.References.{reference_id}
+use Rattle.zorigin.specs.Standings as calls
+use Rattle.zorigin.specs.Fitting.{Fits}
+use Rattle.zorigin.specs.Replies.{verdict, taken_as}
+use Rattle.zorigin.specs.Accepts.{id_of}
+use Rattle.zorigin.specs.Log.{Log, past, asked, standing}
+use Rattle.ztarget.specs.declared.database.Database.{Database}
+use Rattle.ztarget.specs.declared.settings.TargetSettings.{TargetSettings}
+use Rattle.ztarget.specs.Replies.{Answer, owed, replies}
+
+-- the requests that the calls of the log sent, the newest first
+abbrev pub requests : Settings → Log → List Apdu
+requests settings log = reverse (past settings log).sent
+
+-- a target takes each of these, the newest first, after those before it
+abbrev pub AreTaken : List Database → TargetSettings → List Apdu → Type 0
+AreTaken databases target [] = Unit {0}
+AreTaken databases target (v ∷ received) =
+    ((a : Answer) × (owed databases target received v ≡ Ok a)) × AreTaken databases target received
+
+-- the replies that such a target owes to what was sent, in the order of the requests
+abbrev pub replies_due : List Database → TargetSettings → Settings → Log → List Apdu
+replies_due databases target settings log = replies databases target (requests settings log)
+
+-- The origin took from this target alone: each reply that it accepted is owed to what it sent; it refused none.
+pub record Converses (databases : List Database) (target : TargetSettings) (settings : Settings) (log : Log)
+    : Type 0 where
+  pub owed : (x : Accepted) → Contains (past settings log).accepted x
+      → Contains (replies_due databases target settings log) x.reply
+  pub sound : (past settings log).fault ≡ None
+
+-- no reply with its reference id was accepted
+abbrev pub IsUnanswered : Settings → Log → Apdu → Type 0
+IsUnanswered settings log reply =
+    (x : Accepted) → Contains (past settings log).accepted x → id_of x.reply ≢ id_of reply
+
+-- the operation was admitted, and the reply has its reference id
+pub record IsReplyTo (settings : Settings) (log : Log) (reply : Apdu) (q : Asked) : Type 0 where
+  pub asked : Contains (asked (past settings log)) q
+  pub id : id_of reply ≡ Some (reference_id q.op)
+
+-- the target's Close ends the association; another reply answers the operation with its reference id
+abbrev pub IsTakenAs : Settings → Log → Apdu → Taken → Type 0
+IsTakenAs settings log (apdus.Close c) x = x ≡ taken.Closed
+IsTakenAs settings log reply x =
+    (q : Asked) × IsReplyTo settings log reply q × (x ≡ taken_as (record { asked = q; reply = reply }))
+
+-- ---- the laws
+
+-- each request is taken
+abbrev pub TakenLaw : Type 0
+TakenLaw =
+    (databases : List Database) (target : TargetSettings) (settings : Settings) (log : Log)
+    → Converses databases target settings log → AreTaken databases target (requests settings log)
+
+-- each reply that is owed and was not accepted yet is accepted, until a Close is
+abbrev pub AcceptsLaw : Type 0
+AcceptsLaw =
+    (databases : List Database) (target : TargetSettings) (settings : Settings) (log : Log) (reply : Apdu)
+    → Converses databases target settings log → (past settings log).closed ≡ false
+    → Contains (replies_due databases target settings log) reply → IsUnanswered settings log reply
+    → (x : Taken) × (verdict (standing (past settings log)) reply ≡ Ok x) × IsTakenAs settings log reply x
+
+-- a Close that is owed was never accepted as a reply to an operation
+abbrev pub UnansweredLaw : Type 0
+UnansweredLaw =
+    (databases : List Database) (target : TargetSettings) (settings : Settings) (log : Log) (close : Close)
+    → Converses databases target settings log
+    → Contains (replies_due databases target settings log) (apdus.Close close)
+    → IsUnanswered settings log (apdus.Close close)
+
+-- no two replies that are owed have one reference id: what was handed out has not that of what was not
+abbrev pub ApartLaw : Type 0
+ApartLaw =
+    (databases : List Database) (target : TargetSettings) (settings : Settings) (log : Log)
+    (released pending : List Apdu) (a b : Apdu)
+    → IsPermutation (replies_due databases target settings log) (released ++ pending)
+    → Contains released a → Contains pending b → id_of a ≢ id_of b
+
+-- a reply is owed to each operation that was admitted
+abbrev pub OwesLaw : Type 0
+OwesLaw =
+    (databases : List Database) (target : TargetSettings) (settings : Settings) (log : Log) (q : Asked)
+    → Converses databases target settings log → Contains (asked (past settings log)) q
+    → (reply : Apdu) × Contains (replies_due databases target settings log) reply
+    × (id_of reply ≡ Some (reference_id q.op))
+
+-- where Close was admitted, a Close is owed behind all other replies
+abbrev pub OwesCloseLaw : Type 0
+OwesCloseLaw =
+    (databases : List Database) (target : TargetSettings) (settings : Settings) (log : Log)
+    → Converses databases target settings log → Contains (past settings log).admitted calls.Close
+    → (close : Close) × (others : List Apdu)
+    × (replies_due databases target settings log ≡ others ++ apdus.Close close ∷ [])
+
+-- the reply that is owed to an operation fits it
+abbrev pub FitsLaw : Type 0
+FitsLaw =
+    (databases : List Database) (target : TargetSettings) (settings : Settings) (log : Log) (q : Asked) (reply : Apdu)
+    → Contains (replies_due databases target settings log) reply → IsReplyTo settings log reply q → Fits q.what reply
+
+pub record AccordLaws : Type 0 where
+  pub taken : TakenLaw
+  pub accepts : AcceptsLaw
+  pub unanswered : UnansweredLaw
+  pub apart : ApartLaw
+  pub owes : OwesLaw
+  pub owes_close : OwesCloseLaw
+  pub fits : FitsLaw

@@ -1,0 +1,14 @@
+pub mod Logs
+pub mod Replies
+pub mod States
+pub mod Framing
+pub mod Events
+pub mod Hearings
+pub mod Sounds
+pub mod Steps
+pub mod Endings
+pub mod Tagging
+pub mod TaggedQueries
+pub mod TaggedRequests
+pub mod TaggedReplies
+pub mod ReadingBack
