@@ -17,3 +17,6 @@ pub mod Finding
 pub mod FitnessTargets
 pub mod Enquiries
 pub mod FitnessLaw
+pub mod RunHeard
+pub mod RunSound
+pub mod RunTakes

@@ -9,3 +9,4 @@ pub mod RunSteps
 pub mod Finding
 pub mod Fitness
 pub mod Enquiries
+pub mod RunSound
