@@ -28,6 +28,7 @@ pub use productions::search_query::SearchQuery;
 pub use productions::search_request::SearchRequest;
 pub use productions::search_response::SearchResponse;
 pub use text::{
-    octet_aligned, print_default_diag, print_diag, print_given_record, print_record, quote,
+    octet_aligned, print_default_diag, print_diag, print_given_record, print_record, put_hex,
+    put_node, quote,
 };
 pub use zasn::BuildError;

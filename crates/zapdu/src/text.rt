@@ -1,12 +1,10 @@
 //! The printed texts of octets, diagnostics and records.
 ghost use Rattle.std.specs.Prelude.{◌≡◌, ◌≤◌, ◌<◌, ◌∷◌, [], ◌++◌, length, take, IsTrue, IfOk, Bool, OnOk, OnErr, Option, MatchOption, Some, None};
 ghost use Rattle.std.specs.List.{flat_map};
-ghost use Rattle.std.specs.Fmt.{signed_decimal};
 ghost use Rattle.hex.specs.Hex.{encode_lower};
 ghost use Rattle.zber.specs.Canonical.{canonical};
-ghost use Rattle.zber.specs.Dotted.{dotted};
 ghost use Rattle.zapdu.specs.Productions.Records.{whole_record};
-ghost use Rattle.zapdu.specs.Text.{shown, quoted, quoted_or_dash, ber_text, info_octets, default_text, diag_text, octets_alone, octets_text, retrieval_text, record_text};
+ghost use Rattle.zapdu.specs.Text.{shown, quoted, quoted_or_dash, ber_text, default_text, diag_text, octets_alone, octets_text, retrieval_text, record_text};
 
 use crate::productions::diagnostic::{DefaultDiag, DiagRec, Info};
 use crate::productions::external::{Content, External};
@@ -14,6 +12,7 @@ use crate::productions::record::{Record, RecordBody};
 use bytes::Bytes;
 use std::alloc::{AllocError, Global};
 use zasn::{BuildError, Tagged};
+use zber::text::{put_number, put_oid};
 use zber::{Duplicate, Node, Oid};
 
 /// The octet behind a backslash, as two hexadecimal digits behind `\x`, or as it is.
@@ -37,8 +36,11 @@ fn put_octet(octet: u8, out: &mut Vec<u8>) -> Result<(), AllocError>
     }
 }
 
-fn put_hex(alloc: Global, octets: &[u8], out: &mut Vec<u8>) -> Result<(), AllocError>
-    ensures { OnOk result (out.new.items ≡ out.old.items ++ encode_lower octets.now) }
+/// Appends the octets in hexadecimal, two lower-case digits each. Where no memory is found, nothing
+/// is appended.
+pub fn put_hex(alloc: Global, octets: &[u8], out: &mut Vec<u8>) -> Result<(), AllocError>
+    ensures ok { OnOk result (out.new.items ≡ out.old.items ++ encode_lower octets.now) }
+    ensures err { OnErr result (out.new.items ≡ out.old.items) }
 {
     let text = hex::encode(alloc, octets)?;
     out.extend_from_slice(text.as_bytes())
@@ -102,23 +104,11 @@ fn put_quoted_or_dash(text: &Option<Bytes>, out: &mut Vec<u8>) -> Result<(), All
     }
 }
 
-fn put_oid(alloc: Global, oid: &Oid, out: &mut Vec<u8>) -> Result<(), AllocError>
-    ensures { OnOk result (out.new.items ≡ out.old.items ++ dotted oid.now) }
-{
-    let text = oid.text(alloc)?;
-    out.extend_from_slice(text.as_bytes())
-}
-
-fn put_number(alloc: Global, number: i64, out: &mut Vec<u8>) -> Result<(), AllocError>
-    ensures { OnOk result (out.new.items ≡ out.old.items ++ signed_decimal number) }
-{
-    let text = number.to_string(alloc)?;
-    out.extend_from_slice(text.as_bytes())
-}
-
-/// The element's canonical encoding in hexadecimal.
-fn put_node(alloc: Global, node: &Node, out: &mut Vec<u8>) -> Result<(), AllocError>
-    ensures { OnOk result (out.new.items ≡ out.old.items ++ encode_lower (canonical node.now)) }
+/// Appends the element's canonical encoding in hexadecimal. Where no memory is found, nothing is
+/// appended.
+pub fn put_node(alloc: Global, node: &Node, out: &mut Vec<u8>) -> Result<(), AllocError>
+    ensures ok { OnOk result (out.new.items ≡ out.old.items ++ encode_lower (canonical node.now)) }
+    ensures err { OnErr result (out.new.items ≡ out.old.items) }
 {
     let mut octets = Vec::new(alloc);
     node.canonical(alloc, &mut octets)?;

@@ -184,6 +184,7 @@ fn inner(outer: Window, at: usize, size: Option<usize>) -> Window
 }
 
 impl Scan {
+    /// Of messages of at most so many octets, of which nothing was looked at yet. It takes no memory.
     pub fn new(alloc: Global, limit: u32) -> Scan
         ensures holds { (xs : List ℕ) → Holds limit xs result }
         ensures begins { (pos result ≡ 0) × (result.contents ≡ 0) }
@@ -206,6 +207,7 @@ impl Scan {
         }
     }
 
+    /// Whether the message is whole. It takes no memory.
     pub fn is_whole(&self) -> bool
         ensures { IsTrue result ↔ (self.now.reading ≡ Whole) }
     {

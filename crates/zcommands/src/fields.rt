@@ -4,8 +4,9 @@ ghost use Rattle.zcommands.specs.Fields.{reference_text, numbers_text, number_te
 
 use bytes::Bytes;
 use std::alloc::{AllocError, Global};
-use zapdu::{Kind, quote};
+use zapdu::{Kind, put_hex, quote};
 use zber::Bits;
+use zber::text::put_number;
 
 /// The word of the kind, and the reference id.
 #[tactic(auto, unfolding(crate::specs::Fields::start_text))]
@@ -69,10 +70,7 @@ pub(crate) fn put_reference(
 {
     match reference {
         None => text.extend_from_slice(b"-"),
-        Some(octets) => {
-            let digits = hex::encode(alloc, octets.as_slice())?;
-            text.extend_from_slice(digits.as_bytes())
-        }
+        Some(octets) => put_hex(alloc, octets.as_slice(), text),
     }
 }
 
@@ -85,14 +83,14 @@ pub(crate) fn put_numbers(
     ensures { OnOk result (text.new.items ≡ text.old.items ++ numbers_text numbers.now) }
 {
     for number in numbers {
-        put_number(alloc, *number, text)?;
+        put_field(alloc, *number, text)?;
     }
     Ok(())
 }
 
-fn put_number(alloc: Global, number: i64, text: &mut Vec<u8>) -> Result<(), AllocError>
+fn put_field(alloc: Global, number: i64, text: &mut Vec<u8>) -> Result<(), AllocError>
     ensures { OnOk result (text.new.items ≡ text.old.items ++ number_text number) }
 {
-    let field = format!(in alloc; " {number}")?;
-    text.extend_from_slice(field.as_bytes())
+    text.push(b' ')?;
+    put_number(alloc, number, text)
 }

@@ -33,7 +33,9 @@ pub(crate) struct Finished {
 /// Where a world file stands, and where what is known is saved, if it is.
 #[derive(Clone, Copy)]
 pub struct Paths<'a> {
+    /// The world file.
     pub world: &'a str,
+    /// The file that is written, if one is.
     pub saved: Option<&'a str>,
 }
 

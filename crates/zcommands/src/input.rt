@@ -14,7 +14,9 @@ const READS: u32 = 1_000_000;
 pub struct Input<'a, R> {
     /// What is told of it: a file's path, `-` for standard input.
     pub path: &'a str,
+    /// What gives the octets.
     pub reader: R,
+    /// Whether a read failed.
     pub has_failed: bool,
 }
 

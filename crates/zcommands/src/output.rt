@@ -13,7 +13,9 @@ use std::io::{ErrorKind, Write};
 pub struct Output<'a, W> {
     /// What is told of it: a file's path, `-` for a standard stream.
     pub path: &'a str,
+    /// What takes the octets.
     pub writer: W,
+    /// Whether a write failed.
     pub has_failed: bool,
 }
 

@@ -10,6 +10,7 @@ use crate::fault::{Fault, Status};
 use crate::output::Output;
 use std::alloc::{AllocError, Global};
 use std::io::Write;
+use zapdu::put_node;
 use zber::{Node, Tag};
 use zquery::laws::{text_printable, text_spellable};
 use zquery::{BuildError, PrintError, Query, parse_pqf, print_pqf, to_node};
@@ -86,8 +87,5 @@ fn put_element(alloc: Global, node: Node, lines: &mut Vec<u8>) -> Result<(), All
     let mut nodes = Vec::new(alloc);
     nodes.push(node)?;
     let outer = Node::cons(Tag::context(21), nodes);
-    let mut octets = Vec::new(alloc);
-    outer.canonical(alloc, &mut octets)?;
-    let digits = hex::encode(alloc, octets.as_slice())?;
-    lines.extend_from_slice(digits.as_bytes())
+    put_node(alloc, &outer, lines)
 }

@@ -27,7 +27,9 @@ pub struct Extract<'a> {
 /// Saved files: the first, and the others.
 #[derive(Clone, Copy)]
 pub struct SavedFiles<'a, 'w> {
+    /// The path of the first.
     pub first: &'a str,
+    /// The paths of the others, in order.
     pub others: &'w [&'a str],
 }
 

@@ -6,7 +6,7 @@ ghost use Rattle.zcommands.specs.Searches.{search_request_text, database_line, d
 use crate::fields::{put_numbers, put_start, put_truth};
 use bytes::Bytes;
 use std::alloc::{AllocError, Global};
-use zapdu::{Kind, SearchQuery, SearchRequest, quote};
+use zapdu::{Kind, SearchQuery, SearchRequest, put_node, quote};
 use zber::{Node, Oid};
 use zquery::{BuildError, PrintError, Query, print_pqf, to_node};
 
@@ -116,9 +116,6 @@ fn put_spelling(alloc: Global, query: &Query, text: &mut Vec<u8>) -> Result<(), 
 fn put_element(alloc: Global, node: &Node, text: &mut Vec<u8>) -> Result<(), AllocError>
     ensures { OnOk result (text.new.items ≡ text.old.items ++ spelling_text (Some node.now)) }
 {
-    let mut octets = Vec::new(alloc);
-    node.canonical(alloc, &mut octets)?;
-    let digits = hex::encode(alloc, octets.as_slice())?;
     text.extend_from_slice(b"ber ")?;
-    text.extend_from_slice(digits.as_bytes())
+    put_node(alloc, node, text)
 }

@@ -19,8 +19,11 @@ use znet::serve;
 pub struct Service<'a> {
     /// `host:port`.
     pub address: &'a str,
+    /// The target's name.
     pub name: &'a str,
+    /// The world file.
     pub world: &'a str,
+    /// How many connections are taken, up to 1,000,000.
     pub count: u32,
 }
 

@@ -22,13 +22,7 @@ use crate::tables::keys::{Mark, RowKey, SetKey};
 use crate::tables::table::Table;
 use std::alloc::{AllocError, Global};
 use zapdu::{DiagRec, Record, print_diag, print_record, quote};
-
-fn put_number(alloc: Global, number: i64, out: &mut Vec<u8>) -> Result<(), AllocError>
-    ensures { OnOk result (out.new.items ≡ out.old.items ++ signed_decimal number) }
-{
-    let text = number.to_string(alloc)?;
-    out.extend_from_slice(text.as_bytes())
-}
+use zber::text::put_number;
 
 fn put_natural(alloc: Global, number: u32, out: &mut Vec<u8>) -> Result<(), AllocError>
     ensures { OnOk result (out.new.items ≡ out.old.items ++ decimal number) }

@@ -10,7 +10,9 @@ use crate::trim::trim;
 /// A list that was cut off: its Present was sent and is not answered, or it is due.
 #[derive(Drop)]
 pub struct Entry {
+    /// Whether its Present was sent.
     pub sent: bool,
+    /// Its positions.
     pub list: Vec<Span>,
 }
 

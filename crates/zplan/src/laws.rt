@@ -32,7 +32,8 @@ pub fn shown_laws()
     ensures { ShownLaws }
 {}
 
-/// At most two requests, and one for each wanted position up to the count, are ever sent; Close is not counted.
+/// At most two requests, and one for each wanted position up to the count, are ever sent; Close is not counted. A list
+/// that is asked has at most as many positions as a Present asks for, and the search found each of them.
 pub fn bound_laws()
     ensures { BoundLaws }
 {}

@@ -9,14 +9,18 @@ use std::alloc::{AllocError, Global};
 /// Where ranges are read on: `used` positions of range `at` are behind.
 #[derive(Clone, Copy)]
 pub struct Place {
+    /// The range's place.
     pub at: usize,
+    /// How many of its positions are behind.
     pub used: u32,
 }
 
 /// Positions of one range, and where to read on.
 #[derive(Clone, Copy)]
 pub struct Part {
+    /// The positions.
     pub range: Span,
+    /// Where to read on.
     pub next: Place,
 }
 
@@ -59,8 +63,11 @@ pub(crate) fn next_part(ranges: &[Span], place: Place, room: u32) -> Option<Part
 /// A run, and how many positions the list that it stands in may still have after it.
 #[derive(Clone, Copy)]
 pub struct Run {
+    /// The positions.
     pub range: Span,
+    /// Where to read on.
     pub next: Place,
+    /// How many more the list may have.
     pub room: u32,
 }
 

@@ -8,7 +8,9 @@ use std::alloc::{AllocError, Global};
 /// `n` positions from `start` on.
 #[derive(Clone, Copy)]
 pub struct Span {
+    /// The first position.
     pub start: u32,
+    /// How many.
     pub n: u32,
 }
 

@@ -9,7 +9,9 @@ use std::alloc::{AllocError, Global};
 /// The wanted ranges as far as the count, and the place from which nothing was cut off yet.
 #[derive(Drop)]
 pub struct Uncut {
+    /// The ranges, ascending.
     pub ranges: Vec<Span>,
+    /// Where the next list begins.
     pub place: Place,
     /// How many positions the list at the place may still have.
     pub room: u32,
@@ -22,8 +24,11 @@ pub struct Uncut {
 /// A list, and where to cut on.
 #[derive(Drop)]
 pub struct Cut {
+    /// The list.
     pub list: Vec<Span>,
+    /// Where the next begins.
     pub place: Place,
+    /// How many positions it may have.
     pub room: u32,
 }
 

@@ -11,6 +11,7 @@ use zber::{Node, Oid, Seq};
 /// The value of an attribute.
 #[derive(Drop)]
 pub enum AttrValue {
+    /// A number.
     Number(i64),
     /// A complex value, kept as the element that it is.
     Complex(Node),
@@ -23,13 +24,16 @@ pub struct Attr {
     pub attr_set: Option<Oid>,
     /// The attribute type.
     pub kind: i64,
+    /// Its value.
     pub value: AttrValue,
 }
 
 /// What an operand asks for (Term).
 #[derive(Drop)]
 pub enum TermValue {
+    /// Octets.
     General(Bytes),
+    /// A number.
     Numeric(i64),
     /// A characterString.
     Text(Bytes),
@@ -46,7 +50,9 @@ pub enum Rpn {
     ResultSet { name: Bytes },
     /// The records of a result set that have attributes (ResultSetPlusAttributes).
     SetAttrs { name: Bytes, attrs: Seq<Attr> },
+    /// The records of both.
     And(Box<Rpn>, Box<Rpn>),
+    /// The records of either.
     Or(Box<Rpn>, Box<Rpn>),
     /// The first without the second.
     Not(Box<Rpn>, Box<Rpn>),
@@ -60,7 +66,9 @@ pub enum Rpn {
 /// memory; they see an `Rpn` within it by `seen`.
 #[derive(Drop)]
 pub struct Query {
+    /// The attribute set of attributes that name none.
     pub attr_set: Oid,
+    /// The tree.
     pub root: Rpn,
 }
 

@@ -70,7 +70,9 @@ impl PqfErrorKind {
 #[derive(Clone, Copy, Debug, PartialEq, Eq, Error)]
 #[error("{kind} at {at}")]
 pub struct PqfError {
+    /// The octet, from 0.
     pub at: usize,
+    /// What is wrong there.
     pub kind: PqfErrorKind,
 }
 

@@ -1,5 +1,5 @@
 // Queries printed in the prefix notation.
-ghost use Rattle.std.specs.Prelude.{◌≡◌, ◌++◌, ◌∷◌, [], true, false, codes, List, Some, Err, OnOk, OnErr};
+ghost use Rattle.std.specs.Prelude.{◌≡◌, ◌++◌, true, false, codes, Some, Err, OnOk, OnErr};
 ghost use Rattle.std.specs.Fmt.{signed_decimal};
 ghost use Rattle.std.specs.List.{flat_map};
 ghost use Rattle.zber.specs.Oids.{IsOid};
@@ -15,6 +15,7 @@ use crate::query::{Attr, AttrValue, Query, Rpn, TermValue};
 use std::alloc::{AllocError, Global};
 use thiserror::Error;
 use zber::Oid;
+use zber::text::{put_number, put_oid};
 
 /// Why a query is not printed.
 #[derive(Clone, Copy, Debug, PartialEq, Eq, Error)]
@@ -56,18 +57,10 @@ fn put_quoted(out: &mut Vec<u8>, text: &[u8]) -> Result<(), AllocError>
     Ok(())
 }
 
-fn put_number(alloc: Global, out: &mut Vec<u8>, number: i64) -> Result<(), AllocError>
-    ensures { OnOk result (out.new.items ≡ out.old.items ++ signed_decimal number) }
-{
-    let text = format!(in alloc; "{number}")?;
-    out.extend_from_slice(text.as_bytes())
-}
-
-fn put_oid(alloc: Global, out: &mut Vec<u8>, oid: &Oid) -> Result<(), AllocError>
+fn put_own_set(alloc: Global, out: &mut Vec<u8>, oid: &Oid) -> Result<(), AllocError>
     ensures { OnOk result (out.new.items ≡ out.old.items ++ set_text (Some oid.now)) }
 {
-    let text = oid.text(alloc)?;
-    out.extend_from_slice(text.as_bytes())?;
+    put_oid(alloc, oid, out)?;
     out.push(b' ')?;
     Ok(())
 }
@@ -77,7 +70,7 @@ fn put_set(alloc: Global, out: &mut Vec<u8>, set: &Option<Oid>) -> Result<(), Al
 {
     match set {
         None => Ok(()),
-        Some(oid) => put_oid(alloc, out, oid),
+        Some(oid) => put_own_set(alloc, out, oid),
     }
 }
 
@@ -85,7 +78,7 @@ fn put_value(alloc: Global, out: &mut Vec<u8>, value: &AttrValue) -> Result<(), 
     ensures { OnOk result (out.new.items ≡ out.old.items ++ value_text value.now) }
 {
     match value {
-        AttrValue::Number(number) => put_number(alloc, out, *number),
+        AttrValue::Number(number) => put_number(alloc, *number, out),
         AttrValue::Complex(_) => Ok(()),
     }
 }
@@ -94,7 +87,7 @@ fn put_numbers(alloc: Global, out: &mut Vec<u8>, attr: &Attr) -> Result<(), Allo
     ensures { OnOk result (out.new.items ≡ out.old.items
         ++ (signed_decimal attr.now.kind ++ (codes "=" ++ (value_text attr.now.value ++ codes " ")))) }
 {
-    put_number(alloc, out, attr.kind)?;
+    put_number(alloc, attr.kind, out)?;
     out.push(b'=')?;
     put_value(alloc, out, &attr.value)?;
     out.push(b' ')?;
@@ -202,7 +195,7 @@ fn put_opening(alloc: Global, out: &mut Vec<u8>, own: &Oid) -> Result<(), AllocE
         return Ok(());
     }
     out.extend_from_slice(b"@attrset ")?;
-    put_oid(alloc, out, own)
+    put_own_set(alloc, out, own)
 }
 
 fn put_query(alloc: Global, out: &mut Vec<u8>, query: &Query) -> Result<(), AllocError>
