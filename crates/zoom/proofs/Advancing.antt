@@ -1,5 +1,5 @@
 -- Calls that are made on a connection that is driven.
-use Rattle.std.proofs.Common.{◌≡◌, ◌≢◌, ◌⊎◌, inl, inr, ℕ, zero, suc, ◌+◌, ◌<◌, ◌≤◌, ◌==◌, Bool, true, false, cond}
+use Rattle.std.proofs.Common.{◌≡◌, ◌≢◌, ℕ, zero, suc, ◌+◌, ◌<◌, ◌≤◌, ◌==◌, Bool, true, false, cond}
 use Rattle.std.proofs.Common.{List, [], ◌∷◌, ◌++◌, map, length, slice_get, slice_set, get_or, Option, None, Some}
 use Rattle.std.proofs.Common.{Result, Ok, Err, refl, sym, ap, subst, ◌∙◌, arith, true≢false, length-append}
 use Rattle.std.specs.Prelude.{is_some}
@@ -28,7 +28,7 @@ use Rattle.zoom.specs.Befalling.{Befell, IsStateAt, IsCallAnswer, IsPoolFinished
 use Rattle.zoom.specs.Laws.{OneHearing}
 use Rattle.zoom.specs.Steering.{Errand, errand_of}
 use Rattle.zoom.specs.Drivers.{DriverState, IsDriver, Stays, Offers, GivesNext, KnowsSent, KnowsRefused}
-use Rattle.zoom.specs.Metas.{MetaLinks, settings_of, AreDriven, MetaAfter, made, IsRefusedNext, Progress, Drives}
+use Rattle.zoom.specs.Metas.{MetaLinks, settings_of, AreDriven, MetaAfter, made, Progress, Drives}
 use Rattle.zoom.specs.Metas.{left_of, left_at, Gave, AdvancesBy, AdvancesTo, IssuesTo, DrivesTo}
 use Rattle.zoom.specs.Metas.{Tells, is_skipped, is_complete, IsFinished}
 use Rattle.zoom.specs.declared.meta.Turn.{Turn}
@@ -244,15 +244,21 @@ admitted_to E hearing c call old new was x lt befell answer at knows ds size que
         (none p now (stop p now))).1
 
 pub refused_to : (E : Type 0) → OneHearing → ((s : Standing) (call : Call) → refusal s call ≡ None → IsSent s call)
-    → (c : ℕ) (call : Call) (reason : CallRefused) (on : Bool) (old new : MetaLinks) (was x : DriverState)
+    → (c : ℕ) (call : Call) (reason : CallRefused) (old new : MetaLinks) (was x : DriverState)
     → reason ≢ calls.Memory
     → c < length old.pool.connections → Befell c (Calls call) old.pool new.pool
-    → IsCallAnswer c call old.pool (Err reason) → slice_get old.drivers c ≡ Some was → KnowsRefused call reason on was x
+    → IsCallAnswer c call old.pool (Err reason) → slice_get old.drivers c ≡ Some was → KnowsRefused was x
     → new.drivers ≡ slice_set old.drivers c x → length new.pool.connections ≡ length old.pool.connections
-    → IssuesTo {E = E} c call (Ok (cond on turns.Skipped turns.Rests)) old new
-unfolding progress_one
-refused_to E hearing law c call reason on old new was x other lt befell answer at knows ds size questions s h a gave =
-    by on knows
+    → IssuesTo {E = E} c call (Ok turns.Skipped) old new
+refused_to E hearing law c call reason old new was x other lt befell answer at knows ds size questions s h a gave = (
+  progress_one hearing questions s c h new call (Some reason)
+      (call_after questions s h old new c call (Some reason) was x a gave none befell at
+      (λ e settings log o n. (knows e settings log call reason o n).0) ds size)
+      (λ p heard. (stop p heard, none p heard (stop p heard))),
+  left_then old.drivers new.drivers c was x at ds (let p = a.pool.heard c in
+      (knows (errand_of s question.0) p.settings p.log call reason (offers question.0 p question.1 now)
+      (none p now (stop p now))).1),
+)
   where
     question : (q : Question) × (slice_get questions c ≡ Some q)
     question = question_at questions s h old c a lt
@@ -271,37 +277,6 @@ refused_to E hearing law c call reason on old new was x other lt befell answer a
     offers : (q : Question) (p : Heard) → slice_get questions c ≡ Some q → HasHeard (settings_of s) (only c h) p
         → Offers (errand_of s q) p.settings p.log was call
     offers q p asked heard = (gave q was p asked at heard).1
-
-    progress : (b : Bool) → KnowsRefused call reason b was x → Progress questions s c h 0 new
-    progress b k = progress_one hearing questions s c h new call (Some reason)
-        (call_after questions s h old new c call (Some reason) was x a gave none befell at
-        (λ e settings log o n. (k e settings log o n).0) ds size)
-        (λ p heard. (stop p heard, none p heard (stop p heard)))
-
-    by : (b : Bool) → KnowsRefused call reason b was x
-        → AdvancesBy {E = E} questions s c h (Ok (cond b turns.Skipped turns.Rests)) old new
-    by true k = (
-      progress true k,
-      left_then old.drivers new.drivers c was x at ds (let p = a.pool.heard c in
-          (k (errand_of s question.0) p.settings p.log (offers question.0 p question.1 now) (none p now (stop p now))).1),
-    )
-    by false k = record {
-      progress = progress false k;
-      rests = λ q t asked heard.
-          let z = subst (λ l. HasHeard (settings_of s) l t) (only_same c (Calls call) h) heard in
-          let p = z.0 in
-          let is : t ≡ record p { log = Made call ∷ p.log } = z.2 ∙ heard_call p call (stop p z.1) in
-          let r = none p z.1 (stop p z.1) in
-          let refused : IsRefusedNext (errand_of s q) (record p { log = Made call ∷ p.log }) = record {
-            call = call;
-            before = p.log;
-            made = refl;
-            next = (k (errand_of s q) p.settings p.log (offers q p asked z.1) r).1;
-            reason = reason;
-            refused = r;
-          } in
-          inr (subst (IsRefusedNext (errand_of s q)) (sym is) refused);
-    }
 
 -- want of memory: nothing was done
 pub kept_to : (E : Type 0) → OneHearing → (c : ℕ) (call : Call) (old new : MetaLinks) (error : E) → new ≡ old
@@ -362,9 +337,9 @@ pub stopped_to : (E : Type 0) → OneHearing → (c : ℕ) (old : MetaLinks) (st
 unfolding progress_none
 stopped_to E hearing c old state lt is stopped questions s h a = record {
   progress = progress_none hearing questions s c h old a;
-  rests = λ q p asked heard. inl (λ f.
+  rests = λ q p asked heard. λ f.
       let e = state_is hearing questions s h old c state a lt is p heard in
-      absurd (true≢false (sym stopped ∙ ap is_stopped e ∙ f)));
+      absurd (true≢false (sym stopped ∙ ap is_stopped e ∙ f));
 }
 
 -- none was given
@@ -379,10 +354,10 @@ idle_to E hearing c old new state was x lt is pool at ds stays gives questions s
     ∙ get_same old.drivers c x (inside old.drivers c was at) in
     record {
       progress = progress_none hearing questions s c h new b;
-      rests = λ q p asked heard. inl (λ f call next. gives (errand_of s q) p.settings p.log
+      rests = λ q p asked heard. λ f call next. gives (errand_of s q) p.settings p.log
           (b.driven.each c q x p asked drives heard)
           (state_is hearing questions s h old c state a lt is p heard
-          ∙ origin_state (settings_of s) (only c h) p heard f) call next);
+          ∙ origin_state (settings_of s) (only c h) p heard f) call next;
     }
 
 -- memory was wanting

@@ -10,11 +10,11 @@ use Rattle.zorigin.specs.declared.answer.Sent.{Sent}
 use Rattle.zorigin.specs.declared.refusal.CallRefused.{CallRefused}
 use Rattle.zorigin.specs.Standings.{Call}
 use Rattle.zorigin.specs.Calls.{call_answer, answer_by, refusal}
-use Rattle.zorigin.specs.Sending.{encoding_of, request_of, sent_of}
+use Rattle.zorigin.specs.Sending.{encoding_of, request_of, sent_of, IsReadBack}
 use Rattle.zorigin.specs.Log.{Made, Past, standing, request_list, admit_unless, After as OriginAfter}
 use Rattle.zoom.specs.Links.{Link}
 use Rattle.zoom.specs.Heard.{Heard, Deed, Calls, past_of, hears_call, given, joined}
-use Rattle.zoom.specs.Leaving.{Matches, GivesAll, Leaves}
+use Rattle.zoom.specs.Leaving.{Matches, GivesAll, AreReadBack, Leaves}
 
 no_err : {A E : Type 0} {x : A} {e : E} → Ok x ≡ Err e → ⊥
 no_err q = cc
@@ -36,13 +36,30 @@ grown p call x None q = requested p.sent x (request_of (standing p) call) q
 pub joined_more : (ws : List (List ℕ)) (x : List ℕ) → joined (ws ++ x ∷ []) ≡ joined ws ++ x
 joined_more ws x = flat_map-append (λ z. z) ws (x ∷ []) ∙ ap (λ z. joined ws ++ z) (append-nil x)
 
+pub read_append : (vs ws : List Apdu) → AreReadBack vs → AreReadBack ws → AreReadBack (vs ++ ws)
+read_append [] ws a b = b
+read_append (v ∷ vs) ws a b = (a.0, read_append vs ws a.1 b)
+
+requested_read : (ss : List Apdu) (x : Sent) (o : Option Apdu) → AreReadBack ss → IsReadBack x
+    → Ok x ≡ answer_by None o → AreReadBack (ss ++ request_list o)
+requested_read ss x None a b q = absurd (no_err q)
+requested_read ss x (Some apdu) a b q =
+    let same : x ≡ sent_of apdu = cc in
+    read_append ss (apdu ∷ []) a (subst IsReadBack same b, tt)
+
+grown_read : (p : Past) (call : Call) (x : Sent) (r : Option CallRefused) → AreReadBack p.sent → IsReadBack x
+    → Ok x ≡ answer_by r (request_of (standing p) call) → AreReadBack (admit_unless p call r).sent
+grown_read p call x (Some reason) a b q = absurd (no_err q)
+grown_read p call x None a b q = requested_read p.sent x (request_of (standing p) call) a b q
+
 -- a call that was admitted
 pub called : (settings : Settings) (deeds : List Deed) (p : Heard) (c d : Link) (call : Call) (x : Sent)
-    → Leaves settings deeds p c → is_some c.stop ≡ false → Ok x ≡ call_answer (standing (past_of p)) call
+    → Leaves settings deeds p c → is_some c.stop ≡ false → IsReadBack x
+    → Ok x ≡ call_answer (standing (past_of p)) call
     → OriginAfter p.settings (Made call ∷ p.log) d.origin
     → d.framer ≡ c.framer → d.held ≡ c.held → d.ended ≡ c.ended → d.stop ≡ c.stop → d.waiting ≡ c.waiting ++ x.octets
     → Leaves settings (Calls call ∷ deeds) (hears_call p call) d
-called settings deeds p c d call x l stopped answer after framer held ended stop waits =
+called settings deeds p c d call x l stopped read answer after framer held ended stop waits =
     let m = l.matches in
     let going : is_some p.stop ≡ false = ap is_some (sym m.stop) ∙ stopped in
     let q : Heard = record p { log = Made call ∷ p.log } in
@@ -65,4 +82,9 @@ called settings deeds p c d call x l stopped answer after framer held ended stop
     ∙ ap (λ z. z ++ x.octets) (l.waiting lost)
     ∙ sym (grown (past_of p) call x (refusal (standing (past_of p)) call) answer) in
     subst (λ z. Leaves settings (Calls call ∷ deeds) z d) (sym is)
-    (record { heard = (p, l.heard, sym is); matches = matches; waiting = waiting })
+    (record {
+      heard = (p, l.heard, sym is);
+      matches = matches;
+      waiting = waiting;
+      reads = grown_read (past_of p) call x (refusal (standing (past_of p)) call) l.reads read answer;
+    })

@@ -166,7 +166,7 @@ all_last : (k : ℕ) (xs : List Answer) (x : Answer) → AllByRecursion (λ j. n
 all_last k [] x h = h.0
 all_last k (y ∷ xs) x h = all_last k xs x h.1
 
-differ : (xs : List Answer) (x y : Answer) → IsDistinct nat_eq (map answered_op (xs ++ x ∷ [])) → IsIn y xs → nat_eq (answered_op y) (answered_op x) ≡ false
+pub differ : (xs : List Answer) (x y : Answer) → IsDistinct nat_eq (map answered_op (xs ++ x ∷ [])) → IsIn y xs → nat_eq (answered_op y) (answered_op x) ≡ false
 differ [] x y d i = absurd i
 differ (z ∷ xs) x y d (inl e) =
     subst (λ w. nat_eq (answered_op w) (answered_op x) ≡ false) (sym e)

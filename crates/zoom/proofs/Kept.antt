@@ -1,7 +1,8 @@
 -- What drives a connection still knows its log, once an entry more came.
-use Rattle.std.proofs.Common.{◌≡◌, ◌⊎◌, inl, inr, ℕ, ◌+◌, ◌-◌, ◌<◌, ◌≤◌, Bool, true, false, cond, not, List, [], ◌∷◌, ◌++◌, map, length, Option, None, Some, Ok, Err, refl, sym, ap, subst, ◌∙◌, arith, true≢false}
-use Rattle.std.specs.Prelude.{◌||◌, ◌&&◌, is_none}
-use Rattle.std.specs.List.{list_any}
+use Rattle.std.proofs.Common.{◌≡◌, inl, inr, ℕ, ◌+◌, ◌-◌, ◌<◌, ◌≤◌, Bool, true, false, cond, not, List, [], ◌∷◌, ◌++◌, map, length, Option, None, Some, Ok, Err, refl, sym, ap, subst, ◌∙◌, arith, true≢false, append-nil}
+use Rattle.std.specs.Prelude.{◌||◌, is_none}
+use Rattle.std.specs.List.{list_any, find, flat_map}
+use Rattle.std.proofs.lemmas.Grind.{flat_map-append}
 use Rattle.zapdu.specs.declared.apdu.Apdu.{Apdu}
 use Rattle.zplan.specs.Plan as plan
 use Rattle.zplan.specs.Plan.{Operation, Event, Sends, Closes, IsDue, IsDriven, asked_in, replies_in, outstanding_in, start_of, number}
@@ -14,22 +15,26 @@ use Rattle.zorigin.specs.declared.settings.Ask.{Ask}
 use Rattle.zorigin.specs.declared.range.Range.{Range}
 use Rattle.zorigin.specs.declared.answer.Taken.TheVariants as taken
 use Rattle.zorigin.specs.declared.answer.Answer.{Answer}
+use Rattle.zorigin.specs.declared.answer.Asked.{Asked}
 use Rattle.zorigin.specs.declared.refusal.CallRefused.{CallRefused}
 use Rattle.zorigin.specs.declared.refusal.CallRefused.TheVariants as reasons
 use Rattle.zorigin.specs.declared.refusal.Refused.{Refused}
-use Rattle.zorigin.specs.Standings.{is_ready, is_open}
+use Rattle.zorigin.specs.Standings.{is_ready, is_open, Standing}
+use Rattle.zorigin.specs.Sending.{is_unsendable, search_request}
+use Rattle.zorigin.specs.Changes.{search_asked}
 use Rattle.zorigin.specs.Standings as origin
 use Rattle.zorigin.specs.Ranges.{positions}
-use Rattle.zorigin.specs.Calls.{refusal}
+use Rattle.zorigin.specs.Calls.{refusal, early_refusal, or_unsendable}
 use Rattle.zorigin.specs.Replies.{verdict}
-use Rattle.zorigin.specs.Log.{Log, Made, Got, Past, past, standing, state_of, state_from, opening, force_after, is_close_call, is_init_call, admit, admit_unless, after_verdict}
+use Rattle.zorigin.specs.Log.{Log, Made, Got, Past, past, standing, state_of, state_from, opening, force_after, is_close_call, is_init_call, admit, admit_unless, after_verdict, opens, answers, operation_of, search_in}
 use Rattle.zoom.specs.declared.phase.Phase.{Phase}
 use Rattle.zoom.specs.declared.phase.Phase.TheVariants as phases
-use Rattle.zoom.specs.Driving.{plan_of, made_event, got_event, can_search, can_present, IsDueEvent, IsDueCall, DrivenLaws}
+use Rattle.zoom.specs.Driving.{plan_of, operation_for, events_of, made_event, got_event, can_search, can_present, IsDueEvent, IsDueCall, DrivenLaws}
 use Rattle.zoom.specs.Steering.{Errand, IsNextCall, IsSteeredCall, is_skip, may_call, skipped_in, complete_in, is_rejected, room_in}
-use Rattle.zoom.specs.Drivers.{DriverState, IsDriver, IsAt, AtFresh, AtOpened, AtCounted, AtAsking, AtDone, AtClosed, HasOpening, AllAnswered, NoneBegins, BeginApart, events_at, opened_events, searched_events, found_events, left_in, Stays, Offers, IsPrepared, Prepares, IsSamePhase, IsSentAgenda, SendsAt, KnowsSent, KnowsRefused, RefusedLaw, is_search_call, is_skip_reason}
+use Rattle.zoom.specs.Drivers.{DriverState, IsDriver, IsAt, AtFresh, AtOpened, AtCounted, AtAsking, AtDone, AtClosed, HasOpening, AllAnswered, NoneBegins, BeginApart, events_at, opened_events, searched_events, found_events, left_in, Stays, Offers, IsPrepared, Prepares, IsSamePhase, IsSentAgenda, SendsAt, KnowsSent, KnowsRefused, RefusedLaw, HasVersion, CanBeSent, HasFound}
 use Rattle.zoom.proofs.Phases.{uncallable, any_last, none_due, length_put, apart_put}
 use Rattle.zoom.proofs.Nexts.{room_few}
+use Rattle.zoom.proofs.Drivings.{sent_known}
 
 no_some : {A : Type 0} {x : A} → Some x ≡ None → ⊥
 no_some e = cc
@@ -47,7 +52,9 @@ module _ (laws : AgendaLaws) (e : Errand) (settings : Settings) (log : Log) (w :
         init = subst (λ ev. IsIn plan.Init (asked_in ev)) (sym a.events) (inr (inl refl));
         search = subst (λ ev. IsIn plan.Search (asked_in ev)) (sym a.events) (inl refl);
         opened = λ q. no_some (sym (ap (λ ev. replies_in ev plan.Init) a.events) ∙ q);
-        found = λ q. no_some (sym (ap (λ ev. replies_in ev plan.Search) a.events) ∙ q);
+        count = count;
+        found = ap (λ ev. replies_in ev plan.Search) a.events;
+        set = a.set;
         outstanding = ap outstanding_in a.events;
         apart = tt;
         opening = a.opening;
@@ -73,7 +80,9 @@ module _ (laws : AgendaLaws) (e : Errand) (settings : Settings) (log : Log) (w :
     init = k.init;
     search = k.search;
     opened = k.opened;
+    count = k.count;
     found = k.found;
+    set = subst (λ t. HasFound e.ask (past settings log) t k.count) (sym s.three) k.set;
     outstanding = k.outstanding ∙ ap length (sym s.waiting);
     apart = subst BeginApart (sym s.waiting) k.apart;
     opening = k.opening;
@@ -129,6 +138,7 @@ stays laws driven old mid new p s er sk co l m =
             steered = k.steered;
             driven = k.driven;
             errand = er ∙ p.errand ∙ k.errand;
+            fit = k.fit;
             wanted = k.wanted;
             steps = k.steps;
             room = k.room;
@@ -146,42 +156,92 @@ stays laws driven old mid new p s er sk co l m =
 -- the same befell, and calls can be made no more than before
 record Moved (e : Errand) (settings : Settings) (log more : Log) : Type 0 where
   events : events_at e settings more ≡ events_at e settings log
-  opening : opening (past settings more) ≡ opening (past settings log)
+  admitted : (past settings more).admitted ≡ (past settings log).admitted
+  accepted : (past settings more).accepted ≡ (past settings log).accepted
   can : is_ready (state_of (past settings more)) ≡ true
       → (is_ready (state_of (past settings log)) ≡ true) × (can_search e.ask (past settings more) ≡ can_search e.ask (past settings log))
   closed : may_call (state_of (past settings log)) ≡ false → may_call (state_of (past settings more)) ≡ false
 
-still : (e : Errand) (settings : Settings) (log more : Log) → Moved e settings log more → HasOpening (past settings log) → HasOpening (past settings more)
-still e settings log more m o = (o.0, m.opening ∙ o.1)
+same_opening : (p q : Past) → q.accepted ≡ p.accepted → opening q ≡ opening p
+same_opening p q h = ap (find opens) h
 
-same_present : (p q : Past) (present : Bool) → opening q ≡ opening p → can_present p ≡ present → can_present q ≡ present
+still : (e : Errand) (settings : Settings) (log more : Log) → Moved e settings log more → HasOpening (past settings log) → HasOpening (past settings more)
+still e settings log more m o = (o.0, same_opening (past settings log) (past settings more) m.accepted ∙ o.1)
+
+pub same_present : (p q : Past) (present : Bool) → opening q ≡ opening p → can_present p ≡ present → can_present q ≡ present
 same_present p q present o h = ap (λ a. (force_after a).present) o ∙ h
 
+pub same_version : (p q : Past) (three : Bool) → opening q ≡ opening p → HasVersion p three → HasVersion q three
+same_version p q three o h = ap (λ a. (force_after a).v3) o ∙ h
+
+pub same_sending : (ask : Ask) (p q : Past) → opening q ≡ opening p → CanBeSent ask p → CanBeSent ask q
+same_sending ask p q o h = subst (λ a. is_unsendable (search_request (force_after a).named 1 1 ask) ≡ false) (sym o) h
+
+-- what was found stays, while no search more is admitted
+pub same_found : (ask : Ask) (p q : Past) (three : Bool) (count : ℕ) → flat_map search_in q.admitted ≡ flat_map search_in p.admitted
+    → (x : Answer) → find (answers 1) q.accepted ≡ Some x → (h : HasFound ask p three count) → x ≡ h.answer
+    → opening q ≡ opening p → HasFound ask q three count
+same_found ask p q three count asked x answered h is o = record {
+  asked = asked ∙ h.asked;
+  answer = h.answer;
+  answered = answered ∙ ap (λ z. Some z) is;
+  found = h.found;
+  outcome = h.outcome;
+  counts = h.counts;
+  shows = same_present p q true o h.shows;
+  version = same_version p q three o h.version;
+  sendable = same_sending ask p q o h.sendable;
+}
+
+-- the same calls were admitted, and the same replies accepted
+pub kept_found : (ask : Ask) (p q : Past) (three : Bool) (count : ℕ) → flat_map search_in q.admitted ≡ flat_map search_in p.admitted
+    → q.accepted ≡ p.accepted → HasFound ask p three count → HasFound ask q three count
+kept_found ask p q three count asked accepted h =
+    same_found ask p q three count asked h.answer (ap (find (answers 1)) accepted ∙ h.answered) h refl (same_opening p q accepted)
+
+moved_found : (e : Errand) (settings : Settings) (log more : Log) → Moved e settings log more → (three : Bool) (count : ℕ)
+    → HasFound e.ask (past settings log) three count → HasFound e.ask (past settings more) three count
+moved_found e settings log more m three count h =
+    kept_found e.ask (past settings log) (past settings more) three count (ap (flat_map search_in) m.admitted) m.accepted h
+
 moved_at : (e : Errand) (settings : Settings) (log more : Log) → Moved e settings log more → (ph : Phase) → IsAt e settings log ph → IsAt e settings more ph
-moved_at e settings log more m phases.Fresh a = record { events = m.events ∙ a.events; opening = m.opening ∙ a.opening }
-moved_at e settings log more m phases.Opening a = record { events = m.events ∙ a.events; opening = m.opening ∙ a.opening }
+moved_at e settings log more m phases.Fresh a = record {
+  events = m.events ∙ a.events;
+  opening = same_opening (past settings log) (past settings more) m.accepted ∙ a.opening;
+}
+moved_at e settings log more m phases.Opening a = record {
+  events = m.events ∙ a.events;
+  opening = same_opening (past settings log) (past settings more) m.accepted ∙ a.opening;
+}
 moved_at e settings log more m (phases.Opened present three) a = record {
   search = a.search;
   events = m.events ∙ a.events;
   can = λ r. let c = m.can r in c.1 ∙ a.can c.0;
   opening = still e settings log more m a.opening;
-  shows = same_present (past settings log) (past settings more) present m.opening a.shows;
+  shows = same_present (past settings log) (past settings more) present (same_opening (past settings log) (past settings more) m.accepted) a.shows;
+  version = same_version (past settings log) (past settings more) three (same_opening (past settings log) (past settings more) m.accepted) a.version;
 }
 moved_at e settings log more m (phases.Searching present three) a = record {
   events = m.events ∙ a.events;
   opening = still e settings log more m a.opening;
-  shows = same_present (past settings log) (past settings more) present m.opening a.shows;
+  shows = same_present (past settings log) (past settings more) present (same_opening (past settings log) (past settings more) m.accepted) a.shows;
+  version = same_version (past settings log) (past settings more) three (same_opening (past settings log) (past settings more) m.accepted) a.version;
+  sendable = same_sending e.ask (past settings log) (past settings more) (same_opening (past settings log) (past settings more) m.accepted) a.sendable;
+  search = ap (flat_map search_in) m.admitted ∙ a.search;
 }
 moved_at e settings log more m (phases.Counted three count) a = record {
   events = m.events ∙ a.events;
   opening = still e settings log more m a.opening;
+  set = moved_found e settings log more m three count a.set;
 }
 moved_at e settings log more m (phases.Asking agenda) a = record {
   agenda = subst (λ ev. IsAgenda e.wanted e.step ev agenda) (sym m.events) a.agenda;
   init = subst (λ ev. IsIn plan.Init (asked_in ev)) (sym m.events) a.init;
   search = subst (λ ev. IsIn plan.Search (asked_in ev)) (sym m.events) a.search;
   opened = subst (λ ev. replies_in ev plan.Init ≡ None → ⊥) (sym m.events) a.opened;
-  found = subst (λ ev. replies_in ev plan.Search ≡ None → ⊥) (sym m.events) a.found;
+  count = a.count;
+  found = ap (λ ev. replies_in ev plan.Search) m.events ∙ a.found;
+  set = moved_found e settings log more m agenda.three a.count a.set;
   outstanding = ap outstanding_in m.events ∙ a.outstanding;
   apart = a.apart;
   opening = still e settings log more m a.opening;
@@ -206,7 +266,8 @@ refused_moved e settings log call reason q =
     let same : past settings (Made call ∷ log) ≡ past settings log = ap (admit_unless (past settings log) call) q in
     record {
       events = ap (λ r. made_event r call (events_at e settings log)) q;
-      opening = ap opening same;
+      admitted = ap (λ (p : Past). p.admitted) same;
+      accepted = ap (λ (p : Past). p.accepted) same;
       can = λ r. (sym (ap (λ p. is_ready (state_of p)) same) ∙ r, ap (can_search e.ask) same);
       closed = λ c. ap (λ p. may_call (state_of p)) same ∙ c;
     }
@@ -222,6 +283,7 @@ refused_driver e settings log call reason old new o q er sk co l le at =
       steered = (o.steers, k.steered);
       driven = (subst (λ r. IsDueCall e.ask e.wanted e.step (events_at e settings log) r call) (sym q) tt, k.driven);
       errand = er ∙ k.errand;
+      fit = k.fit;
       wanted = k.wanted;
       steps = k.steps;
       room = k.room;
@@ -251,27 +313,7 @@ refused_search e settings log op set reason present three q rd a =
     answered b (inl i) x = no_some (sym (ap (replies_in (opened_events false three)) i) ∙ x)
     answered b (inr i) x = i
 
-next_of : (e : Errand) (settings : Settings) (log : Log) (d : DriverState) (call : origin.Call) → Offers e settings log d call
-    → IsNextCall e settings log call ⊎ ((op : ℕ) × (set : ℕ) × (ask : Ask) × (call ≡ origin.Search op set ask))
-next_of e settings log d origin.Init o = inl o.offered.1
-next_of e settings log d (origin.Search op set ask) o = inr (op, set, ask, refl)
-next_of e settings log d (origin.Present op set ranges) o = inl o.offered.3
-next_of e settings log d origin.Close o = inl o.offered.1
-
 -- ---- why a call was refused
-
-pub skip_same : (reason : CallRefused) (op set : ℕ) (ask : Ask) → is_skip (Some reason) (origin.Search op set ask) ≡ is_skip_reason reason
-skip_same reasons.WrongState op set ask = refl
-skip_same reasons.NotOffered op set ask = refl
-skip_same reasons.OpUsed op set ask = refl
-skip_same reasons.SetUsed op set ask = refl
-skip_same reasons.SetUnknown op set ask = refl
-skip_same reasons.SetNotReady op set ask = refl
-skip_same reasons.SetReplaced op set ask = refl
-skip_same reasons.OutOfRange op set ask = refl
-skip_same reasons.Busy op set ask = refl
-skip_same reasons.Unsendable op set ask = refl
-skip_same reasons.Memory op set ask = refl
 
 unskipped_init : (reason : CallRefused) → is_skip (Some reason) origin.Init ≡ false
 unskipped_init reasons.WrongState = refl
@@ -312,29 +354,14 @@ unskipped_close reasons.Busy = refl
 unskipped_close reasons.Unsendable = refl
 unskipped_close reasons.Memory = refl
 
-unskipped : (reason : CallRefused) (call : origin.Call) → is_search_call call ≡ false → is_skip (Some reason) call ≡ false
-unskipped reason origin.Init f = unskipped_init reason
-unskipped reason (origin.Search op set ask) f = absurd (true≢false f)
-unskipped reason (origin.Present op set ranges) f = unskipped_present reason op set ranges
-unskipped reason origin.Close f = unskipped_close reason
-
--- the call was refused, and it was not the search
-pub knows_refused : (call : origin.Call) (reason : CallRefused) (d : DriverState) → is_search_call call ≡ false → KnowsRefused call reason false d d
-knows_refused call reason d f = λ e settings log o q.
-    let k = o.knows in
-    let plain = unskipped reason call f in
-    let not = λ (op set : ℕ) (ask : Ask) (q : call ≡ origin.Search op set ask). let z : ⊥ = true≢false (sym (ap is_search_call q) ∙ f) in z in
-    let n : IsNextCall e settings log call = elim (next_of e settings log d call o) [ inl n ↦ n | inr x ↦ absurd (not x.0 x.1 x.2 x.3) ] in (
-      refused_driver e settings log call reason d d o q refl (ap (λ b. b || d.skipped) (sym plain)) refl k.left (omega arith)
-          (moved_at e settings log (Made call ∷ log) (refused_moved e settings log call reason q) d.phase k.at),
-      n,
-    )
-
 -- the search was refused
 skipped_by : (op set : ℕ) (ask : Ask) (reason : CallRefused) (old new : DriverState) → new.errand ≡ old.errand → new.phase ≡ phases.Done
     → new.skipped ≡ (is_skip (Some reason) (origin.Search op set ask) || old.skipped) → new.complete ≡ old.complete
-    → new.left ≡ left_in new.errand.window new.phase → KnowsRefused (origin.Search op set ask) reason true old new
-skipped_by op set ask reason old new er ph sk co l = λ e settings log o q.
+    → new.left ≡ left_in new.errand.window new.phase → (e : Errand) (settings : Settings) (log : Log)
+    → Offers e settings log old (origin.Search op set ask)
+    → refusal (standing (past settings log)) (origin.Search op set ask) ≡ Some reason
+    → IsDriver e settings (Made (origin.Search op set ask) ∷ log) new × (new.left < old.left)
+skipped_by op set ask reason old new er ph sk co l e settings log o q =
     let k = o.knows in let f = o.offered in
     let was : old.left ≡ 2 = k.left ∙ ap (left_in e.window) f.2 in
     let is : new.left ≡ 1 = l ∙ ap (left_in new.errand.window) ph in
@@ -352,22 +379,29 @@ skipped_by op set ask reason old new er ph sk co l = λ e settings log o q.
     search_same : (op set : ℕ) (a b : Ask) → op ≡ 1 → set ≡ 1 → a ≡ b → origin.Search op set a ≡ origin.Search 1 1 b
     search_same op set a b p q r = cc
 
-pub knows_skipped : (call : origin.Call) (reason : CallRefused) (old new : DriverState) → is_search_call call ≡ true → new.errand ≡ old.errand
-    → new.phase ≡ phases.Done → new.skipped ≡ (is_skip_reason reason || old.skipped) → new.complete ≡ old.complete
-    → new.left ≡ left_in new.errand.window new.phase → KnowsRefused call reason true old new
-knows_skipped (origin.Search op set ask) reason old new t er ph sk co l =
-    skipped_by op set ask reason old new er ph (sk ∙ ap (λ b. b || old.skipped) (sym (skip_same reason op set ask))) co l
-knows_skipped origin.Init reason old new t er ph sk co l = absurd (true≢false (sym t))
-knows_skipped (origin.Present op set ranges) reason old new t er ph sk co l = absurd (true≢false (sym t))
-knows_skipped origin.Close reason old new t er ph sk co l = absurd (true≢false (sym t))
+-- the origin refused the call: it was the search
+pub knows_refused : (old new : DriverState) → new.errand ≡ old.errand → new.phase ≡ phases.Done → new.skipped ≡ true
+    → new.complete ≡ old.complete → new.left ≡ left_in new.errand.window new.phase → KnowsRefused old new
+knows_refused old new er ph sk co l e settings log call reason o q = by call o q (subst (λ r. IsSteeredCall e settings log r call) q o.steers).0
+  where
+    by : (call : origin.Call) → Offers e settings log old call → refusal (standing (past settings log)) call ≡ Some reason
+        → is_skip (Some reason) call ≡ true → IsDriver e settings (Made call ∷ log) new × (new.left < old.left)
+    by (origin.Search op set ask) o q t =
+        skipped_by op set ask reason old new er ph (sk ∙ ap (λ b. b || old.skipped) (sym t)) co l e settings log o q
+    by origin.Init o q t = absurd (true≢false (sym t ∙ unskipped_init reason))
+    by (origin.Present op set ranges) o q t = absurd (true≢false (sym t ∙ unskipped_present reason op set ranges))
+    by origin.Close o q t = absurd (true≢false (sym t ∙ unskipped_close reason))
 
 -- ---- a reply that is refused
 
 refused_complete : (p : Past) (reason : Refused) → complete_in (after_verdict p (Err reason)) ≡ complete_in p
 refused_complete p reason = elim (is_open (state_of p)) as (λ b. complete_in (cond b (record p { fault = Some reason }) p) ≡ complete_in p) [ true ↦ refl | false ↦ refl ]
 
-refused_opening : (p : Past) (reason : Refused) → opening (after_verdict p (Err reason)) ≡ opening p
-refused_opening p reason = elim (is_open (state_of p)) as (λ b. opening (cond b (record p { fault = Some reason }) p) ≡ opening p) [ true ↦ refl | false ↦ refl ]
+refused_admitted : (p : Past) (reason : Refused) → (after_verdict p (Err reason)).admitted ≡ p.admitted
+refused_admitted p reason = elim (is_open (state_of p)) as (λ b. (cond b (record p { fault = Some reason }) p).admitted ≡ p.admitted) [ true ↦ refl | false ↦ refl ]
+
+refused_accepted : (p : Past) (reason : Refused) → (after_verdict p (Err reason)).accepted ≡ p.accepted
+refused_accepted p reason = elim (is_open (state_of p)) as (λ b. (cond b (record p { fault = Some reason }) p).accepted ≡ p.accepted) [ true ↦ refl | false ↦ refl ]
 
 refused_can : (ask : Ask) (p : Past) (reason : Refused) → is_ready (state_of (after_verdict p (Err reason))) ≡ true
     → (is_ready (state_of p) ≡ true) × (can_search ask (after_verdict p (Err reason)) ≡ can_search ask p)
@@ -386,7 +420,8 @@ refused_reply = λ e settings log d reply reason k q.
     let same : past settings (Got reply ∷ log) ≡ after_verdict p (Err reason) = ap (after_verdict p) q in
     let moved : Moved e settings log (Got reply ∷ log) = record {
       events = ap (λ v. got_event e.ask (past settings (Got reply ∷ log)) v (events_at e settings log)) q;
-      opening = ap opening same ∙ refused_opening p reason;
+      admitted = ap (λ (z : Past). z.admitted) same ∙ refused_admitted p reason;
+      accepted = ap (λ (z : Past). z.accepted) same ∙ refused_accepted p reason;
       can = subst (λ z. is_ready (state_of z) ≡ true → (is_ready (state_of p) ≡ true) × (can_search e.ask z ≡ can_search e.ask p)) (sym same)
           (refused_can e.ask p reason);
       closed = λ c. ap (λ z. may_call (state_of z)) same ∙ refused_closed p reason c;
@@ -395,6 +430,7 @@ refused_reply = λ e settings log d reply reason k q.
       steered = k.steered;
       driven = k.driven;
       errand = k.errand;
+      fit = k.fit;
       wanted = k.wanted;
       steps = k.steps;
       room = k.room;
@@ -413,7 +449,8 @@ closed_reply e settings log d reply k q =
     let same : past settings (Got reply ∷ log) ≡ record p { closed = true } = ap (after_verdict p) q in
     let moved : Moved e settings log (Got reply ∷ log) = record {
       events = ap (λ v. got_event e.ask (past settings (Got reply ∷ log)) v (events_at e settings log)) q;
-      opening = ap opening same;
+      admitted = ap (λ (z : Past). z.admitted) same;
+      accepted = ap (λ (z : Past). z.accepted) same;
       can = λ r. absurd (true≢false (sym r ∙ ap (λ z. is_ready (state_of z)) same ∙ closed_ready p.fault (list_any is_close_call p.admitted) (list_any is_init_call p.admitted) (opening p)));
       closed = λ c. ap (λ z. may_call (state_of z)) same ∙ closed_call p.fault (list_any is_close_call p.admitted) (list_any is_init_call p.admitted) (opening p);
     } in
@@ -421,6 +458,7 @@ closed_reply e settings log d reply k q =
       steered = k.steered;
       driven = k.driven;
       errand = k.errand;
+      fit = k.fit;
       wanted = k.wanted;
       steps = k.steps;
       room = k.room;
@@ -456,6 +494,7 @@ sent_driver e settings log call old new o q n due er sk co l lt at =
         steered = (o.steers, k.steered);
         driven = (subst (λ r. IsDueCall e.ask e.wanted e.step (events_at e settings log) r call) (sym q) (n.numbered, due), k.driven);
         errand = er ∙ k.errand;
+        fit = k.fit;
         wanted = k.wanted;
         steps = k.steps;
         room = k.room;
@@ -483,6 +522,27 @@ sent_events e settings log call q = ap (λ r. made_event r call (events_at e set
 sent_opening : (settings : Settings) (log : Log) (call : origin.Call) → refusal (standing (past settings log)) call ≡ None
     → opening (past settings (Made call ∷ log)) ≡ opening (past settings log)
 sent_opening settings log call q = ap (λ r. opening (admit_unless (past settings log) call r)) q
+
+-- the searches that were admitted
+sent_searches : (settings : Settings) (log : Log) (call : origin.Call) → refusal (standing (past settings log)) call ≡ None
+    → flat_map search_in (past settings (Made call ∷ log)).admitted ≡ flat_map search_in (past settings log).admitted ++ search_in call
+sent_searches settings log call q =
+    ap (λ r. flat_map search_in (admit_unless (past settings log) call r).admitted) q
+    ∙ flat_map-append search_in (past settings log).admitted (call ∷ [])
+    ∙ ap (λ l. flat_map search_in (past settings log).admitted ++ l) (append-nil (search_in call))
+
+-- while the search was not sent there is none
+pub unsearched : (ask : Ask) (settings : Settings) (log : Log) → (IsIn plan.Search (asked_in (events_of ask settings log)) → ⊥)
+    → flat_map search_in (past settings log).admitted ≡ []
+unsearched ask settings log unsent = none (past settings log).admitted (λ q i. sent_known ask settings log q i)
+  where
+    none : (calls : List origin.Call) → ((q : Asked) → IsIn q (flat_map operation_of calls) → IsIn (operation_for q.what) (asked_in (events_of ask settings log)))
+        → flat_map search_in calls ≡ []
+    none [] h = refl
+    none (origin.Init ∷ calls) h = none calls (λ q i. h q (inr i))
+    none (origin.Search op set a ∷ calls) h = absurd (unsent (h (search_asked op set) (inl refl)))
+    none (origin.Present op set ranges ∷ calls) h = none calls (λ q i. h q (inr i))
+    none (origin.Close ∷ calls) h = none calls h
 
 init_due : (e : Errand) (settings : Settings) (log : Log) (call : origin.Call) → IsNextCall e settings log origin.Init → IsDue e.wanted e.step (events_at e settings log) plan.Init
 init_due e settings log call n = n.next.0
@@ -522,17 +582,22 @@ sent_asking laws number e settings log a b op set ranges w lo driven q n s k =
       init = subst (λ z. IsIn plan.Init (asked_in z)) (sym ev) (inr k.init);
       search = subst (λ z. IsIn plan.Search (asked_in z)) (sym ev) (inr k.search);
       opened = subst (λ z. replies_in z plan.Init ≡ None → ⊥) (sym ev) k.opened;
-      found = subst (λ z. replies_in z plan.Search ≡ None → ⊥) (sym ev) k.found;
+      count = k.count;
+      found = ap (λ z. replies_in z plan.Search) ev ∙ k.found;
+      set = kept_found e.ask (past settings log) (past settings (Made (origin.Present op set ranges) ∷ log)) b.three k.count
+          (sent_searches settings log (origin.Present op set ranges) q ∙ append-nil (flat_map search_in (past settings log).admitted))
+          (ap (λ r. (admit_unless (past settings log) (origin.Present op set ranges) r).accepted) q)
+          (subst (λ t. HasFound e.ask (past settings log) t k.count) (sym s.three) k.set);
       outstanding = ap outstanding_in ev ∙ ap (λ z. z + 1) k.outstanding ∙ sym (length_put s.list a.waiting) ∙ ap length (sym s.waiting);
       apart = subst BeginApart (sym s.waiting) (apart_put s.list a.waiting apart k.apart);
       opening = (k.opening.0, sent_opening settings log (origin.Present op set ranges) q ∙ k.opening.1);
     }
 
 -- all was answered, with nothing outstanding
-idle_answered : (e : Errand) (settings : Settings) (log : Log) (a : Agenda) → AtAsking e settings log a → outstanding_in (events_at e settings log) ≡ 0
+pub idle_answered : (e : Errand) (settings : Settings) (log : Log) (a : Agenda) → AtAsking e settings log a → outstanding_in (events_at e settings log) ≡ 0
     → AllAnswered (events_at e settings log)
 idle_answered e settings log a k z plan.Init i q = k.opened q
-idle_answered e settings log a k z plan.Search i q = k.found q
+idle_answered e settings log a k z plan.Search i q = no_some (sym k.found ∙ q)
 idle_answered e settings log a k z (plan.Present l) i q = none a.waiting (sym k.outstanding ∙ z) (k.agenda.waits l i q)
   where
     none : (ls : List (List ℕ)) → length ls ≡ 0 → IsIn l ls → ⊥
@@ -577,6 +642,17 @@ sent_close e settings log old new o q ph er sk co l op all lt =
     sent_driver e settings log origin.Close old new o q n (answered_whole e (events_at e settings log) n.next.0 all) er sk co l (omega (arith, z, lt))
     (subst (IsAt e settings (Made origin.Close ∷ log)) (sym ph) (sent_closed e settings log q op all))
 
+-- the request of a search that was admitted can be sent
+sent_sendable : (s : Standing) (op set : ℕ) (ask : Ask) → refusal s (origin.Search op set ask) ≡ None
+    → is_unsendable (search_request s.force.named op set ask) ≡ false
+unfolding refusal
+sent_sendable s op set ask = by (early_refusal s (origin.Search op set ask)) (is_unsendable (search_request s.force.named op set ask))
+  where
+    by : (early : Option CallRefused) (b : Bool) → or_unsendable b early ≡ None → b ≡ false
+    by (Some reason) b q = absurd (no_some q)
+    by None true q = absurd (no_some q)
+    by None false q = refl
+
 -- the origin admitted the call
 pub knows_sent : AgendaLaws → DrivenLaws → NumberLaw → (call : origin.Call) (old new : DriverState) → SendsAt call old.phase new.phase
     → new.errand ≡ old.errand → new.skipped ≡ old.skipped → new.complete ≡ (is_close_call call || old.complete)
@@ -608,6 +684,13 @@ knows_sent laws driven number (origin.Search op set ask) old new s er sk co l = 
       opening = (a.opening.0, sent_opening settings log (origin.Search op set ask) q ∙ a.opening.1);
       shows = same_present (past settings log) (past settings (Made (origin.Search op set ask) ∷ log)) f.0
           (sent_opening settings log (origin.Search op set ask) q) a.shows;
+      version = same_version (past settings log) (past settings (Made (origin.Search op set ask) ∷ log)) f.1
+          (sent_opening settings log (origin.Search op set ask) q) a.version;
+      sendable = same_sending e.ask (past settings log) (past settings (Made (origin.Search op set ask) ∷ log))
+          (sent_opening settings log (origin.Search op set ask) q)
+          (sent_sendable (standing (past settings log)) 1 1 e.ask (ap (refusal (standing (past settings log))) (sym c) ∙ q));
+      search = sent_searches settings log (origin.Search op set ask) q
+          ∙ ap (λ l. l ++ search_in (origin.Search op set ask)) (unsearched e.ask settings log n.next.0.1) ∙ ap search_in c;
     }))
   where
     search_as : (op set : ℕ) (a b : Ask) → op ≡ 1 → set ≡ 1 → a ≡ b → origin.Search op set a ≡ origin.Search 1 1 b

@@ -21,3 +21,5 @@ pub mod Hosts
 pub mod Served
 pub mod MetaLaws
 pub mod Drivings
+pub mod DueRows
+pub mod Due

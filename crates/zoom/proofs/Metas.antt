@@ -1,5 +1,5 @@
 -- One event more of connections that are driven.
-use Rattle.std.proofs.Common.{◌≡◌, ◌⊎◌, ◌↔◌, ℕ, zero, suc, ◌+◌, ◌<◌, ◌≤◌, ◌==◌, Bool, true, false, cond}
+use Rattle.std.proofs.Common.{◌≡◌, ℕ, zero, suc, ◌+◌, ◌<◌, ◌≤◌, ◌==◌, Bool, true, false, cond}
 use Rattle.std.proofs.Common.{List, [], ◌∷◌, ◌++◌, length, slice_get, slice_set, get_or, Option, None, Some}
 use Rattle.std.proofs.Common.{Result, Ok, Err, refl, sym, ap, subst, ◌∙◌, arith, true≢false}
 use Rattle.std.specs.Prelude.{is_some, ◌||◌}
@@ -342,7 +342,8 @@ askable_at [] q ys a = a.0
 askable_at (x ∷ xs) q ys a = askable_at xs q ys a.1
 
 pub stand_push : (qs : List Question) (step window : ℕ) (ds : List DriverState) (q : Question) (d : DriverState)
-    → StandFor qs step window ds → ((settings : Settings) → IsDriver (errand_with q step window) settings [] d)
+    → StandFor qs step window ds
+    → ((settings : Settings) → length settings.name ≤ 2000000 → IsDriver (errand_with q step window) settings [] d)
     → StandFor (qs ++ q ∷ []) step window (ds ++ d ∷ [])
 stand_push [] step window [] q d s k = (k, tt)
 stand_push [] step window (x ∷ ds) q d s k = absurd s
@@ -358,15 +359,16 @@ stand_size (x ∷ qs) step window (y ∷ ds) s = let n = stand_size qs step wind
 
 stand_at : (qs : List Question) (step window : ℕ) (ds : List DriverState) (c : ℕ) (q : Question) (d : DriverState)
     → StandFor qs step window ds → slice_get qs c ≡ Some q → slice_get ds c ≡ Some d → (settings : Settings)
-    → IsDriver (errand_with q step window) settings [] d
-stand_at [] step window ds c q d s a e settings = absurd (cc)
-stand_at (x ∷ qs) step window [] c q d s a e settings = absurd s
-stand_at (x ∷ qs) step window (y ∷ ds) zero q d s a e settings =
+    → length settings.name ≤ 2000000 → IsDriver (errand_with q step window) settings [] d
+stand_at [] step window ds c q d s a e settings name = absurd (cc)
+stand_at (x ∷ qs) step window [] c q d s a e settings name = absurd s
+stand_at (x ∷ qs) step window (y ∷ ds) zero q d s a e settings name =
     let f : x ≡ q = cc in
     let g : y ≡ d = cc in
     subst (λ z. IsDriver (errand_with z step window) settings [] d) f
-    (subst (λ z. IsDriver (errand_with x step window) settings [] z) g (s.0 settings))
-stand_at (x ∷ qs) step window (y ∷ ds) (suc c) q d s a e settings = stand_at qs step window ds c q d s.1 a e settings
+    (subst (λ z. IsDriver (errand_with x step window) settings [] z) g (s.0 settings name))
+stand_at (x ∷ qs) step window (y ∷ ds) (suc c) q d s a e settings name =
+    stand_at qs step window ds c q d s.1 a e settings name
 
 pub new_after : (questions : List Question) (s : MetaSettings) (meta : MetaLinks) → AreFit s → AreAskable questions
     → After (settings_of s) [] meta.pool → length meta.pool.connections ≡ length questions
@@ -378,7 +380,7 @@ new_after questions s meta fit askable pool size stand = record {
   driven = record {
     size = stand_size questions s.step s.window meta.drivers stand;
     each = λ c q d p asked drives heard. subst (λ (z : Heard). IsDriver (errand_of s q) z.settings z.log d) (sym heard)
-        (stand_at questions s.step s.window meta.drivers c q d stand asked drives (settings_of s));
+        (stand_at questions s.step s.window meta.drivers c q d stand asked drives (settings_of s) fit.name);
   };
   size = size;
 }

@@ -1,12 +1,12 @@
 -- What drives a connection gives the call that is next, and none where none is.
-use Rattle.std.proofs.Common.{◌≡◌, ◌⊎◌, inl, inr, ℕ, ◌+◌, ◌-◌, ◌<◌, ◌≤◌, Bool, true, false, cond, [], ◌∷◌, Option, None, Some, refl, sym, ap, subst, ◌∙◌, arith, true≢false}
+use Rattle.std.proofs.Common.{◌≡◌, inl, inr, ℕ, ◌+◌, ◌-◌, ◌<◌, ◌≤◌, Bool, true, false, cond, [], ◌∷◌, length, Option, None, Some, refl, sym, ap, subst, ◌∙◌, arith, true≢false}
 use Rattle.std.specs.Prelude.{◌||◌, is_none}
 use Rattle.std.specs.List.{list_any}
 use Rattle.zplan.specs.Plan as plan
-use Rattle.zplan.specs.Plan.{Operation, Sends, Closes, first, search, IsDue, IsDriven, IsNext, asked_in, outstanding_in, start_of}
+use Rattle.zplan.specs.Plan.{Operation, Sends, Closes, first, search, IsDue, IsDriven, IsNext, asked_in, replies_in, outstanding_in, start_of}
 use Rattle.zplan.specs.Positions.{IsIn, IsWanted, first_of}
 use Rattle.zplan.specs.Agenda.{Agenda}
-use Rattle.zplan.specs.Laws.{NextLaws}
+use Rattle.zplan.specs.Laws.{NextLaws, BoundLaws}
 use Rattle.zorigin.specs.declared.settings.Settings.{Settings}
 use Rattle.zorigin.specs.declared.refusal.CallRefused.{CallRefused}
 use Rattle.zorigin.specs.Standings.{is_fresh, is_ready}
@@ -23,6 +23,8 @@ use Rattle.zoom.specs.States.{state_as}
 use Rattle.zoom.specs.Driving.{plan_of, DrivenLaws}
 use Rattle.zoom.specs.Steering.{Errand, IsNextCall, IsSteeredCall, room_in, may_call}
 use Rattle.zoom.specs.Drivers.{DriverState, IsDriver, IsAt, AtFresh, AtOpening, AtOpened, AtSearching, AtAsking, HasOpening, events_at, opened_events, Offers, IsOffered, GivesNext, GivesAt, GivesIf, GivesAsked, GivesInRoom, AsksFirst, room_for, has_room, is_fresh_state}
+use Rattle.zoom.specs.Due.{DueLaws, CanAskFor}
+use Rattle.zoom.proofs.Wants.{few_ranges}
 use Rattle.zoom.proofs.Phases.{unready, unfresh, concurrent_by, room_ready, no_room, fresh_as, no_call, call_ready, none_due, none_next, full_next}
 
 -- ---- states
@@ -71,16 +73,12 @@ no_some e = cc
 
 -- ---- which call is next
 
-steer_next : (e : Errand) (settings : Settings) (log : Log) (call : origin.Call) (r : Option CallRefused) → IsNextCall e settings log call
-    → IsSteeredCall e settings log r call
-steer_next e settings log call None n = n
-steer_next e settings log call (Some reason) n = (n.of, n.numbered)
-
 offer_next : (e : Errand) (settings : Settings) (log : Log) (d : DriverState) → IsDriver e settings log d → (call : origin.Call)
-    → IsNextCall e settings log call → IsOffered e settings log d.phase call → Offers e settings log d call
-offer_next e settings log d k call n o = record {
+    → refusal (standing (past settings log)) call ≡ None → IsNextCall e settings log call → IsOffered e settings log d.phase call
+    → Offers e settings log d call
+offer_next e settings log d k call admitted n o = record {
   knows = k;
-  steers = steer_next e settings log call (refusal (standing (past settings log)) call) n;
+  steers = subst (λ r. IsSteeredCall e settings log r call) (sym admitted) n;
   offered = o;
 }
 
@@ -114,10 +112,10 @@ search_next e settings log present three lo a t rd =
           ((search three first refl, unasked), room_some e.window (past settings log) lo, least);
     }
 
-offer_search : (e : Errand) (settings : Settings) (log : Log) (d : DriverState) → IsDriver e settings log d → (present three : Bool)
+offer_search : DueLaws → (e : Errand) (settings : Settings) (log : Log) (d : DriverState) → IsDriver e settings log d → (present three : Bool)
     → d.phase ≡ phases.Opened present three → AtOpened e settings log present three → is_ready (state_of (past settings log)) ≡ true
     → Offers e settings log d (origin.Search 1 1 e.ask)
-offer_search e settings log d k present three is a rd = record {
+offer_search due e settings log d k present three is a rd = record {
   knows = k;
   steers = by (refusal (standing (past settings log)) (origin.Search 1 1 e.ask)) refl;
   offered = (present, three, is, rd, refl, refl, refl);
@@ -126,7 +124,7 @@ offer_search e settings log d k present three is a rd = record {
     by : (r : Option CallRefused) → refusal (standing (past settings log)) (origin.Search 1 1 e.ask) ≡ r
         → IsSteeredCall e settings log r (origin.Search 1 1 e.ask)
     by None q = search_next e settings log present three k.room a (sym (a.can rd) ∙ ap is_none q) rd
-    by (Some reason) q = ((refl, refl), refl)
+    by (Some reason) q = (due.skips e settings log d present three reason k is rd q, (refl, refl), refl)
 
 -- with nothing due nothing but Close is next, and that only with nothing outstanding
 unsent_next : (e : Errand) (settings : Settings) (log : Log) → ((b : Operation) → IsDue e.wanted e.step (events_at e settings log) b → ⊥)
@@ -179,16 +177,31 @@ present_next next e settings log a room call w lo driven k rd r x = record {
       k.agenda x.due (let o = k.outstanding in let f = x.fits in omega (arith, o, r, f));
 }
 
-asking_some : NextLaws → DrivenLaws → (e : Errand) (settings : Settings) (log : Log) (d : DriverState) → IsDriver e settings log d → (a : Agenda) (room : ℕ)
-    → d.phase ≡ phases.Asking a → AtAsking e settings log a → is_ready (state_of (past settings log)) ≡ true
-    → room_in e.window (past settings log) ≡ room → (call : Call) → GivesAsked room a (Some call) → Offers e settings log d (call_of call)
-asking_some next laws e settings log d k a room is at rd r call (inl x) =
-    let n = present_next next e settings log a room (call_of call) k.wanted k.steps (laws.driven e.ask e.wanted e.step settings log k.driven) at rd r x in
-    subst (Offers e settings log d) (sym x.is) (offer_next e settings log d k _ n (a, is, x.ready, n))
-asking_some next laws e settings log d k a room is at rd r call (inr x) =
-    let n = close_next e settings log rd (next.closes e.wanted e.step (room_in e.window (past settings log)) (events_at e settings log) a k.wanted k.steps
-    at.agenda x.none at.init at.search (at.outstanding ∙ x.idle)) in
-    subst (Offers e settings log d) (sym x.is) (offer_next e settings log d k origin.Close n (inr (a, is), n))
+module _ (next : NextLaws) (laws : DrivenLaws) (due : DueLaws) (bounds : BoundLaws) where
+  -- its ranges can be asked for
+  asks_ranges : (e : Errand) (settings : Settings) (log : Log) (d : DriverState) → IsDriver e settings log d → (a : Agenda) (room : ℕ)
+      → AtAsking e settings log a → (call : origin.Call) (x : AsksFirst room a call)
+      → IsNextCall e settings log (origin.Present (first_of (positions x.ranges) + 1) 1 x.ranges)
+      → CanAskFor (force_after (opening (past settings log))).v3 x.ranges
+  asks_ranges e settings log d k a room at call x n =
+      let short : length (positions x.ranges) ≤ e.step =
+      bounds.lists e.wanted e.step (replies_in (events_at e settings log)) (positions x.ranges) n.next.0.0 in
+      let few = few_ranges x.ranges x.asked in
+      let most = k.fit.most in
+      record { ascend = x.asked; few = omega (arith, few, short, most); single = λ v. x.single (sym at.set.version ∙ v) }
+
+  asking_some : (e : Errand) (settings : Settings) (log : Log) (d : DriverState) → IsDriver e settings log d → (a : Agenda) (room : ℕ)
+      → d.phase ≡ phases.Asking a → AtAsking e settings log a → is_ready (state_of (past settings log)) ≡ true
+      → room_in e.window (past settings log) ≡ room → (call : Call) → GivesAsked room a (Some call) → Offers e settings log d (call_of call)
+  asking_some e settings log d k a room is at rd r call (inl x) =
+      let n = present_next next e settings log a room (call_of call) k.wanted k.steps (laws.driven e.ask e.wanted e.step settings log k.driven) at rd r x in
+      let admitted = due.admits e settings log d _ k n (asks_ranges e settings log d k a room at (call_of call) x n) in
+      subst (Offers e settings log d) (sym x.is) (offer_next e settings log d k _ admitted n (a, is, x.ready, n))
+  asking_some e settings log d k a room is at rd r call (inr x) =
+      let n = close_next e settings log rd (next.closes e.wanted e.step (room_in e.window (past settings log)) (events_at e settings log) a k.wanted k.steps
+      at.agenda x.none at.init at.search (at.outstanding ∙ x.idle)) in
+      let admitted = due.admits e settings log d origin.Close k n tt in
+      subst (Offers e settings log d) (sym x.is) (offer_next e settings log d k origin.Close admitted n (inr (a, is), n))
 
 -- ---- at each phase
 
@@ -208,51 +221,51 @@ standing_ready : (e : Errand) (settings : Settings) (log : Log) → has_room (ro
 standing_ready e settings log t =
     let r = roomy (room_for e.window (state_as (state_of (past settings log)))) t in (room_at e.window (past settings log) r.0 r.1).0
 
-given_in : NextLaws → DrivenLaws → (e : Errand) (settings : Settings) (log : Log) (d : DriverState) → IsDriver e settings log d
+given_in : NextLaws → DrivenLaws → DueLaws → BoundLaws → (e : Errand) (settings : Settings) (log : Log) (d : DriverState) → IsDriver e settings log d
     → (ph : Phase) → d.phase ≡ ph → IsAt e settings log ph → (g : Option Call)
     → GivesAt e.ask e.window (state_as (state_of (past settings log))) ph g → GivesHere e settings log d g
-given_in next laws e settings log d k phases.Fresh is a None g =
+given_in next laws due bounds e settings log d k phases.Fresh is a None g =
     let p = past settings log in
     stands_not e settings log (no_call (state_of p) (sym (fresh_as (state_of p)) ∙ given_none (is_fresh_state (state_as (state_of p))) origin.Init g)
     (unready_at p a.opening))
-given_in next laws e settings log d k phases.Fresh is a (Some call) g =
+given_in next laws due bounds e settings log d k phases.Fresh is a (Some call) g =
     let p = past settings log in
     let x = given_some (is_fresh_state (state_as (state_of p))) origin.Init call g in
     let n = init_next e settings log k.room a (sym (fresh_as (state_of p)) ∙ x.0) in
-    subst (Offers e settings log d) (sym x.1) (offer_next e settings log d k origin.Init n (is, n))
-given_in next laws e settings log d k phases.Opening is a None g = opening_none e settings log a
-given_in next laws e settings log d k phases.Opening is a (Some call) g = absurd (no_some g)
-given_in next laws e settings log d k (phases.Opened present three) is a None g =
+    subst (Offers e settings log d) (sym x.1) (offer_next e settings log d k origin.Init (due.admits e settings log d origin.Init k n tt) n (is, n))
+given_in next laws due bounds e settings log d k phases.Opening is a None g = opening_none e settings log a
+given_in next laws due bounds e settings log d k phases.Opening is a (Some call) g = absurd (no_some g)
+given_in next laws due bounds e settings log d k (phases.Opened present three) is a None g =
     unstanding e settings log a.opening
     (given_none (has_room (room_for e.window (state_as (state_of (past settings log))))) (origin.Search 1 1 e.ask) g)
-given_in next laws e settings log d k (phases.Opened present three) is a (Some call) g =
+given_in next laws due bounds e settings log d k (phases.Opened present three) is a (Some call) g =
     let x = given_some (has_room (room_for e.window (state_as (state_of (past settings log))))) (origin.Search 1 1 e.ask) call g in
-    subst (Offers e settings log d) (sym x.1) (offer_search e settings log d k present three is a (standing_ready e settings log x.0))
-given_in next laws e settings log d k (phases.Searching present three) is a None g = searching_none e settings log present three a
-given_in next laws e settings log d k (phases.Searching present three) is a (Some call) g = absurd (no_some g)
-given_in next laws e settings log d k (phases.Counted three count) is a g x = absurd x
-given_in next laws e settings log d k (phases.Asking agenda) is a g x = by (room_for e.window (state_as (state_of (past settings log)))) refl g x
+    subst (Offers e settings log d) (sym x.1) (offer_search due e settings log d k present three is a (standing_ready e settings log x.0))
+given_in next laws due bounds e settings log d k (phases.Searching present three) is a None g = searching_none e settings log present three a
+given_in next laws due bounds e settings log d k (phases.Searching present three) is a (Some call) g = absurd (no_some g)
+given_in next laws due bounds e settings log d k (phases.Counted three count) is a g x = absurd x
+given_in next laws due bounds e settings log d k (phases.Asking agenda) is a g x = by (room_for e.window (state_as (state_of (past settings log)))) refl g x
   where
     by : (o : Option ℕ) → room_for e.window (state_as (state_of (past settings log))) ≡ o → (g : Option Call) → GivesInRoom o agenda g → GivesHere e settings log d g
     by None q None x = unstanding e settings log a.opening (ap has_room q)
     by None q (Some call) x = absurd (no_some x)
     by (Some room) q None x = asking_none e settings log agenda room k.room a (room_at e.window (past settings log) room q).1 x
     by (Some room) q (Some call) x =
-        let r = room_at e.window (past settings log) room q in asking_some next laws e settings log d k agenda room is a r.0 r.1 call x
-given_in next laws e settings log d k phases.Done is a None g =
+        let r = room_at e.window (past settings log) room q in asking_some next laws due bounds e settings log d k agenda room is a r.0 r.1 call x
+given_in next laws due bounds e settings log d k phases.Done is a None g =
     unstanding e settings log a.opening
     (given_none (has_room (room_for e.window (state_as (state_of (past settings log))))) origin.Close g)
-given_in next laws e settings log d k phases.Done is a (Some call) g =
+given_in next laws due bounds e settings log d k phases.Done is a (Some call) g =
     let x = given_some (has_room (room_for e.window (state_as (state_of (past settings log))))) origin.Close call g in
     let n = close_next e settings log (standing_ready e settings log x.0) (a.none, a.outstanding) in
-    subst (Offers e settings log d) (sym x.1) (offer_next e settings log d k origin.Close n (inl is, n))
-given_in next laws e settings log d k phases.Closed is a None g = stands_not e settings log a.closed
-given_in next laws e settings log d k phases.Closed is a (Some call) g = absurd (no_some g)
+    subst (Offers e settings log d) (sym x.1) (offer_next e settings log d k origin.Close (due.admits e settings log d origin.Close k n tt) n (inl is, n))
+given_in next laws due bounds e settings log d k phases.Closed is a None g = stands_not e settings log a.closed
+given_in next laws due bounds e settings log d k phases.Closed is a (Some call) g = absurd (no_some g)
 
 -- what is given at the phase is next
-pub gives : NextLaws → DrivenLaws → (d : DriverState) (state : State) (g : Option Call) → GivesAt d.errand.ask d.errand.window state d.phase g
+pub gives : NextLaws → DrivenLaws → DueLaws → BoundLaws → (d : DriverState) (state : State) (g : Option Call) → GivesAt d.errand.ask d.errand.window state d.phase g
     → GivesNext state g d
-gives next laws d state None x = λ e settings log k s. given_in next laws e settings log d k d.phase refl k.at None
+gives next laws due bounds d state None x = λ e settings log k s. given_in next laws due bounds e settings log d k d.phase refl k.at None
     (subst (λ z. GivesAt e.ask e.window z d.phase None) s (subst (λ z. GivesAt z.ask z.window state d.phase None) k.errand x))
-gives next laws d state (Some call) x = λ e settings log k s. given_in next laws e settings log d k d.phase refl k.at (Some call)
+gives next laws due bounds d state (Some call) x = λ e settings log k s. given_in next laws due bounds e settings log d k d.phase refl k.at (Some call)
     (subst (λ z. GivesAt e.ask e.window z d.phase (Some call)) s (subst (λ z. GivesAt z.ask z.window state d.phase (Some call)) k.errand x))

@@ -33,7 +33,7 @@ use Rattle.zoom.specs.Heard.{Deed, Takes, Heard, Meets, state_at, heed, end_by, 
 use Rattle.zoom.specs.Heard.{take_at, news_at, facts_told, IsNews, hears_call, hears_piece, past_of, silence, given}
 use Rattle.zoom.specs.Heard.{sent}
 use Rattle.zoom.specs.States.{is_stopped}
-use Rattle.zoom.specs.Leaving.{Matches, Leaves}
+use Rattle.zoom.specs.Leaving.{Matches, AreReadBack, Leaves}
 use Rattle.zoom.specs.Steps.{TakesTo, Gains}
 use Rattle.zoom.specs.History.{History, only, accepted, facts_at, IsKnown, Stands, After, AfterUpTo}
 use Rattle.zoom.specs.Laws.{OneMeeting}
@@ -255,16 +255,15 @@ same_verdict p (Err r) = elim (is_open (state_of p)) as (λ b. (cond b (record p
     [ true ↦ refl | false ↦ refl ]
 
 -- and sends nothing
-take_sent : (p : Heard) (m : Met) → sent (past_of (take_at p m)) ≡ sent (past_of p)
+take_sent : (p : Heard) (m : Met) → (past_of (take_at p m)).sent ≡ (past_of p).sent
 take_sent p Stopped = refl
-take_sent p (Message v) = ap sent (heed_past (record p { taken = suc p.taken; log = Got v ∷ p.log })
-    (verdict (standing (past_of p)) v)) ∙ ap (flat_map encoding_of)
-    (same_verdict (past_of p) (verdict (standing (past_of p)) v))
+take_sent p (Message v) = ap (λ (z : Past). z.sent) (heed_past (record p { taken = suc p.taken; log = Got v ∷ p.log })
+    (verdict (standing (past_of p)) v)) ∙ same_verdict (past_of p) (verdict (standing (past_of p)) v)
 take_sent p (Foreign e) = refl
 take_sent p (Fault k at) = refl
-take_sent p (Rest n) = elim p.ended as (λ b. sent (past_of (cond b (stop_by p (truncated n)) p)) ≡ sent (past_of p))
+take_sent p (Rest n) = elim p.ended as (λ b. (past_of (cond b (stop_by p (truncated n)) p)).sent ≡ (past_of p).sent)
     [ true ↦ refl | false ↦ refl ]
-take_sent p Nothing = elim p.ended as (λ b. sent (past_of (cond b (end_by p) p)) ≡ sent (past_of p))
+take_sent p Nothing = elim p.ended as (λ b. (past_of (cond b (end_by p) p)).sent ≡ (past_of p).sent)
     [ true ↦ refl | false ↦ refl ]
 
 known_more : (heard : ℕ → Heard) (c : ℕ) (m : Met) (q : Fact) → IsKnown (changed c (take_at (heard c) m) heard) q
@@ -312,7 +311,8 @@ pub left_by : (settings : Settings) (deeds : List Deed) (p : Heard) (old new : L
 left_by settings deeds p old new m l meets matches w = record {
   heard = (p, l.heard, (m, meets, refl));
   matches = matches;
-  waiting = λ lost. ap (λ z. given deeds ++ z) w ∙ l.waiting lost ∙ sym (take_sent p m);
+  waiting = λ lost. ap (λ z. given deeds ++ z) w ∙ l.waiting lost ∙ sym (ap (flat_map encoding_of) (take_sent p m));
+  reads = subst AreReadBack (sym (take_sent p m)) l.reads;
 }
 
 pub taken_after : (meeting : OneMeeting) (settings : Settings) (h : History) (old new : Links) (c : ℕ) (was x : Link)
@@ -347,7 +347,12 @@ pub kept_up_to : (settings : Settings) (h : History) (old new : Links) (c : ℕ)
 kept_up_to settings h old new c was x lt a l m w part lawful cs = record {
   heard = a.heard;
   stands = subst (Stands settings h a.heard) (sym cs) (stands_same settings h a.heard old.connections c x lt a.stands
-      (record { heard = l.heard; matches = m; waiting = λ lost. ap (λ z. given (only c h) ++ z) w ∙ l.waiting lost }));
+      (record {
+        heard = l.heard;
+        matches = m;
+        waiting = λ lost. ap (λ z. given (only c h) ++ z) w ∙ l.waiting lost;
+        reads = l.reads;
+      }));
   has = λ q k. part.keeps q (a.has q k);
   within = λ q k. ⊎_elim (a.within q) inr (part.within q k);
   lawful = lawful;

@@ -7,7 +7,7 @@ use Rattle.std.proofs.lemmas.Grind.{flat_map-append}
 use Rattle.std.proofs.lemmas.List.Folds.{list_any-append}
 use Rattle.zber.specs.Stream.{Stream}
 use Rattle.zapdu.specs.declared.apdu.Apdu.{Apdu}
-use Rattle.zorigin.specs.Sending.{encoding_of}
+use Rattle.zorigin.specs.Sending.{encoding_of, sent_of, IsReadBack}
 use Rattle.ztarget.specs.declared.database.Database.{Database}
 use Rattle.ztarget.specs.declared.settings.TargetSettings.{TargetSettings}
 use Rattle.ztarget.specs.Receiving.{TargetState, new_target, is_close, without, Releases, After as TargetAfter}
@@ -122,17 +122,17 @@ module _ (holdings : Holdings) (events : List Event) (old new : HostState) (a : 
   left_served k is = ap (λ t. t.pending) is ∙ ap (λ z. remove z k) a.pending
 
   -- a reply was put
-  pub reply_put : (k : ℕ) (reply : Apdu) → old.stopped ≡ false → IsDue old.target.pending k reply → IsShort reply → new.target ≡ without old.target k
+  pub reply_put : (k : ℕ) (reply : Apdu) → old.stopped ≡ false → IsDue old.target.pending k reply → IsShort reply → IsReadBack (sent_of reply) → new.target ≡ without old.target k
       → ((databases : List Database) (settings : TargetSettings) (received released : List Apdu) → TargetAfter databases settings received released old.target → TargetAfter databases settings received (released ++ reply ∷ []) new.target)
       → new.waiting ≡ old.waiting ++ encoding_of reply → new.framer ≡ old.framer → new.stopped ≡ false
       → new.closed ≡ (old.closed || is_close reply)
       → HostAfter holdings (Released k ∷ events) new
-  reply_put k reply going due short is t waiting framer goes closed =
+  reply_put k reply going due short reads is t waiting framer goes closed =
       let p = a.served in
       let q : Served = record p { pending = remove p.pending k; released = p.released ++ reply ∷ []; sent = p.sent ++ reply ∷ [] } in
       record {
         served = q;
-        happened = (p, a.happened, record { going = sym a.stopped ∙ going; reply = reply; due = due_served k reply due; short = short; is = refl });
+        happened = (p, a.happened, record { going = sym a.stopped ∙ going; reply = reply; due = due_served k reply due; short = short; reads = reads; is = refl });
         target = t holdings.databases holdings.settings p.received p.released a.target;
         pending = left_served k is;
         waiting =
@@ -200,7 +200,7 @@ pub released_as : {E : Type 0} (k : ℕ) (reply : Apdu) (answer : Result Bool E)
 released_as k reply (Ok true) old new ws now going waited waits framer stopped closed r t p = (
   going,
   λ holdings events a. reply_put holdings events old new a k reply going
-      (record { may = r.0; there = r.1 }) p.1 r.2 t (waits ∙ p.0 ∙ ap (λ z. z ++ encoding_of reply) (sym waited)) framer
+      (record { may = r.0; there = r.1 }) p.1 p.2 r.2 t (waits ∙ p.0 ∙ ap (λ z. z ++ encoding_of reply) (sym waited)) framer
       stopped closed,
 )
 released_as k reply (Ok false) old new ws now going waited waits framer stopped closed r t p =

@@ -24,4 +24,5 @@ stopped settings deeds p c reason l = record {
     stop = refl;
   };
   waiting = λ lost. l.waiting (neither (is_write reason) (is_lost deeds) lost);
+  reads = l.reads;
 }

@@ -75,4 +75,4 @@ fed laws settings deeds p c t piece b l s e w =
       stop = m.stop;
     } in
     subst (λ q. Leaves settings (Feeds piece ∷ deeds) q (record c { framer = t })) (sym is)
-    (record { heard = (p, l.heard, sym is); matches = matches; waiting = l.waiting })
+    (record { heard = (p, l.heard, sym is); matches = matches; waiting = l.waiting; reads = l.reads })

@@ -1,8 +1,9 @@
 -- What drives a connection knows what a reply told.
 use Rattle.std.proofs.Common.{◌≡◌, ◌⊎◌, inl, inr, ℕ, suc, ◌+◌, ◌-◌, ◌<◌, ◌≤◌, Bool, true, false, cond, not, List, [], ◌∷◌, ◌++◌, length, Option, None, Some, Result, Ok, Err, refl, sym, ap, subst, ◌∙◌, arith, true≢false}
 use Rattle.std.proofs.lemmas.Bool.Decides.{nat_tests}
-use Rattle.std.specs.Prelude.{◌||◌, ◌&&◌, ◌==◌}
-use Rattle.std.specs.List.{list_any, find}
+use Rattle.std.proofs.lemmas.Map.Keys.{IsDistinct-tail}
+use Rattle.std.specs.Prelude.{ℤ, map, nat_eq, ◌||◌, ◌&&◌, ◌==◌}
+use Rattle.std.specs.List.{list_any, find, flat_map, IsDistinct}
 use Rattle.zapdu.specs.declared.apdu.Apdu.{Apdu}
 use Rattle.zapdu.specs.declared.apdu.Apdu.TheVariants as apdus
 use Rattle.zapdu.specs.declared.productions.init_response.InitResponse.{InitResponse}
@@ -26,20 +27,21 @@ use Rattle.zorigin.specs.declared.refusal.Refused.{Refused}
 use Rattle.zorigin.specs.declared.refusal.Refused.TheVariants as refused
 use Rattle.zorigin.specs.Standings.{Standing, is_open, ready, nothing_in_force}
 use Rattle.zorigin.specs.declared.state.State.TheVariants as origins
-use Rattle.zorigin.specs.Ranges.{positions}
+use Rattle.zorigin.specs.declared.state.Outcome.TheVariants as outcomes
+use Rattle.zorigin.specs.Ranges.{natural, positions}
 use Rattle.zorigin.specs.Fitting.{fault_of, search_fault, present_fault, records_in}
 use Rattle.zorigin.specs.Replies.{verdict, answered, against, judged, named, taken_by}
-use Rattle.zorigin.specs.Changes.{force_in}
-use Rattle.zorigin.specs.Laws.{IsOrderly}
-use Rattle.zorigin.specs.Log.{Log, Got, Past, past, standing, state_from, opening, opens, is_init, force_after, force_by, closing_state, state_by, accept, after_verdict, is_close_call, is_init_call}
+use Rattle.zorigin.specs.Changes.{force_in, outcome_in}
+use Rattle.zorigin.specs.Laws.{IsOrderly, answered_op}
+use Rattle.zorigin.specs.Log.{Log, Got, Past, past, standing, state_from, opening, opens, is_init, force_after, force_by, closing_state, state_by, accept, after_verdict, is_close_call, is_init_call, answers, search_in}
 use Rattle.zoom.specs.declared.phase.Phase.{Phase}
 use Rattle.zoom.specs.declared.phase.Phase.TheVariants as phases
 use Rattle.zoom.specs.Driving.{operation_for, reply_for, got_event, can_search, can_present, counted, DrivenLaws}
 use Rattle.zoom.specs.Steering.{Errand, may_call, complete_in, is_rejected, is_rejection}
-use Rattle.zoom.specs.Drivers.{DriverState, IsDriver, IsAt, AtOpening, AtOpened, AtSearching, AtAsking, AtClosed, HasOpening, AllAnswered, NoneBegins, BeginApart, events_at, searched_events, left_in, opened_phase, counted_phase, IsAnsweredAgenda, AnswersAt, TellsAt, KnowsTold, is_rejection_of}
+use Rattle.zoom.specs.Drivers.{DriverState, IsDriver, IsAt, AtOpening, AtOpened, AtSearching, AtAsking, AtClosed, HasOpening, AllAnswered, NoneBegins, BeginApart, events_at, searched_events, left_in, opened_phase, counted_phase, IsAnsweredAgenda, AnswersAt, TellsAt, KnowsTold, HasFound, is_rejection_of}
 use Rattle.zoom.proofs.Phases.{none_due}
-use Rattle.zoom.proofs.Kept.{closed_reply}
-use Rattle.zoom.proofs.Drivings.{answered_number}
+use Rattle.zoom.proofs.Kept.{closed_reply, same_version, same_sending, same_found}
+use Rattle.zoom.proofs.Drivings.{answered_number, differ}
 
 no_some : {A : Type 0} {x : A} → Some x ≡ None → ⊥
 no_some e = cc
@@ -141,6 +143,31 @@ find_other (x ∷ xs) a f =
     let later = find_other xs a f in
     elim (opens x) as (λ b. cond b (Some x) (find opens (xs ++ a ∷ [])) ≡ cond b (Some x) (find opens xs)) [ true ↦ refl | false ↦ later ]
 
+find_kept : (f : Answer → Bool) (xs ys : List Answer) (y : Answer) → find f xs ≡ Some y → find f (xs ++ ys) ≡ Some y
+find_kept f [] ys y e = absurd (no_some (sym e))
+find_kept f (x ∷ xs) ys y e =
+    elim (f x) as (λ b. cond b (Some x) (find f xs) ≡ Some y → cond b (Some x) (find f (xs ++ ys)) ≡ Some y) [
+      | true ↦ λ q. q
+      | false ↦ λ q. find_kept f xs ys y q
+    ] e
+
+-- the first answer to an operation, where it is new
+find_new : (xs : List Answer) (a : Answer) (op : ℕ) → a.asked.op ≡ op → IsDistinct nat_eq (map answered_op (xs ++ a ∷ []))
+    → find (answers op) (xs ++ a ∷ []) ≡ Some a
+find_new [] a op is d =
+    let t : (a.asked.op == op) ≡ true = grind (arith, nat_tests, is) in ap (λ b. cond b (Some a) None) t
+find_new (x ∷ xs) a op is d =
+    let other : nat_eq (answered_op x) (answered_op a) ≡ false = differ (x ∷ xs) a x d (inl refl) in
+    let f : (x.asked.op == op) ≡ false = grind (arith, nat_tests, is, other) in
+    ap (λ b. cond b (Some x) (find (answers op) (xs ++ a ∷ []))) f
+    ∙ find_new xs a op is (IsDistinct-tail nat_eq (answered_op x) (map answered_op (xs ++ a ∷ [])) d)
+
+counted_some : (status present : Bool) (n : ℤ) (count : ℕ) → counted (status && present) n ≡ Some count
+    → (status ≡ true) × (present ≡ true) × (natural n ≡ count)
+counted_some true true n count q = (refl, refl, (let e : natural n ≡ count = cc in e))
+counted_some true false n count q = absurd (no_some (sym q))
+counted_some false present n count q = absurd (no_some (sym q))
+
 opens_by : (a : Answer) (w : What) → a.asked.what ≡ w → opens a ≡ is_init w
 opens_by a w q = ap is_init q
 
@@ -168,7 +195,7 @@ search_phase e settings log phases.Opening a i q = absurd (one_asked plan.Search
 search_phase e settings log (phases.Opened present three) a i q = absurd (one_asked plan.Search plan.Init (subst (λ z. IsIn plan.Search (asked_in z)) a.events i) (λ x. absurd (cc)))
 search_phase e settings log (phases.Searching present three) a i q = (present, three, refl)
 search_phase e settings log (phases.Counted three count) a i q = absurd (no_some (sym (ap (λ z. replies_in z plan.Search) a.events) ∙ q))
-search_phase e settings log (phases.Asking agenda) a i q = absurd (a.found q)
+search_phase e settings log (phases.Asking agenda) a i q = absurd (no_some (sym a.found ∙ q))
 search_phase e settings log phases.Done a i q = absurd (a.all plan.Search i q)
 search_phase e settings log phases.Closed a i q = absurd (a.all plan.Search i q)
 
@@ -277,6 +304,7 @@ module _ (laws : AgendaLaws) (driven : DrivenLaws) (numbers : NumberLaw) (orderl
         steered = k.steered;
         driven = k.driven;
         errand = er ∙ k.errand;
+        fit = k.fit;
         wanted = k.wanted;
         steps = k.steps;
         room = k.room;
@@ -303,6 +331,8 @@ module _ (laws : AgendaLaws) (driven : DrivenLaws) (numbers : NumberLaw) (orderl
         opening = (a, op);
         shows = ap (λ o. (force_after o).present) op ∙ ap (λ x. (force_by x).present) r
             ∙ ap (λ b. (cond b (force_in v) nothing_in_force).present) t;
+        version = ap (λ o. (force_after o).v3) op ∙ ap (λ x. (force_by x).v3) r
+            ∙ ap (λ b. (cond b (force_in v) nothing_in_force).v3) t;
       }
 
   -- it was rejected
@@ -335,9 +365,9 @@ module _ (laws : AgendaLaws) (driven : DrivenLaws) (numbers : NumberLaw) (orderl
 
   -- the search was answered
   found_at : (a : Answer) (v : SearchResponse) (present three : Bool) → Accepted a → a.reply ≡ apdus.SearchResponse v → a.asked.what ≡ what.Search
-      → AtSearching e settings log present three → (o : Option ℕ) → counted (v.search_status && present) v.result_count ≡ o
+      → a.asked.op ≡ 1 → AtSearching e settings log present three → (o : Option ℕ) → counted (v.search_status && present) v.result_count ≡ o
       → IsAt e settings (Got reply ∷ log) (counted_phase three o)
-  found_at a v present three acc r w k o c =
+  found_at a v present three acc r w one k o c =
       let op : opening new_past ≡ opening old_past = ap opening acc.past ∙ find_other old_past.accepted a (ap is_init w) in
       let can : can_present new_past ≡ present = ap (λ x. (force_after x).present) op ∙ k.shows in
       let ev : new_events ≡ Receives plan.Search (Finds o) ∷ searched_events three =
@@ -346,17 +376,39 @@ module _ (laws : AgendaLaws) (driven : DrivenLaws) (numbers : NumberLaw) (orderl
       ∙ ap (λ b. Receives plan.Search (Finds (counted (v.search_status && b) v.result_count)) ∷ old_events) can
       ∙ ap (λ x. Receives plan.Search (Finds x) ∷ old_events) c
       ∙ ap (λ z. Receives plan.Search (Finds o) ∷ z) k.events in
-      by o ev (k.opening.0, op ∙ k.opening.1)
+      by o ev (k.opening.0, op ∙ k.opening.1) (set op can o c)
     where
+      once : IsOrderly (accept old_past a)
+      once = subst IsOrderly acc.past (orderly settings (Got reply ∷ log))
+
+      IsFoundSet : Option ℕ → Type 0
+      IsFoundSet o = (count : ℕ) → o ≡ Some count → HasFound e.ask new_past three count
+
+      set : opening new_past ≡ opening old_past → can_present new_past ≡ present → (o : Option ℕ)
+          → counted (v.search_status && present) v.result_count ≡ o → IsFoundSet o
+      set op can o c count is =
+          let n = counted_some v.search_status present v.result_count count (c ∙ is) in
+          record {
+            asked = ap (λ (p : Past). flat_map search_in p.admitted) acc.past ∙ k.search;
+            answer = a;
+            answered = ap (λ (p : Past). find (answers 1) p.accepted) acc.past ∙ find_new old_past.accepted a 1 one once.once;
+            found = v.result_count;
+            outcome = ap outcome_in r ∙ ap (λ b. cond b (Some (outcomes.Found v.result_count)) (Some outcomes.Failed)) n.0;
+            counts = n.2;
+            shows = can ∙ n.1;
+            version = same_version old_past new_past three op k.version;
+            sendable = same_sending e.ask old_past new_past op k.sendable;
+          }
+
       replied : AllAnswered (Receives plan.Search (Finds None) ∷ searched_events three)
       replied b (inl i) x = no_some (sym (ap (replies_in (Receives plan.Search (Finds None) ∷ searched_events three)) i) ∙ x)
       replied b (inr (inl i)) x = no_some (sym (ap (replies_in (Receives plan.Search (Finds None) ∷ searched_events three)) i) ∙ x)
       replied b (inr (inr i)) x = i
 
       by : (o : Option ℕ) → new_events ≡ Receives plan.Search (Finds o) ∷ searched_events three → HasOpening new_past
-          → IsAt e settings (Got reply ∷ log) (counted_phase three o)
-      by (Some count) ev op = record { events = ev; opening = op }
-      by None ev op = record {
+          → IsFoundSet o → IsAt e settings (Got reply ∷ log) (counted_phase three o)
+      by (Some count) ev op set = record { events = ev; opening = op; set = set count refl }
+      by None ev op set = record {
         none = subst (λ z. (b : Operation) → IsDue e.wanted e.step z b → ⊥) (sym ev)
             (none_due e.wanted e.step (Receives plan.Search (Finds None) ∷ searched_events three) (inr (inl refl)) (λ t x. inl refl)
             (λ c x. absurd (cc)) (λ l m x. absurd (cc)));
@@ -396,7 +448,12 @@ module _ (laws : AgendaLaws) (driven : DrivenLaws) (numbers : NumberLaw) (orderl
         init = subst (λ z. IsIn plan.Init (asked_in z)) (sym ev) k.init;
         search = subst (λ z. IsIn plan.Search (asked_in z)) (sym ev) k.search;
         opened = subst (λ z. replies_in z plan.Init ≡ None → ⊥) (sym ev) k.opened;
-        found = subst (λ z. replies_in z plan.Search ≡ None → ⊥) (sym ev) k.found;
+        count = k.count;
+        found = ap (λ z. replies_in z plan.Search) ev ∙ k.found;
+        set = subst (λ t. HasFound e.ask new_past t k.count) (sym s.three)
+            (same_found e.ask old_past new_past was.three k.count (ap (λ (p : Past). flat_map search_in p.admitted) acc.past) k.set.answer
+            (ap (λ (p : Past). find (answers 1) p.accepted) acc.past ∙ find_kept (answers 1) old_past.accepted (a ∷ []) k.set.answer k.set.answered)
+            k.set refl opn);
         outstanding = ap outstanding_in ev ∙ (let z : outstanding_in old_events - 1 ≡ length is.waiting = omega (arith, out, less, fewer) in z);
         apart = subst BeginApart (sym s.waiting) (apart_without (a.asked.op - 1) was.waiting k.apart);
         opening = (k.opening.0, opn ∙ k.opening.1);
@@ -463,9 +520,12 @@ knows_told laws driven numbers orderly (taken.Answered a) old new s er sk co l =
           let to : new.phase ≡ counted_phase ph.1 (counted (f.0.search_status && ph.0) f.0.result_count) =
           subst (λ z. AnswersAt a.asked.op z (phases.Searching ph.0 ph.1) new.phase) f.1 (subst (λ z. AnswersAt a.asked.op a.reply z new.phase) ph.2 s) in
           let c = other_complete (past settings log) (past settings (Got reply ∷ log)) a acc.past (ap is_init f.2) in
+          let one : a.asked.op ≡ 1 =
+          answered_number e.ask settings e.wanted e.step log orderly k.driven a (subst IsOrderly acc.past (orderly settings (Got reply ∷ log)))
+          ∙ ap (λ w. number (operation_for w)) f.2 in
           told_driver laws driven numbers orderly e settings log reply old new k er sk (co ∙ k.complete ∙ sym c) l (few_left e.window new.phase)
           (subst (IsAt e settings (Got reply ∷ log)) (sym to)
-          (found_at laws driven numbers orderly e settings log reply a f.0 ph.0 ph.1 acc f.1 f.2 was
+          (found_at laws driven numbers orderly e settings log reply a f.0 ph.0 ph.1 acc f.1 f.2 one was
           (counted (f.0.search_status && ph.0) f.0.result_count) refl))
       | inr f ↦
           let ph = present_phase e settings log (positions f.1) old.phase k.at
@@ -502,6 +562,7 @@ knows_told laws driven numbers orderly taken.Closed old new s er sk co l = λ e 
       steered = r.steered;
       driven = r.driven;
       errand = er ∙ k.errand;
+      fit = k.fit;
       wanted = k.wanted;
       steps = k.steps;
       room = k.room;

@@ -1,5 +1,6 @@
 -- What drives one connection for its question.
-use Rattle.std.specs.Prelude.{◌≡◌, ◌⊎◌, ℕ, ◌+◌, ◌-◌, ◌<◌, ◌≤◌, Bool, true, false, ◌&&◌, if◌then◌else◌, List, [], ◌∷◌, length, Option, None, Some, Ok, Err}
+use Rattle.std.specs.Prelude.{◌≡◌, ◌⊎◌, ℕ, ℤ, ◌+◌, ◌-◌, ◌<◌, ◌≤◌, Bool, true, false, ◌&&◌, if◌then◌else◌, List, [], ◌∷◌, length, Option, None, Some, Ok, Err}
+use Rattle.std.specs.List.{find, flat_map}
 use Rattle.zapdu.specs.declared.apdu.Apdu.{Apdu}
 use Rattle.zapdu.specs.declared.apdu.Apdu.TheVariants as apdus
 use Rattle.zplan.specs.declared.range.Range.{Range as PlanRange}
@@ -15,16 +16,17 @@ use Rattle.zorigin.specs.declared.answer.Answer.{Answer}
 use Rattle.zorigin.specs.declared.answer.Taken.{Taken}
 use Rattle.zorigin.specs.declared.answer.Taken.TheVariants as taken
 use Rattle.zorigin.specs.declared.refusal.CallRefused.{CallRefused}
-use Rattle.zorigin.specs.declared.refusal.CallRefused.TheVariants as reasons
+use Rattle.zorigin.specs.declared.state.Outcome.TheVariants as outcomes
 use Rattle.zorigin.specs.declared.refusal.Refused.{Refused}
 use Rattle.zorigin.specs.Standings.{is_ready}
 use Rattle.zorigin.specs.Standings as origin
-use Rattle.zorigin.specs.Ranges.{positions}
+use Rattle.zorigin.specs.Ranges.{natural, positions, are_ranges}
 use Rattle.zorigin.specs.Fitting.{records_in}
-use Rattle.zorigin.specs.Changes.{force_in}
+use Rattle.zorigin.specs.Changes.{force_in, outcome_in, unanswered}
+use Rattle.zorigin.specs.Sending.{is_unsendable, search_request}
 use Rattle.zorigin.specs.Calls.{refusal}
 use Rattle.zorigin.specs.Replies.{verdict}
-use Rattle.zorigin.specs.Log.{Log, Made, Got, Past, past, standing, state_of, opening}
+use Rattle.zorigin.specs.Log.{Log, Made, Got, Past, past, standing, state_of, opening, force_after, answers, search_in}
 use Rattle.zoom.specs.declared.call.Call.{Call}
 use Rattle.zoom.specs.declared.state.State.{State}
 use Rattle.zoom.specs.declared.state.State.TheVariants as states
@@ -33,7 +35,7 @@ use Rattle.zoom.specs.declared.phase.Phase.TheVariants as phases
 use Rattle.zoom.specs.CallsOf.{call_of}
 use Rattle.zoom.specs.States.{state_as}
 use Rattle.zoom.specs.Driving.{can_search, can_present, counted, events_of, IsDrivenLog}
-use Rattle.zoom.specs.Steering.{Errand, IsNextCall, IsSteered, IsSteeredCall, may_call, skipped_in, complete_in}
+use Rattle.zoom.specs.Steering.{Errand, IsFitErrand, IsNextCall, IsSteered, IsSteeredCall, may_call, skipped_in, complete_in}
 
 -- The errand; how far it is; how many calls can at most be made before a reply comes; whether the question was skipped;
 -- whether the association was rejected or closed.
@@ -81,6 +83,26 @@ BeginApart (l ∷ ls) = NoneBegins (first_of l) ls × BeginApart ls
 abbrev pub AllAnswered : List Event → Type 0
 AllAnswered events = (a : Operation) → IsIn a (asked_in events) → replies_in events a ≡ None → ⊥
 
+-- the request for the search can be sent
+abbrev pub CanBeSent : Ask → Past → Type 0
+CanBeSent ask p = is_unsendable (search_request (force_after (opening p)).named 1 1 ask) ≡ false
+
+-- version 3 is in force, or not
+abbrev pub HasVersion : Past → Bool → Type 0
+HasVersion p three = (force_after (opening p)).v3 ≡ three
+
+-- The search is the only one, and it found so many records, which can be asked for.
+pub record HasFound (ask : Ask) (p : Past) (three : Bool) (count : ℕ) : Type 0 where
+  pub asked : flat_map search_in p.admitted ≡ unanswered 1 1 ask ∷ []
+  pub answer : Answer
+  pub answered : find (answers 1) p.accepted ≡ Some answer
+  pub found : ℤ
+  pub outcome : outcome_in answer.reply ≡ Some (outcomes.Found found)
+  pub counts : natural found ≡ count
+  pub shows : can_present p ≡ true
+  pub version : HasVersion p three
+  pub sendable : CanBeSent ask p
+
 module _ (e : Errand) (settings : Settings) (log : Log) where
   abbrev pub events_at : List Event
   events_at = events_of e.ask settings log
@@ -99,22 +121,29 @@ module _ (e : Errand) (settings : Settings) (log : Log) where
     pub can : is_ready (state_of (past settings log)) ≡ true → can_search e.ask (past settings log) ≡ search
     pub opening : HasOpening (past settings log)
     pub shows : can_present (past settings log) ≡ present
+    pub version : HasVersion (past settings log) three
 
   pub record AtSearching (present three : Bool) : Type 0 where
     pub events : events_at ≡ searched_events three
     pub opening : HasOpening (past settings log)
     pub shows : can_present (past settings log) ≡ present
+    pub version : HasVersion (past settings log) three
+    pub sendable : CanBeSent e.ask (past settings log)
+    pub search : flat_map search_in (past settings log).admitted ≡ unanswered 1 1 e.ask ∷ []
 
   pub record AtCounted (three : Bool) (count : ℕ) : Type 0 where
     pub events : events_at ≡ found_events three count
     pub opening : HasOpening (past settings log)
+    pub set : HasFound e.ask (past settings log) three count
 
   pub record AtAsking (a : Agenda) : Type 0 where
     pub agenda : IsAgenda e.wanted e.step events_at a
     pub init : IsIn plan.Init (asked_in events_at)
     pub search : IsIn plan.Search (asked_in events_at)
     pub opened : replies_in events_at plan.Init ≡ None → ⊥
-    pub found : replies_in events_at plan.Search ≡ None → ⊥
+    pub count : ℕ
+    pub found : replies_in events_at plan.Search ≡ Some (Finds (Some count))
+    pub set : HasFound e.ask (past settings log) a.three count
     pub outstanding : outstanding_in events_at ≡ length a.waiting
     pub apart : BeginApart a.waiting
     pub opening : HasOpening (past settings log)
@@ -145,6 +174,7 @@ pub record IsDriver (e : Errand) (settings : Settings) (log : Log) (d : DriverSt
   pub steered : IsSteered e settings log
   pub driven : IsDrivenLog e.ask e.wanted e.step settings log
   pub errand : d.errand ≡ e
+  pub fit : IsFitErrand e settings
   pub wanted : IsWanted e.wanted
   pub steps : 0 < e.step
   pub room : 0 < e.window
@@ -173,7 +203,7 @@ IsOffered e settings log phase (origin.Present op set ranges) =
 IsOffered e settings log phase origin.Close =
     ((phase ≡ phases.Done) ⊎ ((a : Agenda) × (phase ≡ phases.Asking a))) × IsNextCall e settings log origin.Close
 
--- The driver gave the call: where the origin admits it, it is the next one.
+-- The driver gave the call: the origin admits it, and it is the next one; or it is the search, which is skipped.
 pub record Offers (e : Errand) (settings : Settings) (log : Log) (d : DriverState) (call : origin.Call) : Type 0 where
   pub knows : IsDriver e settings log d
   pub steers : IsSteeredCall e settings log (refusal (standing (past settings log)) call) call
@@ -195,16 +225,12 @@ KnowsSent call old new =
     → refusal (standing (past settings log)) call ≡ None
     → IsDriver e settings (Made call ∷ log) new × (new.left < old.left)
 
--- the origin refused the call: another may be next; or this one is
-abbrev pub GoesOn : Bool → Errand → Settings → Log → origin.Call → DriverState → DriverState → Type 0
-GoesOn true e settings log call old new = new.left < old.left
-GoesOn false e settings log call old new = IsNextCall e settings log call
-
-abbrev pub KnowsRefused : origin.Call → CallRefused → Bool → DriverState → DriverState → Type 0
-KnowsRefused call reason goes old new =
-    (e : Errand) (settings : Settings) (log : Log) → Offers e settings log old call
-    → refusal (standing (past settings log)) call ≡ Some reason
-    → IsDriver e settings (Made call ∷ log) new × GoesOn goes e settings log call old new
+-- the origin refused the call: another may be next
+abbrev pub KnowsRefused : DriverState → DriverState → Type 0
+KnowsRefused old new =
+    (e : Errand) (settings : Settings) (log : Log) (call : origin.Call) (reason : CallRefused)
+    → Offers e settings log old call → refusal (standing (past settings log)) call ≡ Some reason
+    → IsDriver e settings (Made call ∷ log) new × (new.left < old.left)
 
 -- the origin took a reply
 abbrev pub KnowsTold : Taken → DriverState → DriverState → Type 0
@@ -221,16 +247,6 @@ RefusedLaw =
 
 -- ---- what the parts do
 
-abbrev pub is_search_call : origin.Call → Bool
-is_search_call (origin.Search op set ask) = true
-is_search_call _ = false
-
--- a search that is refused for it is not asked
-abbrev pub is_skip_reason : CallRefused → Bool
-is_skip_reason reasons.NotOffered = true
-is_skip_reason reasons.Unsendable = true
-is_skip_reason _ = false
-
 abbrev pub is_rejection_of : Taken → Bool
 is_rejection_of (taken.Rejected answer) = true
 is_rejection_of _ = false
@@ -242,7 +258,7 @@ range_back r = record { start = r.start; n = r.n }
 abbrev pub IsRangesCall : List PlanRange → origin.Call → Type 0
 IsRangesCall list call =
     (ranges : List Range) × (call ≡ origin.Present (first_of (plan_positions list) + 1) 1 ranges)
-    × (positions ranges ≡ plan_positions list)
+    × (positions ranges ≡ plan_positions list) × (are_ranges ranges ≡ true) × (length ranges ≡ length list)
 
 -- no schedule is to be made
 abbrev pub IsMade : Phase → Type 0
@@ -264,6 +280,9 @@ pub record AsksFirst (room : ℕ) (a : Agenda) (call : origin.Call) : Type 0 whe
   pub others : List (List ℕ)
   pub is : call ≡ origin.Present (first_of (positions ranges) + 1) 1 ranges
   pub due : a.due ≡ positions ranges ∷ others
+  pub asked : are_ranges ranges ≡ true
+  -- one range, where version 3 is not in force
+  pub single : a.three ≡ false → length ranges ≡ 1
   pub ready : a.ready ≡ true
   pub fits : length a.waiting < room
 

@@ -5,7 +5,7 @@ use Rattle.zber.specs.declared.fault.FrameError.TheVariants as frames
 use Rattle.zber.specs.Elements.{Element}
 use Rattle.zber.specs.Stream.{Stream}
 use Rattle.zapdu.specs.declared.apdu.Apdu.{Apdu}
-use Rattle.zorigin.specs.Sending.{encoding_of}
+use Rattle.zorigin.specs.Sending.{encoding_of, sent_of, IsReadBack}
 use Rattle.ztarget.specs.declared.database.Database.{Database}
 use Rattle.ztarget.specs.declared.settings.TargetSettings.{TargetSettings}
 use Rattle.ztarget.specs.declared.error.TargetError.{TargetError}
@@ -106,15 +106,16 @@ abbrev pub ReceivesMessage : {E : Type 0} → Element → Result Bool E → Targ
 ReceivesMessage n (Ok taken) old new = HeedsMessage n taken old new
 ReceivesMessage n (Err e) old new = new ≡ old
 
--- what encoding a reply gives: its octets, or none where they are too many
+-- what encoding a reply gives: its octets, of which it is read back, or none where they are too many
 abbrev pub EncodesReply : {E : Type 0} → Apdu → Result (Option (List ℕ)) E → Type 0
-EncodesReply reply (Ok (Some octets)) = (octets ≡ encoding_of reply) × IsShort reply
+EncodesReply reply (Ok (Some octets)) = (octets ≡ encoding_of reply) × IsShort reply × IsReadBack (sent_of reply)
 EncodesReply reply (Ok None) = IsLong reply
 EncodesReply reply (Err e) = Unit {0}
 
 -- what putting a reply does: its octets go last; or it is too long; or memory was wanting
 abbrev pub PutsReply : {E : Type 0} → Apdu → Result Bool E → List (List ℕ) → List (List ℕ) → Type 0
-PutsReply reply (Ok true) old new = (joined new ≡ joined old ++ encoding_of reply) × IsShort reply
+PutsReply reply (Ok true) old new =
+    (joined new ≡ joined old ++ encoding_of reply) × IsShort reply × IsReadBack (sent_of reply)
 PutsReply reply (Ok false) old new = (new ≡ old) × IsLong reply
 PutsReply reply (Err e) old new = new ≡ old
 

@@ -7,12 +7,12 @@ use Rattle.zber.specs.Stream.{Stream}
 use Rattle.zber.specs.Unfinished.{IsUnfinished}
 use Rattle.zapdu.specs.declared.apdu.Apdu.{Apdu}
 use Rattle.zapdu.specs.Writes.{Writes}
-use Rattle.zorigin.specs.Sending.{encoding_of}
+use Rattle.zorigin.specs.Sending.{encoding_of, sent_of, IsReadBack}
 use Rattle.ztarget.specs.declared.database.Database.{Database}
 use Rattle.ztarget.specs.declared.settings.TargetSettings.{TargetSettings}
 use Rattle.ztarget.specs.declared.error.TargetError.{TargetError}
 use Rattle.ztarget.specs.Replies.{Answer, owed, replies}
-use Rattle.ztarget.specs.Receiving.{TargetState, is_close, may_release, After as TargetAfter}
+use Rattle.ztarget.specs.Receiving.{TargetState, new_target, is_close, may_release, After as TargetAfter}
 use Rattle.zoom.specs.Coming.{limit, Met, Message, Foreign, Fault, AreMetAs}
 
 -- A host, for every contract: its target; the octets that came and were not yet given out in a message; the octets that
@@ -23,6 +23,14 @@ pub record HostState : Type 0 where
   pub waiting : List ℕ
   pub stopped : Bool
   pub closed : Bool
+
+-- a target that has received nothing yet
+abbrev pub IsNew : TargetState → Type 0
+IsNew t = t ≡ new_target t.databases t.settings
+
+abbrev pub AreNew : List TargetState → Type 0
+AreNew [] = Unit {0}
+AreNew (t ∷ ts) = IsNew t × AreNew ts
 
 -- what a target has
 pub record Holdings : Type 0 where
@@ -129,12 +137,13 @@ pub record IsDue (pending : List Apdu) (k : ℕ) (reply : Apdu) : Type 0 where
   pub may : may_release pending k ≡ true
   pub there : slice_get pending k ≡ Some reply
 
--- pending reply k is put
+-- pending reply k is put, and is read back
 pub record Sends (k : ℕ) (p q : Served) : Type 0 where
   pub going : p.stopped ≡ false
   pub reply : Apdu
   pub due : IsDue p.pending k reply
   pub short : IsShort reply
+  pub reads : IsReadBack (sent_of reply)
   pub is : q ≡ record p {
     pending = remove p.pending k;
     released = p.released ++ reply ∷ [];

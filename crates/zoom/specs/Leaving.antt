@@ -1,10 +1,12 @@
 -- The deeds that can have left a connection.
-use Rattle.std.specs.Prelude.{◌≡◌, true, false, ℕ, List, ◌++◌, Option, None, Some}
+use Rattle.std.specs.Prelude.{◌≡◌, true, false, ℕ, List, [], ◌∷◌, ◌++◌, Option, None, Some}
 use Rattle.zber.specs.Elements.{Element}
 use Rattle.zber.specs.Spelling.{Begins}
 use Rattle.zber.specs.Stream.{Stream}
+use Rattle.zapdu.specs.declared.apdu.Apdu.{Apdu}
 use Rattle.zorigin.specs.declared.settings.Settings.{Settings}
 use Rattle.zorigin.specs.Log.{After as OriginAfter}
+use Rattle.zorigin.specs.Sending.{sent_of, IsReadBack}
 use Rattle.zoom.specs.States.{goes_on}
 use Rattle.zoom.specs.Coming.{limit, IsBehind}
 use Rattle.zoom.specs.Heard.{Heard, Deed, HasHeard, past_of, given, is_lost, sent}
@@ -34,8 +36,15 @@ pub record Matches (p : Heard) (c : Link) : Type 0 where
 abbrev pub GivesAll : List Deed → Heard → List ℕ → Type 0
 GivesAll deeds p waiting = is_lost deeds ≡ false → given deeds ++ waiting ≡ sent (past_of p)
 
+-- each is read back from its encoding, whatever follows it
+abbrev pub AreReadBack : List Apdu → Type 0
+AreReadBack [] = Unit {0}
+AreReadBack (v ∷ vs) = IsReadBack (sent_of v) × AreReadBack vs
+
 -- The deeds can have left this connection.
 pub record Leaves (settings : Settings) (deeds : List Deed) (p : Heard) (c : Link) : Type 0 where
   pub heard : HasHeard settings deeds p
   pub matches : Matches p c
   pub waiting : GivesAll deeds p c.waiting
+  -- what was sent is read back
+  pub reads : AreReadBack (past_of p).sent

@@ -16,5 +16,6 @@ pub mod HostSteps
 pub mod Driving
 pub mod Steering
 pub mod Drivers
+pub mod Due
 pub mod Metas
 pub mod MetaLaws

@@ -1,11 +1,8 @@
 -- Connections that are driven, each for one question: what contracts see of them, and which histories can have left
 -- them.
-use Rattle.std.specs.Prelude.{◌≡◌, ◌↔◌, ◌⊎◌, ℕ, ◌+◌, ◌<◌, Bool, true, false, List, [], ◌∷◌, ◌++◌, map, length, slice_get, Option, None, Some, Result, Ok, Err}
+use Rattle.std.specs.Prelude.{◌≡◌, ◌↔◌, ℕ, ◌+◌, ◌<◌, ◌≤◌, Bool, true, false, List, [], ◌∷◌, ◌++◌, map, length, slice_get, Option, None, Some, Result, Ok, Err}
 use Rattle.zorigin.specs.declared.settings.Settings.{Settings}
 use Rattle.zorigin.specs.Standings.{Call}
-use Rattle.zorigin.specs.Calls.{refusal}
-use Rattle.zorigin.specs.declared.refusal.CallRefused.{CallRefused}
-use Rattle.zorigin.specs.Log.{Log, Made, past, standing}
 use Rattle.zoom.specs.declared.question.Question.{Question}
 use Rattle.zoom.specs.declared.question.MetaSettings.{MetaSettings}
 use Rattle.zoom.specs.declared.meta.Turn.{Turn}
@@ -63,7 +60,8 @@ pub record MetaAfterUpTo (questions : List Question) (s : MetaSettings) (c : ℕ
 abbrev pub StandFor : List Question → ℕ → ℕ → List DriverState → Type 0
 StandFor [] step window [] = Unit {0}
 StandFor (q ∷ qs) step window (d ∷ ds) =
-    ((settings : Settings) → IsDriver (errand_with q step window) settings [] d) × StandFor qs step window ds
+    ((settings : Settings) → length settings.name ≤ 2000000 → IsDriver (errand_with q step window) settings [] d)
+    × StandFor qs step window ds
 StandFor _ step window _ = ⊥
 
 -- the deed befell the connection, and made these of those
@@ -105,16 +103,8 @@ made c calls = map (λ call. (c, Calls call)) calls
 abbrev pub NoneIsNext : Errand → Heard → Type 0
 NoneIsNext e p = is_stopped (state_at p) ≡ false → (call : Call) → IsNextCall e p.settings p.log call → ⊥
 
--- the newest call was the next one, and the origin refused it
-pub record IsRefusedNext (e : Errand) (p : Heard) : Type 0 where
-  pub call : Call
-  pub before : Log
-  pub made : p.log ≡ Made call ∷ before
-  pub next : IsNextCall e p.settings before call
-  pub reason : CallRefused
-  pub refused : refusal (standing (past p.settings before)) call ≡ Some reason
-
--- These calls of a connection were made, each the next one, and so many of them were admitted.
+-- These calls of a connection were made, each the next one or the search that is skipped, and so many of them were
+-- admitted.
 pub record Progress (questions : List Question) (s : MetaSettings) (c : ℕ) (h : History) (n : ℕ) (new : MetaLinks)
     : Type 0 where
   pub calls : List Call
@@ -123,13 +113,13 @@ pub record Progress (questions : List Question) (s : MetaSettings) (c : ℕ) (h 
       → HasHeard (settings_of s) (only c (made c calls ++ h)) q
       → length (past_of q).admitted ≡ length (past_of p).admitted + n
 
--- What driving a connection did: calls were made, and then none is next, or the origin refused the one that is.
+-- What driving a connection did: calls were made, and then none is next.
 pub record Drives (questions : List Question) (s : MetaSettings) (c : ℕ) (h : History) (n : ℕ) (new : MetaLinks)
     : Type 0 where
   pub progress : Progress questions s c h n new
   pub rests : (question : Question) (q : Heard) → slice_get questions c ≡ Some question
       → HasHeard (settings_of s) (only c (made c progress.calls ++ h)) q
-      → NoneIsNext (errand_of s question) q ⊎ IsRefusedNext (errand_of s question) q
+      → NoneIsNext (errand_of s question) q
 
 -- where memory was wanting: calls were made
 abbrev pub DrivesBy : {E : Type 0} → List Question → MetaSettings → ℕ → History → Result ℕ E → MetaLinks → Type 0

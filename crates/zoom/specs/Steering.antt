@@ -72,6 +72,16 @@ pub record AreFit (s : MetaSettings) : Type 0 where
   pub room : 0 < s.window
   pub widest : s.window ≤ 64
 
+-- What an errand and its connection keep to, so that the calls can be sent: its name and its syntax are short, a
+-- Present asks for few positions, and the search for no records.
+pub record IsFitErrand (e : Errand) (settings : Settings) : Type 0 where
+  pub name : length settings.name ≤ 2000000
+  pub most : e.step ≤ 1000
+  pub syntax : HasArcs e.ask.syntax
+  pub small : e.ask.small ≡ pos 0
+  pub large : e.ask.large ≡ pos 1
+  pub medium : e.ask.medium ≡ pos 0
+
 -- ---- which call is next
 
 -- so many operations may be outstanding
@@ -96,12 +106,19 @@ pub record IsNextCall (e : Errand) (settings : Settings) (log : Log) (call : Cal
   pub numbered : IsNumbered call
   pub next : IsNext e.wanted e.step (room_in e.window (past settings log)) (events_of e.ask settings log) (plan_of call)
 
--- an admitted call was next; one that was refused is of the errand
+-- a search that the target does not offer, or that cannot be sent
+abbrev pub is_skip : Option CallRefused → Call → Bool
+is_skip (Some calls.NotOffered) (Search op set ask) = true
+is_skip (Some calls.Unsendable) (Search op set ask) = true
+is_skip _ _ = false
+
+-- an admitted call was next; one that was refused is the search of the errand, which is then skipped
 abbrev pub IsSteeredCall : Errand → Settings → Log → Option CallRefused → Call → Type 0
 IsSteeredCall e settings log None call = IsNextCall e settings log call
-IsSteeredCall e settings log (Some reason) call = IsOf e call × IsNumbered call
+IsSteeredCall e settings log (Some reason) call =
+    (is_skip (Some reason) call ≡ true) × IsOf e call × IsNumbered call
 
--- each call was the next one at its moment
+-- each call was the next one at its moment, or the search that is skipped
 abbrev pub IsSteered : Errand → Settings → Log → Type 0
 IsSteered e settings [] = Unit {0}
 IsSteered e settings (Made call ∷ log) =
@@ -109,12 +126,6 @@ IsSteered e settings (Made call ∷ log) =
 IsSteered e settings (Got reply ∷ log) = IsSteered e settings log
 
 -- ---- what came of it
-
--- a search that the target does not offer, or that cannot be sent
-abbrev pub is_skip : Option CallRefused → Call → Bool
-is_skip (Some calls.NotOffered) (Search op set ask) = true
-is_skip (Some calls.Unsendable) (Search op set ask) = true
-is_skip _ _ = false
 
 abbrev pub skipped_in : Settings → Log → Bool
 skipped_in settings [] = false

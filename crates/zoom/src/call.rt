@@ -1,6 +1,7 @@
 //! Calls.
-ghost use Rattle.std.specs.Prelude.{◌≡◌, OnErr};
+ghost use Rattle.std.specs.Prelude.{◌≡◌, IfOk, OnErr};
 ghost use Rattle.zorigin.specs.Log.{AnswersCall, LeavesCall};
+ghost use Rattle.zorigin.specs.Sending.{IsReadBack};
 ghost use Rattle.zoom.specs.CallsOf.{call_of};
 
 use zber::Seq;
@@ -49,6 +50,7 @@ pub enum Call {
 pub(crate) fn sent_for(origin: &mut Origin, call: &Call) -> Result<Sent, CallRefused>
     ensures answer { AnswersCall origin.old (call_of call.now) result }
     ensures after { LeavesCall origin.old (call_of call.now) result origin.new }
+    ensures framed { IfOk result IsReadBack }
     ensures err { OnErr result (origin.new ≡ origin.old) }
 {
     match call {

@@ -1,23 +1,23 @@
 //! What drives one connection for its question.
-ghost use Rattle.std.specs.Prelude.{◌≡◌, ◌<◌, [], map, IfOk, OnErr};
+ghost use Rattle.std.specs.Prelude.{◌≡◌, ◌<◌, ◌≤◌, [], length, map, IfOk, OnErr};
 ghost use Rattle.zplan.specs.Ranges.{AreWanted};
 ghost use Rattle.zorigin.specs.declared.settings.Settings.{Settings};
 ghost use Rattle.zorigin.specs.Log.{is_close_call};
 ghost use Rattle.zoom.specs.CallsOf.{call_of};
-ghost use Rattle.zoom.specs.Steering.{plan_range, errand_with};
-ghost use Rattle.zoom.specs.Drivers.{IsDriver, Stays, GivesNext, KnowsSent, KnowsRefused, KnowsTold, Prepares, RefusedLaw, is_search_call, is_skip_reason, is_rejection_of};
+ghost use Rattle.zoom.specs.Steering.{HasArcs, plan_range, errand_with};
+ghost use Rattle.zoom.specs.Drivers.{IsDriver, Stays, GivesNext, KnowsSent, KnowsRefused, KnowsTold, Prepares, RefusedLaw, is_rejection_of};
 
 use crate::call::Call;
-use crate::driving::driven_laws;
+use crate::driving::{driven_laws, due_laws};
 use crate::phase::{Phase, give, send, tell};
 use crate::question::Question;
 use crate::state::State;
 use std::alloc::{AllocError, Global};
 use std::marker::Model;
 use zorigin::laws::orderly_logs;
-use zorigin::{Ask, CallRefused, Range, Taken};
+use zorigin::{Ask, Range, Taken};
 use zplan::Schedule;
-use zplan::laws::{agenda_laws, next_laws, number_law};
+use zplan::laws::{agenda_laws, bound_laws, next_laws, number_law};
 
 /// What drives one connection: it knows which call is next.
 ///
@@ -77,19 +77,6 @@ fn is_close(call: &Call) -> bool
     matches!(call, Call::Close)
 }
 
-fn is_search(call: &Call) -> bool
-    ensures { result ≡ is_search_call (call_of call.now) }
-{
-    matches!(call, Call::Search { .. })
-}
-
-/// Whether a search that is refused for it is not asked.
-fn is_skip(reason: CallRefused) -> bool
-    ensures { result ≡ is_skip_reason reason }
-{
-    matches!(reason, CallRefused::NotOffered | CallRefused::Unsendable)
-}
-
 fn is_rejection(taken: &Taken) -> bool
     ensures { result ≡ is_rejection_of taken.now }
 {
@@ -105,9 +92,12 @@ impl Driver {
         window: u32,
     ) -> Result<Self, AllocError>
         requires wanted { AreWanted (map plan_range question.wanted) }
+        requires syntax { HasArcs question.syntax }
         requires step { 0 < step }
+        requires most { step ≤ 1000 }
         requires window { 0 < window }
-        ensures { IfOk result (λ d. (settings : Settings) → IsDriver (errand_with question step window) settings [] d) }
+        ensures { IfOk result (λ d. (settings : Settings)
+            → length settings.name ≤ 2000000 → IsDriver (errand_with question step window) settings [] d) }
     {
         let wanted = plan_ranges(alloc, question.wanted.as_slice())?;
         Ok(Driver {
@@ -144,8 +134,9 @@ impl Driver {
         Ok(())
     }
 
-    /// The call that is next in this state of the connection, or none. It is not made yet: `sent` or `refused` says
-    /// what came of it. Refused only for want of memory.
+    /// The call that is next in this state of the connection, or none; a search that is not offered or cannot be sent
+    /// is given too, and is then skipped. It is not made yet: `sent` or `refused` says what came of it. Refused only
+    /// for want of memory.
     pub(crate) fn next_call(&mut self, state: State) -> Result<Option<Call>, AllocError>
         ensures stays { Stays self.old self.new }
         ensures ok { IfOk result (λ given. GivesNext state given self.new) }
@@ -154,6 +145,8 @@ impl Driver {
         agenda_laws();
         next_laws();
         driven_laws();
+        due_laws();
+        bound_laws();
         give(&mut self.phase, self.alloc, &self.ask, state, self.window)
     }
 
@@ -169,18 +162,13 @@ impl Driver {
         self.complete = closes || self.complete;
     }
 
-    /// The origin refused the call that was given, though memory was there; whether another may be next: it was the
-    /// search. It takes no memory.
-    pub(crate) fn refused(&mut self, call: &Call, reason: CallRefused) -> bool
-        ensures { KnowsRefused (call_of call.now) reason result self.old self.new }
+    /// The origin refused the call that was given, though memory was there: it was the search, which is skipped. It
+    /// takes no memory.
+    pub(crate) fn refused(&mut self)
+        ensures { KnowsRefused self.old self.new }
     {
-        if !is_search(call) {
-            return false;
-        }
         self.phase = Phase::Done;
-        let skips = is_skip(reason);
-        self.skipped = skips || self.skipped;
-        true
+        self.skipped = true;
     }
 
     /// The origin took a reply. It takes no memory.

@@ -1,8 +1,8 @@
 //! A target behind a stream of octets.
 ghost use Rattle.std.specs.Prelude.{◌≡◌, ◌++◌, ◌&&◌, ◌||◌, not, [], true, OnOk, OnErr};
-ghost use Rattle.ztarget.specs.Receiving.{new_target, is_close};
+ghost use Rattle.ztarget.specs.Receiving.{is_close};
 ghost use Rattle.ztarget.specs.Levels.{HasElement};
-ghost use Rattle.zoom.specs.Hosts.{Fed, FedPart, HandedOut, holdings_of, HostAfter, Underwent, ReleasesAs};
+ghost use Rattle.zoom.specs.Hosts.{IsNew, Fed, FedPart, HandedOut, holdings_of, HostAfter, Underwent, ReleasesAs};
 ghost use Rattle.zoom.specs.HostSteps.{EncodesReply, PutsReply, ReceivesPiece, is_unput};
 
 use crate::receiving::receive_all;
@@ -120,7 +120,7 @@ impl Model for Host {
 impl Host {
     /// A host of a target that has received nothing yet. It takes no memory.
     pub fn new(alloc: Global, target: Target) -> Self
-        requires { target ≡ new_target target.databases target.settings }
+        requires { IsNew target }
         ensures after { HostAfter (holdings_of target) [] result }
     {
         Host {

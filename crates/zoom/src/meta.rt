@@ -1,6 +1,5 @@
 //! Connections that are driven, each for one question.
-ghost use Rattle.std.specs.Prelude.{◌≡◌, ◌<◌, ◌^◌, [], ◌++◌, length, OnOk, OnErr, IfOk, if◌then◌else◌, Some, Err};
-ghost use Rattle.zoom.specs.declared.meta.Turn.TheVariants as turns;
+ghost use Rattle.std.specs.Prelude.{◌≡◌, ◌<◌, ◌≤◌, ◌^◌, [], ◌++◌, length, OnOk, OnErr, IfOk, Some, Err};
 ghost use Rattle.zoom.specs.declared.state.State.TheVariants as states;
 ghost use Rattle.zoom.specs.CallsOf.{call_of};
 ghost use Rattle.zoom.specs.Heard.{Feeds, Ends, Gives, Stops, IsDone};
@@ -33,7 +32,7 @@ pub(crate) enum Turn {
     Admitted,
     /// It was the search, and the origin refused it: another call is next.
     Skipped,
-    /// None is next; or the origin refused it.
+    /// None is next.
     Rests,
 }
 
@@ -98,8 +97,8 @@ impl Meta {
     /// Makes the calls of a connection that are due, and answers how many the origin admitted: Init first; where the
     /// target accepted, the search; once its count is known, Presents by least first position, as many as may wait for
     /// their answers, of what is wanted and of what short answers left; and Close, once nothing is due and nothing is
-    /// outstanding. A search that is not offered or cannot be sent is skipped. Where no memory is found, the calls that
-    /// were made stand.
+    /// outstanding. The origin admits each of them but a search that is not offered or cannot be sent, which is
+    /// skipped: so afterwards none is next. Where no memory is found, the calls that were made stand.
     pub fn drive(&mut self, c: u32) -> Result<u32, AllocError>
         requires { c < length self.old.pool.connections }
         ensures after { DrivesTo c result self.old self.new }
@@ -150,8 +149,8 @@ impl Meta {
             Err(reason) => match reason {
                 CallRefused::Memory => Err(AllocError),
                 _ => {
-                    let on = self.drivers[c as usize].refused(call, reason);
-                    Ok(turn_after(on))
+                    self.drivers[c as usize].refused();
+                    Ok(Turn::Skipped)
                 }
             },
         }
@@ -254,13 +253,6 @@ impl Meta {
     }
 }
 
-/// What a call that was refused comes to, where another call is next, or not.
-fn turn_after(on: bool) -> Turn
-    ensures { result ≡ (if on then turns.Skipped else turns.Rests) }
-{
-    if on { Turn::Skipped } else { Turn::Rests }
-}
-
 /// Tells what drives a connection what a take came to.
 fn know_take(driver: &mut Driver, told: &Told)
     ensures { LearnsTold told.now driver.old driver.new }
@@ -279,6 +271,7 @@ fn drivers_for(
 ) -> Result<Vec<Driver>, AllocError>
     requires askable { AreAskable questions }
     requires steps { 0 < step }
+    requires most { step ≤ 1000 }
     requires room { 0 < window }
     ensures { IfOk result (λ drivers. StandFor questions step window drivers.items) }
 {

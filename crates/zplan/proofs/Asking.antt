@@ -68,6 +68,9 @@ module _ (wanted : List ℕ) (last : ℕ) (replies : Replies) where
   pub first_wanted : (l : List ℕ) → IsAsked wanted (suc last) replies (Present l) → IsIn (first_of l) (up_to (count_in replies) wanted)
   first_wanted l a = subst (IsIn (first_of l)) joined (tail_has l (pieces wanted last replies) (asked_tail l a))
 
+  pub in_wanted : (l : List ℕ) (p : ℕ) → IsAsked wanted (suc last) replies (Present l) → IsIn p l → IsIn p (up_to (count_in replies) wanted)
+  in_wanted l p a i = subst (IsIn p) joined (tail_in p l (pieces wanted last replies) (asked_tail l a) i)
+
   -- a number names one operation
   some_first : IsWanted wanted → (l : List ℕ) → IsAsked wanted (suc last) replies (Present l) → 1 ≤ first_of l
   some_first w l a = from_in 1 (up_to (count_in replies) wanted) (first_of l) (wanted_ascend (count_in replies) wanted w).0 (first_wanted l a)

@@ -3,6 +3,7 @@ mod Ends
 pub mod Order
 mod Asking
 mod Steps
+mod Shorts
 mod Fronts
 mod Parts
 mod Clips

@@ -56,6 +56,11 @@ pub record BoundLaws : Type 0 where
   pub presents : (wanted : List ℕ) (step : ℕ) (events : List Event) → IsWanted wanted → 0 < step
       → IsDriven wanted step events
       → length (firsts (asked_in events)) ≤ length (up_to (count_in (replies_in events)) wanted)
+  -- a list that is asked has at most so many positions, and the search found each of them
+  pub lists : (wanted : List ℕ) (step : ℕ) (replies : Replies) (l : List ℕ)
+      → IsAsked wanted step replies (Present l) → length l ≤ step
+  pub found : (wanted : List ℕ) (step : ℕ) (replies : Replies) (l : List ℕ) (p : ℕ) → IsWanted wanted → 0 < step
+      → IsAsked wanted step replies (Present l) → IsIn p l → (1 ≤ p) × (p ≤ count_in replies)
 
 abbrev pub no_agenda : Bool → Agenda
 no_agenda three = record { due = []; waiting = []; ready = false; three = three }

@@ -16,7 +16,7 @@ use Rattle.zoom.specs.Heard.{Heard, HasHeard, Feeds, Takes, Ends, Gives, Stops, 
 use Rattle.zoom.specs.History.{History, only}
 use Rattle.zoom.specs.Links.{stop_at}
 use Rattle.zoom.specs.Steering.{errand_of}
-use Rattle.zoom.specs.Metas.{MetaLinks, MetaAfter, NoneIsNext, IsRefusedNext, made, settings_of}
+use Rattle.zoom.specs.Metas.{MetaLinks, MetaAfter, NoneIsNext, made, settings_of}
 use Rattle.ztalk.specs.Devices.{DeviceState, AppendsFront, HasFailed}
 use Rattle.ztalk.specs.declared.conversation.TalkError.{TalkError}
 use Rattle.ztalk.specs.declared.conversation.TalkError.TheVariants as errors
@@ -30,11 +30,11 @@ pub data Stage : Type 0 where
   Over : Stage
   Ended : Stage
 
--- no call of the connection is next, or the origin refused the one that is
+-- no call of the connection is next
 abbrev pub IsIdle : List Question → MetaSettings → ℕ → History → Type 0
 IsIdle questions s c h =
     (question : Question) (p : Heard) → slice_get questions c ≡ Some question → HasHeard (settings_of s) (only c h) p
-    → NoneIsNext (errand_of s question) p ⊎ IsRefusedNext (errand_of s question) p
+    → NoneIsNext (errand_of s question) p
 
 -- the next Take of the connection answers this
 abbrev pub AnswersNext : MetaSettings → ℕ → History → Step → Type 0

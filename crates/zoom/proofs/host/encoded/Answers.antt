@@ -1,5 +1,6 @@
-use Rattle.std.proofs.Common.{◌≡◌, Some, Err, sym, ap, ◌∙◌, rules}
+use Rattle.std.proofs.Common.{◌≡◌, ◌++◌, Some, Err, sym, ap, subst, ◌∙◌, rules}
 use Rattle.zber.specs.Canonical.{canonical}
+use Rattle.zber.specs.Spelling.{Begins}
 use Rattle.zapdu.specs.Writes.{apdu_spelt}
 use Rattle.zoom.proofs.Hosts.{encoding_is, short_is, long_is}
 use Rattle.zoom.proofs.host.encoded.Goals as goal
@@ -10,6 +11,13 @@ returns-in-Ok-encode c =
     let octets : c.in_ok-from_vec-in-Ok-encode.field-0 ≡ canonical c.in-Ok.node = search rules in (
       octets ∙ sym (encoding_is c.args.reply.now c.in-Ok.node built),
       short_is c.args.reply.now c.in-Ok.node c.requires built (λ fine. let other = c.in-Ok-encode.ensures.too_long.1 fine in cc),
+      record {
+        element = c.in-Ok.node;
+        made = built;
+        stands = c.in-Ok.ensures.written;
+        framed = λ more. subst (λ z. Begins 2097152 (z ++ more) c.in-Ok.node more)
+            (sym (encoding_is c.args.reply.now c.in-Ok.node built)) (c.in-Ok-encode.ensures.framed more);
+      },
     )
 
 pub returns-in-TooLong : goal.returns-in-TooLong

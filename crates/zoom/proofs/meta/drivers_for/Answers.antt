@@ -1,5 +1,7 @@
 use Rattle.std.proofs.Common.{◌≡◌, ◌∷◌, [], ◌++◌, List, length, rules, refl, sym, ap, subst, ◌∙◌, append_assoc, append-nil, arith}
 use Rattle.std.specs.Vec.Iter.{into_iter_items}
+use Rattle.zoom.specs.declared.question.Question.{Question}
+use Rattle.zoom.specs.Steering.{IsAskable}
 use Rattle.zoom.specs.Metas.{AreAskable, StandFor}
 use Rattle.zoom.proofs.Metas.{askable_at, stand_push}
 use Rattle.zoom.proofs.meta.drivers_for.Goals as goal
@@ -8,15 +10,25 @@ nothing_left : {X : Type 0} (l : List X) → length l ≡ 0 → l ≡ []
 nothing_left [] h = refl
 nothing_left (x ∷ xs) h = absurd (omega arith)
 
+-- the question that comes next can be asked
+next_askable : (questions yielded left gone : List Question) (x : Question) → yielded ++ left ≡ questions → left ≡ x ∷ gone
+    → AreAskable questions → IsAskable x
+next_askable questions yielded left gone x all step a =
+    askable_at yielded x gone (subst AreAskable (sym (ap (λ l. yielded ++ l) (sym step) ∙ all)) a)
+
 pub new-requires-clause-wanted : goal.new-requires-clause-wanted
 new-requires-clause-wanted c =
     let at = c.loop-question in
-    let x = c.in-Some.question in
-    let steps : into_iter_items at.question-iterator ≡ x ∷ into_iter_items c.next.new.self = c.in-Some.ensures.steps.0 in
-    let all : at.yielded ++ x ∷ into_iter_items c.next.new.self ≡ c.args.questions =
-    ap (λ l. at.yielded ++ l) (sym steps) ∙ at.invariant.0
-    ∙ c.into_iter-question-iterator.ensures.into_iter_gives.0 ∙ c.into_vec-question-items.ensures in
-    (askable_at at.yielded x (into_iter_items c.next.new.self) (subst AreAskable (sym all) c.requires.askable)).wanted
+    (next_askable c.args.questions at.yielded (into_iter_items at.question-iterator) (into_iter_items c.next.new.self) c.in-Some.question
+    (at.invariant.0 ∙ c.into_iter-question-iterator.ensures.into_iter_gives.0 ∙ c.into_vec-question-items.ensures)
+    c.in-Some.ensures.steps.0 c.requires.askable).wanted
+
+pub new-requires-clause-syntax : goal.new-requires-clause-syntax
+new-requires-clause-syntax c =
+    let at = c.loop-question in
+    (next_askable c.args.questions at.yielded (into_iter_items at.question-iterator) (into_iter_items c.next.new.self) c.in-Some.question
+    (at.invariant.0 ∙ c.into_iter-question-iterator.ensures.into_iter_gives.0 ∙ c.into_vec-question-items.ensures)
+    c.in-Some.ensures.steps.0 c.requires.askable).syntax
 
 pub loop-question-init : goal.loop-question-init
 loop-question-init c = rw c.new-drivers.ensures.items (refl, tt, search rules)

@@ -1,8 +1,8 @@
-use Rattle.std.proofs.Common.{◌≡◌, ◌+◌, ap, ◌∙◌, map}
+use Rattle.std.proofs.Common.{◌≡◌, ◌+◌, ap, ◌∙◌, map, length}
 use Rattle.zorigin.specs.Standings.{Present}
-use Rattle.zorigin.specs.Ranges.{positions}
+use Rattle.zorigin.specs.Ranges.{positions, are_ranges}
 use Rattle.zoom.specs.Drivers.{range_back}
-use Rattle.zoom.proofs.Wants.{same_back}
+use Rattle.zoom.proofs.Wants.{same_back, ranges_back, count_back}
 use Rattle.zoom.proofs.phase.present_call.Goals as goal
 
 pub returns : goal.returns
@@ -11,4 +11,6 @@ returns c =
       c.from_vec.result,
       ap (λ n. Present (n + 1) 1 c.from_vec.result) c.first_position-first.ensures.first,
       ap positions ranges ∙ same_back c.args.list.now,
+      ap are_ranges ranges ∙ ranges_back c.args.list.now c.requires,
+      ap length ranges ∙ count_back c.args.list.now,
     )

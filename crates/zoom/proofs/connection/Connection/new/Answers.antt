@@ -18,4 +18,5 @@ returns c = record {
     stop = refl;
   };
   waiting = λ lost. rw c.new-3.ensures.items refl;
+  reads = tt;
 }

@@ -10,6 +10,7 @@ invariant_of-result c =
     (subst AreWanted (sym items) c.requires.wanted, c.requires.step, c.requires.window)
 
 pub returns : goal.returns
-returns c = λ settings.
+returns c = λ settings name.
     let items : c.in_ok-wanted.wanted.items ≡ map plan_range c.args.question.wanted = c.in_ok-wanted.ensures ∙ ap (map plan_range) c.as_slice.ensures in
-    started c.args.question c.args.step c.args.window c.in_ok-wanted.wanted.items settings items c.requires.wanted c.requires.step c.requires.window
+    started c.args.question c.args.step c.args.window c.in_ok-wanted.wanted.items settings items c.requires.wanted c.requires.syntax
+    c.requires.step c.requires.most c.requires.window name

@@ -6,7 +6,7 @@ use Rattle.zoom.proofs.Kept.{stays}
 use Rattle.zoom.proofs.driver.Driver.next_call.Goals as goal
 
 pub returns-clause-ok : goal.returns-clause-ok
-returns-clause-ok c = IfOk-weaker c.give.result _ _ (λ g x. gives c.next_laws.ensures c.driven_laws.ensures _ c.args.state g x) c.give.ensures.ok
+returns-clause-ok c = IfOk-weaker c.give.result _ _ (λ g x. gives c.next_laws.ensures c.driven_laws.ensures c.due_laws.ensures c.bound_laws.ensures _ c.args.state g x) c.give.ensures.ok
 
 pub returns-clause-stays : goal.returns-clause-stays
 returns-clause-stays c =

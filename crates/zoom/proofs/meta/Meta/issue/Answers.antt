@@ -1,7 +1,6 @@
-use Rattle.std.proofs.Common.{Ok, refl, subst, sym, ap, slice_set}
-use Rattle.std.specs.declared.alloc.AllocError.{AllocError}
+use Rattle.std.proofs.Common.{refl, ap, slice_set}
 use Rattle.zoom.specs.CallsOf.{call_of}
-use Rattle.zoom.specs.Metas.{MetaLinks, IssuesTo}
+use Rattle.zoom.specs.Metas.{MetaLinks}
 use Rattle.zoom.proofs.Advancing.{admitted_to, refused_to, kept_to, driver_at}
 use Rattle.zoom.proofs.meta.Meta.issue.Goals as goal
 
@@ -31,11 +30,10 @@ returns-in_default-clause-after c =
     let lt = rw (← c.self.view_is) at c.requires in
     let new : MetaLinks = record {
       pool = c.call.new.self;
-      drivers = slice_set c.self.inside.drivers.items c.args.c c.refused-on.new.self;
+      drivers = slice_set c.self.inside.drivers.items c.args.c c.refused.new.self;
     } in
-    rw (← c.self.view_is) (subst (λ z. IssuesTo {E = AllocError} c.args.c (call_of c.args.call.now) (Ok z) old new) (sym c.turn_after.ensures)
-    (refused_to AllocError c.one_hearing.ensures c.sent_requests.ensures c.args.c (call_of c.args.call.now) c.in-Err.reason
-    c.refused-on.result old new c.index_mut-in_default.result.now c.refused-on.new.self c.in_default.not-Memory lt
+    rw (← c.self.view_is) (refused_to (Unit {0}) c.one_hearing.ensures c.sent_requests.ensures c.args.c (call_of c.args.call.now)
+    c.in-Err.reason old new c.index_mut-in_default.result.now c.refused.new.self c.in_default.not-Memory lt
     (c.in-Err.ensures.after c.in_default.not-Memory) c.in-Err.ensures.answer
     (driver_at old.drivers old.pool.connections c.args.c _ c.index_mut-in_default.result.now c.self.invariant lt c.index_mut-in_default.ensures.value)
-    c.refused-on.ensures refl c.in-Err.ensures.size))
+    c.refused.ensures refl c.in-Err.ensures.size)
