@@ -27,14 +27,13 @@ use Rattle.zoom.specs.Steering.{complete_in, is_rejected}
 use Rattle.zoom.specs.Heard.{Deed, Heard, past_of, state_at}
 use Rattle.zoom.specs.Hosts.{HostState, Holdings, Event, handed_out, replies_to}
 use Rattle.zaccord.specs.Accord.{requests, AccordLaws}
-use Rattle.zexchange.specs.Exchange.{IsSound, got_in, TookLaw, ConversesLaw, PlainLaw, EndsLaw, RestsLaw, TookAll}
+use Rattle.zexchange.specs.Exchange.{IsSound, got_in, TookLaw, ConversesLaw, PendingLaw, EndsLaw, RestsLaw, TookAll}
 use Rattle.zexchange.proofs.Logs.{Became, got_became, closed_got, close_sent, close_admitted, close_called_in}
 use Rattle.zexchange.proofs.Replies.{close_owed}
 use Rattle.zexchange.proofs.States.{Rejects, stopped_so, rejected, fits_no_close, as_initialising, as_closing, initialising, closing_so, found_in, opened_by, begun_by, filter_none, answered_in}
 use Rattle.zexchange.proofs.Framing.{all_taken, turned_cut}
 use Rattle.zexchange.proofs.Hearings.{took_all}
-use Rattle.zexchange.proofs.TaggedQueries.{plain_trees}
-use Rattle.zexchange.proofs.Sounds.{whole, received_is, permuted, got_owed, converses, coming_is}
+use Rattle.zexchange.proofs.Sounds.{whole, received_is, permuted, pending_owed, got_owed, converses, coming_is}
 
 or_true : (b : Bool) → (b || true) ≡ true
 or_true true = refl
@@ -72,7 +71,7 @@ other_op op (q ∷ qs) b d (inl f) e =
 other_op op (q ∷ qs) b d (inr i) e = other_op op qs b d.1 i e
 
 -- one number is of one operation
-same_asked : (qs : List Asked) (a b : Asked) → IsDistinct nat_eq (map op_of qs) → IsIn a qs → IsIn b qs → a.op ≡ b.op
+pub same_asked : (qs : List Asked) (a b : Asked) → IsDistinct nat_eq (map op_of qs) → IsIn a qs → IsIn b qs → a.op ≡ b.op
     → a ≡ b
 unfolding IsDistinct
 same_asked [] a b d i j e = absurd i
@@ -102,11 +101,11 @@ module _ (holdings : Holdings) (settings : Settings) (deeds : List Deed) (p : He
     (host : HostState)
     (s : IsSound holdings settings deeds p events host) where
   -- where the connection stands is where its origin stands
-  stands : state_at p ≡ state_as (state_of (past_of p))
+  pub stands : state_at p ≡ state_as (state_of (past_of p))
   stands = ap (λ z. or_else (state_as (state_of (past_of p))) z) s.goes
 
   -- a Close that is owed answers the Close that was called
-  close_is : (c : CloseApdu) → Contains (replies_to holdings (requests p.settings p.log)) (apdus.Close c)
+  pub close_is : (c : CloseApdu) → Contains (replies_to holdings (requests p.settings p.log)) (apdus.Close c)
       → Contains (past_of p).admitted Close × (c.reference_id ≡ None)
   close_is c i =
       let o = close_owed holdings.databases holdings.settings (requests p.settings p.log) c i in
@@ -259,5 +258,5 @@ took holdings settings deeds p events host s =
 pub keeps_converse : ConversesLaw
 keeps_converse holdings settings deeds p events host s = converses holdings settings deeds p events host s
 
-pub plain : PlainLaw
-plain op set ask h = plain_trees ask.query.attr_set ask.query.root h
+pub keeps_owed : PendingLaw
+keeps_owed holdings settings deeds p events host s v i = pending_owed holdings settings deeds p events host s v i

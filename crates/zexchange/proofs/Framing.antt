@@ -21,11 +21,7 @@ use Rattle.zoom.specs.Hosts as hosts
 use Rattle.zoom.specs.Hosts.{Holdings, Received}
 use Rattle.zoom.proofs.Meetings.{none_begins}
 use Rattle.zoom.proofs.Streams.{begins_longer}
-use Rattle.zexchange.specs.Exchange.{AreReadBack}
-
-pub read_append : (vs ws : List Apdu) → AreReadBack vs → AreReadBack ws → AreReadBack (vs ++ ws)
-read_append [] ws a b = b
-read_append (v ∷ vs) ws a b = (a.0, read_append vs ws a.1 b)
+use Rattle.zoom.specs.Leaving.{AreReadBack}
 
 -- the encodings begin with this element, which the first of the APDUs is written as
 pub record IsNext (vs : List Apdu) (e : Element) (rest : List ℕ) : Type 0 where

@@ -7,8 +7,10 @@ pub mod Hearings
 pub mod Sounds
 pub mod Steps
 pub mod Endings
-pub mod Tagging
-pub mod TaggedQueries
-pub mod TaggedRequests
-pub mod TaggedReplies
-pub mod ReadingBack
+pub mod Parts
+pub mod Pendings
+pub mod Longer
+pub mod Counts
+pub mod Over
+pub mod Answering
+pub mod Ended

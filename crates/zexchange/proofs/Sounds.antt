@@ -14,9 +14,10 @@ use Rattle.zoom.specs.Heard.{Deed, Heard, past_of}
 use Rattle.zoom.specs.Hosts.{HostState, Holdings, Event, handed_out, replies_to}
 use Rattle.zoom.proofs.Hosts.{messages_longer}
 use Rattle.zaccord.specs.Accord.{requests, Converses}
-use Rattle.zexchange.specs.Exchange.{AreReadBack, IsSound, got_in}
+use Rattle.zoom.specs.Leaving.{AreReadBack}
+use Rattle.zexchange.specs.Exchange.{IsSound, got_in}
 use Rattle.zexchange.proofs.Logs.{accepted_got}
-use Rattle.zexchange.proofs.Replies.{owed_more, owed_of}
+use Rattle.zexchange.proofs.Replies.{replies_more, owed_more, owed_of}
 use Rattle.zexchange.proofs.Framing.{cut_by, IsReceived, received_cut, turned_cut}
 use Rattle.zexchange.proofs.Events.{IsUnbroken, unbroken}
 
@@ -60,13 +61,28 @@ module _ (holdings : Holdings) (settings : Settings) (deeds : List Deed) (p : He
       (z ++ host.target.pending)) whole.released
       s.served.target.replies_are
 
+  -- what is owed to what was received is owed to what was sent
+  pub more_owed : (more : List Apdu) × (replies_to holdings (requests p.settings p.log)
+      ≡ replies_to holdings s.served.served.received ++ more)
+  more_owed =
+      let received = s.served.served.received in
+      let c = received_is in
+      let more = replies_more holdings.databases holdings.settings (reverse c.others) received in (
+        more.0,
+        ap (λ z. replies_to holdings z)
+            (turned_cut (past_of p).sent received (whole.received.rest ++ s.to) c)
+            ∙ more.1,
+      )
+
   pub pending_owed : (v : Apdu) → Contains host.target.pending v → Contains
-      (replies_to holdings s.served.served.received) v
+      (replies_to holdings (requests p.settings p.log)) v
   pending_owed v i =
       let owing = replies_to holdings s.served.served.received in
       let all = s.served.served.sent ++ host.target.pending in
-      Contains-permutation all owing v (IsPermutation-sym owing all permuted)
-      (Contains-append_right s.served.served.sent host.target.pending v i)
+      subst (λ z. Contains z v) (sym more_owed.1)
+      (Contains-append_left owing more_owed.0 v
+      (Contains-permutation all owing v (IsPermutation-sym owing all permuted)
+      (Contains-append_right s.served.served.sent host.target.pending v i)))
 
   -- what was put and what is left are all that is owed to what was sent
   pub due : (left : List Apdu) × IsPermutation (replies_to holdings (requests p.settings p.log))

@@ -13,7 +13,7 @@ use Rattle.zorigin.specs.declared.refusal.CallRefused.{CallRefused}
 use Rattle.zorigin.specs.Standings.{Call}
 use Rattle.zorigin.specs.Calls.{refusal}
 use Rattle.zorigin.specs.Replies.{verdict}
-use Rattle.zorigin.specs.Sending.{encoding_of, request_of, sent_of, IsReadBack}
+use Rattle.zorigin.specs.Sending.{encoding_of, request_of}
 use Rattle.zorigin.specs.Log.{Made, Got, Past, standing, state_of, opening, request_list, admit_unless, after_verdict, is_close_call, is_init_call}
 use Rattle.zorigin.proofs.Accepting.{accepted_so, contained}
 use Rattle.ztarget.specs.declared.database.Database.{Database}
@@ -23,17 +23,17 @@ use Rattle.ztarget.specs.Replies.{Answer}
 use Rattle.zoom.specs.States.{state_as, is_stopped, or_else}
 use Rattle.zoom.specs.Coming.{Met, Stopped, Message, Foreign, Fault, Rest, Nothing, IsBehind, AreMetAs}
 use Rattle.zoom.specs.Heard.{Deed, Calls, Feeds, Takes, Heard, Meets, past_of, state_at, take_at, heed, end_by, stop_by, truncated, hears_call}
-use Rattle.zoom.specs.Hosts.{HostState, Holdings, HostAfter, HasReceived, IsStopping, Event, Fed, Released, HandedOut, Served, HasServed, Hears, Ignores, Sends, IsDue}
+use Rattle.zoom.specs.Hosts.{HostState, Holdings, HostAfter, HasReceived, IsStopping, Event, Fed, Released, HandedOut, Served, HasServed, Hears, Ignores, Sends}
 use Rattle.zoom.proofs.Hosts.{messages_longer}
 use Rattle.zaccord.specs.Accord.{requests, replies_due, AreTaken, AccordLaws}
-use Rattle.zexchange.specs.Exchange.{AreReadBack, IsSound, got_in, fed_to, IsReplySpelt, StartsLaw, CallsLaw, GivesLaw, HostFedLaw, HandedLaw, FedLaw, TakesLaw, ReleasedLaw}
+use Rattle.zoom.specs.Leaving.{AreReadBack}
+use Rattle.zoom.proofs.Calling.{read_append}
+use Rattle.zexchange.specs.Exchange.{IsSound, got_in, fed_to, StartsLaw, CallsLaw, GivesLaw, HostFedLaw, HandedLaw, FedLaw, TakesLaw, ReleasedLaw}
 use Rattle.zexchange.proofs.Logs.{accepted_got}
 use Rattle.zexchange.proofs.States.{closed_so}
-use Rattle.zexchange.proofs.Framing.{read_append, received_cut, turned_cut, IsMetOf, met_is}
+use Rattle.zexchange.proofs.Framing.{received_cut, turned_cut, IsMetOf, met_is}
 use Rattle.zexchange.proofs.Events.{one_served}
-use Rattle.zexchange.proofs.TaggedReplies.{reply_tagged}
-use Rattle.zexchange.proofs.ReadingBack.{call_read, reply_read, there}
-use Rattle.zexchange.proofs.Sounds.{pending_owed, stream_is, due, put_owed, converses, coming_is}
+use Rattle.zexchange.proofs.Sounds.{stream_is, due, put_owed, converses, coming_is}
 
 pub starts : StartsLaw
 starts holdings settings host a = record {
@@ -58,33 +58,20 @@ starts holdings settings host a = record {
 -- ---- calls
 
 -- what a call adds to what was sent
-record IsCalled (p q : Past) : Type 0 where
+pub record IsCalled (p q : Past) : Type 0 where
   pub more : List Apdu
   pub sent : q.sent ≡ p.sent ++ more
-  pub read : AreReadBack more
   pub fault : q.fault ≡ p.fault
 
-listed : (o : Option Apdu) → ((v : Apdu) → o ≡ Some v → IsReadBack (sent_of v)) → AreReadBack (request_list o)
-listed None h = tt
-listed (Some v) h = (h v refl, tt)
-
-called : (p : Past) (call : Call) (o : Option CallRefused) → refusal (standing p) call ≡ o
-    → ((v : Apdu) → refusal (standing p) call ≡ None → request_of (standing p) call ≡ Some v → IsReadBack (sent_of v))
-    → IsCalled p (admit_unless p call o)
-called p call None e h = record {
-  more = request_list (request_of (standing p) call);
-  sent = refl;
-  read = listed (request_of (standing p) call) (λ v is. h v e is);
-  fault = refl;
-}
-called p call (Some reason) e h = record { more = []; sent = sym (append-nil p.sent); read = tt; fault = refl }
+pub called : (p : Past) (call : Call) (o : Option CallRefused) → IsCalled p (admit_unless p call o)
+called p call None = record { more = request_list (request_of (standing p) call); sent = refl; fault = refl }
+called p call (Some reason) = record { more = []; sent = sym (append-nil p.sent); fault = refl }
 
 pub calls : CallsLaw
-calls holdings settings deeds p events host call s h =
+calls holdings settings deeds p events host call s reads =
     let q : Heard = record p { log = Made call ∷ p.log } in
     let is : hears_call p call ≡ q = ap (λ o. cond (is_some o) p q) s.goes in
-    let c = called (past_of p) call (refusal (standing (past_of p)) call) refl
-    (λ v e is. call_read (standing (past_of p)) call v h e is) in
+    let c = called (past_of p) call (refusal (standing (past_of p)) call) in
     let now : IsSound holdings settings (Calls call ∷ deeds) q events host = record {
       heard = (p, s.heard, sym is);
       served = s.served;
@@ -102,7 +89,7 @@ calls holdings settings deeds p events host call s h =
       coming = s.coming;
       got = s.got;
       count = s.count;
-      asks = subst AreReadBack (sym c.sent) (read_append (past_of p).sent c.more s.asks c.read);
+      asks = subst (λ z. AreReadBack (past_of z).sent) is reads;
       answers = s.answers;
     } in
     subst (λ z. IsSound holdings settings (Calls call ∷ deeds) z events host) (sym is) now
@@ -217,17 +204,12 @@ module _ (holdings : Holdings) (settings : Settings) (deeds : List Deed) (p : He
         answers = subst AreReadBack (sym (ap (λ z. z.sent) same)) s.answers;
       }
 
-  put_on : (k : ℕ) (later : HostState) → IsReplySpelt host k → HostAfter holdings (Released k ∷ events) later
+  put_on : (k : ℕ) (later : HostState) → HostAfter holdings (Released k ∷ events) later
       → IsSound holdings settings deeds p (Released k ∷ events) later
-  put_on k later h a =
+  put_on k later a =
       let x : Sends k s.served.served a.served = subst (λ z. Sends k z a.served)
       (same_served a.happened.0 a.happened.1) a.happened.2 in
       let put : a.served.sent ≡ s.served.served.sent ++ x.reply ∷ [] = ap (λ z. z.sent) x.is in
-      let due : IsDue host.target.pending k x.reply = subst (λ z. IsDue z k x.reply) (sym s.served.pending) x.due in
-      let owed = pending_owed holdings settings deeds p events host s x.reply
-      (there host.target.pending k x.reply due.there) in
-      let tags = reply_tagged holdings.databases holdings.settings s.served.served.received x.reply owed in
-      let read : IsReadBack (sent_of x.reply) = reply_read x.reply (h x.reply due) x.short tags in
       record {
         heard = s.heard;
         served = a;
@@ -244,7 +226,7 @@ module _ (holdings : Holdings) (settings : Settings) (deeds : List Deed) (p : He
         got = put ∙ ap (λ z. z ++ x.reply ∷ []) s.got ∙ append_assoc (got_in p.log) s.coming (x.reply ∷ []);
         count = s.count;
         asks = s.asks;
-        answers = subst AreReadBack (sym put) (read_append s.served.served.sent (x.reply ∷ []) s.answers (read, tt));
+        answers = subst AreReadBack (sym put) (read_append s.served.served.sent (x.reply ∷ []) s.answers (x.reads, tt));
       }
 
   -- nothing that was sent stops the host
@@ -307,8 +289,8 @@ pub handed : HandedLaw
 handed holdings settings deeds p events host later s a = handed_on holdings settings deeds p events host s later a
 
 pub released : ReleasedLaw
-released holdings settings deeds p events host later k s h a =
-    put_on holdings settings deeds p events host s k later h a
+released holdings settings deeds p events host later k s a =
+    put_on holdings settings deeds p events host s k later a
 
 pub host_fed : AccordLaws → HostFedLaw
 host_fed laws holdings settings deeds p events host later piece rest s cut a =

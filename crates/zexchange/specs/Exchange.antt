@@ -1,24 +1,26 @@
 -- A connection and a target that hear each other alone: what came to either is the front of what the other sent
 -- (Z39.50-2003, 3.2 and 3.4).
-use Rattle.std.specs.Prelude.{◌≡◌, ◌≢◌, ℕ, true, false, List, [], ◌∷◌, ◌++◌, length, take, None, IsPermutation}
+use Rattle.std.specs.Prelude.{◌≡◌, ◌≢◌, ℕ, ◌*◌, ◌≤◌, true, false, List, [], ◌∷◌, ◌++◌, length, take, slice_get, None, Some, Contains, IsPermutation}
 use Rattle.std.specs.List.{flat_map}
 use Rattle.zber.specs.Unfinished.{IsUnfinished}
 use Rattle.zapdu.specs.declared.apdu.Apdu.{Apdu}
-use Rattle.zquery.specs.Notation.Printing.{plain_tree}
 use Rattle.zorigin.specs.declared.settings.Settings.{Settings}
-use Rattle.zorigin.specs.declared.settings.Ask.{Ask}
-use Rattle.zorigin.specs.Standings.{Call, Search}
-use Rattle.zorigin.specs.Sending.{sent_of, encoding_of, IsReadBack}
+use Rattle.zorigin.specs.Standings.{Call}
+use Rattle.zorigin.specs.Sending.{encoding_of}
 use Rattle.zorigin.specs.Log.{Log, Made, Got, outstanding}
-use Rattle.ztarget.specs.Levels.{HasElement}
+use Rattle.ztarget.specs.Receiving.{may_release}
+use Rattle.zoom.specs.declared.question.Question.{Question}
+use Rattle.zoom.specs.declared.question.MetaSettings.{MetaSettings}
 use Rattle.zoom.specs.declared.state.State.TheVariants as states
 use Rattle.zoom.specs.States.{is_stopped}
 use Rattle.zoom.specs.Coming.{limit, Met, IsBehind}
 use Rattle.zoom.specs.Heard.{Deed, Calls, Feeds, Takes, Gives, Heard, HasHeard, Meets, silence, past_of, state_at, sent, take_at, hears_call, hears_piece}
-use Rattle.zoom.specs.Steering.{complete_in}
-use Rattle.zoom.specs.Hosts.{HostState, Holdings, HostAfter, Served, HasServed, Event, Fed, FedPart, Released, HandedOut, IsDue, handed_out, replies_to}
+use Rattle.zoom.specs.Steering.{errand_of, complete_in}
+use Rattle.zoom.specs.Hosts.{HostState, Holdings, HostAfter, Served, HasServed, Event, Fed, FedPart, Released, HandedOut, handed_out, replies_to}
+use Rattle.zoom.specs.History.{History, only}
+use Rattle.zoom.specs.Leaving.{AreReadBack}
+use Rattle.zoom.specs.Metas.{MetaLinks, MetaAfter, NoneIsNext, settings_of}
 use Rattle.zaccord.specs.Accord.{requests, Converses}
-use Rattle.zexchange.specs.Tagged.{IsTaggedCall}
 
 -- the octets that came to a host, joined
 abbrev pub fed_to : List Event → List ℕ
@@ -38,11 +40,6 @@ abbrev pub got_in : Log → List Apdu
 got_in [] = []
 got_in (Got v ∷ log) = got_in log ++ v ∷ []
 got_in (Made call ∷ log) = got_in log
-
--- each is read back from its encoding, whatever follows it
-abbrev pub AreReadBack : List Apdu → Type 0
-AreReadBack [] = Unit {0}
-AreReadBack (v ∷ vs) = IsReadBack (sent_of v) × AreReadBack vs
 
 -- The octets that came to either are the front of what the other sent; neither failed; and what the connection took are
 -- the replies that the host put, in order, up to those that are coming.
@@ -74,10 +71,6 @@ pub record IsSound (holdings : Holdings) (settings : Settings) (deeds : List Dee
 
 -- ---- what keeps it
 
--- pending reply k has an element, as each pending reply of a target has
-abbrev pub IsReplySpelt : HostState → ℕ → Type 0
-IsReplySpelt host k = (reply : Apdu) → IsDue host.target.pending k reply → HasElement reply
-
 -- events with no want of memory amount to one thing
 abbrev pub OneServedLaw : Type 0
 OneServedLaw =
@@ -90,12 +83,12 @@ StartsLaw =
     (holdings : Holdings) (settings : Settings) (host : HostState)
     → HostAfter holdings [] host → IsSound holdings settings [] (silence settings) [] host
 
--- a call was made; the elements that its query keeps as they are, if any, have tags that a program's elements can have
+-- a call was made, and what was sent is read back
 abbrev pub CallsLaw : Type 0
 CallsLaw =
     (holdings : Holdings) (settings : Settings) (deeds : List Deed) (p : Heard) (events : List Event) (host : HostState)
     (call : Call)
-    → IsSound holdings settings deeds p events host → IsTaggedCall call
+    → IsSound holdings settings deeds p events host → AreReadBack (past_of (hears_call p call)).sent
     → IsSound holdings settings (Calls call ∷ deeds) (hears_call p call) events host
 
 -- octets were handed out by the connection
@@ -141,13 +134,8 @@ abbrev pub ReleasedLaw : Type 0
 ReleasedLaw =
     (holdings : Holdings) (settings : Settings) (deeds : List Deed) (p : Heard) (events : List Event)
     (host later : HostState) (k : ℕ)
-    → IsSound holdings settings deeds p events host → IsReplySpelt host k
+    → IsSound holdings settings deeds p events host
     → HostAfter holdings (Released k ∷ events) later → IsSound holdings settings deeds p (Released k ∷ events) later
-
--- a query that can be printed keeps no elements at all
-abbrev pub PlainLaw : Type 0
-PlainLaw =
-    (op set : ℕ) (ask : Ask) → plain_tree ask.query.attr_set ask.query.root ≡ true → IsTaggedCall (Search op set ask)
 
 -- ---- where it leads
 
@@ -191,6 +179,62 @@ RestsLaw =
     → s.to ≡ [] → s.from ≡ [] → host.waiting ≡ [] → host.target.pending ≡ [] → TookAll p
     → IsSettled holdings p s.served.served.sent
 
+-- ---- what is owed, and how much
+
+-- a reply that is pending is owed to what was sent
+abbrev pub PendingLaw : Type 0
+PendingLaw =
+    (holdings : Holdings) (settings : Settings) (deeds : List Deed) (p : Heard) (events : List Event) (host : HostState)
+    → IsSound holdings settings deeds p events host → (v : Apdu) → Contains host.target.pending v
+    → Contains (replies_to holdings (requests p.settings p.log)) v
+
+-- a reply that is owed to what a log sent is owed to what a longer one sent
+abbrev pub LongerLaw : Type 0
+LongerLaw =
+    (holdings : Holdings) (settings : Settings) (more log : Log) (v : Apdu)
+    → Contains (replies_to holdings (requests settings log)) v
+    → Contains (replies_to holdings (requests settings (more ++ log))) v
+
+-- as many replies as requests at most were taken, and put
+abbrev pub CountLaw : Type 0
+CountLaw =
+    (holdings : Holdings) (settings : Settings) (deeds : List Deed) (p : Heard) (events : List Event) (host : HostState)
+    (s : IsSound holdings settings deeds p events host)
+    → (p.taken ≤ length (past_of p).sent) × (length s.served.served.sent ≤ length (past_of p).sent)
+
+-- where the first pending reply may not go out, none is pending: a Close is the last
+abbrev pub EmptyLaw : Type 0
+EmptyLaw =
+    (holdings : Holdings) (settings : Settings) (deeds : List Deed) (p : Heard) (events : List Event) (host : HostState)
+    → IsSound holdings settings deeds p events host → may_release host.target.pending 0 ≡ false
+    → host.target.pending ≡ []
+
+-- once a connection is over, the replies that were put are all that are owed to what was sent, and they came
+abbrev pub OverLaw : Type 0
+OverLaw =
+    (holdings : Holdings) (settings : Settings) (deeds : List Deed) (p : Heard) (events : List Event) (host : HostState)
+    (s : IsSound holdings settings deeds p events host)
+    → is_stopped (state_at p) ≡ true
+    → IsPermutation (replies_to holdings (requests p.settings p.log)) s.served.served.sent
+    × (p.stream ≡ flat_map encoding_of s.served.served.sent)
+
+-- ---- connections that are driven
+
+-- where no call is next and no reply is waited for, the connection is over
+abbrev pub EndedLaw : Type 0
+EndedLaw =
+    (questions : List Question) (s : MetaSettings) (h : History) (meta : MetaLinks) (c : ℕ) (q : Question) (p : Heard)
+    → MetaAfter questions s h meta → slice_get questions c ≡ Some q → HasHeard (settings_of s) (only c h) p
+    → NoneIsNext (errand_of s q) p → p.stop ≡ None → outstanding (past_of p) ≡ []
+    → state_at p ≢ states.Initialising → state_at p ≢ states.Closing → is_stopped (state_at p) ≡ true
+
+-- so many requests are sent at most, and so many octets
+abbrev pub FewLaw : Type 0
+FewLaw =
+    (questions : List Question) (s : MetaSettings) (h : History) (meta : MetaLinks) (c : ℕ) (q : Question) (p : Heard)
+    → MetaAfter questions s h meta → slice_get questions c ≡ Some q → HasHeard (settings_of s) (only c h) p
+    → (length (past_of p).sent ≤ 1000003) × (length (sent (past_of p)) ≤ 1000003 * 2097152)
+
 pub record ExchangeLaws : Type 0 where
   pub one_served : OneServedLaw
   pub starts : StartsLaw
@@ -201,8 +245,14 @@ pub record ExchangeLaws : Type 0 where
   pub fed : FedLaw
   pub takes : TakesLaw
   pub released : ReleasedLaw
-  pub plain : PlainLaw
   pub took : TookLaw
   pub converses : ConversesLaw
   pub ends : EndsLaw
   pub rests : RestsLaw
+  pub pending : PendingLaw
+  pub longer : LongerLaw
+  pub count : CountLaw
+  pub empty : EmptyLaw
+  pub over : OverLaw
+  pub ended : EndedLaw
+  pub few : FewLaw

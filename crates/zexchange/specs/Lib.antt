@@ -1,2 +1,1 @@
 pub mod Exchange
-pub mod Tagged
