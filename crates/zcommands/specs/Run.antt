@@ -5,7 +5,8 @@ use Rattle.zworld.specs.declared.world.World.{World}
 use Rattle.zworld.specs.declared.fitness.Arrangement.{Arrangement}
 use Rattle.zworld.specs.Worlds.{IsWorld, IsRefused}
 use Rattle.zworld.specs.Fitness.{IsArranged, IsOfFirstHost}
-use Rattle.zworld.specs.Run.{Ran}
+use Rattle.zrounds.specs.Run.{Ran}
+use Rattle.zrounds.specs.RunRounds.{RanWhole}
 use Rattle.zcommands.specs.Devices.{Device}
 use Rattle.zcommands.specs.declared.fault.Fault.{Fault}
 use Rattle.zcommands.specs.declared.fault.Fault.TheVariants.{Read, Line, Memory}
@@ -42,12 +43,19 @@ Arranges file (Err _) = ⊥
 abbrev pub IsRunOf : Mode → Arrangement → Finished → Type 0
 IsRunOf mode a r = Ran a.questions a.settings a.targets r.meta × IsListed r.meta a.names [] mode r
 
+-- and each exchange was complete, unless a reply is longer than a message may be
+abbrev pub IsWholeRunOf : Mode → Arrangement → Finished → Type 0
+IsWholeRunOf mode a r = IsRunOf mode a r × RanWhole a.questions a.settings a.targets r.meta
+
 -- the world of the file was run
 abbrev pub IsRun : Mode → List ℕ → Finished → Type 0
 IsRun mode file r = (a : Arrangement) × IsArrangedFile file a × IsRunOf mode a r
 
+abbrev pub IsWholeRun : Mode → List ℕ → Finished → Type 0
+IsWholeRun mode file r = (a : Arrangement) × IsArrangedFile file a × IsWholeRunOf mode a r
+
 abbrev pub RunsFile : Mode → List ℕ → Result Finished Fault → Type 0
-RunsFile mode file (Ok r) = IsRun mode file r
+RunsFile mode file (Ok r) = IsWholeRun mode file r
 RunsFile mode file (Err (Line number)) = IsLineAtFault file number
 RunsFile mode file (Err (Read path)) = Unit {0}
 RunsFile mode file (Err Memory) = Unit {0}

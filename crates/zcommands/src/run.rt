@@ -4,7 +4,7 @@ ghost use Rattle.std.specs.Prelude.{◌≡◌, IfOk, IfErr, IfSome};
 ghost use Rattle.std.specs.Option.{option_map};
 ghost use Rattle.zcommands.specs.Devices.{held};
 ghost use Rattle.zcommands.specs.Finished.{IsSound, IsOfPaths, IsOfWorld};
-ghost use Rattle.zcommands.specs.Run.{Arranges, IsArrangement, IsRunOf, RunsFile, Runs, DoesRun};
+ghost use Rattle.zcommands.specs.Run.{Arranges, IsArrangement, IsWholeRunOf, RunsFile, Runs, DoesRun};
 
 use crate::fault::{Fault, Status};
 use crate::files::{Folder, named};
@@ -16,8 +16,8 @@ use bytes::Bytes;
 use std::alloc::{AllocError, Global};
 use std::io::{Read, Write};
 use zknow::Mode;
+use zrounds::run_world;
 use zworld::fitness::Arrangement;
-use zworld::run::run_world;
 
 /// Prints the list of what the targets of a world file answer, tells on standard error each connection that failed, and
 /// saves what is known where that is asked for. Or tells on standard error why there is no list, or why it was not
@@ -94,7 +94,7 @@ pub(crate) fn arrange_file<'a, R: Read>(
 /// Runs a world, and makes its list.
 fn run_arranged(alloc: Global, arrangement: Arrangement, mode: Mode) -> Result<Finished, AllocError>
     requires { IsArrangement arrangement }
-    ensures run { IfOk result (IsRunOf mode arrangement) }
+    ensures run { IfOk result (IsWholeRunOf mode arrangement) }
     ensures sound { IfOk result IsSound }
 {
     let Arrangement {

@@ -54,7 +54,9 @@ impl<'a, C: Clock, S: Write> Write for Timed<'a, C, S> {
 /// Both ways of a stream.
 #[derive(Drop)]
 pub struct Line<'a, C, S> {
+    /// What comes.
     pub source: Device<Timed<'a, C, S>>,
+    /// What goes.
     pub sink: Device<Timed<'a, C, S>>,
 }
 

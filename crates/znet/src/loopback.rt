@@ -2,7 +2,8 @@
 ghost use Rattle.std.specs.Prelude.{◌≡◌, ◌≤◌, ◌<◌, ◌^◌, length, IfOk};
 ghost use Rattle.zoom.specs.Steering.{AreFit};
 ghost use Rattle.zoom.specs.Metas.{AreAskable};
-ghost use Rattle.zworld.specs.Run.{AreNew, Ran};
+ghost use Rattle.zoom.specs.Hosts.{AreNew};
+ghost use Rattle.zrounds.specs.Run.{Ran};
 
 use crate::line::{PATIENCE, set_limits};
 use crate::service::ServeError;
@@ -12,10 +13,10 @@ use std::io::{Read, Write};
 use std::net::{Net, OpenListener, SocketAddr, TcpListener, TcpStream};
 use std::time::Duration;
 use zoom::{Meta, MetaSettings, Question, Reason};
+use zrounds::run_over;
+use zrounds::ways::Way;
 use ztalk::{Device, Sink, Source};
 use ztarget::Target;
-use zworld::run::run_over;
-use zworld::run::ways::Way;
 
 /// The most octets of one write.
 const PIECE: usize = 4096;
@@ -105,6 +106,10 @@ impl<S: Read + Write> Pair<S> {
 }
 
 impl<S: Read + Write> Way for Loopback<S> {
+    ghost use Rattle.std.specs.Prelude.{false};
+
+    ghost sure = { false };
+
     fn carry_to(&mut self, c: u32, piece: &[u8]) -> bool {
         match self.pairs.get_mut(c as usize) {
             Some(pair) => pair.carry_to(piece),

@@ -10,11 +10,11 @@ use zencodings::boxes::boxed;
 use zencodings::rows::{each_row, halves, pair};
 use zencodings::unread::Unread;
 use zoom::{Meta, Move, Reason, State};
+use zrounds::peers::{Peer, peers_of};
+use zrounds::rounds::make_moves;
+use zrounds::turns::drive_all;
+use zrounds::ways::Within;
 use zworld::fitness::Arrangement;
-use zworld::run::peers::{Peer, peers_of};
-use zworld::run::rounds::make_moves;
-use zworld::run::turns::drive_all;
-use zworld::run::ways::Within;
 
 const ONE: &[u8] = b"step 10
 window 4

@@ -10,7 +10,7 @@ use Rattle.zoom.specs.declared.question.Question.{Question}
 use Rattle.zoom.specs.Metas.{AreAskable}
 use Rattle.zworld.specs.Finding.{questions_of, AreFound, AreParts}
 use Rattle.zworld.specs.Fitness.{AreSmall, target_at, target_for, target_named, state_of, IsFit, IsArranged, settings_by}
-use Rattle.zworld.specs.Run.{AreNew}
+use Rattle.zoom.specs.Hosts.{AreNew}
 use Rattle.zworld.proofs.Finding.{as_many, few_questions}
 use Rattle.zworld.specs.declared.world.End.{End}
 use Rattle.zworld.specs.declared.world.End.TheVariants as ends

@@ -5,10 +5,6 @@ pub mod WorldSaid
 pub mod WorldLoop
 pub mod WorldReads
 pub mod WorldRanges
-pub mod RunGoes
-pub mod RunHalts
-pub mod RunCarries
-pub mod RunWorlds
 pub mod FitnessWants
 pub mod FitnessSizes
 pub mod FitnessLines

@@ -15,7 +15,7 @@ use Rattle.zworld.specs.declared.world.End.{End}
 use Rattle.zworld.specs.declared.world.End.TheVariants as ends
 use Rattle.zworld.specs.declared.fitness.Arrangement.{Arrangement}
 use Rattle.zworld.specs.Worlds.{asked_names}
-use Rattle.zworld.specs.Run.{AreNew}
+use Rattle.zoom.specs.Hosts.{AreNew}
 use Rattle.zworld.specs.Finding.{questions_of, AreFound, IsOfFirstNone, IsFirstAtNone}
 
 -- the settings of one who asks by this name

@@ -4,8 +4,6 @@ pub mod WorldWants
 pub mod Worlds
 pub mod WorldParts
 pub mod WorldReading
-pub mod Run
-pub mod RunSteps
 pub mod Finding
 pub mod Fitness
 pub mod Enquiries

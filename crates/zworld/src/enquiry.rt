@@ -17,10 +17,13 @@ use zoom::{MetaSettings, Question};
 /// A world arranged so that its hosts can be asked: question `i` is put to the host at address `i`, under name `i`.
 #[derive(Drop)]
 pub struct Enquiry {
+    /// The questions, in order.
     pub questions: Seq<Question>,
+    /// How they are asked.
     pub settings: MetaSettings,
     /// `host:port` each.
     pub addresses: Seq<Bytes>,
+    /// The names of the hosts, for the list.
     pub names: Names,
 }
 

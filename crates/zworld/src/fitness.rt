@@ -19,10 +19,13 @@ use ztarget::Target;
 /// A world arranged so that it can be run: question `i` is put to target `i`, under name `i`.
 #[derive(Drop)]
 pub struct Arrangement {
+    /// The questions, in order.
     pub questions: Seq<Question>,
+    /// How they are asked.
     pub settings: MetaSettings,
     /// The targets, of which none has received anything yet.
     pub targets: Seq<Target>,
+    /// The names of the targets, for the list.
     pub names: Names,
     /// The moves, in order; `c` is the place of a question.
     pub moves: Seq<Move>,

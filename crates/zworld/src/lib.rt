@@ -4,5 +4,4 @@
 pub mod enquiry;
 pub mod fitness;
 mod parts;
-pub mod run;
 pub mod world;

@@ -30,31 +30,42 @@ use ztarget::{Database, TargetSettings};
 /// A target in memory, under the name that it is asked by.
 #[derive(Drop)]
 pub struct NamedTarget {
+    /// The name, which no other target and no host has.
     pub name: Bytes,
+    /// What it offers, and how large its replies may be.
     pub settings: TargetSettings,
+    /// Its databases, in order.
     pub databases: Seq<Database>,
 }
 
 /// A target at an address, under the name that it is asked by.
 #[derive(Drop)]
 pub struct NamedHost {
+    /// The name, which no target and no other host has.
     pub name: Bytes,
+    /// `host:port`.
     pub address: Bytes,
 }
 
 /// Whom a question is put to: the place among the targets or among the hosts.
 #[derive(Clone, Copy, Debug, PartialEq, Eq)]
 pub enum End {
+    /// A target in memory.
     Target(usize),
+    /// A target at an address.
     Host(usize),
 }
 
 /// A question: the number of its line, from 1, and whom it is put to.
 #[derive(Drop)]
 pub struct Inquiry {
+    /// The number of its line in the file.
     pub line: u64,
+    /// The name of the one that is asked.
     pub name: Bytes,
+    /// Where that one stands.
     pub end: End,
+    /// What is asked.
     pub question: Question,
 }
 

@@ -1,5 +1,5 @@
 use Rattle.std.proofs.Common.{sym, subst}
-use Rattle.zworld.specs.Run.{AreNew}
+use Rattle.zoom.specs.Hosts.{AreNew}
 use Rattle.zcommands.proofs.looped.loop_arranged.Goals as goal
 
 pub run_loopback-requires-clause-new : goal.run_loopback-requires-clause-new

@@ -1,5 +1,5 @@
 use Rattle.std.proofs.Common.{sym, subst}
-use Rattle.zworld.specs.Run.{AreNew}
+use Rattle.zoom.specs.Hosts.{AreNew}
 use Rattle.zcommands.proofs.run.run_arranged.Goals as goal
 
 pub run_world-requires-clause-new : goal.run_world-requires-clause-new

@@ -1,5 +1,5 @@
 use Rattle.std.proofs.Common.{sym, subst}
-use Rattle.zworld.specs.Run.{AreNew}
+use Rattle.zoom.specs.Hosts.{AreNew}
 use Rattle.zruns.proofs.moves.ends.Goals as goal
 
 pub peers_of-requires : goal.peers_of-requires

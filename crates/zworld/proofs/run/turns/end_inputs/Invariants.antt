@@ -1,7 +1,0 @@
-use Rattle.std.proofs.Common.{◌≡◌, length}
-use Rattle.zworld.specs.RunSteps.{GoesOn}
-use Rattle.zworld.proofs.run.turns.end_inputs.Given as goal
-
-abbrev pub invariant-loop-c : goal.invariant-loop-c
-invariant-loop-c l =
-    GoesOn l.initial.meta l.meta × (length l.meta.pool.connections ≡ length l.initial.meta.pool.connections)
