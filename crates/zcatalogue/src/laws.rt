@@ -1,6 +1,9 @@
 //! Laws of the definitions, each the contract of a function that does nothing.
 ghost use Rattle.zcatalogue.specs.Catalogue.{CatalogueLaws};
+ghost use Rattle.zcatalogue.specs.Runs.{RunLaw};
 
+use zexchange::laws::exchange_laws;
+use zoom::laws::one_hearing;
 use zorigin::laws::{accepted_replies, orderly_logs};
 use zplan::laws::shown_laws;
 use ztarget::laws::{kept_sets, what_fits};
@@ -15,4 +18,15 @@ pub fn catalogue_laws()
     shown_laws();
     kept_sets();
     what_fits();
+}
+
+/// What is known after a run in memory, whatever its moves, windows and steps, is what is read directly from the
+/// databases of its targets: where each search can be sent or its target refuses, each record that is due fits, and no
+/// reply is longer than a message may be.
+pub fn run_law()
+    ensures { RunLaw }
+{
+    catalogue_laws();
+    exchange_laws();
+    one_hearing();
 }
