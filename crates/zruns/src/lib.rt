@@ -10,6 +10,8 @@ mod broken;
 #[cfg(test)]
 mod devices;
 #[cfg(test)]
+mod dice;
+#[cfg(test)]
 mod faults;
 #[cfg(test)]
 mod folders;
@@ -22,12 +24,20 @@ mod moves;
 #[cfg(test)]
 mod queries;
 #[cfg(test)]
+mod random_worlds;
+#[cfg(test)]
 mod runs;
+#[cfg(test)]
+mod schedules;
 #[cfg(test)]
 mod shelf;
 #[cfg(test)]
 mod shown;
 #[cfg(test)]
+mod wants;
+#[cfg(test)]
 mod words;
 #[cfg(test)]
 mod worlds;
+#[cfg(test)]
+mod written;

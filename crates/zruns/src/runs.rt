@@ -10,8 +10,8 @@ use zencodings::rows::each_row;
 use zencodings::unread::Unread;
 use zknow::Mode;
 use zoom::Move;
+use zrounds::run_world;
 use zworld::fitness::Arrangement;
-use zworld::run::run_world;
 
 pub(crate) const SHORT: &[u8] = b"step 3
 window 4
@@ -93,6 +93,8 @@ const MOVES: &str = "\
 from 0 9, rel 0 0, to 2 4294967295, rel 2 0, rel 2 0, from 2 20, from 2 0, from 2 1000, to 2 10
 to 2 1000, rel 2 0, from 2 1000, to 2 1000, rel 2 0, from 2 1000, \
 to 2 1000, rel 2 2, rel 2 1, rel 2 1, rel 2 0, from 2 1000
+to 2 100000, rel 2 0, from 2 100000, to 2 100000, rel 2 0, from 2 100000, \
+to 2 100000, rel 2 2, rel 2 0, rel 2 0, from 2 100000
 ";
 
 // The list of a world that is run with these moves in place of its own, and whether all connections are finished.
@@ -131,7 +133,13 @@ fn list_of(alloc: Global, file: &[u8], steps: &[Move]) -> Result<(Vec<u8>, bool)
     Ok(listed(alloc, arrangement, steps)?)
 }
 
-fn is_listed(alloc: Global, file: &[u8], steps: &[Move], list: &str) -> Result<bool, Unread> {
+/// Whether the world of a file, run with these moves, comes to its end and has this list.
+pub(crate) fn is_listed(
+    alloc: Global,
+    file: &[u8],
+    steps: &[Move],
+    list: &str,
+) -> Result<bool, Unread> {
     let (text, finished) = list_of(alloc, file, steps)?;
     Ok(finished && text.as_slice() == list.as_bytes())
 }
