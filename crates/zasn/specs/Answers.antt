@@ -49,12 +49,12 @@ counted (Ok x) = Ok x
 counted (Err r) = Err (length r)
 
 -- what a step over elements that are given away returned and left is what reading gives; where the next one misfits, as
--- many are left as before
+-- many are left as before; where memory ran out, those behind the next one
 abbrev pub TakesAway : {A : Type 0} → Result (A × List Element) (List Element) → Result A PartError → List Element
     → List Element → Type 0
 TakesAway reading (Ok x) before left = reading ≡ Ok (x, left)
 TakesAway reading (Err Misfit) before left = (reading ≡ Err before) × (length left ≡ length before)
-TakesAway reading (Err Memory) before left = Unit {0}
+TakesAway reading (Err Memory) before left = (n : Element) × (before ≡ n ∷ left)
 
 -- what the reader of a whole production returned, with how many elements it left, unless memory ran out
 abbrev pub FindsSo : {A : Type 0} → Result A (List Element) → Result A PartError → ℕ → Type 0

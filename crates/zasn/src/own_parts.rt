@@ -1,5 +1,5 @@
 //! The elements of a production that are given away, read from left to right: what a value keeps of them is moved.
-ghost use Rattle.std.specs.Prelude.{◌≡◌, [], ◌∷◌, true, false, suc, length, IfSome, IfNone, OnOk};
+ghost use Rattle.std.specs.Prelude.{◌≡◌, [], ◌∷◌, true, false, suc, length, IfSome, IfNone, IfOk, IfErr, OnOk, OnErr};
 ghost use Rattle.zber.specs.Elements.{tag_of};
 ghost use Rattle.zproductions.specs.Reading.{optional_at, required_at, ended_at};
 ghost use Rattle.zproductions.specs.Place.{Place};
@@ -16,8 +16,9 @@ use std::collections::VecDeque;
 use std::marker::Model;
 use zber::{Node, Tag};
 
-/// The elements of a production that are not yet read, and are given away to its value. Where a step is refused, as
-/// many are left as before it, the first of which stands for the one that failed, and need not be equal to it.
+/// The elements of a production that are not yet read, and are given away to its value. Where the next one misfits, as
+/// many are left as before, the first of which stands for it, and need not be equal to it. Where no memory is found, the
+/// next one is lost, and those behind it are left.
 #[derive(Drop)]
 pub struct OwnParts {
     left: VecDeque<Node>,
@@ -91,7 +92,8 @@ impl OwnParts {
 
     /// An element comes in the place of one that was refused.
     fn stand_in(&mut self) -> Result<(), AllocError>
-        ensures { OnOk result (length self.new ≡ suc (length self.old)) }
+        ensures ok { OnOk result (length self.new ≡ suc (length self.old)) }
+        ensures err { OnErr result (self.new ≡ self.old) }
     {
         self.left
             .push_front(Node::prim(Tag::context(0), Bytes::new()))?;
@@ -173,7 +175,9 @@ impl OwnParts {
 
     /// Nothing is left.
     pub fn end(&self) -> Result<(), PartError>
-        ensures { Finds (ended_at self.now) result self.now }
+        ensures finds { Finds (ended_at self.now) result self.now }
+        ensures none { IfOk result (λ _. self.now ≡ []) }
+        ensures misfit { IfErr result (λ e. e ≡ PartError.Misfit) }
     {
         if self.left.is_empty() {
             Ok(())

@@ -1,5 +1,5 @@
 //! Values of elements that are given away: what a value keeps of them is moved, and not copied.
-ghost use Rattle.std.specs.Prelude.{◌≡◌, [], ◌∷◌};
+ghost use Rattle.std.specs.Prelude.{◌≡◌, [], ◌∷◌, IfOk};
 ghost use Rattle.zproductions.specs.Table.{Elements};
 ghost use Rattle.zproductions.specs.Place.{Place};
 ghost use Rattle.zproductions.specs.Within.{alone_at, any_at, around, sequence_of};
@@ -20,9 +20,11 @@ pub trait Taken: Sized + Drop {
     /// Its table.
     ghost table: { Elements Self };
 
-    /// The value of all elements that are left. Where one fails, as many are left as from the one that failed on.
+    /// The value of all elements that are left. Where one misfits, as many are left as from that one on; where no memory
+    /// is found, nothing is promised of those that are.
     fn take(alloc: Global, parts: &mut OwnParts) -> Result<Self, PartError>
-        ensures { FindsAway (table.at parts.old) result parts.new };
+        ensures finds { FindsAway (table.at parts.old) result parts.new }
+        ensures none { IfOk result (λ _. parts.new ≡ []) };
 }
 
 /// A value of several elements in order that is given away to them.
@@ -30,14 +32,15 @@ pub trait Given: Sized + Drop {
     /// Its table.
     ghost table: { Elements Self };
 
-    /// Adds the elements of the value.
+    /// Adds the elements of the value. Where it is refused, a part of them may have been added.
     fn give(self, alloc: Global, out: &mut PartsBuf) -> Result<(), BuildError>
         ensures { Puts (table.made self out.old) result out.new };
 }
 
 /// The value of equal elements.
 pub fn read_copies<T: Taken>(alloc: Global, parts: &mut Parts<'_>) -> Result<T, PartError>
-    ensures { Finds (T.table.at parts.old) result parts.new }
+    ensures finds { Finds (T.table.at parts.old) result parts.new }
+    ensures none { IfOk result (λ _. parts.new ≡ []) }
 {
     let mut own = parts.copies(alloc)?;
     let answer = T::take(alloc, &mut own);

@@ -1,5 +1,5 @@
 //! The elements of a production, read from left to right.
-ghost use Rattle.std.specs.Prelude.{◌≡◌, [], ◌∷◌, true, false, length, drop, ◌-◌, IfSome, IfNone, IfOk, OnErr};
+ghost use Rattle.std.specs.Prelude.{◌≡◌, [], ◌∷◌, true, false, length, drop, ◌-◌, IfSome, IfNone, IfOk, IfErr, OnErr};
 ghost use Rattle.zproductions.specs.Reading.{optional_at, required_at, ended_at};
 ghost use Rattle.zproductions.specs.Place.{Place};
 ghost use Rattle.zproductions.specs.Table.{Elements};
@@ -225,7 +225,9 @@ impl<'a> Parts<'a> {
 
     /// Nothing is left.
     pub fn end(&self) -> Result<(), PartError>
-        ensures { Finds (ended_at self.now) result self.now }
+        ensures finds { Finds (ended_at self.now) result self.now }
+        ensures none { IfOk result (λ _. self.now ≡ []) }
+        ensures misfit { IfErr result (λ e. e ≡ PartError.Misfit) }
     {
         if self.left.is_empty() {
             Ok(())

@@ -1,5 +1,5 @@
 //! Values of several elements in order: a SEQUENCE.
-ghost use Rattle.std.specs.Prelude.{◌≡◌, [], ◌∷◌, Some};
+ghost use Rattle.std.specs.Prelude.{◌≡◌, [], ◌∷◌, Some, IfOk};
 ghost use Rattle.zproductions.specs.Table.{Elements};
 ghost use Rattle.zproductions.specs.Place.{Place};
 ghost use Rattle.zproductions.specs.Within.{sequence_of, around, alone_at};
@@ -18,11 +18,13 @@ pub trait Production: Sized + Drop {
     /// Its table.
     ghost table: { Elements Self };
 
-    /// The value of all elements that are left. Where it fails, the element that failed is the first that is left.
+    /// The value of all elements that are left. Where one misfits, it is the first that is left; where no memory is
+    /// found, nothing is promised of those that are.
     fn read(alloc: Global, parts: &mut Parts<'_>) -> Result<Self, PartError>
-        ensures { Finds (table.at parts.old) result parts.new };
+        ensures finds { Finds (table.at parts.old) result parts.new }
+        ensures none { IfOk result (λ _. parts.new ≡ []) };
 
-    /// Adds the elements of the value.
+    /// Adds the elements of the value. Where it is refused, a part of them may have been added.
     fn write(&self, alloc: Global, out: &mut PartsBuf) -> Result<(), BuildError>
         ensures { Puts (table.made self.now out.old) result out.new };
 }

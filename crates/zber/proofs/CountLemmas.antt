@@ -12,13 +12,14 @@ use Rattle.zber.specs.Moves.{pos}
 use Rattle.zber.specs.Counts.{Rose, Counts, CountsAtFault}
 
 pub rose_one : (a b : ℕ) → b ≡ min (a + 1) (2 ^ 64 - 1) → Rose 1 a b
-rose_one a b e = record { most = omega (arith, e); least = λ l. omega (arith, e, l); fits = λ l. omega (arith, e) }
+rose_one a b e = record { most = omega (arith, e); least = λ l. omega (arith, e, l); fits = λ l. omega (arith, e); grown = λ l. omega (arith, e, l) }
 
 rose_then : (m n a b c : ℕ) → Rose m a b → Rose n b c → Rose (m + n) a c
 rose_then m n a b c f g = record {
   most = omega (arith, f.most, g.most);
   least = λ l. (let p : b ≡ a + m = f.least (omega (arith, l)) in let q : c ≡ b + n = g.least (omega (arith, l, p)) in omega (arith, p, q));
   fits = λ l. g.fits (f.fits l);
+  grown = λ l. (let p : a ≤ b = f.grown l in let q : b ≤ c = g.grown (f.fits l) in omega (arith, p, q));
 }
 
 pub counts_then : {s t u : Scan} {a b c : ℕ} → Counts s t a b → Counts t u b c → Counts s u a c

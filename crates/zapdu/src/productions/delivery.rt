@@ -1,4 +1,5 @@
 //! The last elements of a PresentRequest: how the records are to be delivered.
+ghost use Rattle.std.specs.Prelude.{◌≡◌, [], IfOk};
 ghost use Rattle.zasn.specs.Answers.{Finds, Puts};
 ghost use Rattle.zapdu.specs.Productions.Deliveries.{delivery, delivery_parts};
 
@@ -18,7 +19,8 @@ pub(crate) struct Delivery {
 
 #[tactic(auto, unfolding(crate::specs::Productions::Deliveries::delivery_parts))]
 pub(crate) fn read_delivery(alloc: Global, parts: &mut Parts<'_>) -> Result<Delivery, PartError>
-    ensures { Finds (delivery_parts.at parts.old) result parts.new }
+    ensures finds { Finds (delivery_parts.at parts.old) result parts.new }
+    ensures none { IfOk result (λ _. parts.new ≡ []) }
 {
     let preferred_record_syntax = parts.optional(alloc, Tag::context(104))?;
     let max_segment_count = parts.optional_kept(alloc, Tag::context(204))?;

@@ -1,4 +1,5 @@
 //! The last elements of both Inits: what they tell of an implementation, and what is open to either side.
+ghost use Rattle.std.specs.Prelude.{◌≡◌, [], IfOk};
 ghost use Rattle.zasn.specs.Answers.{Finds, Puts};
 ghost use Rattle.zapdu.specs.Productions.Implementations.{implementation, implementation_parts};
 
@@ -23,7 +24,8 @@ pub(crate) fn read_implementation(
     alloc: Global,
     parts: &mut Parts<'_>,
 ) -> Result<Implementation, PartError>
-    ensures { Finds (implementation_parts.at parts.old) result parts.new }
+    ensures finds { Finds (implementation_parts.at parts.old) result parts.new }
+    ensures none { IfOk result (λ _. parts.new ≡ []) }
 {
     let implementation_id = parts.optional(alloc, Tag::context(110))?;
     let implementation_name = parts.optional(alloc, Tag::context(111))?;

@@ -1,4 +1,5 @@
 //! The last elements of a SearchRequest: what is to be given of the records that come with the response, and the query.
+ghost use Rattle.std.specs.Prelude.{◌≡◌, [], IfOk};
 ghost use Rattle.zasn.specs.Answers.{Finds, Puts};
 ghost use Rattle.zapdu.specs.Productions.SearchDetails.{details_of, search_details_parts};
 
@@ -25,7 +26,8 @@ pub(crate) fn read_search_details(
     alloc: Global,
     parts: &mut Parts<'_>,
 ) -> Result<SearchDetails, PartError>
-    ensures { Finds (search_details_parts.at parts.old) result parts.new }
+    ensures finds { Finds (search_details_parts.at parts.old) result parts.new }
+    ensures none { IfOk result (λ _. parts.new ≡ []) }
 {
     let small_set_element_set_names = parts.optional_explicit_tagged(alloc, Tag::context(100))?;
     let medium_set_element_set_names = parts.optional_explicit_tagged(alloc, Tag::context(101))?;
