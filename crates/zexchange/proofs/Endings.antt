@@ -1,7 +1,8 @@
 -- Where soundness leads: how a connection is over, and what holds once nothing is left to do.
-use Rattle.std.proofs.Common.{◌≡◌, ◌≢◌, ◌⊎◌, inl, inr, ℕ, nat_eq, Bool, true, false, not, List, [], ◌∷◌, ◌++◌, map, reverse, None, Some, refl, sym, ap, subst, ◌∙◌, append-nil, true≢false, arith, length, take}
+use Rattle.std.proofs.Common.{◌≡◌, ◌≢◌, ◌⊎◌, inl, inr, ℕ, nat_eq, true, false, not, List, [], ◌∷◌, ◌++◌, map, reverse, None, Some, refl, sym, ap, subst, ◌∙◌, append-nil, true≢false, arith, length, take}
 use Rattle.std.specs.Prelude.{Contains, IsPermutation, ◌||◌}
 use Rattle.std.specs.List.{flat_map, list_any, AllByRecursion, IsDistinct}
+use Rattle.std.proofs.lemmas.Bool.{or_right}
 use Rattle.std.proofs.lemmas.Bool.Decides.{nat_tests}
 use Rattle.std.proofs.lemmas.List.{take_at}
 use Rattle.std.proofs.lemmas.List.Elements.{Contains-push}
@@ -27,6 +28,7 @@ use Rattle.zoom.specs.Steering.{complete_in, is_rejected}
 use Rattle.zoom.specs.Heard.{Deed, Heard, past_of, state_at}
 use Rattle.zoom.specs.Hosts.{HostState, Holdings, Event, handed_out, replies_to}
 use Rattle.zaccord.specs.Accord.{requests, AccordLaws}
+use Rattle.zaccord.proofs.Members.{in_front, in_behind}
 use Rattle.zexchange.specs.Exchange.{IsSound, got_in, TookLaw, ConversesLaw, PendingLaw, EndsLaw, RestsLaw, TookAll}
 use Rattle.zexchange.proofs.Logs.{Became, got_became, closed_got, close_sent, close_admitted, close_called_in}
 use Rattle.zexchange.proofs.Replies.{close_owed}
@@ -35,30 +37,17 @@ use Rattle.zexchange.proofs.Framing.{all_taken, turned_cut}
 use Rattle.zexchange.proofs.Hearings.{took_all}
 use Rattle.zexchange.proofs.Sounds.{whole, received_is, permuted, pending_owed, got_owed, converses, coming_is}
 
-or_true : (b : Bool) → (b || true) ≡ true
-or_true true = refl
-or_true false = refl
-
 no_some : {A : Type 0} {x : A} → Some x ≡ None → ⊥
 no_some e = cc
 
 -- ---- the operations
 
-in_left : {X : Type 0} (x : X) (xs ys : List X) → IsIn x xs → IsIn x (xs ++ ys)
-in_left x [] ys i = absurd i
-in_left x (y ∷ xs) ys (inl e) = inl e
-in_left x (y ∷ xs) ys (inr i) = inr (in_left x xs ys i)
-
-in_right : {X : Type 0} (x : X) (xs ys : List X) → IsIn x ys → IsIn x (xs ++ ys)
-in_right x [] ys i = i
-in_right x (y ∷ xs) ys i = inr (in_right x xs ys i)
-
 init_operation : (calls : List Call) → IsIn Init calls → IsIn init_asked (flat_map operation_of calls)
 init_operation [] i = absurd i
 init_operation (call ∷ calls) (inl e) =
-    in_left init_asked (operation_of call) (flat_map operation_of calls)
+    in_front init_asked (operation_of call) (flat_map operation_of calls)
     (subst (λ z. IsIn init_asked (operation_of z)) e (inl refl))
-init_operation (call ∷ calls) (inr i) = in_right init_asked (operation_of call) (flat_map operation_of calls)
+init_operation (call ∷ calls) (inr i) = in_behind init_asked (operation_of call) (flat_map operation_of calls)
     (init_operation calls i)
 
 other_op : (op : ℕ) (qs : List Asked) (b : Asked) → AllByRecursion (λ y. nat_eq op y ≡ false) (map op_of qs)
@@ -128,8 +117,8 @@ module _ (holdings : Holdings) (settings : Settings) (deeds : List Deed) (p : He
       by (inl c) =
           let g = closed_got p.settings p.log c in
           let i = close_is g.0 (got_owed holdings settings deeds p events host s (apdus.Close g.0) g.1) in
-          ap (λ b. is_rejected (opening (past_of p)) || b) (close_admitted (past_of p) i.0) ∙ or_true
-          (is_rejected (opening (past_of p)))
+          ap (λ b. is_rejected (opening (past_of p)) || b) (close_admitted (past_of p) i.0) ∙ or_right
+          (is_rejected (opening (past_of p))) true refl
       by (inr x) =
           let found = found_in (past_of p).accepted x.0 x.1 in
           let i = accepted_so p.settings p.log x.0 (contained x.0 (past_of p).accepted found.0) in

@@ -6,19 +6,17 @@ use Rattle.zber.specs.Spelling.{Begins}
 use Rattle.zber.specs.Unfinished.{IsUnfinished}
 use Rattle.zber.proofs.OneOutcome.{one_message, message_or_fault}
 use Rattle.zapdu.specs.declared.apdu.Apdu.{Apdu}
-use Rattle.zapdu.specs.declared.apdu.ApduError.{ApduError}
-use Rattle.zapdu.specs.declared.apdu.ApduError.TheVariants as decode
 use Rattle.zapdu.specs.Writes.{Writes}
 use Rattle.zapdu.proofs.Decoding.{one_value}
-use Rattle.zapdu.proofs.Refusals.{one_refusal}
 use Rattle.ztarget.specs.declared.error.TargetError.{TargetError}
 use Rattle.ztarget.specs.Replies.{Answer}
-use Rattle.zoom.specs.Coming.{limit, Met, Stopped, Message, Foreign, Fault, Rest, Nothing, IsForeign, AreMetAs}
+use Rattle.zoom.specs.Coming.{limit, Met, Stopped, Message, Foreign, Fault, Rest, Nothing, AreMetAs}
 use Rattle.zoom.specs.Hosts.{Holdings, Received, nothing, message, IsStopping, EndsAt, HasReceived, Event, Fed, FedPart, Released, Lost, HandedOut, Served, ArePutLast, Hears, IsDue, Sends, Loses, Ignores, HasServed, owed_by, replies_to}
 use Rattle.zoom.proofs.Meetings.{none_begins}
 use Rattle.zexchange.specs.Exchange.{fed_to, ArePlain}
+use Rattle.zexchange.proofs.Framing.{written_foreign}
 
-no_both : {a : Answer} {error : TargetError} {r : Result Answer TargetError} → r ≡ Ok a → r ≡ Err error → ⊥
+pub no_both : {a : Answer} {error : TargetError} {r : Result Answer TargetError} → r ≡ Ok a → r ≡ Err error → ⊥
 no_both p q = cc (p, q)
 
 -- ---- the messages, from the first
@@ -45,11 +43,6 @@ from_first nothing = here
 from_first (message r b w t) = follows_more (from_first r) b w t
 
 -- what stops a host is no message that it takes
-written_foreign : (v : Apdu) (e : Element) (error : ApduError) → Writes v e → IsForeign e error → ⊥
-written_foreign v e decode.NotApdu w f = one_refusal.written v e w f
-written_foreign v e (decode.Malformed kind at) w f = f.0 v w
-written_foreign v e decode.Memory w f = f
-
 stops_none : (holdings : Holdings) (received : List Apdu) (xs rest : List ℕ) (e : Element) (v : Apdu) (by : Answer)
     (met : Met)
     → Begins limit xs e rest → Writes v e → owed_by holdings received v ≡ Ok by → AreMetAs xs met

@@ -119,7 +119,8 @@ IsMetOf vs (Foreign error) = ⊥
 IsMetOf vs (Fault kind at) = ⊥
 IsMetOf vs _ = Unit {0}
 
-written_foreign : (v : Apdu) (e : Element) (error : ApduError) → Writes v e → IsForeign e error → ⊥
+-- an element that is refused is written of no APDU
+pub written_foreign : (v : Apdu) (e : Element) (error : ApduError) → Writes v e → IsForeign e error → ⊥
 written_foreign v e decode.NotApdu w f = one_refusal.written v e w f
 written_foreign v e (decode.Malformed kind at) w f = f.0 v w
 written_foreign v e decode.Memory w f = f

@@ -1,7 +1,8 @@
 -- What a log got, and what became of it.
-use Rattle.std.proofs.Common.{option_map, ◌≡◌, ◌⊎◌, inl, inr, Bool, true, false, cond, List, [], ◌∷◌, ◌++◌, Option, None, Some, Result, Ok, Err, refl, sym, ap, subst, ◌∙◌, true≢false}
+use Rattle.std.proofs.Common.{option_map, ◌≡◌, ◌⊎◌, inl, inr, true, false, cond, List, [], ◌∷◌, ◌++◌, Option, None, Some, Result, Ok, Err, refl, sym, ap, subst, ◌∙◌, true≢false}
 use Rattle.std.specs.Prelude.{Contains, ◌||◌}
 use Rattle.std.specs.List.{list_any}
+use Rattle.std.proofs.lemmas.Bool.{or_right}
 use Rattle.std.proofs.lemmas.List.Elements.{Contains-append_left, Contains-append_cases, Contains-push, Contains-push_cases}
 use Rattle.zapdu.specs.declared.apdu.Apdu.{Apdu}
 use Rattle.zapdu.specs.declared.apdu.Apdu.TheVariants as apdus
@@ -123,7 +124,7 @@ stays_called : (p : Past) (call : Call) (o : Option CallRefused) (v : Apdu) → 
 stays_called p call None v h = h
 stays_called p call (Some reason) v h = h
 
-none_in : {X : Type 0} (x : X) → Contains [] x → ⊥
+pub none_in : {X : Type 0} (x : X) → Contains [] x → ⊥
 none_in x h = among x [] h
 
 pub got_became : (settings : Settings) (log : Log) (v : Apdu) → AllTaken settings log → Contains (got_in log) v
@@ -255,11 +256,8 @@ close_sent settings (Got v ∷ log) c i = by (close_sent settings log c) (verdic
 any_close : (calls : List Call) → IsIn Close calls → list_any is_close_call calls ≡ true
 any_close [] i = absurd i
 any_close (call ∷ calls) (inl e) = ap (λ z. is_close_call z || list_any is_close_call calls) (sym e)
-any_close (call ∷ calls) (inr i) = ap (λ b. is_close_call call || b) (any_close calls i) ∙ or_true (is_close_call call)
-  where
-    or_true : (b : Bool) → (b || true) ≡ true
-    or_true true = refl
-    or_true false = refl
+any_close (call ∷ calls) (inr i) = ap (λ b. is_close_call call || b) (any_close calls i)
+    ∙ or_right (is_close_call call) true refl
 
 pub close_admitted : (p : Past) → Contains p.admitted Close → list_any is_close_call p.admitted ≡ true
 close_admitted p i = any_close p.admitted (among Close p.admitted i)

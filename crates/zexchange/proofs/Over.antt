@@ -1,7 +1,8 @@
 -- A Close is the last of what is owed: what is pending then, and what came once a connection is over.
-use Rattle.std.proofs.Common.{◌≡◌, ◌⊎◌, inl, inr, ◌+◌, ◌≤◌, Bool, true, false, not, List, [], ◌∷◌, ◌++◌, length, Some, refl, sym, ap, subst, ◌∙◌, append_assoc, append-nil, length-append, true≢false, arith}
+use Rattle.std.proofs.Common.{◌≡◌, ◌⊎◌, inl, inr, ◌+◌, ◌≤◌, true, false, not, List, [], ◌∷◌, ◌++◌, length, Some, refl, sym, ap, subst, ◌∙◌, append_assoc, append-nil, length-append, true≢false, arith}
 use Rattle.std.specs.Prelude.{◌||◌, ◌==◌, Contains, IsPermutation}
 use Rattle.std.specs.List.{flat_map, list_any}
+use Rattle.std.proofs.lemmas.Bool.{or_right}
 use Rattle.std.proofs.lemmas.List.{nil_from_length}
 use Rattle.std.proofs.lemmas.List.Elements.{Contains-push}
 use Rattle.std.proofs.lemmas.List.Sorted.{IsPermutation-refl, length_permutation}
@@ -44,10 +45,6 @@ kind_of (apdus.SearchResponse v) = inl refl
 kind_of (apdus.PresentRequest v) = inl refl
 kind_of (apdus.PresentResponse v) = inl refl
 kind_of (apdus.Close c) = inr (c, refl)
-
-or_true : (b : Bool) → (b || true) ≡ true
-or_true true = refl
-or_true false = refl
 
 -- a response to Init that rejects the association
 rejecting : (w : What) (reply : Apdu) → is_init w ≡ true → Fits w reply → Rejects reply
@@ -114,7 +111,7 @@ module _ (laws : AccordLaws) (holdings : Holdings) (settings : Settings) (deeds 
 
   none_pending : (vs : List Apdu) → host.target.pending ≡ vs → may_release vs 0 ≡ false → host.target.pending ≡ []
   none_pending [] is e = is
-  none_pending (v ∷ []) is e = absurd (true≢false (sym (or_true (not (is_close v))) ∙ e))
+  none_pending (v ∷ []) is e = absurd (true≢false (sym (or_right (not (is_close v)) true refl) ∙ e))
   none_pending (v ∷ w ∷ vs) is e = by (kind_of v)
     where
       by : (is_close v ≡ false) ⊎ ((c : Close) × (v ≡ apdus.Close c)) → host.target.pending ≡ []

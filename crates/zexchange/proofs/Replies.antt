@@ -15,9 +15,7 @@ use Rattle.ztarget.specs.Faults.{Reason}
 use Rattle.ztarget.specs.Searching.{Found}
 use Rattle.ztarget.specs.Standing.{Terms, State, Fresh, Open, Ended, NamedSet}
 use Rattle.ztarget.specs.Replies.{Answer, answer, to_search_unless, owed, reply_of, replies, standing_after}
-
-none_in : {X : Type 0} (x : X) → Contains [] x → ⊥
-none_in x h = among x [] h
+use Rattle.zexchange.proofs.Logs.{none_in}
 
 -- ---- a Close
 

@@ -2,6 +2,7 @@
 use Rattle.std.proofs.Common.{◌≡◌, ◌⊎◌, inl, inr, ℕ, arith, Bool, true, false, cond, not, List, [], ◌∷◌, filter, Option, None, Some, refl, sym, ap, subst, ◌∙◌, true≢false}
 use Rattle.std.specs.Prelude.{◌||◌}
 use Rattle.std.specs.List.{list_any, find}
+use Rattle.std.proofs.lemmas.Bool.{or_right}
 use Rattle.std.proofs.lemmas.Bool.Decides.{nat_tests}
 use Rattle.zapdu.specs.declared.apdu.Apdu.{Apdu}
 use Rattle.zapdu.specs.declared.apdu.Apdu.TheVariants as apdus
@@ -197,8 +198,5 @@ answered_in op (x ∷ xs) a (inl s) e =
     let same : x.asked.op ≡ op = ap (λ (z : Answer). z.asked.op) (sym s) ∙ e in
     let t : answers op x ≡ true = grind (arith, nat_tests) in
     ap (λ b. b || list_any (answers op) xs) t
-answered_in op (x ∷ xs) a (inr i) e = ap (λ b. answers op x || b) (answered_in op xs a i e) ∙ or_true (answers op x)
-  where
-    or_true : (b : Bool) → (b || true) ≡ true
-    or_true true = refl
-    or_true false = refl
+answered_in op (x ∷ xs) a (inr i) e = ap (λ b. answers op x || b) (answered_in op xs a i e)
+    ∙ or_right (answers op x) true refl

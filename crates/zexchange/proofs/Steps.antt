@@ -1,5 +1,5 @@
 -- What is done keeps a connection and a host sound.
-use Rattle.std.proofs.Common.{◌≡◌, ◌⊎◌, inl, inr, ℕ, suc, Bool, true, false, cond, is_some, List, [], ◌∷◌, ◌++◌, reverse, Option, None, Some, Result, Ok, Err, refl, sym, ap, subst, ◌∙◌, append_assoc, append-nil, length-append, true≢false, arith}
+use Rattle.std.proofs.Common.{◌≡◌, ◌⊎◌, inl, inr, ℕ, suc, Bool, true, false, cond, is_some, List, [], ◌∷◌, ◌++◌, reverse, Option, None, Some, Ok, refl, sym, ap, subst, ◌∙◌, append_assoc, append-nil, length-append, true≢false, arith}
 use Rattle.std.specs.Prelude.{Contains, IsPermutation, ◌||◌}
 use Rattle.std.specs.List.{flat_map, list_any}
 use Rattle.std.proofs.lemmas.List.{reverse-append}
@@ -18,8 +18,6 @@ use Rattle.zorigin.specs.Log.{Made, Got, Past, standing, state_of, opening, requ
 use Rattle.zorigin.proofs.Accepting.{accepted_so, contained}
 use Rattle.ztarget.specs.declared.database.Database.{Database}
 use Rattle.ztarget.specs.declared.settings.TargetSettings.{TargetSettings}
-use Rattle.ztarget.specs.declared.error.TargetError.{TargetError}
-use Rattle.ztarget.specs.Replies.{Answer}
 use Rattle.zoom.specs.States.{state_as, is_stopped, or_else}
 use Rattle.zoom.specs.Coming.{Met, Stopped, Message, Foreign, Fault, Rest, Nothing, IsBehind, AreMetAs}
 use Rattle.zoom.specs.Heard.{Deed, Calls, Feeds, Takes, Heard, Meets, past_of, state_at, take_at, heed, end_by, stop_by, truncated, hears_call}
@@ -32,7 +30,7 @@ use Rattle.zexchange.specs.Exchange.{IsSound, got_in, fed_to, StartsLaw, CallsLa
 use Rattle.zexchange.proofs.Logs.{accepted_got}
 use Rattle.zexchange.proofs.States.{closed_so}
 use Rattle.zexchange.proofs.Framing.{received_cut, turned_cut, IsMetOf, met_is}
-use Rattle.zexchange.proofs.Events.{one_served}
+use Rattle.zexchange.proofs.Events.{no_both, one_served}
 use Rattle.zexchange.proofs.Sounds.{stream_is, due, put_owed, converses, coming_is}
 
 pub starts : StartsLaw
@@ -166,9 +164,6 @@ fed holdings settings deeds p events host piece rest s cut =
     fed_by holdings settings deeds p events host piece rest s cut (is_stopped (state_at p) || p.ended) refl
 
 -- ---- the host
-
-no_both : {a : Answer} {error : TargetError} {r : Result Answer TargetError} → r ≡ Ok a → r ≡ Err error → ⊥
-no_both p q = cc (p, q)
 
 taken_behind : (databases : List Database) (target : TargetSettings) (later received : List Apdu)
     → AreTaken databases target (later ++ received) → AreTaken databases target received
