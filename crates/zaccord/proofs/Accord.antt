@@ -101,7 +101,8 @@ named_taken settings log (apdus.SearchResponse v) q f n = (q, n, refl)
 named_taken settings log (apdus.PresentRequest v) q f n = (q, n, refl)
 named_taken settings log (apdus.PresentResponse v) q f n = (q, n, refl)
 
-init_fits : (reply : Apdu) → Fits what.Init reply → (v : InitResponse) × (reply ≡ apdus.InitResponse v)
+-- only a response to Init fits it
+pub init_fits : (reply : Apdu) → Fits what.Init reply → (v : InitResponse) × (reply ≡ apdus.InitResponse v)
 init_fits (apdus.InitResponse v) f = (v, refl)
 init_fits (apdus.InitRequest v) f = absurd f
 init_fits (apdus.SearchRequest v) f = absurd f

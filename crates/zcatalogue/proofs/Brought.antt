@@ -51,12 +51,13 @@ use Rattle.zoom.specs.History.{accepted}
 use Rattle.zoom.proofs.Drivings.{among, contained, replied, driven}
 use Rattle.zoom.proofs.MetaLaws.{driver_of}
 use Rattle.zoom.proofs.Orders.{from_answer, of_answer}
+use Rattle.zaccord.specs.Accord.{requests}
 use Rattle.zschedules.proofs.Answered.{is_replied, complete_whole}
 use Rattle.zschedules.proofs.Openings.{opened_past, at_opening, init_replied}
 use Rattle.zschedules.proofs.Replies.{CameFrom, came}
 use Rattle.zschedules.proofs.Sets.{set_for, of_set}
 use Rattle.zcatalogue.specs.Catalogue.{entries_for, positions_due, shown_at, found_facts, fault_facts, answer_facts, catalogue, AreOwed, RecordsFit, CanAsk, CatalogueLaw, UnaskedLaw}
-use Rattle.zcatalogue.proofs.Sent.{requests_of, kept_reply}
+use Rattle.zcatalogue.proofs.Sent.{kept_reply}
 use Rattle.zcatalogue.proofs.Standings.{given, response, search_by, find_in, accepts, refuses, force_of}
 use Rattle.zcatalogue.proofs.Members.{to_flat, of_flat, to_map, of_map, length_at, of_seen, to_seen}
 use Rattle.zcatalogue.proofs.Presents.{records_back, none_told, kept_of}
@@ -168,7 +169,7 @@ module _ (orderly : (s : Settings) (l : Log) → IsOrderly (past s l))
     (q : Question) (s : MetaSettings) (settings : Settings) (log : Log) (d : DriverState)
     (k : IsDriver (errand_of s q) settings log d)
     (talks : (x : Answer) → IsIn x (past settings log).accepted
-    → IsIn x.reply (replies databases offers (requests_of settings log)))
+    → IsIn x.reply (replies databases offers (requests settings log)))
     (shows_laws : ShownLaws) (fits : WhatFits) (complete : complete_in (past settings log) ≡ true) (c : ℕ) where
   abbrev ask_here : List Event
   ask_here = events_of (ask_of q) settings log
@@ -525,9 +526,9 @@ module _ (orderly : (s : Settings) (l : Log) → IsOrderly (past s l))
     (accepting : (s : Settings) (l : Log) (x : Answer) → Contains (past s l).accepted x → IsAccepted s l x)
     (sets_kept : KeptSets) (shows_laws : ShownLaws) (fits : WhatFits) where
   talked : (databases : List Database) (offers : TargetSettings) (p : Heard) → AreOwed databases offers p → (x : Answer)
-      → IsIn x (accepted p) → IsIn x.reply (replies databases offers (requests_of p.settings p.log))
+      → IsIn x (accepted p) → IsIn x.reply (replies databases offers (requests p.settings p.log))
   talked databases offers p owed x i =
-      among x.reply (replies databases offers (requests_of p.settings p.log)) (owed x (contained x (accepted p) i))
+      among x.reply (replies databases offers (requests p.settings p.log)) (owed x (contained x (accepted p) i))
 
   pub catalogue_law : CatalogueLaw
   catalogue_law questions s h meta c q p databases offers after at heard complete owed can small f =

@@ -6,10 +6,9 @@ use Rattle.zapdu.specs.declared.productions.record.Record.{Record}
 use Rattle.zknow.specs.declared.fact.Fact.{Fact}
 use Rattle.zknow.specs.declared.fact.Fact.TheVariants.{Seen}
 use Rattle.zplan.specs.Positions.{IsIn}
+use Rattle.zplan.proofs.Cuts.{in_left, in_right, in_either}
 use Rattle.zorigin.specs.Facts.{seen_at}
 use Rattle.ztarget.specs.Positions.{at_positions}
-use Rattle.zoom.proofs.Drivings.{in_parts}
-use Rattle.zcatalogue.proofs.Sent.{in_left, in_right}
 
 pub to_flat : {X Y : Type 0} (g : X → List Y) (xs : List X) (x : X) (y : Y) → IsIn x xs → IsIn y (g x)
     → IsIn y (flat_map g xs)
@@ -20,7 +19,7 @@ to_flat g (z ∷ xs) x y (inr i) j = in_right y (g z) (flat_map g xs) (to_flat g
 pub of_flat : {X Y : Type 0} (g : X → List Y) (xs : List X) (y : Y) → IsIn y (flat_map g xs)
     → (x : X) × IsIn x xs × IsIn y (g x)
 of_flat g [] y i = absurd i
-of_flat g (z ∷ xs) y i = elim (in_parts y (g z) (flat_map g xs) i) [
+of_flat g (z ∷ xs) y i = elim (in_either y (g z) (flat_map g xs) i) [
   | inl j ↦ (z, inl refl, j)
   | inr j ↦ let r = of_flat g xs y j in (r.0, inr r.1, r.2)
 ]

@@ -1,7 +1,8 @@
 -- What a target presents of ranges that an origin asks for.
 use Rattle.std.proofs.Common.{◌≡◌, ℕ, zero, suc, ◌+◌, ◌≤◌, Bool, true, false, if◌then◌else◌, List, [], ◌∷◌, ◌++◌, map, length, Option, None, Some, refl, sym, ap, ◌∙◌, arith}
-use Rattle.std.specs.Prelude.{ℤ, pos, negsuc, ◌||◌, ◌&&◌, int_lt}
+use Rattle.std.specs.Prelude.{ℤ, pos, negsuc, ◌&&◌, int_lt}
 use Rattle.std.specs.List.{range_with_len, AllByRecursion}
+use Rattle.std.proofs.lemmas.Bool.{or_parts}
 use Rattle.std.proofs.lemmas.Bool.Decides.{nat_tests}
 use Rattle.std.proofs.lemmas.Int.{ints}
 use Rattle.std.proofs.lemmas.List.Folds.{list_any-append}
@@ -40,15 +41,11 @@ pub same_ranges : (named : Bool) (op : ℕ) (r : Range) (rs : List Range) (s : S
 same_ranges named op r [] s = refl
 same_ranges named op r (x ∷ xs) s = refl
 
-both_false : (a b : Bool) → a || b ≡ false → (a ≡ false) × (b ≡ false)
-both_false true b e = absurd cc
-both_false false b e = (refl, e)
-
 -- positions from 1 on that are not past the count are in the set
 pub within_by : (n : ℕ) (ps : List ℕ) → AllByRecursion (λ p. 1 ≤ p) ps → is_past (pos n) ps ≡ false → AreWithin n ps
 within_by n [] low h = tt
 within_by n (p ∷ ps) low h =
-    let both = both_false (int_lt (pos n) (pos p)) (is_past (pos n) ps) h in
+    let both = or_parts (int_lt (pos n) (pos p)) (is_past (pos n) ps) h in
     let here = both.0 in
     let le : p ≤ n = grind (arith, ints) in
     (low.0, le, within_by n ps low.1 both.1)
@@ -57,11 +54,11 @@ within_by n (p ∷ ps) low h =
 run_end : (n s k : ℕ) → 1 ≤ k → is_past (pos n) (range_with_len s k) ≡ false → s + k ≤ n + 1
 run_end n s zero lo h = absurd (omega arith)
 run_end n s (suc zero) lo h =
-    let here = (both_false (int_lt (pos n) (pos s)) false h).0 in
+    let here = (or_parts (int_lt (pos n) (pos s)) false h).0 in
     let le : s ≤ n = grind (arith, ints) in
     omega arith
 run_end n s (suc (suc k)) lo h =
-    let rest = (both_false (int_lt (pos n) (pos s)) (is_past (pos n) (range_with_len (s + 1) (suc k))) h).1 in
+    let rest = (or_parts (int_lt (pos n) (pos s)) (is_past (pos n) (range_with_len (s + 1) (suc k))) h).1 in
     let le = run_end n (s + 1) (suc k) (omega arith) rest in
     omega (arith, le)
 
@@ -73,7 +70,7 @@ pub all_in_set : (n : ℕ) (last : ℤ) (ranges : List Range) → follow last ra
     → are_in_set n (map sent_range ranges) ≡ true
 all_in_set n last [] f h = refl
 all_in_set n last (r ∷ rs) f h =
-    let parts = both_false (is_past (pos n) (positions_of r)) (is_past (pos n) (positions rs))
+    let parts = or_parts (is_past (pos n) (positions_of r)) (is_past (pos n) (positions rs))
     (sym (list_any-append (λ p. int_lt (pos n) (pos p)) (positions_of r) (positions rs)) ∙ h) in
     let first = follow_first last r rs f in
     let s = natural_low r.start first.0.low in

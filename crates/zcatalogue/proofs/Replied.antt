@@ -1,8 +1,9 @@
 -- What a target replied to each operation of a question.
 use Rattle.std.proofs.Common.{◌≡◌, inl, inr, ℕ, zero, suc, ◌≤◌, Bool, true, false, cond, List, [], ◌∷◌, ◌++◌, map, length, Option, None, Some, refl, sym, ap, subst, ◌∙◌, arith, true≢false}
-use Rattle.std.specs.Prelude.{not, ◌||◌, pos, Contains, nat_eq}
+use Rattle.std.specs.Prelude.{not, pos, Contains, nat_eq}
 use Rattle.std.specs.List.{list_any, find, flat_map, range_with_len, AllByRecursion, IsDistinct}
 use Rattle.std.specs.Map.{lookup}
+use Rattle.std.proofs.lemmas.Bool.{or_parts}
 use Rattle.std.proofs.lemmas.Bool.Decides.{nat_tests}
 use Rattle.std.proofs.lemmas.Map.Keys.{IsDistinct-head, IsDistinct-tail}
 use Rattle.zplan.specs.Plan as plan
@@ -54,23 +55,16 @@ use Rattle.zoom.specs.Driving.{operation_for}
 use Rattle.zoom.specs.Steering.{Errand, ask_of, errand_of, IsSteered, IsSteeredCall}
 use Rattle.zoom.specs.Drivers.{DriverState, IsDriver}
 use Rattle.zoom.proofs.Drivings.{among, contained}
+use Rattle.zaccord.specs.Accord.{requests}
+use Rattle.zaccord.proofs.Accord.{init_fits}
 use Rattle.zcatalogue.proofs.Owing.{IsAnswer, answered, Replies, kind}
-use Rattle.zcatalogue.proofs.Sent.{requests_of, IsOwed, owes, IsRequest, is_request, settings_are, same_admitted}
+use Rattle.zcatalogue.proofs.Sent.{IsOwed, owes, IsRequest, is_request, settings_are, same_admitted}
 use Rattle.zcatalogue.proofs.Standings.{init_of, search_by, present_by, given, response, is_search_call, find_in, IsReady, ready, StandsIn, stands, OpenedSo, same_fault}
 use Rattle.zcatalogue.proofs.Standings as standings
 use Rattle.zcatalogue.proofs.Members.{AreWithin}
 use Rattle.zcatalogue.proofs.Presents.{kept_of, presents, all_within}
 
 -- ---- what fits
-
-init_fits : (x : Apdu) → Fits what.Init x → (w : InitResponse) × (x ≡ apdus.InitResponse w)
-init_fits (apdus.InitResponse w) f = (w, refl)
-init_fits (apdus.InitRequest w) f = absurd f
-init_fits (apdus.SearchRequest w) f = absurd f
-init_fits (apdus.SearchResponse w) f = absurd f
-init_fits (apdus.PresentRequest w) f = absurd f
-init_fits (apdus.PresentResponse w) f = absurd f
-init_fits (apdus.Close w) f = absurd f
 
 search_fits : (x : Apdu) → Fits what.Search x → (w : SearchResponse) × (x ≡ apdus.SearchResponse w)
 search_fits (apdus.SearchResponse w) f = (w, refl)
@@ -142,10 +136,6 @@ rows_of : (s : Standing) (c : Call) → refusal s c ≡ None
     → AllByRecursion (λ (row : Bool × CallRefused). row.0 ≡ false) (early_rows s c)
 unfolding refusal
 rows_of s c h = passed (early_rows s c) (none_of (unsendable s c) (early_refusal s c) h)
-
-neither : (a b : Bool) → a || b ≡ false → (a ≡ false) × (b ≡ false)
-neither true b e = absurd cc
-neither false b e = (refl, e)
 
 -- ---- the one search
 
@@ -287,7 +277,7 @@ module _ (orderly : (s : Settings) (l : Log) → IsOrderly (past s l))
     (q : Question) (s : MetaSettings) (settings : Settings) (log : Log) (d : DriverState)
     (k : IsDriver (errand_of s q) settings log d)
     (talks : (x : Answer) → IsIn x (past settings log).accepted
-    → IsIn x.reply (replies databases offers (requests_of settings log))) where
+    → IsIn x.reply (replies databases offers (requests settings log))) where
   abbrev Owed : Apdu → Type 0
   Owed r = IsOwed databases offers (errand_of s q) settings log r
 
@@ -296,7 +286,7 @@ module _ (orderly : (s : Settings) (l : Log) → IsOrderly (past s l))
 
   -- where the target stood before the request
   abbrev before : (r : Apdu) → Owed r → target.Standing
-  before r o = standing_after databases offers (requests_of settings o.2.earlier)
+  before r o = standing_after databases offers (requests settings o.2.earlier)
 
   given_to : (r : Apdu) (o : Owed r) → IsAnswer databases offers (before r o).state (before r o).sets o.0 o.1
   given_to r o = answered databases offers (before r o).state (before r o).sets o.0 o.1 o.2.answer
@@ -428,7 +418,7 @@ module _ (orderly : (s : Settings) (l : Log) → IsOrderly (past s l))
       (subst (λ z. is_found (outcome_in z) ≡ true) y_reply y.2) in
       let outcome : kept.outcome ≡ Some (outcomes.Found (pos (length found_here))) =
       ap (λ (z : Searched). z.outcome) look.0 ∙ ap outcome_by y.1 ∙ ap outcome_in y_reply ∙ count.1 in
-      let range = neither (not (are_ranges c.2))
+      let range = or_parts (not (are_ranges c.2))
       (past_count (positions c.2) (search_of (standing p).searches c.1)) rows.1.1.1.1.1.1.1.0 in
       let good = ready_if (are_ranges c.2) range.0 in
       let past : is_past (pos (length found_here)) (positions c.2) ≡ false =

@@ -4,6 +4,7 @@ use Rattle.std.specs.Prelude.{reverse}
 use Rattle.std.specs.Option.{option_map}
 use Rattle.std.proofs.lemmas.List.{reverse-append}
 use Rattle.zplan.specs.Positions.{IsIn}
+use Rattle.zplan.proofs.Cuts.{in_left, in_right, in_either}
 use Rattle.zapdu.specs.declared.apdu.Apdu.{Apdu}
 use Rattle.zorigin.specs.declared.settings.Settings.{Settings}
 use Rattle.zorigin.specs.declared.range.Range.{Range}
@@ -27,20 +28,8 @@ use Rattle.ztarget.specs.Replies.{owed, replies, reply_of}
 use Rattle.ztarget.specs.Replies as target
 use Rattle.zoom.specs.Driving.{events_of, IsDueCall, IsDrivenLog}
 use Rattle.zoom.specs.Steering.{Errand, IsSteered, IsSteeredCall}
-use Rattle.zoom.proofs.Drivings.{in_parts, in_front, asked_more, same_asked}
-
-pub in_left : {X : Type 0} (x : X) (xs ys : List X) → IsIn x xs → IsIn x (xs ++ ys)
-in_left x [] ys i = absurd i
-in_left x (y ∷ xs) ys (inl e) = inl e
-in_left x (y ∷ xs) ys (inr i) = inr (in_left x xs ys i)
-
-pub in_right : {X : Type 0} (x : X) (xs ys : List X) → IsIn x ys → IsIn x (xs ++ ys)
-in_right x [] ys i = i
-in_right x (y ∷ xs) ys i = inr (in_right x xs ys i)
-
--- the requests that a log sent, the newest first
-abbrev pub requests_of : Settings → Log → List Apdu
-requests_of settings log = reverse (past settings log).sent
+use Rattle.zoom.proofs.Drivings.{in_front, asked_more, same_asked}
+use Rattle.zaccord.specs.Accord.{requests}
 
 -- ---- one entry more
 
@@ -144,7 +133,7 @@ module _ (databases : List Database) (offers : TargetSettings) (e : Errand) (set
     pub call : Call
     pub admitted : refusal (standing (past settings earlier)) call ≡ None
     pub request : request_of (standing (past settings earlier)) call ≡ Some v
-    pub answer : owed databases offers (requests_of settings earlier) v ≡ Ok a
+    pub answer : owed databases offers (requests settings earlier) v ≡ Ok a
     pub steering : IsSteeredCall e settings earlier None call
     pub due : IsDueCall e.ask e.wanted e.step (events_of e.ask settings earlier) None call
     pub steered : IsSteered e settings earlier
@@ -185,7 +174,7 @@ module _ (databases : List Database) (offers : TargetSettings) (e : Errand) (set
   one_reply r (Err error) i = absurd i
 
   pub owes : (log : Log) → IsSteered e settings log → IsDrivenLog e.ask e.wanted e.step settings log
-      → (r : Apdu) → IsIn r (replies databases offers (requests_of settings log)) → IsOwed log r
+      → (r : Apdu) → IsIn r (replies databases offers (requests settings log)) → IsOwed log r
   owes [] s d r i = absurd i
   owes (Made call ∷ log) s d r i =
       made (owes log s.1 d.1 r) (refusal (standing (past settings log)) call) refl s.0 d.0 i
@@ -197,7 +186,7 @@ module _ (databases : List Database) (offers : TargetSettings) (e : Errand) (set
       more = later log (Made call ∷ log) r (kept_asked p call (refusal (standing p) call))
           (kept_call p call (refusal (standing p) call))
 
-      made : (IsIn r (replies databases offers (requests_of settings log)) → IsOwed log r)
+      made : (IsIn r (replies databases offers (requests settings log)) → IsOwed log r)
           → (o : Option CallRefused) → refusal (standing p) call ≡ o → IsSteeredCall e settings log o call
           → IsDueCall e.ask e.wanted e.step (events_of e.ask settings log) o call
           → IsIn r (replies databases offers (reverse (admit_unless p call o).sent)) → IsOwed (Made call ∷ log) r
@@ -206,11 +195,11 @@ module _ (databases : List Database) (offers : TargetSettings) (e : Errand) (set
           let sends = sent_request (standing p) call is in
           let v = sends.request in
           let k = subst (λ l. IsIn r (replies databases offers l)) (one_more p call v sends.made) j in
-          elim (in_parts r (replies databases offers (requests_of settings log))
-          (reply_of (owed databases offers (requests_of settings log) v)) k) [
+          elim (in_either r (replies databases offers (requests settings log))
+          (reply_of (owed databases offers (requests settings log) v)) k) [
             | inl old ↦ more (before old)
             | inr new ↦
-                let one = one_reply r (owed databases offers (requests_of settings log) v) new in (
+                let one = one_reply r (owed databases offers (requests settings log) v) new in (
                   v,
                   one.0,
                   record {
