@@ -1,7 +1,7 @@
 -- What a complete connection knows is its target's catalogue's answer.
-use Rattle.std.proofs.Common.{◌≡◌, inl, inr, ℕ, zero, suc, ◌+◌, ◌≤◌, Bool, true, false, cond, if◌then◌else◌, List, [], ◌∷◌, ◌++◌, map, take, length, Option, None, Some, refl, sym, ap, subst, ◌∙◌, arith, append-nil, length-append}
+use Rattle.std.proofs.Common.{◌≡◌, inl, inr, ℕ, zero, suc, ◌+◌, ◌≤◌, Bool, true, false, if◌then◌else◌, List, [], ◌∷◌, ◌++◌, map, take, length, Option, None, Some, refl, sym, ap, subst, ◌∙◌, arith, append-nil, length-append}
 use Rattle.std.specs.Prelude.{not, ◌&&◌, ◌||◌, pos, min, int_lt, nat_le, is_none, Contains}
-use Rattle.std.specs.List.{find, flat_map}
+use Rattle.std.specs.List.{flat_map}
 use Rattle.std.proofs.lemmas.List.{length-map}
 use Rattle.std.proofs.lemmas.Bool.Decides.{nat_tests}
 use Rattle.std.proofs.lemmas.Int.{ints}
@@ -27,7 +27,7 @@ use Rattle.zorigin.specs.Fitting.{records_in, diagnostics_in}
 use Rattle.zorigin.specs.Sending.{search_request, is_unsendable}
 use Rattle.zorigin.specs.Calls.{refusal, or_unsendable}
 use Rattle.zorigin.specs.Replies.{verdict}
-use Rattle.zorigin.specs.Log.{Log, Got, Past, past, standing, opens, is_init, force_after, asked}
+use Rattle.zorigin.specs.Log.{Log, Got, Past, past, standing, opens, force_after, asked}
 use Rattle.zorigin.specs.Accepts.{IsAccepted}
 use Rattle.zorigin.specs.Laws.{IsOrderly}
 use Rattle.ztarget.specs.declared.database.Database.{Database}
@@ -54,24 +54,16 @@ use Rattle.zoom.proofs.Orders.{from_answer, of_answer}
 use Rattle.zaccord.specs.Accord.{requests}
 use Rattle.zschedules.proofs.Answered.{is_replied, complete_whole}
 use Rattle.zschedules.proofs.Openings.{opened_past, at_opening, init_replied}
-use Rattle.zschedules.proofs.Replies.{CameFrom, came}
+use Rattle.zschedules.proofs.Replies.{CameFrom, came, kept_reply}
+use Rattle.zschedules.proofs.Same.{opens_for, find_there}
 use Rattle.zschedules.proofs.Sets.{set_for, of_set}
 use Rattle.zcatalogue.specs.Catalogue.{entries_for, positions_due, shown_at, found_facts, fault_facts, answer_facts, catalogue, AreOwed, RecordsFit, CanAsk, CatalogueLaw, UnaskedLaw}
-use Rattle.zcatalogue.proofs.Sent.{kept_reply}
 use Rattle.zcatalogue.proofs.Standings.{given, response, search_by, find_in, accepts, refuses, force_of}
 use Rattle.zcatalogue.proofs.Members.{to_flat, of_flat, to_map, of_map, length_at, of_seen, to_seen}
 use Rattle.zcatalogue.proofs.Presents.{records_back, none_told, kept_of}
 use Rattle.zcatalogue.proofs.Replied.{search_reply, PresentedAt, opened, searched, presented_at, for_opens}
 
 -- ---- operations
-
-opens_for : (x : Answer) → operation_for x.asked.what ≡ plan.Init → opens x ≡ true
-opens_for x e = by x.asked.what e
-  where
-    by : (w : What) → operation_for w ≡ plan.Init → is_init w ≡ true
-    by what.Init f = refl
-    by what.Search f = absurd cc
-    by (what.Present ranges) f = absurd cc
 
 for_search : (w : What) → operation_for w ≡ plan.Search → w ≡ what.Search
 for_search what.Init f = absurd cc
@@ -83,21 +75,6 @@ for_present : (w : What) (l : List ℕ) → operation_for w ≡ plan.Present l
 for_present what.Init l f = absurd cc
 for_present what.Search l f = absurd cc
 for_present (what.Present ranges) l f = (ranges, refl, (let z : positions ranges ≡ l = cc in z))
-
-find_there : (xs : List Answer) (x : Answer) → IsIn x xs → opens x ≡ true → (y : Answer) × (find opens xs ≡ Some y)
-find_there [] x i o = absurd i
-find_there (z ∷ xs) x i o = by (λ j. find_there xs x j o) (opens z) refl
-  where
-    more : IsIn x (z ∷ xs) → opens z ≡ false → IsIn x xs
-    more (inl e) is = absurd (let t : true ≡ false = sym o ∙ ap opens e ∙ is in cc)
-    more (inr j) is = j
-
-    by : (IsIn x xs → (y : Answer) × (find opens xs ≡ Some y)) → (b : Bool) → opens z ≡ b
-        → (y : Answer) × (find opens (z ∷ xs) ≡ Some y)
-    by later true is = (z, ap (λ t. cond t (Some z) (find opens xs)) is)
-    by later false is =
-        let r = later (more i is) in
-        (r.0, ap (λ t. cond t (Some z) (find opens xs)) is ∙ r.1)
 
 search_opened : (wanted : List ℕ) (step : ℕ) (answers : Replies) → IsAsked wanted step answers plan.Search
     → (t : Bool) × (answers plan.Init ≡ Some (Opens true t))

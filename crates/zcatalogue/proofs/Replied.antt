@@ -55,10 +55,11 @@ use Rattle.zoom.specs.Driving.{operation_for}
 use Rattle.zoom.specs.Steering.{Errand, ask_of, errand_of, IsSteered, IsSteeredCall}
 use Rattle.zoom.specs.Drivers.{DriverState, IsDriver}
 use Rattle.zoom.proofs.Drivings.{among, contained}
+use Rattle.zschedules.proofs.Complete.{same_admitted}
 use Rattle.zaccord.specs.Accord.{requests}
 use Rattle.zaccord.proofs.Accord.{init_fits}
 use Rattle.zcatalogue.proofs.Owing.{IsAnswer, answered, Replies, kind}
-use Rattle.zcatalogue.proofs.Sent.{IsOwed, owes, IsRequest, is_request, settings_are, same_admitted}
+use Rattle.zcatalogue.proofs.Sent.{IsOwed, owes, IsRequest, is_request, settings_are}
 use Rattle.zcatalogue.proofs.Standings.{init_of, search_by, present_by, given, response, is_search_call, find_in, IsReady, ready, StandsIn, stands, OpenedSo, same_fault}
 use Rattle.zcatalogue.proofs.Standings as standings
 use Rattle.zcatalogue.proofs.Members.{AreWithin}

@@ -28,7 +28,8 @@ use Rattle.ztarget.specs.Replies.{owed, replies, reply_of}
 use Rattle.ztarget.specs.Replies as target
 use Rattle.zoom.specs.Driving.{events_of, IsDueCall, IsDrivenLog}
 use Rattle.zoom.specs.Steering.{Errand, IsSteered, IsSteeredCall}
-use Rattle.zoom.proofs.Drivings.{in_front, asked_more, same_asked}
+use Rattle.zoom.proofs.Drivings.{asked_more, same_asked}
+use Rattle.zschedules.proofs.Replies.{kept_call, kept_reply}
 use Rattle.zaccord.specs.Accord.{requests}
 
 -- ---- one entry more
@@ -41,15 +42,6 @@ same_sent p (Ok taken.Closed) = refl
 same_sent p (Err r) =
     elim (is_open (state_of p)) as
     (λ b. (cond b (record p { fault = Some r }) p).sent ≡ p.sent) [ true ↦ refl | false ↦ refl ]
-
-pub same_admitted : (p : Past) (v : Result Taken Refused) → (after_verdict p v).admitted ≡ p.admitted
-same_admitted p (Ok (taken.Opened a)) = refl
-same_admitted p (Ok (taken.Rejected a)) = refl
-same_admitted p (Ok (taken.Answered a)) = refl
-same_admitted p (Ok taken.Closed) = refl
-same_admitted p (Err r) =
-    elim (is_open (state_of p)) as
-    (λ b. (cond b (record p { fault = Some r }) p).admitted ≡ p.admitted) [ true ↦ refl | false ↦ refl ]
 
 same_settings : (p : Past) (v : Result Taken Refused) → (after_verdict p v).settings ≡ p.settings
 same_settings p (Ok (taken.Opened a)) = refl
@@ -70,21 +62,6 @@ settings_are settings (Made call ∷ log) =
     admitted_settings (past settings log) call (refusal (standing (past settings log)) call) ∙ settings_are settings log
 settings_are settings (Got reply ∷ log) =
     same_settings (past settings log) (verdict (standing (past settings log)) reply) ∙ settings_are settings log
-
-pub kept_reply : (p : Past) (v : Result Taken Refused) (x : Answer) → IsIn x p.accepted
-    → IsIn x (after_verdict p v).accepted
-kept_reply p (Ok (taken.Opened y)) x i = in_front x y p.accepted i
-kept_reply p (Ok (taken.Rejected y)) x i = in_front x y p.accepted i
-kept_reply p (Ok (taken.Answered y)) x i = in_front x y p.accepted i
-kept_reply p (Ok taken.Closed) x i = i
-kept_reply p (Err r) x i =
-    elim (is_open (state_of p)) as
-    (λ b. IsIn x (cond b (record p { fault = Some r }) p).accepted) [ true ↦ i | false ↦ i ]
-
-pub kept_call : (p : Past) (call : Call) (r : Option CallRefused) (x : Answer) → IsIn x p.accepted
-    → IsIn x (admit_unless p call r).accepted
-kept_call p call None x i = i
-kept_call p call (Some r) x i = i
 
 kept_asked : (p : Past) (call : Call) (r : Option CallRefused) (q : Asked) → IsIn q (asked p)
     → IsIn q (asked (admit_unless p call r))

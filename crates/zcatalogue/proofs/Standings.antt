@@ -45,9 +45,11 @@ use Rattle.ztarget.specs.Replies.{answer, answer_at, left_by, standing_after, to
 use Rattle.ztarget.specs.Laws.{KeptSets}
 use Rattle.zoom.specs.Steering.{Errand, IsSteered, IsSteeredCall}
 use Rattle.zoom.proofs.Drivings.{among, contained}
+use Rattle.zschedules.proofs.Complete.{same_admitted}
+use Rattle.zschedules.proofs.Replies.{kept_call, kept_reply}
 use Rattle.zcatalogue.specs.Catalogue.{size_given}
 use Rattle.zcatalogue.proofs.Owing.{search_leaves, present_leaves}
-use Rattle.zcatalogue.proofs.Sent.{settings_are, same_sent, same_admitted, kept_reply, kept_call, one_more, is_request, IsRequest}
+use Rattle.zcatalogue.proofs.Sent.{settings_are, same_sent, one_more, is_request, IsRequest}
 use Rattle.zorigin.proofs.Orderly.{sent_request}
 
 -- ---- the requests

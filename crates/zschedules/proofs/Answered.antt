@@ -2,6 +2,7 @@
 use Rattle.std.proofs.Common.{◌≡◌, ◌⊎◌, inl, inr, ℕ, ◌<◌, Bool, true, false, cond, List, [], ◌∷◌, ◌++◌, map, Option, None, Some, Result, Ok, Err, refl, sym, ap, subst, ◌∙◌, arith, true≢false}
 use Rattle.std.specs.Prelude.{◌||◌, ◌&&◌, not, nat_eq}
 use Rattle.std.specs.List.{list_any, find, IsDistinct, AllByRecursion}
+use Rattle.std.proofs.lemmas.Bool.{or_cases}
 use Rattle.std.proofs.lemmas.Bool.Decides.{nat_tests}
 use Rattle.std.proofs.lemmas.Map.Keys.{IsDistinct-head, IsDistinct-tail}
 use Rattle.zplan.specs.Plan as plan
@@ -26,7 +27,7 @@ use Rattle.zorigin.specs.Laws.{IsOrderly, answered_op}
 use Rattle.zoom.specs.Driving.{operation_for, reply_for, can_search, got_event, made_event, events_of, IsDrivenLog}
 use Rattle.zoom.specs.Steering.{is_rejected, is_rejection, complete_in}
 use Rattle.zoom.proofs.Drivings.{contained, among, in_parts, replies_call, numbered}
-use Rattle.zschedules.proofs.Complete.{either_true, closed_whole}
+use Rattle.zschedules.proofs.Complete.{closed_whole}
 use Rattle.zschedules.proofs.Replies.{came}
 use Rattle.zschedules.proofs.Openings.{init_replied}
 use Rattle.zschedules.proofs.Same.{for_opens}
@@ -183,7 +184,7 @@ module _ (ask : Ask) (wanted : List ℕ) (step : ℕ) (settings : Settings)
   pub complete_whole : (log : Log) → IsDrivenLog ask wanted step settings log → complete_in (past settings log) ≡ true
       → IsAnsweredWhole wanted step (events_of ask settings log)
   complete_whole log d e =
-      elim (either_true (is_rejected (opening (past settings log))) (list_any is_close_call (past settings log).admitted) e) [
+      elim (or_cases (is_rejected (opening (past settings log))) (list_any is_close_call (past settings log).admitted) e) [
         | inl refused ↦ rejected_whole log d refused
         | inr closed ↦ closed_whole wanted step ask settings orderly log d closed
       ]

@@ -1,7 +1,8 @@
 -- Once all that is asked was answered, nothing more is asked.
-use Rattle.std.proofs.Common.{◌≡◌, ◌⊎◌, inl, inr, ℕ, Bool, true, false, cond, List, [], ◌∷◌, ◌++◌, Option, None, Some, Result, Ok, Err, refl, sym, ap, ◌∙◌}
+use Rattle.std.proofs.Common.{◌≡◌, inl, inr, ℕ, Bool, true, false, cond, List, [], ◌∷◌, ◌++◌, Option, None, Some, Result, Ok, Err, refl, sym, ap, ◌∙◌}
 use Rattle.std.specs.Prelude.{◌||◌}
 use Rattle.std.specs.List.{list_any}
+use Rattle.std.proofs.lemmas.Bool.{or_cases}
 use Rattle.std.proofs.lemmas.List.Folds.{list_any-append}
 use Rattle.zplan.specs.Plan.{Event, Sends, Receives, Closes, IsDriven, IsAnsweredWhole}
 use Rattle.zplan.proofs.Order.{answered_sent, sent_asked}
@@ -19,9 +20,15 @@ use Rattle.zorigin.specs.Laws.{IsOrderly}
 use Rattle.zoom.specs.Driving.{plan_of, operation_for, reply_for, got_event, made_event, events_of, IsDueCall, IsDueEvent, IsDrivenLog}
 use Rattle.zoom.proofs.Drivings.{driven}
 
-pub either_true : (a b : Bool) → a || b ≡ true → (a ≡ true) ⊎ (b ≡ true)
-either_true true b e = inl refl
-either_true false b e = inr e
+-- a reply admits no call
+pub same_admitted : (p : Past) (v : Result Taken Refused) → (after_verdict p v).admitted ≡ p.admitted
+same_admitted p (Ok (taken.Opened a)) = refl
+same_admitted p (Ok (taken.Rejected a)) = refl
+same_admitted p (Ok (taken.Answered a)) = refl
+same_admitted p (Ok taken.Closed) = refl
+same_admitted p (Err r) =
+    elim (is_open (state_of p)) as (λ b. (cond b (record p { fault = Some r }) p).admitted ≡ p.admitted)
+    [ true ↦ refl | false ↦ refl ]
 
 module _ (wanted : List ℕ) (step : ℕ) where
   -- it stays answered whole, and nothing is sent any more
@@ -62,15 +69,6 @@ module _ (wanted : List ℕ) (step : ℕ) where
   close_whole ask (Search op set a) events is due = absurd cc
   close_whole ask (Present op set ranges) events is due = absurd cc
 
-  same_admitted : (p : Past) (v : Result Taken Refused) → (after_verdict p v).admitted ≡ p.admitted
-  same_admitted p (Ok (taken.Opened a)) = refl
-  same_admitted p (Ok (taken.Rejected a)) = refl
-  same_admitted p (Ok (taken.Answered a)) = refl
-  same_admitted p (Ok taken.Closed) = refl
-  same_admitted p (Err r) =
-      elim (is_open (state_of p)) as (λ b. (cond b (record p { fault = Some r }) p).admitted ≡ p.admitted)
-      [ true ↦ refl | false ↦ refl ]
-
   one_true : (b : Bool) → b || false ≡ true → b ≡ true
   one_true true e = refl
   one_true false e = e
@@ -92,7 +90,7 @@ module _ (wanted : List ℕ) (step : ℕ) where
             → IsDriven wanted step (made_event r call (events_of ask settings log))
             → IsAnsweredWhole wanted step (made_event r call (events_of ask settings log))
         made before (Some r) is c f g = before f
-        made before None is c f g = elim (either_true (list_any is_close_call (past settings log).admitted) (is_close_call call || false)
+        made before None is c f g = elim (or_cases (list_any is_close_call (past settings log).admitted) (is_close_call call || false)
             (sym (list_any-append is_close_call (past settings log).admitted (call ∷ [])) ∙ f)) [
               | inl was ↦ call_whole call (events_of ask settings log) g (before was)
               | inr now ↦ close_whole ask call (events_of ask settings log) (one_true (is_close_call call) now) c.1

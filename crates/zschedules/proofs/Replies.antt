@@ -39,6 +39,22 @@ pub record CameFrom
       → IsIn x (past settings log).accepted
   pub there : IsIn answer (past settings log).accepted
 
+-- what was accepted stays so, whatever is called or comes then
+pub kept_call : (p : Past) (call : Call) (r : Option CallRefused) (x : Answer) → IsIn x p.accepted
+    → IsIn x (admit_unless p call r).accepted
+kept_call p call None x i = i
+kept_call p call (Some r) x i = i
+
+pub kept_reply : (p : Past) (v : Result Taken Refused) (x : Answer) → IsIn x p.accepted
+    → IsIn x (after_verdict p v).accepted
+kept_reply p (Ok (taken.Opened y)) x i = in_front x y p.accepted i
+kept_reply p (Ok (taken.Rejected y)) x i = in_front x y p.accepted i
+kept_reply p (Ok (taken.Answered y)) x i = in_front x y p.accepted i
+kept_reply p (Ok taken.Closed) x i = i
+kept_reply p (Err r) x i =
+    elim (is_open (state_of p)) as (λ b. IsIn x (cond b (record p { fault = Some r }) p).accepted)
+    [ true ↦ i | false ↦ i ]
+
 module _ (ask : Ask) (wanted : List ℕ) (step : ℕ) (settings : Settings)
     (orderly : (s : Settings) (l : Log) → IsOrderly (past s l)) where
   came_later : (log : Log) (more : Log) (a : Operation) (r : Reply)
@@ -59,21 +75,6 @@ module _ (ask : Ask) (wanted : List ℕ) (step : ℕ) (settings : Settings)
     within = λ x i. keeps x (c.within x i);
     there = keeps c.answer c.there;
   }
-
-  kept_call : (p : Past) (call : Call) (r : Option CallRefused) (x : Answer) → IsIn x p.accepted
-      → IsIn x (admit_unless p call r).accepted
-  kept_call p call None x i = i
-  kept_call p call (Some r) x i = i
-
-  pub kept_reply : (p : Past) (v : Result Taken Refused) (x : Answer) → IsIn x p.accepted
-      → IsIn x (after_verdict p v).accepted
-  kept_reply p (Ok (taken.Opened y)) x i = in_front x y p.accepted i
-  kept_reply p (Ok (taken.Rejected y)) x i = in_front x y p.accepted i
-  kept_reply p (Ok (taken.Answered y)) x i = in_front x y p.accepted i
-  kept_reply p (Ok taken.Closed) x i = i
-  kept_reply p (Err r) x i =
-      elim (is_open (state_of p)) as (λ b. IsIn x (cond b (record p { fault = Some r }) p).accepted)
-      [ true ↦ i | false ↦ i ]
 
   brought : (p : Past) (t : Taken) (x : Answer) → answer_in t ≡ Some x → IsIn x (after_verdict p (Ok t)).accepted
   brought p (taken.Opened y) x e = subst (λ z. IsIn z (p.accepted ++ y ∷ [])) (let is : y ≡ x = cc in is) (in_last y p.accepted)

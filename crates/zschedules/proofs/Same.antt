@@ -80,7 +80,7 @@ by_fit_present (what.Present ranges) (apdus.Close v) l a b c d f e = absurd f
 
 -- ---- the answer to Init
 
-opens_for : (x : Answer) → operation_for x.asked.what ≡ plan.Init → opens x ≡ true
+pub opens_for : (x : Answer) → operation_for x.asked.what ≡ plan.Init → opens x ≡ true
 opens_for x e = by x.asked.what e
   where
     by : (w : What) → operation_for w ≡ plan.Init → is_init w ≡ true
@@ -97,7 +97,7 @@ for_opens x e = by x.asked.what e
     by (what.Present ranges) f = absurd cc
 
 -- the first of them
-find_there : (xs : List Answer) (x : Answer) → IsIn x xs → opens x ≡ true
+pub find_there : (xs : List Answer) (x : Answer) → IsIn x xs → opens x ≡ true
     → (y : Answer) × (find opens xs ≡ Some y) × IsIn y xs × (opens y ≡ true)
 find_there [] x i o = absurd i
 find_there (z ∷ xs) x i o = by (λ j. find_there xs x j o) (opens z) refl
@@ -134,7 +134,7 @@ module _ (ask : Ask) (wanted : List ℕ) (step : ℕ)
       let b = replied ask settings c.earlier plan.Init (Opens true three.0) three.1 in
       let p = past settings c.earlier in
       let f = find_there (past settings (Got c.reply ∷ c.earlier)).accepted b.0
-      (kept_reply ask wanted step settings orderly p (verdict (standing p) c.reply) b.0 b.1) (opens_for b.0 b.2) in
+      (kept_reply p (verdict (standing p) c.reply) b.0 b.1) (opens_for b.0 b.2) in
       (f.0, f.1, c.within f.0 f.2, for_opens f.0 f.3)
 
   shows_then : (settings : Settings) (log : Log) (a : Operation) (r : Reply)
