@@ -1,14 +1,16 @@
 -- Replies answer what was sent.
-use Rattle.std.proofs.Common.{◌≡◌, ◌⊎◌, inl, inr, ℕ, zero, suc, ◌+◌, ◌<◌, ◌≤◌, true, false, cond, List, [], ◌∷◌, ◌++◌, map, length, Option, None, Some, Result, Ok, Err, refl, sym, ap, subst, ◌∙◌, arith, append-nil, length-append, true≢false}
+use Rattle.std.proofs.Common.{◌≡◌, inl, inr, ℕ, zero, suc, ◌+◌, ◌<◌, ◌≤◌, true, false, cond, List, [], ◌∷◌, ◌++◌, map, length, Option, None, Some, Result, Ok, Err, refl, sym, ap, subst, ◌∙◌, arith, append-nil, length-append, true≢false}
 use Rattle.std.proofs.lemmas.Bool.Decides.{nat_tests}
 use Rattle.std.proofs.lemmas.Grind.{flat_map-append}
 use Rattle.std.proofs.lemmas.Map.Keys.{IsDistinct-head, IsDistinct-tail}
 use Rattle.std.specs.Prelude.{Contains, slice_index_or, nat_eq}
 use Rattle.std.specs.List.{AllByRecursion, IsDistinct}
 use Rattle.zplan.specs.Plan as plan
-use Rattle.zplan.specs.Plan.{Operation, Event, Reply, same, eq_list, number, asked_in, replies_in, count_in, IsDriven}
+use Rattle.zplan.specs.Plan.{Operation, Event, Reply, same, number, asked_in, replies_in, count_in, IsDriven}
 use Rattle.zplan.specs.Positions.{IsIn, IsWanted, up_to}
 use Rattle.zplan.specs.Laws.{BoundLaws}
+use Rattle.zplan.proofs.Cuts.{in_either}
+use Rattle.zplan.proofs.Order.{same_is}
 use Rattle.zorigin.specs.declared.settings.Settings.{Settings}
 use Rattle.zorigin.specs.declared.settings.Ask.{Ask}
 use Rattle.zorigin.specs.declared.answer.Asked.{Asked}
@@ -50,34 +52,6 @@ pub in_front : {X : Type 0} (x y : X) (xs : List X) → IsIn x xs → IsIn x (xs
 in_front x y [] i = absurd i
 in_front x y (z ∷ xs) (inl e) = inl e
 in_front x y (z ∷ xs) (inr i) = inr (in_front x y xs i)
-
-pub in_parts : {X : Type 0} (x : X) (xs ys : List X) → IsIn x (xs ++ ys) → IsIn x xs ⊎ IsIn x ys
-in_parts x [] ys i = inr i
-in_parts x (y ∷ xs) ys (inl e) = inl (inl e)
-in_parts x (y ∷ xs) ys (inr i) = elim (in_parts x xs ys i) [ inl j ↦ inl (inr j) | inr j ↦ inr j ]
-
--- ---- equal operations
-
-list_is : (l m : List ℕ) → eq_list l m ≡ true → l ≡ m
-list_is [] [] h = refl
-list_is [] (q ∷ qs) h = absurd (true≢false (sym h))
-list_is (p ∷ ps) [] h = absurd (true≢false (sym h))
-list_is (p ∷ ps) (q ∷ qs) h =
-    let e : p ≡ q = grind (arith, nat_tests) in
-    let t : eq_list ps qs ≡ true = grind (arith, nat_tests) in
-    let f = list_is ps qs t in
-    λ i. e i ∷ f i
-
-pub same_is : (a b : Operation) → same a b ≡ true → a ≡ b
-same_is plan.Init plan.Init h = refl
-same_is plan.Search plan.Search h = refl
-same_is (plan.Present l) (plan.Present m) h = ap plan.Present (list_is l m h)
-same_is plan.Init plan.Search h = absurd (true≢false (sym h))
-same_is plan.Init (plan.Present m) h = absurd (true≢false (sym h))
-same_is plan.Search plan.Init h = absurd (true≢false (sym h))
-same_is plan.Search (plan.Present m) h = absurd (true≢false (sym h))
-same_is (plan.Present l) plan.Init h = absurd (true≢false (sym h))
-same_is (plan.Present l) plan.Search h = absurd (true≢false (sym h))
 
 -- ---- one call more
 
@@ -184,7 +158,7 @@ module _ (ask : Ask) (settings : Settings) where
       made : (IsIn q (asked (past settings log)) → IsIn (operation_for q.what) (asked_in (events_of ask settings log))) → (r : Option CallRefused)
           → IsIn q (asked (admit_unless (past settings log) call r)) → IsIn (operation_for q.what) (asked_in (made_event r call (events_of ask settings log)))
       made before (Some r) j = before j
-      made before None j = elim (in_parts q (asked (past settings log)) (operation_of call) (subst (IsIn q) (asked_more (past settings log) call) j)) [
+      made before None j = elim (in_either q (asked (past settings log)) (operation_of call) (subst (IsIn q) (asked_more (past settings log) call) j)) [
         | inl k ↦ asked_still (operation_for q.what) call (events_of ask settings log) (before k)
         | inr k ↦ asked_call q call (events_of ask settings log) k
       ]
@@ -231,7 +205,7 @@ module _ (ask : Ask) (settings : Settings) where
             → IsDueCall ask wanted step (events_of ask settings log) r call → IsIn q (asked (admit_unless (past settings log) call r))
             → q.op ≡ number (operation_for q.what)
         made before (Some r) c j = before j
-        made before None c j = elim (in_parts q (asked (past settings log)) (operation_of call) (subst (IsIn q) (asked_more (past settings log) call) j)) [
+        made before None c j = elim (in_either q (asked (past settings log)) (operation_of call) (subst (IsIn q) (asked_more (past settings log) call) j)) [
           | inl k ↦ before k
           | inr k ↦ numbered_call q call c.0 k
         ]

@@ -8,6 +8,7 @@ use Rattle.std.proofs.lemmas.Map.Keys.{IsDistinct-head, IsDistinct-tail}
 use Rattle.zplan.specs.Plan as plan
 use Rattle.zplan.specs.Plan.{Operation, Event, Receives, Reply, Opens, same, number, replies_in, IsAnsweredWhole}
 use Rattle.zplan.specs.Positions.{IsIn}
+use Rattle.zplan.proofs.Cuts.{in_either}
 use Rattle.zplan.proofs.Order.{same_self}
 use Rattle.zapdu.specs.declared.apdu.Apdu.{Apdu}
 use Rattle.zapdu.specs.declared.apdu.Apdu.TheVariants as apdus
@@ -26,7 +27,7 @@ use Rattle.zorigin.specs.Log.{Log, Made, Got, Past, past, standing, state_of, op
 use Rattle.zorigin.specs.Laws.{IsOrderly, answered_op}
 use Rattle.zoom.specs.Driving.{operation_for, reply_for, can_search, got_event, made_event, events_of, IsDrivenLog}
 use Rattle.zoom.specs.Steering.{is_rejected, is_rejection, complete_in}
-use Rattle.zoom.proofs.Drivings.{contained, among, in_parts, replies_call, numbered}
+use Rattle.zoom.proofs.Drivings.{contained, among, replies_call, numbered}
 use Rattle.zschedules.proofs.Complete.{closed_whole}
 use Rattle.zschedules.proofs.Replies.{came}
 use Rattle.zschedules.proofs.Openings.{init_replied}
@@ -52,7 +53,7 @@ module _ (ask : Ask) (settings : Settings) where
   last : (p : Past) (y : Answer) (events : List Event) (r : Reply) (x : Answer)
       → (IsIn x p.accepted → Replied events x) → IsIn x (p.accepted ++ y ∷ [])
       → Replied (Receives (operation_for y.asked.what) r ∷ events) x
-  last p y events r x old i = elim (in_parts x p.accepted (y ∷ []) i) [
+  last p y events r x old i = elim (in_either x p.accepted (y ∷ []) i) [
     | inl j ↦ still (operation_for y.asked.what) r events x (old j)
     | inr j ↦ now j
   ]

@@ -2,6 +2,7 @@
 use Rattle.std.proofs.Common.{◌≡◌, ◌⊎◌, ℕ, true, false, cond, List, [], ◌∷◌, ◌++◌, Option, None, Some, Result, Ok, Err, refl, sym, subst, ◌∙◌}
 use Rattle.zplan.specs.Plan.{Operation, Receives, Reply, same, asked_in, replies_in, IsDriven}
 use Rattle.zplan.specs.Positions.{IsIn}
+use Rattle.zplan.proofs.Order.{same_is}
 use Rattle.zapdu.specs.declared.apdu.Apdu.{Apdu}
 use Rattle.zorigin.specs.declared.settings.Settings.{Settings}
 use Rattle.zorigin.specs.declared.settings.Ask.{Ask}
@@ -17,7 +18,7 @@ use Rattle.zorigin.specs.Log.{Log, Made, Got, Past, past, standing, state_of, ad
 use Rattle.zorigin.specs.Laws.{IsOrderly}
 use Rattle.zoom.specs.Heard.{answer_in}
 use Rattle.zoom.specs.Driving.{operation_for, reply_for, got_event, made_event, events_of, IsDrivenLog}
-use Rattle.zoom.proofs.Drivings.{in_last, in_front, same_is, replies_call, driven}
+use Rattle.zoom.proofs.Drivings.{in_last, in_front, replies_call, driven}
 
 -- An answer was accepted for the operation, and its reply came to this, at a moment of the log at which the operation
 -- was not answered; what was accepted until then is accepted still.

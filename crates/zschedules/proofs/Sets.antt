@@ -4,6 +4,7 @@ use Rattle.zknow.specs.declared.fact.Fact.{Fact}
 use Rattle.zplan.specs.Plan as plan
 use Rattle.zplan.specs.Plan.{Operation}
 use Rattle.zplan.specs.Positions.{IsIn}
+use Rattle.zplan.proofs.Cuts.{in_either}
 use Rattle.zapdu.specs.declared.apdu.Apdu.{Apdu}
 use Rattle.zapdu.specs.declared.apdu.Apdu.TheVariants as apdus
 use Rattle.zorigin.specs.declared.settings.Settings.{Settings}
@@ -20,7 +21,7 @@ use Rattle.zorigin.specs.Facts.{facts_by, facts_of, init_facts, search_facts, pr
 use Rattle.zoom.specs.Driving.{operation_for}
 use Rattle.zoom.specs.Steering.{Errand, IsOf, IsSteered, IsSteeredCall}
 use Rattle.zoom.specs.Laws.{plain}
-use Rattle.zoom.proofs.Drivings.{in_parts, asked_more, same_asked}
+use Rattle.zoom.proofs.Drivings.{asked_more, same_asked}
 
 -- ---- the set of an operation
 
@@ -51,7 +52,7 @@ of_set e settings (Made call ∷ log) s q i =
         → IsIn q (asked (admit_unless (past settings log) call r)) → q.set ≡ set_for q.what
     made before (Some r) c j = before j
     made before None c j =
-        elim (in_parts q (asked (past settings log)) (operation_of call) (subst (IsIn q) (asked_more (past settings log) call) j)) [
+        elim (in_either q (asked (past settings log)) (operation_of call) (subst (IsIn q) (asked_more (past settings log) call) j)) [
           | inl k ↦ before k
           | inr k ↦ of_call e call q c.of k
         ]
