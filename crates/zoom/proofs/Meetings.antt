@@ -1,13 +1,13 @@
 -- A Take meets one thing, and deeds amount to one.
-use Rattle.std.proofs.Common.{◌≡◌, ◌⊎◌, inl, inr, length-append, ℕ, ◌<◌, Bool, true, false, List, [], ◌∷◌, ◌++◌}
+use Rattle.std.proofs.Common.{◌≡◌, ◌⊎◌, inl, inr, length-append, ℕ, ◌<◌, true, false, List, [], ◌∷◌}
 use Rattle.std.proofs.Common.{length, refl, sym, ap, subst, ◌∙◌, true≢false, arith}
 use Rattle.zber.specs.declared.fault.FaultKind.{FaultKind}
 use Rattle.zber.specs.Elements.{Element}
-use Rattle.zber.specs.AsnTags.{AsnTag}
-use Rattle.zber.specs.Spelling.{Identifier, low, high, Spells, primitive, definite, indefinite, Begins}
+use Rattle.zber.specs.Spelling.{Begins}
 use Rattle.zber.specs.Shown.{Shows}
 use Rattle.zber.specs.Unfinished.{IsUnfinished}
 use Rattle.zber.specs.Laws.{OneAnswer, Gave, nothing, one}
+use Rattle.zber.proofs.ScanSteps.{spells_some}
 use Rattle.zapdu.specs.declared.apdu.Apdu.{Apdu}
 use Rattle.zapdu.specs.declared.apdu.ApduError.{ApduError}
 use Rattle.zapdu.specs.declared.apdu.ApduError.TheVariants as decode
@@ -120,17 +120,8 @@ shape_once l xs m n none (halted a) (halted b) = halts_once l xs m n a b
 
 -- ---- a Take
 
-identifier_some : {n : AsnTag} {c : Bool} {i : List ℕ} (x : List ℕ) → Identifier n c i → 0 < length (i ++ x)
-identifier_some x (low t p) = omega arith
-identifier_some x (high t p g) = omega arith
-
-spelling_some : {room : ℕ} {e : Element} {x : List ℕ} → Spells room e x → 0 < length x
-spelling_some (primitive id len) = identifier_some _ id
-spelling_some (definite id len all) = identifier_some _ id
-spelling_some (indefinite id all) = identifier_some _ id
-
 pub none_begins : (e : Element) (rest : List ℕ) → Begins limit [] e rest → ⊥
-none_begins e rest b = absurd (omega (arith, spelling_some b.is.spelled, ap length b.cut, length-append b.message rest))
+none_begins e rest b = absurd (omega (arith, spells_some b.is.spelled, ap length b.cut, length-append b.message rest))
 
 abbrev Going : Heard → Met → Type 0
 Going p m = (is_stopped (state_at p) ≡ false) × (rest : List ℕ) × IsBehind p.stream p.taken rest × AreMetAs rest m
