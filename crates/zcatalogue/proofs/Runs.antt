@@ -12,11 +12,10 @@ use Rattle.zoom.specs.History.{only, facts_at}
 use Rattle.zoom.specs.Hosts.{holdings_of}
 use Rattle.zoom.specs.Laws.{OneHearing}
 use Rattle.zoom.specs.Metas.{MetaLinks, settings_of}
-use Rattle.zoom.proofs.Metas.{heard_at}
+use Rattle.zoom.proofs.Metas.{heard_at, slice_some}
 use Rattle.zexchange.specs.Exchange.{ConversesLaw}
 use Rattle.zrounds.specs.RunSound.{IsLost}
 use Rattle.zrounds.specs.RunRounds.{IsWhole, RanWhole}
-use Rattle.zrounds.proofs.RunWorlds.{get_some}
 use Rattle.zcatalogue.specs.Catalogue.{catalogue, CatalogueLaw}
 use Rattle.zcatalogue.specs.Runs.{IsBrought, CanBring, NoneIsLong, RunLaw}
 
@@ -67,8 +66,8 @@ module _ (answers : CatalogueLaw) (converses : ConversesLaw) (hearing : OneHeari
   brought f h =
       let k = (r.after.pool.known f).0 h in
       let lt = within k.0 f k.1 in
-      let q = get_some questions k.0 lt in
-      let t = get_some targets k.0 (subst (λ n. k.0 < n) (sym equal) lt) in
+      let q = slice_some questions k.0 lt in
+      let t = slice_some targets k.0 (subst (λ n. k.0 < n) (sym equal) lt) in
       (k.0, q.0, t.0, q.1, t.1, (answered k.0 q.0 t.0 q.1 t.1 f).0 k.1)
 
   known : (f : Fact) → IsBrought questions targets f → Contains meta.pool.knowledge f

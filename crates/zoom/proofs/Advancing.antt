@@ -1,10 +1,11 @@
 -- Calls that are made on a connection that is driven.
-use Rattle.std.proofs.Common.{◌≡◌, ◌≢◌, ℕ, zero, suc, ◌+◌, ◌<◌, ◌≤◌, ◌==◌, Bool, true, false, cond}
+use Rattle.std.proofs.Common.{◌≡◌, ◌≢◌, ℕ, ◌+◌, ◌<◌, ◌≤◌, ◌==◌, Bool, true, false, cond}
 use Rattle.std.proofs.Common.{List, [], ◌∷◌, ◌++◌, map, length, slice_get, slice_set, get_or, Option, None, Some}
 use Rattle.std.proofs.Common.{Result, Ok, Err, refl, sym, ap, subst, ◌∙◌, arith, true≢false, length-append}
 use Rattle.std.specs.Prelude.{is_some}
 use Rattle.std.specs.Result.{IsErr}
 use Rattle.std.proofs.lemmas.Bool.Decides.{nat_tests}
+use Rattle.std.proofs.lemmas.Option.{same_Some, slice_get_within}
 use Rattle.std.proofs.Math.ListN.{length-set}
 use Rattle.zapdu.specs.declared.apdu.Apdu.{Apdu}
 use Rattle.zorigin.specs.declared.settings.Settings.{Settings}
@@ -33,8 +34,8 @@ use Rattle.zoom.specs.Metas.{left_of, left_at, Gave, AdvancesBy, AdvancesTo, Iss
 use Rattle.zoom.specs.Metas.{Tells, is_skipped, is_complete, IsFinished}
 use Rattle.zoom.specs.declared.meta.Turn.{Turn}
 use Rattle.zoom.specs.declared.meta.Turn.TheVariants as turns
-use Rattle.zoom.proofs.Pools.{only_same, after_up_to}
-use Rattle.zoom.proofs.Metas.{goes, driven_more, heard_at, get_same, get_other, got_driver, slice_some}
+use Rattle.zoom.proofs.Pools.{only_same, after_up_to, got, get_same}
+use Rattle.zoom.proofs.Metas.{goes, driven_more, heard_at, get_other, slice_some}
 
 -- ---- calls as deeds
 
@@ -150,18 +151,10 @@ err_call law p call reason none e = by (refusal (standing (past_of p)) call) ref
 
 -- ---- a call that was made
 
-some_is : {y z : DriverState} → Some y ≡ Some z → y ≡ z
-some_is e = cc
-
-inside : (ds : List DriverState) (i : ℕ) (d : DriverState) → slice_get ds i ≡ Some d → i < length ds
-inside [] i d e = absurd (cc)
-inside (y ∷ ys) zero d e = omega arith
-inside (y ∷ ys) (suc i) d e = let n = inside ys i d e in omega (arith, n)
-
 -- what drives c then
 set_is : (ds : List DriverState) (c : ℕ) (was x d : DriverState) → slice_get ds c ≡ Some was
     → slice_get (slice_set ds c x) c ≡ Some d → x ≡ d
-set_is ds c was x d at e = some_is (sym (get_same ds c x (inside ds c was at)) ∙ e)
+set_is ds c was x d at e = same_Some x d (sym (get_same ds c x (slice_get_within ds c was at)) ∙ e)
 
 pub call_after : (questions : List Question) (s : MetaSettings) (h : History) (old new : MetaLinks) (c : ℕ) (call : Call)
     (r : Option CallRefused) (was x : DriverState) → MetaAfter questions s h old → Gave questions s c h call old
@@ -190,14 +183,14 @@ call_after questions s h old new c call r was x a gave so befell at knows ds siz
 -- what drives a connection, by an index
 pub driver_at : (ds : List DriverState) (cs : List Link) (c : ℕ) (d was : DriverState) → length ds ≡ length cs
     → c < length cs → was ≡ get_or ds c d → slice_get ds c ≡ Some was
-driver_at ds cs c d was n lt e = got_driver ds c d was (let le : c < length ds = omega (arith, n, lt) in le) e
+driver_at ds cs c d was n lt e = got ds c d was (let le : c < length ds = omega (arith, n, lt) in le) e
 
 -- how few calls are left
 left_then : (ds es : List DriverState) (c : ℕ) (was x : DriverState) → slice_get ds c ≡ Some was
     → es ≡ slice_set ds c x → x.left < was.left → left_of (slice_get es c) < left_of (slice_get ds c)
 left_then ds es c was x at e lt =
     let new : left_of (slice_get es c) ≡ x.left = ap (λ z. left_of (slice_get z c)) e
-    ∙ ap left_of (get_same ds c x (inside ds c was at)) in
+    ∙ ap left_of (get_same ds c x (slice_get_within ds c was at)) in
     let old : left_of (slice_get ds c) ≡ was.left = ap left_of at in
     omega (arith, new, old, lt)
 
@@ -351,7 +344,7 @@ unfolding progress_none
 idle_to E hearing c old new state was x lt is pool at ds stays gives questions s h a =
     let b = stays_after questions s h old new c was x a pool at ds stays in
     let drives : slice_get new.drivers c ≡ Some x = ap (λ z. slice_get z c) ds
-    ∙ get_same old.drivers c x (inside old.drivers c was at) in
+    ∙ get_same old.drivers c x (slice_get_within old.drivers c was at) in
     record {
       progress = progress_none hearing questions s c h new b;
       rests = λ q p asked heard. λ f call next. gives (errand_of s q) p.settings p.log
@@ -384,12 +377,12 @@ pub issued_to : (E : Type 0) → OneHearing → (c : ℕ) (old mid new : MetaLin
 issued_to E hearing c old mid new state was x call answer lt is going pool at ds stays gives issues questions s h a =
     let b = stays_after questions s h old mid c was x a pool at ds stays in
     let drives : slice_get mid.drivers c ≡ Some x = ap (λ z. slice_get z c) ds
-    ∙ get_same old.drivers c x (inside old.drivers c was at) in
+    ∙ get_same old.drivers c x (slice_get_within old.drivers c was at) in
     let left : left_at mid c ≡ left_at old c = ap left_of drives ∙ stays.1 ∙ sym (ap left_of at) in
     advances_from E questions s c h answer old mid new left (issues questions s h b (λ q d p asked same heard.
     let e = state_is hearing questions s h old c state a lt is p heard in
     let f : is_stopped (state_at p) ≡ false = sym (ap is_stopped e) ∙ going in
-    let d_is : x ≡ d = some_is (sym drives ∙ same) in (
+    let d_is : x ≡ d = same_Some x d (sym drives ∙ same) in (
       goes (settings_of s) (only c h) p heard f,
       subst (λ z. Offers (errand_of s q) p.settings p.log z (call_of call)) d_is
           (gives (errand_of s q) p.settings p.log (b.driven.each c q x p asked drives heard)

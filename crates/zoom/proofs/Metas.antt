@@ -1,9 +1,10 @@
 -- One event more of connections that are driven.
 use Rattle.std.proofs.Common.{◌≡◌, ℕ, zero, suc, ◌+◌, ◌<◌, ◌≤◌, ◌==◌, Bool, true, false, cond}
-use Rattle.std.proofs.Common.{List, [], ◌∷◌, ◌++◌, length, slice_get, slice_set, get_or, Option, None, Some}
+use Rattle.std.proofs.Common.{List, [], ◌∷◌, ◌++◌, length, slice_get, slice_set, Option, None, Some}
 use Rattle.std.proofs.Common.{Result, Ok, Err, refl, sym, ap, subst, ◌∙◌, arith, true≢false}
 use Rattle.std.specs.Prelude.{is_some, ◌||◌}
 use Rattle.std.proofs.lemmas.Bool.Decides.{nat_tests}
+use Rattle.std.proofs.lemmas.Option.{same_Some, slice_get_within}
 use Rattle.std.proofs.Math.ListN.{length-set}
 use Rattle.zber.specs.declared.fault.FaultKind.TheVariants as kinds
 use Rattle.zapdu.specs.declared.apdu.Apdu.{Apdu}
@@ -33,7 +34,7 @@ use Rattle.zoom.specs.Drivers.{DriverState, IsDriver, KnowsTold, RefusedLaw}
 use Rattle.zoom.specs.Metas.{MetaLinks, settings_of, AreDriven, MetaAfter, MetaAfterUpTo, MetaTook, MetaKeeps, KnowsTake, LearnsTold, AreAskable, StandFor}
 use Rattle.zoom.specs.Laws.{OneMeeting, OneHearing}
 use Rattle.zoom.specs.Befalling.{IsToldAnswer, Took, Keeps}
-use Rattle.zoom.proofs.Pools.{only_same, only_other}
+use Rattle.zoom.proofs.Pools.{only_same, only_other, get_same}
 
 -- ---- what stopped a connection
 
@@ -240,24 +241,13 @@ pub heard_at : (settings : Settings) (h : History) (heard : ℕ → Heard) (cs :
 heard_at settings h heard cs c s lt = let k = slice_some cs c lt in (s.each c k.0 k.1).heard
 
 -- the slices
-pub get_same : (ds : List DriverState) (c : ℕ) (x : DriverState) → c < length ds → slice_get (slice_set ds c x) c ≡ Some x
-get_same [] c x lt = absurd (omega arith)
-get_same (d ∷ ds) zero x lt = refl
-get_same (d ∷ ds) (suc c) x lt = get_same ds c x (omega arith)
-
-pub get_other : (ds : List DriverState) (c i : ℕ) (x : DriverState) → (c == i) ≡ false
-    → slice_get (slice_set ds c x) i ≡ slice_get ds i
+pub get_other : {X : Type 0} (xs : List X) (c i : ℕ) (x : X) → (c == i) ≡ false
+    → slice_get (slice_set xs c x) i ≡ slice_get xs i
 get_other [] c i x f = refl
-get_other (d ∷ ds) zero zero x f = absurd (true≢false f)
-get_other (d ∷ ds) zero (suc i) x f = refl
-get_other (d ∷ ds) (suc c) zero x f = refl
-get_other (d ∷ ds) (suc c) (suc i) x f = get_other ds c i x (let g : (c == i) ≡ false = grind (arith, nat_tests) in g)
-
-pub got_driver : (ds : List DriverState) (c : ℕ) (d was : DriverState) → c < length ds → was ≡ get_or ds c d
-    → slice_get ds c ≡ Some was
-got_driver [] c d was lt e = absurd (omega arith)
-got_driver (x ∷ xs) zero d was lt e = ap (λ y. Some y) (sym e)
-got_driver (x ∷ xs) (suc c) d was lt e = got_driver xs c d was (omega arith) e
+get_other (y ∷ xs) zero zero x f = absurd (true≢false f)
+get_other (y ∷ xs) zero (suc i) x f = refl
+get_other (y ∷ xs) (suc c) zero x f = refl
+get_other (y ∷ xs) (suc c) (suc i) x f = get_other xs c i x (let g : (c == i) ≡ false = grind (arith, nat_tests) in g)
 
 -- a Take that was answered so
 pub taken_more : OneMeeting → OneHearing → (questions : List Question) (s : MetaSettings) (h : History) (old : MetaLinks)
@@ -296,18 +286,10 @@ took_meta meeting hearing c old new was x answer told done took lt at knows ds s
             was,
             at,
             subst (KnowsTake answer was)
-                (some_is (sym (get_same old.drivers c x (inside old.drivers c was at)) ∙ is)) knows,
+                (same_Some x d (sym (get_same old.drivers c x (slice_get_within old.drivers c was at)) ∙ is)) knows,
           )));
       size = size ∙ a.size;
     }
-  where
-    some_is : {y z : DriverState} → Some y ≡ Some z → y ≡ z
-    some_is e = cc
-
-    inside : (ds : List DriverState) (i : ℕ) (d : DriverState) → slice_get ds i ≡ Some d → i < length ds
-    inside [] i d e = absurd (cc)
-    inside (y ∷ ys) zero d e = omega arith
-    inside (y ∷ ys) (suc i) d e = let n = inside ys i d e in omega (arith, n)
 
 -- a Take that was refused
 pub refused_meta : OneMeeting → OneHearing → RefusedLaw → (c : ℕ) (old new : MetaLinks) (error : TakeError)

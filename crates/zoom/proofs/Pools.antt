@@ -118,7 +118,7 @@ stands_same settings h heard cs c new lt s l = record {
     by d was (inr e) = s.each d was e.1
 
 -- the connection at an index
-pub got : (cs : List Link) (c : ℕ) (d was : Link) → c < length cs → was ≡ get_or cs c d → slice_get cs c ≡ Some was
+pub got : {X : Type 0} (xs : List X) (c : ℕ) (d was : X) → c < length xs → was ≡ get_or xs c d → slice_get xs c ≡ Some was
 got [] c d was lt e = absurd (omega arith)
 got (x ∷ xs) zero d was lt e = ap (λ y. Some y) (sym e)
 got (x ∷ xs) (suc c) d was lt e = got xs c d was (omega arith) e
@@ -185,26 +185,27 @@ gained c deed hear old new d was x lt is gains same cs k =
     (gains settings (only c h) (a.heard c) (at_index settings h a.heard old.connections c d was lt a.stands is))
     (same (a.heard c)) cs k
 
-slice_got : (cs : List Link) (c : ℕ) (x : Link) → c < length cs → slice_get (slice_set cs c x) c ≡ Some x
-slice_got [] c x lt = absurd (omega arith)
-slice_got (y ∷ cs) zero x lt = refl
-slice_got (y ∷ cs) (suc c) x lt = slice_got cs c x (omega arith)
+-- what was put into a list stands there
+pub get_same : {X : Type 0} (xs : List X) (c : ℕ) (x : X) → c < length xs → slice_get (slice_set xs c x) c ≡ Some x
+get_same [] c x lt = absurd (omega arith)
+get_same (y ∷ xs) zero x lt = refl
+get_same (y ∷ xs) (suc c) x lt = get_same xs c x (omega arith)
 
 -- what waits on the connection that was put, and what stopped it
 pub waits_put : (old new : Links) (c : ℕ) (x : Link) → c < length old.connections
     → new.connections ≡ slice_set old.connections c x → waiting_at new c ≡ x.waiting
-waits_put old new c x lt cs = ap waiting_in (ap (λ z. slice_get z c) cs ∙ slice_got old.connections c x lt)
+waits_put old new c x lt cs = ap waiting_in (ap (λ z. slice_get z c) cs ∙ get_same old.connections c x lt)
 
 pub stops_put : (old new : Links) (c : ℕ) (x : Link) → c < length old.connections
     → new.connections ≡ slice_set old.connections c x → stop_at new c ≡ x.stop
-stops_put old new c x lt cs = ap stop_in (ap (λ z. slice_get z c) cs ∙ slice_got old.connections c x lt)
+stops_put old new c x lt cs = ap stop_in (ap (λ z. slice_get z c) cs ∙ get_same old.connections c x lt)
 
 -- where nothing waits all was handed out
 pub given_all : (c : ℕ) (old new : Links) (x : Link) → c < length old.connections
     → new.connections ≡ slice_set old.connections c x → x.waiting ≡ [] → HasGivenAll c new
 given_all c old new x lt cs none =
     λ settings h a lost.
-    let at : slice_get new.connections c ≡ Some x = ap (λ z. slice_get z c) cs ∙ slice_got old.connections c x lt in
+    let at : slice_get new.connections c ≡ Some x = ap (λ z. slice_get z c) cs ∙ get_same old.connections c x lt in
     sym (append-nil (given (only c h))) ∙ ap (λ z. given (only c h) ++ z) (sym none)
     ∙ (a.stands.each c x at).waiting lost
 

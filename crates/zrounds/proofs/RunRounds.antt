@@ -12,13 +12,14 @@ use Rattle.zoom.specs.History.{History, only}
 use Rattle.zoom.specs.Hosts.{Event, holdings_of}
 use Rattle.zoom.specs.Laws.{OneHearing}
 use Rattle.zoom.specs.Metas.{MetaLinks, MetaAfter, IsFinished, settings_of}
-use Rattle.zoom.proofs.Pools.{only_append}
+use Rattle.zoom.proofs.Pools.{only_append, got, get_same}
+use Rattle.zoom.proofs.Metas.{get_other, slice_some}
 use Rattle.zexchange.specs.Exchange.{ExchangeLaws, LongerLaw, FewLaw}
 use Rattle.zrounds.specs.declared.peers.Peer.{Peer}
 use Rattle.zrounds.specs.Run.{is_over}
 use Rattle.zrounds.specs.RunSound.{of, IsFine, IsLost, Stepped, Loses, Adds, Steps, Rounded, Rounds, Spared, Spares, Started}
 use Rattle.zrounds.specs.RunRounds.{IsKept, WorldFine, WorldStays, WorldRounds, WorldGrows, IsWhole, RanWhole, WorldWhole}
-use Rattle.zrounds.proofs.RunWorlds.{get_some, get_same, get_other, some_is, got}
+use Rattle.zrounds.proofs.RunWorlds.{some_is}
 use Rattle.zrounds.proofs.RunSound.{only_more, none_of, lost_more, lost_by}
 use Rattle.zrounds.proofs.RunOver.{over_stays}
 
@@ -78,10 +79,10 @@ module _ (qs : List Question) (s : MetaSettings) (ts : List TargetState) (old ne
 
   -- the question and the target of the connection
   asked_at : (one : ℕ → ℕ) (w : WorldFine one qs s ts old peers) → (q : Question) × (slice_get qs c ≡ Some q)
-  asked_at one w = get_some qs c (let g : c < length qs = omega (arith, w.size, w.equal, lt) in g)
+  asked_at one w = slice_some qs c (let g : c < length qs = omega (arith, w.size, w.equal, lt) in g)
 
   target_at : (one : ℕ → ℕ) (w : WorldFine one qs s ts old peers) → (t : TargetState) × (slice_get ts c ≡ Some t)
-  target_at one w = get_some ts c (let g : c < length ts = omega (arith, w.size, lt) in g)
+  target_at one w = slice_some ts c (let g : c < length ts = omega (arith, w.size, lt) in g)
 
   -- both are those
   at_both : (X : Question → TargetState → Type 0) (q p : Question) (t u : TargetState) → slice_get qs c ≡ Some q
@@ -336,8 +337,8 @@ ran_whole laws least qs s ts meta peers w over = record {
   after = w.after;
   whole = λ c t at.
       let within : c < length ts = slice_get_within ts c t at in
-      let q = get_some qs c (let g : c < length qs = omega (arith, within, w.equal) in g) in
-      let p = get_some peers c (let g : c < length peers = omega (arith, within, w.size) in g) in
+      let q = slice_some qs c (let g : c < length qs = omega (arith, within, w.equal) in g) in
+      let p = slice_some peers c (let g : c < length peers = omega (arith, within, w.size) in g) in
       kept_whole laws s t (least c) q.0 (only c w.history) p.0 (w.kept c q.0 t p.0 q.1 at p.1)
       (λ x heard. over c x (let g : c < length qs = omega (arith, within, w.equal) in g) heard);
 }
@@ -350,8 +351,8 @@ ran_kept laws hearing qs s ts meta peers w = record {
   after = w.after;
   whole = λ c t at.
       let within : c < length ts = slice_get_within ts c t at in
-      let q = get_some qs c (let g : c < length qs = omega (arith, within, w.equal) in g) in
-      let p = get_some peers c (let g : c < length peers = omega (arith, within, w.size) in g) in
+      let q = slice_some qs c (let g : c < length qs = omega (arith, within, w.equal) in g) in
+      let p = slice_some peers c (let g : c < length peers = omega (arith, within, w.size) in g) in
       by c q.0 t p.0 q.1 (w.kept c q.0 t p.0 q.1 at p.1);
 }
   where

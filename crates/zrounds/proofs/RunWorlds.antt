@@ -1,6 +1,6 @@
 -- Worlds that go on.
 use Rattle.std.proofs.Common.{◌≡◌, ◌∙◌, sym, ap, subst, ℕ, zero, suc, ◌<◌, ◌==◌, Bool, true, false, List, [], ◌∷◌, ◌++◌, length, get_or, slice_get, slice_set}
-use Rattle.std.proofs.Common.{Some, refl, arith, append-nil, true≢false}
+use Rattle.std.proofs.Common.{Some, refl, arith, append-nil}
 use Rattle.std.proofs.lemmas.Bool.Decides.{nat_tests}
 use Rattle.std.proofs.lemmas.Option.{slice_get_within}
 use Rattle.std.proofs.Math.ListN.{length-set}
@@ -11,33 +11,14 @@ use Rattle.zoom.specs.Heard.{Deed, given, fed}
 use Rattle.zoom.specs.History.{History, only}
 use Rattle.zoom.specs.Hosts.{IsNew, AreNew, holdings_of, handed_out}
 use Rattle.zoom.specs.Metas.{MetaLinks, MetaAfter}
-use Rattle.zoom.proofs.Pools.{only_append}
+use Rattle.zoom.proofs.Pools.{only_append, got, get_same}
+use Rattle.zoom.proofs.Metas.{get_other, slice_some}
 use Rattle.zrounds.specs.declared.peers.Peer.{Peer}
 use Rattle.zexchange.specs.Exchange.{fed_to}
 use Rattle.zrounds.specs.Run.{Talked, Ran}
 use Rattle.zrounds.specs.RunSteps.{IsSilent, GoesOn, Went, Halted, Halts, Carried, Carries, Tied, WorldAfter, WorldGoes, WorldEnds, IsPeerOf, ArePeersOf}
 use Rattle.zrounds.proofs.RunGoes.{given_append, fed_append}
 use Rattle.zrounds.proofs.RunCarries.{fed_to_append, handed_out_append, goes_through}
-
--- ---- slices
-
-pub get_some : {X : Type 0} (xs : List X) (c : ℕ) → c < length xs → (x : X) × (slice_get xs c ≡ Some x)
-get_some [] c lt = absurd (omega arith)
-get_some (x ∷ xs) zero lt = (x, refl)
-get_some (x ∷ xs) (suc c) lt = get_some xs c (omega arith)
-
-pub get_same : {X : Type 0} (xs : List X) (c : ℕ) (x : X) → c < length xs → slice_get (slice_set xs c x) c ≡ Some x
-get_same [] c x lt = absurd (omega arith)
-get_same (y ∷ xs) zero x lt = refl
-get_same (y ∷ xs) (suc c) x lt = get_same xs c x (omega arith)
-
-pub get_other : {X : Type 0} (xs : List X) (c i : ℕ) (x : X) → (c == i) ≡ false
-    → slice_get (slice_set xs c x) i ≡ slice_get xs i
-get_other [] c i x f = refl
-get_other (y ∷ xs) zero zero x f = absurd (true≢false f)
-get_other (y ∷ xs) zero (suc i) x f = refl
-get_other (y ∷ xs) (suc c) zero x f = refl
-get_other (y ∷ xs) (suc c) (suc i) x f = get_other xs c i x (let g : (c == i) ≡ false = grind (arith, nat_tests) in g)
 
 pub some_is : {X : Type 0} {y z : X} → Some y ≡ Some z → y ≡ z
 some_is e = cc
@@ -105,7 +86,7 @@ carries_world c old new peers p r here f = record { on = λ q s ts w. at q s ts 
     at : (q : List Question) (s : MetaSettings) (ts : List TargetState) → WorldAfter q s ts old peers
         → WorldAfter q s ts new (slice_set peers c r)
     at q s ts w =
-        let found = get_some ts c (subst (λ n. c < n) w.size within) in
+        let found = slice_some ts c (subst (λ n. c < n) w.size within) in
         let tie : Tied found.0 (only c w.history) p = w.tied c found.0 p found.1 here in
         let more : Carried q s c w.history (holdings_of found.0) tie.events new p r =
         f.on q s w.history (holdings_of found.0) tie.events w.after tie.served in
@@ -134,11 +115,6 @@ carries_world c old new peers p r here f = record { on = λ q s ts w. at q s ts 
         each q s ts w mine is deeds others own i t z got by false e =
             silent_tied t i w.history deeds z (others i e)
             (w.tied i t z got (sym (get_other peers c i r e) ∙ by))
-
-pub got : {X : Type 0} (xs : List X) (c : ℕ) (d was : X) → c < length xs → was ≡ get_or xs c d → slice_get xs c ≡ Some was
-got [] c d was lt e = absurd (omega arith)
-got (x ∷ xs) zero d was lt e = ap (λ y. Some y) (sym e)
-got (x ∷ xs) (suc c) d was lt e = got xs c d was (omega arith) e
 
 pub step_world : (c : ℕ) (old new : MetaLinks) (peers : List Peer) (p r : Peer) → c < length peers
     → Carries c old new (get_or peers c p) r → WorldGoes old new peers (slice_set peers c r)
@@ -169,7 +145,7 @@ halts_ends old new peers f = record { on = λ q s ts w. at q s ts w }
           history = more.more ++ w.history;
           after = more.after;
           talked = λ c t got.
-              let mine = get_some peers c (subst (λ n. c < n) (sym w.size) (slice_get_within ts c t got)) in
+              let mine = slice_some peers c (subst (λ n. c < n) (sym w.size) (slice_get_within ts c t got)) in
               talked t (only c (more.more ++ w.history)) mine.0
               (silent_tied t c w.history more.more mine.0 (more.silent c) (w.tied c t mine.0 got mine.1));
           over = λ c p lt heard. more.over c p (subst (λ n. c < n) (sym w.after.size) lt) heard;
