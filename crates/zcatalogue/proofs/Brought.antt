@@ -49,6 +49,7 @@ use Rattle.zoom.specs.Drivers.{DriverState, IsDriver}
 use Rattle.zoom.specs.Heard.{Heard}
 use Rattle.zoom.specs.History.{accepted}
 use Rattle.zoom.proofs.Drivings.{among, contained, replied, driven}
+use Rattle.zoom.proofs.Due.{opened_of}
 use Rattle.zoom.proofs.MetaLaws.{driver_of}
 use Rattle.zoom.proofs.Orders.{from_answer, of_answer}
 use Rattle.zaccord.specs.Accord.{requests}
@@ -75,10 +76,6 @@ for_present : (w : What) (l : List ℕ) → operation_for w ≡ plan.Present l
 for_present what.Init l f = absurd cc
 for_present what.Search l f = absurd cc
 for_present (what.Present ranges) l f = (ranges, refl, (let z : positions ranges ≡ l = cc in z))
-
-search_opened : (wanted : List ℕ) (step : ℕ) (answers : Replies) → IsAsked wanted step answers plan.Search
-    → (t : Bool) × (answers plan.Init ≡ Some (Opens true t))
-search_opened wanted step answers (search t i h) = (t, h)
 
 -- ---- no record comes with the answer to the search
 
@@ -247,7 +244,7 @@ module _ (orderly : (s : Settings) (l : Log) → IsOrderly (past s l))
       let before = driven (ask_of q) settings wanted s.step orderly f.earlier f.driven in
       let asks = subst (IsAsked wanted s.step (replies_in events)) is
       (sent_asked wanted s.step events before a f.sent) in
-      let o = search_opened wanted s.step (replies_in events) asks in
+      let o = opened_of wanted s.step (replies_in events) asks in
       let b = replied (ask_of q) settings f.earlier plan.Init (Opens true o.0) o.1 in
       let there = kept_reply p (verdict (standing p) f.reply) b.0 b.1 in
       let y = find_there (past settings (Got f.reply ∷ f.earlier)).accepted b.0 there (opens_for b.0 b.2) in

@@ -55,11 +55,12 @@ use Rattle.zoom.specs.Driving.{operation_for}
 use Rattle.zoom.specs.Steering.{Errand, ask_of, errand_of, IsSteered, IsSteeredCall}
 use Rattle.zoom.specs.Drivers.{DriverState, IsDriver}
 use Rattle.zoom.proofs.Drivings.{among, contained}
+use Rattle.zoom.proofs.Due.{past_settings}
 use Rattle.zschedules.proofs.Complete.{same_admitted}
 use Rattle.zaccord.specs.Accord.{requests}
 use Rattle.zaccord.proofs.Accord.{init_fits}
 use Rattle.zcatalogue.proofs.Owing.{IsAnswer, answered, Replies, kind}
-use Rattle.zcatalogue.proofs.Sent.{IsOwed, owes, IsRequest, is_request, settings_are}
+use Rattle.zcatalogue.proofs.Sent.{IsOwed, owes, IsRequest, is_request}
 use Rattle.zcatalogue.proofs.Standings.{init_of, search_by, present_by, given, response, is_search_call, find_in, IsReady, ready, StandsIn, stands, OpenedSo, same_fault}
 use Rattle.zcatalogue.proofs.Standings as standings
 use Rattle.zcatalogue.proofs.Members.{AreWithin}
@@ -311,7 +312,7 @@ module _ (orderly : (s : Settings) (l : Log) → IsOrderly (past s l))
       let call = for_init (standing (past settings o.2.earlier)) o.2.call o.0 w (requested r o) m in
       let sent = subst (λ c. IsRequest (standing (past settings o.2.earlier)) c o.0) call (requested r o) in
       let v_is : o.0 ≡ apdus.InitRequest (init_of settings) =
-      sent ∙ ap init_request (settings_are settings o.2.earlier) in
+      sent ∙ ap init_request (past_settings settings o.2.earlier) in
       let g = subst (λ z. IsAnswer databases offers (before r o).state (before r o).sets z o.1) v_is (given_to r o) in
       o.3 ∙ ap (λ (b : targets.Answer). b.reply) g.1
 

@@ -43,26 +43,6 @@ same_sent p (Err r) =
     elim (is_open (state_of p)) as
     (λ b. (cond b (record p { fault = Some r }) p).sent ≡ p.sent) [ true ↦ refl | false ↦ refl ]
 
-same_settings : (p : Past) (v : Result Taken Refused) → (after_verdict p v).settings ≡ p.settings
-same_settings p (Ok (taken.Opened a)) = refl
-same_settings p (Ok (taken.Rejected a)) = refl
-same_settings p (Ok (taken.Answered a)) = refl
-same_settings p (Ok taken.Closed) = refl
-same_settings p (Err r) =
-    elim (is_open (state_of p)) as
-    (λ b. (cond b (record p { fault = Some r }) p).settings ≡ p.settings) [ true ↦ refl | false ↦ refl ]
-
-admitted_settings : (p : Past) (call : Call) (r : Option CallRefused) → (admit_unless p call r).settings ≡ p.settings
-admitted_settings p call None = refl
-admitted_settings p call (Some r) = refl
-
-pub settings_are : (settings : Settings) (log : Log) → (past settings log).settings ≡ settings
-settings_are settings [] = refl
-settings_are settings (Made call ∷ log) =
-    admitted_settings (past settings log) call (refusal (standing (past settings log)) call) ∙ settings_are settings log
-settings_are settings (Got reply ∷ log) =
-    same_settings (past settings log) (verdict (standing (past settings log)) reply) ∙ settings_are settings log
-
 kept_asked : (p : Past) (call : Call) (r : Option CallRefused) (q : Asked) → IsIn q (asked p)
     → IsIn q (asked (admit_unless p call r))
 kept_asked p call None q i =

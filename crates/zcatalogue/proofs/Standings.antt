@@ -45,11 +45,12 @@ use Rattle.ztarget.specs.Replies.{answer, answer_at, left_by, standing_after, to
 use Rattle.ztarget.specs.Laws.{KeptSets}
 use Rattle.zoom.specs.Steering.{Errand, IsSteered, IsSteeredCall}
 use Rattle.zoom.proofs.Drivings.{among, contained}
+use Rattle.zoom.proofs.Due.{past_settings}
 use Rattle.zschedules.proofs.Complete.{same_admitted}
 use Rattle.zschedules.proofs.Replies.{kept_call, kept_reply}
 use Rattle.zcatalogue.specs.Catalogue.{size_given}
 use Rattle.zcatalogue.proofs.Owing.{search_leaves, present_leaves}
-use Rattle.zcatalogue.proofs.Sent.{settings_are, same_sent, one_more, is_request, IsRequest}
+use Rattle.zcatalogue.proofs.Sent.{same_sent, one_more, is_request, IsRequest}
 use Rattle.zorigin.proofs.Orderly.{sent_request}
 
 -- ---- the requests
@@ -428,7 +429,7 @@ module _ (databases : List Database) (offers : TargetSettings) (settings : Setti
           → StandsIn (past settings log) → LeavesSo (past settings log) call v
       made log opened Init v admits request steering s =
           let p = past settings log in
-          let v_is : v ≡ apdus.InitRequest (init_of settings) = request ∙ ap init_request (settings_are settings log) in
+          let v_is : v ≡ apdus.InitRequest (init_of settings) = request ∙ ap init_request (past_settings settings log) in
           let free_call = free (standing p) Init admits in
           let fresh = fresh_from p.fault p.closed (list_any is_close_call p.admitted)
           (list_any is_init_call p.admitted) (opening p)

@@ -52,7 +52,7 @@ no_some e = cc
 -- ---- what a log keeps
 
 -- the origin's own settings
-past_settings : (settings : Settings) (log : Log) → (past settings log).settings ≡ settings
+pub past_settings : (settings : Settings) (log : Log) → (past settings log).settings ≡ settings
 past_settings settings [] = refl
 past_settings settings (Made call ∷ log) =
     made (refusal (standing (past settings log)) call) ∙ past_settings settings log
@@ -80,7 +80,8 @@ count_of : (wanted : List ℕ) (step : ℕ) (replies : Replies) (l : List ℕ)
 count_of wanted step replies l (cut three count i m a o h lt x) = (count, h)
 count_of wanted step replies l (rest m k a h lo hi) = count_of wanted step replies m a
 
-opened_of : (wanted : List ℕ) (step : ℕ) (replies : Replies) → IsAsked wanted step replies plan.Search
+-- a search is asked once the association was accepted
+pub opened_of : (wanted : List ℕ) (step : ℕ) (replies : Replies) → IsAsked wanted step replies plan.Search
     → (three : Bool) × (replies plan.Init ≡ Some (Opens true three))
 opened_of wanted step replies (search three a e) = (three, e)
 
