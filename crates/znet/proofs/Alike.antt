@@ -1,16 +1,15 @@
 -- Deeds of one connection: behind histories that tell the same of it, and in histories that go on.
-use Rattle.std.proofs.Common.{◌≡◌, ◌∙◌, sym, ap, subst, refl, append-nil, arith, ℕ, zero, suc, ◌<◌, ◌==◌, Bool, true, false, List, [], ◌∷◌, ◌++◌, length, get_or, Option, is_some}
+use Rattle.std.proofs.Common.{◌≡◌, ◌∙◌, sym, ap, refl, append-nil, arith, ℕ, zero, suc, ◌<◌, ◌==◌, Bool, true, false, List, [], ◌∷◌, ◌++◌, length, get_or, Option, is_some}
 use Rattle.zoom.specs.declared.question.Question.{Question}
 use Rattle.zoom.specs.declared.question.MetaSettings.{MetaSettings}
-use Rattle.zoom.specs.declared.state.Reason.{Reason}
 use Rattle.zoom.specs.declared.state.Reason.TheVariants as reasons
-use Rattle.zoom.specs.States.{is_stopped}
-use Rattle.zoom.specs.Heard.{Gives, Stops, HasHeard, state_at}
+use Rattle.zoom.specs.Heard.{Gives, Stops}
 use Rattle.zoom.specs.History.{History, only}
-use Rattle.zoom.specs.Metas.{made, settings_of}
-use Rattle.zoom.proofs.Pools.{only_same, only_other}
+use Rattle.zoom.specs.Metas.{made}
+use Rattle.zoom.proofs.Pools.{only_other}
 use Rattle.ztalk.specs.Talks.{IsStoppedAt}
 use Rattle.ztalk.proofs.Apart.{behind, none_before, none_both, others_made, others_follow, idle_alike, over_alike, follows_alike}
+use Rattle.ztalk.proofs.Joining.{stopped_over}
 use Rattle.znet.specs.Asking.{has, Opening, unreached, begun, unsent, Talking, ends_itself, is_stopped as was_stopped, TalksIf, IsTalkedOut, IsTalkedOutIf}
 use Rattle.znet.specs.AskingSteps.{IsOpened, IsOpenedIf}
 
@@ -95,13 +94,6 @@ others_talk q s at_once c h more true i t far = others_talking i t far
 others_talk q s at_once c h more false i t far = ap (only i) t
 
 -- ---- a connection that is over
-
--- its host stopped it
-pub stopped_over : (s : MetaSettings) (c : ℕ) (reason : Reason) (h : History) → IsStoppedAt s c ((c, Stops reason) ∷ h)
-stopped_over s c reason h p heard = at (subst (λ z. HasHeard (settings_of s) z p) (only_same c (Stops reason) h) heard)
-  where
-    at : HasHeard (settings_of s) (Stops reason ∷ only c h) p → is_stopped (state_at p) ≡ true
-    at heard = subst (λ z. is_stopped (state_at z) ≡ true) (sym heard.2) refl
 
 -- a host that was not reached
 unreached_over : {q : List Question} {s : MetaSettings} {c : ℕ} {h more : History} {reached : Bool}

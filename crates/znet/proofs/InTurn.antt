@@ -11,9 +11,10 @@ use Rattle.ztalk.specs.declared.conversation.TalkError.{TalkError}
 use Rattle.ztalk.specs.declared.conversation.TalkError.TheVariants as talks
 use Rattle.ztalk.specs.Devices.{DeviceState}
 use Rattle.ztalk.specs.Talks.{Talks}
+use Rattle.ztalk.proofs.Joining.{stopped_over}
 use Rattle.znet.specs.Asking.{has, ends_itself, is_stopped as was_stopped, TalksIf, IsTalkedOutIf, IsAsked}
 use Rattle.znet.specs.AskingSteps.{TalkedOut, TalksOut, IsOpenedIf, OpensAll, AllTalkedOut, TalksAllOut}
-use Rattle.znet.proofs.Alike.{others_talk, stopped_over, talked_out, none_talked, opened_since, talked_since}
+use Rattle.znet.proofs.Alike.{others_talk, talked_out, none_talked, opened_since, talked_since}
 
 -- ---- one of them
 

@@ -42,7 +42,7 @@ risen_none count = inl (omega arith)
 -- ---- connections that are over
 
 -- its host stopped it
-stopped_over : (s : MetaSettings) (c : ℕ) (reason : Reason) (h : History) → IsStoppedAt s c ((c, Stops reason) ∷ h)
+pub stopped_over : (s : MetaSettings) (c : ℕ) (reason : Reason) (h : History) → IsStoppedAt s c ((c, Stops reason) ∷ h)
 stopped_over s c reason h p heard = at (subst (λ z. HasHeard (settings_of s) z p) (only_same c (Stops reason) h) heard)
   where
     at : HasHeard (settings_of s) (Stops reason ∷ only c h) p → is_stopped (state_at p) ≡ true
