@@ -1,8 +1,8 @@
 -- Which records are taken, where their octets stand, and how many they are.
-use Rattle.std.proofs.Common.{◌≡◌, ◌↔◌, ◌⊎◌, ◌≤◌, ◌+◌, ℕ, zero, suc, Bool, true, false, List, [], ◌∷◌, ◌++◌, length, Option, cond, refl, sym, ap, subst, ◌∙◌, inl, inr, ⊎_elim, append_assoc, arith}
+use Rattle.std.proofs.Common.{◌≡◌, ◌↔◌, ◌⊎◌, ◌≤◌, ◌+◌, ℕ, zero, suc, Bool, true, false, List, [], ◌∷◌, length, Option, cond, refl, sym, ap, subst, ◌∙◌, inl, inr, ⊎_elim, arith}
 use Rattle.std.specs.Prelude.{Contains, not, ◌&&◌, is_some, filter, nat_lt}
 use Rattle.std.specs.List.{flat_map, filter_map, count_by}
-use Rattle.std.proofs.lemmas.Bool.{ltb-false, le-ltb}
+use Rattle.std.proofs.lemmas.Bool.{ltb-false, le-ltb, and_right}
 use Rattle.std.proofs.lemmas.List.Elements.{Contains-append_cases, Contains-append_left, Contains-append_right}
 use Rattle.std.proofs.lemmas.List.Sums.{sum_by-cons}
 use Rattle.zapdu.specs.declared.productions.record.Record.{Record}
@@ -13,7 +13,6 @@ use Rattle.zknow.specs.declared.fact.Fact.TheVariants.{Seen}
 use Rattle.zknow.specs.declared.tables.keys.RowKey.{RowKey}
 use Rattle.zknow.specs.Facts.{AreFacts}
 use Rattle.zknow.specs.List.Listing.{row_of}
-use Rattle.zknow.specs.List.ListLaws.{StandsIn}
 use Rattle.zknow.specs.Tables.DistinctLaws.{none_in_nil, in_cons, in_head, in_tail}
 use Rattle.zknow.specs.Tables.Keys.{row_cmp, row_total, row_exact}
 use Rattle.zknow.proofs.ListTheory.Ascending.{ascending_members}
@@ -79,10 +78,6 @@ last_true : (b : Bool) → (b && true) ≡ false → b ≡ false
 last_true true is = is
 last_true false is = refl
 
-last_false : (b : Bool) → (b && false) ≡ false
-last_false true = refl
-last_false false = refl
-
 below_two : (n : ℕ) → (2 ≤ n → ⊥) → n ≤ 1
 below_two zero few = omega arith
 below_two (suc zero) few = omega arith
@@ -95,7 +90,7 @@ few_known records false is same = ltb-false 1 (length records) (last_true (nat_l
 
 not_left : (records : List Record) (conflicts : Bool) → (conflicts ≡ false → length records ≤ 1)
     → is_left conflicts records ≡ false
-not_left records true few = last_false (nat_lt 1 (length records))
+not_left records true few = and_right (nat_lt 1 (length records)) false refl
 not_left records false few = ap (λ b. b && true) (le-ltb 1 (length records) (few refl))
 
 module _ (asked : Option (List ℕ)) (conflicts : Bool) where
@@ -152,22 +147,7 @@ module _ (asked : Option (List ℕ)) (conflicts : Bool) (facts : List Fact) (goo
   pub members_are : (r : Record) → Contains (all_taken asked conflicts facts) r ↔ IsTaken asked conflicts facts r
   members_are r = (taken_is_seen r, seen_is_taken r)
 
--- ---- their octets, and how many they are
-
-stands_behind : (part whole front : List ℕ) → StandsIn part whole → StandsIn part (front ++ whole)
-stands_behind part whole front stands = record {
-  before = front ++ stands.before;
-  behind = stands.behind;
-  cut = ap (λ l. front ++ l) stands.cut ∙ sym (append_assoc front stands.before (part ++ stands.behind));
-}
-
-module _ {X : Type 0} (text : X → List ℕ) where
-  pub stands_among : (xs : List X) (x : X) → Contains xs x → StandsIn (text x) (flat_map text xs)
-  stands_among [] x h = absurd (none_in_nil x h)
-  stands_among (y ∷ ys) x h = ⊎_elim
-      (λ same. record { before = []; behind = flat_map text ys; cut = ap (λ z. text z ++ flat_map text ys) same })
-      (λ later. stands_behind (text x) (flat_map text ys) (text y) (stands_among ys x later))
-      (in_cons y ys x h)
+-- ---- how many they are
 
 with_octets : (b : Bool) → cond b 1 0 + cond false 1 0 + cond (not b && not false) 1 0 ≡ 1
 with_octets true = refl

@@ -32,7 +32,8 @@ stands_behind part whole front in_whole = record {
 }
 
 module _ {X : Type 0} (text : X → List ℕ) where
-  one_text : (xs : List X) (x : X) → Contains xs x → StandsIn (text x) (flat_map text xs)
+  -- the text of one of them stands in that of all
+  pub one_text : (xs : List X) (x : X) → Contains xs x → StandsIn (text x) (flat_map text xs)
   one_text [] x h = absurd (none_in_nil x h)
   one_text (y ∷ ys) x h = ⊎_elim
       (λ same. record { before = []; behind = flat_map text ys; cut = ap (λ z. text z ++ flat_map text ys) same })

@@ -1,29 +1,19 @@
 -- One element of a saved file: it has octets, and octets begin with at most one.
-use Rattle.std.proofs.Common.{◌≡◌, ◌≢◌, ◌<◌, ℕ, Bool, List, [], ◌∷◌, ◌++◌, length, Option, Some, None, refl, sym, ap, subst, ◌∙◌, arith, length-append}
+use Rattle.std.proofs.Common.{◌≡◌, ◌≢◌, ◌<◌, ℕ, List, [], ◌++◌, length, Option, Some, None, refl, sym, ap, subst, ◌∙◌, arith}
 use Rattle.std.proofs.lemmas.List.{append_cancel_left}
-use Rattle.zber.specs.AsnTags.{AsnTag}
 use Rattle.zber.specs.Elements.{Element, height}
 use Rattle.zber.specs.Canonical.{canonical, IsLawful}
-use Rattle.zber.specs.Spelling.{Identifier, low, high, Spells, primitive, definite, indefinite}
 use Rattle.zproductions.specs.Place.{Place}
 use Rattle.zber.proofs.CanonicalLemmas.{canonical_is_spelling}
 use Rattle.zber.proofs.OneSpelling.{one_spelling}
+use Rattle.zber.proofs.ScanSteps.{spells_some}
 use Rattle.zknow.specs.Encodings.{encoding, octets_of}
 use Rattle.zknow.specs.Saved.Saved.{IsElement, Fits}
 use Rattle.zknow.specs.Saved.Loaded.{BeginsWith}
 
-identifier_some : {n : AsnTag} {c : Bool} {i : List ℕ} → Identifier n c i → 0 < length i
-identifier_some (low t p) = omega arith
-identifier_some (high t p g) = omega arith
-
-pub spelled_some : {room : ℕ} {e : Element} {x : List ℕ} → Spells room e x → 0 < length x
-spelled_some (primitive {i = i} {l = l} {xs = xs} id len) = omega (arith, identifier_some id, length-append i (l ++ xs))
-spelled_some (definite {i = i} {l = l} {xs = xs} id len all) = omega (arith, identifier_some id, length-append i (l ++ xs))
-spelled_some (indefinite {i = i} {xs = xs} id all) = omega (arith, identifier_some id, length-append i (128 ∷ (xs ++ (0 ∷ 0 ∷ []))))
-
 module _ {A : Type 0} (p : Place A) where
   pub element_some : (x : A) (s : List ℕ) → IsElement p x s → 0 < length s
-  element_some x s e = spelled_some e.message.spelled
+  element_some x s e = spells_some e.message.spelled
 
   same_value : (x y : A) (m n : Element) → p.stands x m → p.stands y n → m ≡ n → x ≡ y
   same_value x y m n sx sy same =

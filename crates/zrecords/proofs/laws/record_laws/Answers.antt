@@ -1,10 +1,11 @@
 use Rattle.zrecords.specs.Records.{record_octets, all_taken}
-use Rattle.zrecords.proofs.Taking.{members_are, stands_among, all_counted}
+use Rattle.zknow.proofs.ListTheory.Conflicts.{one_text}
+use Rattle.zrecords.proofs.Taking.{members_are, all_counted}
 use Rattle.zrecords.proofs.laws.record_laws.Goals as goal
 
 pub returns : goal.returns
 returns c = λ asked conflicts facts. record {
   members = members_are asked conflicts facts;
-  octets = stands_among record_octets (all_taken asked conflicts facts);
+  octets = one_text record_octets (all_taken asked conflicts facts);
   counted = all_counted (all_taken asked conflicts facts);
 }
