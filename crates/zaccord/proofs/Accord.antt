@@ -1,8 +1,6 @@
 -- The laws.
-use Rattle.std.proofs.Common.{◌≡◌, ◌⊎◌, inl, inr, Bool, true, false, cond, not, ◌==◌, nat_eq, List, [], ◌∷◌, ◌++◌, reverse, map, Option, None, Some, Result, Ok, Err, refl, sym, ap, subst, ◌∙◌, true≢false, arith}
-use Rattle.std.proofs.lemmas.Bool.Decides.{nat_tests}
+use Rattle.std.proofs.Common.{◌≡◌, ◌⊎◌, inl, inr, Bool, true, false, cond, not, List, [], ◌∷◌, ◌++◌, reverse, map, Option, None, Some, Result, Ok, Err, refl, sym, ap, subst, ◌∙◌}
 use Rattle.std.specs.List.{list_any}
-use Rattle.std.specs.Map.{lookup}
 use Rattle.std.specs.Prelude.{Contains}
 use Rattle.zapdu.specs.declared.apdu.Apdu.{Apdu}
 use Rattle.zapdu.specs.declared.apdu.Apdu.TheVariants as apdus
@@ -24,36 +22,21 @@ use Rattle.zorigin.specs.Fitting.{Fits}
 use Rattle.zorigin.specs.Replies.{numbered_as, named, taken_as, judged, against, answered, verdict}
 use Rattle.zorigin.specs.Accepts.{id_of}
 use Rattle.zorigin.specs.Log.{Log, Past, past, operation_of, asked, answers, is_answered, outstanding, opens, opening, is_init_call, is_close_call, state_from, state_of, numbered, standing}
-use Rattle.zorigin.proofs.Accepting.{IsIn, contained, among, accepted_so}
+use Rattle.zorigin.proofs.Accepting.{IsIn, contained, among, looked_up, accepted_so}
 use Rattle.zorigin.proofs.Fittings.{fits_none}
 use Rattle.zorigin.proofs.Ids.{spelled_number}
-use Rattle.zorigin.proofs.Operations.{has, AreDistinct, same_op, distinct_filter}
+use Rattle.zorigin.proofs.Operations.{same_op, distinct_filter}
+use Rattle.zorigin.proofs.Orderly.{init_what}
 use Rattle.zorigin.proofs.Proper.{proper}
 use Rattle.ztarget.specs.declared.database.Database.{Database}
 use Rattle.ztarget.specs.declared.settings.TargetSettings.{TargetSettings}
 use Rattle.ztarget.specs.Replies.{Answer, standing_after, owed, reply_of, replies}
 use Rattle.zaccord.specs.Accord.{AreTaken, Converses, requests, replies_due, IsUnanswered, IsReplyTo, IsTakenAs, TakenLaw, AcceptsLaw, UnansweredLaw, ApartLaw, OwesLaw, OwesCloseLaw, FitsLaw}
-use Rattle.zaccord.proofs.Members.{in_reverse, any_in, any_of, find_in, in_filter, in_flat, flat_in, apart_moved, apart_parts}
+use Rattle.zaccord.proofs.Members.{in_reverse, any_of, find_in, in_filter, in_flat, flat_in, apart_moved, apart_parts}
 use Rattle.zaccord.proofs.Owing.{Replies, EndsAssociation, reply_id, reply_fits, answer_replies, replying, replies_apart, newest, refused_alone}
-use Rattle.zaccord.proofs.Calls.{request_id, request_asks, call_id, call_kind, operation_id, same_number, has_self, one_asked, some_same}
-use Rattle.zaccord.proofs.Requests.{IsAccepting, open_so, init_what, are_sent}
+use Rattle.zaccord.proofs.Calls.{request_id, request_asks, call_id, call_kind, operation_id, same_number, one_asked, some_same}
+use Rattle.zaccord.proofs.Requests.{IsAccepting, open_so, are_sent}
 use Rattle.zaccord.proofs.Conversing.{no_close, close_sent, close_replied, init_sent, IsReplyDue, due, due_id, accepted_id, are_taken}
-
--- ---- the operation that a reference id names
-
-looked_up : (qs : List Asked) (q : Asked) → AreDistinct qs → IsIn q qs → lookup (nat_eq q.op) (map numbered qs) ≡ Some q
-looked_up [] q d i = absurd i
-looked_up (x ∷ xs) q d (inl e) =
-    let s : nat_eq q.op x.op ≡ true = (let o : q.op ≡ x.op = ap (λ (y : Asked). y.op) e in grind (arith, nat_tests)) in
-    ap (λ b. cond b (Some x) (lookup (nat_eq q.op) (map numbered xs))) s ∙ ap (λ y. Some y) (sym e)
-looked_up (x ∷ xs) q d (inr i) =
-    let more = looked_up xs q d.1 i in
-    let others = lookup (nat_eq q.op) (map numbered xs) in
-    elim (nat_eq q.op x.op) as (λ b. nat_eq q.op x.op ≡ b → cond b (Some x) others ≡ Some q) [
-      | true ↦ λ t. let o : q.op ≡ x.op = grind (arith, nat_tests) in
-          absurd (true≢false (sym (any_in (has x.op) xs q i (ap (λ n. n == x.op) o ∙ has_self x.op)) ∙ d.0))
-      | false ↦ λ t. more
-    ] refl
 
 -- ---- verdicts
 

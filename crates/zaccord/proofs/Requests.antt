@@ -102,11 +102,6 @@ open_so closing o (inr a) =
     ∙ elim closing as (λ c. is_open (closing_state c (ready (force_in a.response))) ≡ true)
     [ true ↦ refl | false ↦ refl ]
 
-pub init_what : (w : What) → is_init w ≡ true → w ≡ what.Init
-init_what what.Init h = refl
-init_what what.Search h = absurd (true≢false (sym h))
-init_what (what.Present ranges) h = absurd (true≢false (sym h))
-
 -- an operation that is Init is of the call of Init
 init_call : (c : Call) (q : Asked) → IsIn q (operation_of c) → is_init q.what ≡ true → c ≡ Init
 init_call Init q i h = refl

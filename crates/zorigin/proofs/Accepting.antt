@@ -93,7 +93,7 @@ looked_in op (x ∷ xs) q h =
       | false ↦ λ e g. (inr (more g).0, (more g).1)
     ] refl h
 
-looked_up : (qs : List Asked) (q : Asked) → AreDistinct qs → IsIn q qs → lookup (nat_eq q.op) (map numbered qs) ≡ Some q
+pub looked_up : (qs : List Asked) (q : Asked) → AreDistinct qs → IsIn q qs → lookup (nat_eq q.op) (map numbered qs) ≡ Some q
 looked_up [] q d i = absurd i
 looked_up (x ∷ xs) q d (inl e) =
     let s : nat_eq q.op x.op ≡ true = (let o : q.op ≡ x.op = ap (λ (y : Asked). y.op) e in grind (arith, nat_tests)) in

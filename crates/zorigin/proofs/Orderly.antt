@@ -138,10 +138,10 @@ found_in t (x ∷ xs) a h =
       | false ↦ λ e g. (inr (more g).0, (more g).1)
     ] refl h
 
-init_asked : (w : What) → is_init w ≡ true → w ≡ what.Init
-init_asked what.Init h = refl
-init_asked what.Search h = absurd (true≢false (sym h))
-init_asked (what.Present ranges) h = absurd (true≢false (sym h))
+pub init_what : (w : What) → is_init w ≡ true → w ≡ what.Init
+init_what what.Init h = refl
+init_what what.Search h = absurd (true≢false (sym h))
+init_what (what.Present ranges) h = absurd (true≢false (sym h))
 
 -- Ready is said only by a response that accepts
 ready_accepts : (closing : Bool) (reply : Apdu) → is_ready (closing_state closing (state_by reply)) ≡ true → Accepts reply
@@ -168,7 +168,7 @@ ready_opened : (p : Past) → is_ready (state_of p) ≡ true → IsOpened p
 ready_opened p h =
     let answer = answer_ready p.fault p.closed (list_any is_close_call p.admitted) (list_any is_init_call p.admitted) (opening p) h in
     let found = found_in opens p.accepted answer.0 answer.1 in
-    record { answer = answer.0; accepted = contained answer.0 p.accepted found.0; init = init_asked answer.0.asked.what found.1; accepts = answer.2 }
+    record { answer = answer.0; accepted = contained answer.0 p.accepted found.0; init = init_what answer.0.asked.what found.1; accepts = answer.2 }
 
 opened_more : (p q : Past) → ((a : Answer) → IsIn a p.accepted → IsIn a q.accepted) → IsOpened p → IsOpened q
 opened_more p q kept o = record { answer = o.answer; accepted = contained o.answer q.accepted (kept o.answer (among o.answer p.accepted o.accepted)); init = o.init; accepts = o.accepts }
