@@ -6,10 +6,10 @@ use Rattle.zber.specs.Elements.{Element}
 use Rattle.zber.specs.Spelling.{Begins}
 use Rattle.zber.specs.Shown.{Shows}
 use Rattle.zber.specs.Unfinished.{IsUnfinished}
-use Rattle.zber.specs.Laws.{OneAnswer}
 use Rattle.zapdu.specs.declared.apdu.Apdu.{Apdu}
 use Rattle.zapdu.specs.declared.apdu.Kind.{Kind}
-use Rattle.zapdu.specs.Writes.{Writes, IsNoApdu, IsMalformed, OneRefusal}
+use Rattle.zapdu.specs.Writes.{Writes, IsNoApdu, IsMalformed}
+use Rattle.zoom.proofs.Meetings.{Laws}
 use Rattle.zcommands.specs.Lines.{apdu_text}
 use Rattle.zcommands.specs.Show.{limit, Shown, nothing_left, apdu, fault, unfinished, no_apdu, malformed}
 use Rattle.zcommands.specs.declared.fault.Fault.{Fault}
@@ -18,12 +18,6 @@ use Rattle.zcommands.proofs.Showing.{rest_shorter}
 
 abbrev End : Type 0
 End = Result (Unit {0}) Fault
-
--- what the laws below it say
-pub record Laws : Type 0 where
-  pub answer : OneAnswer
-  pub value : (v w : Apdu) (e : Element) → Writes v e → Writes w e → v ≡ w
-  pub refusal : OneRefusal
 
 -- how octets that begin with a message are shown
 data Begun (e : Element) (rest : List ℕ) : List ℕ → End → Type 0 where

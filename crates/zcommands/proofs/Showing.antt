@@ -4,12 +4,12 @@ use Rattle.zber.specs.declared.fault.FaultKind.{FaultKind}
 use Rattle.zber.specs.declared.fault.FaultKind.TheVariants as kinds
 use Rattle.zber.specs.declared.fault.FrameError.{FrameError}
 use Rattle.zber.specs.declared.fault.FrameError.TheVariants as frames
-use Rattle.zber.specs.AsnTags.{AsnTag}
 use Rattle.zber.specs.Elements.{Element}
-use Rattle.zber.specs.Spelling.{Identifier, low, high, Spells, primitive, definite, indefinite, Begins}
+use Rattle.zber.specs.Spelling.{Begins}
 use Rattle.zber.specs.Shown.{Shows}
 use Rattle.zber.specs.Stream.{Stream, Answers, finished}
 use Rattle.zber.specs.Unfinished.{IsUnfinished}
+use Rattle.zber.proofs.ScanSteps.{spells_some}
 use Rattle.zapdu.specs.declared.apdu.Apdu.{Apdu}
 use Rattle.zapdu.specs.declared.apdu.ApduError.{ApduError}
 use Rattle.zapdu.specs.declared.apdu.ApduError.TheVariants as apdus
@@ -23,18 +23,9 @@ use Rattle.zcommands.specs.Devices.{Device, Gains, Stops, FailsPut, IsOfStream}
 use Rattle.zcommands.specs.declared.fault.Fault.{Fault}
 use Rattle.zcommands.specs.declared.fault.Fault.TheVariants.{Read, Write, Hex, Frame, Memory}
 
-identifier_some : {n : AsnTag} {c : Bool} {i : List ℕ} (x : List ℕ) → Identifier n c i → 0 < length (i ++ x)
-identifier_some x (low t p) = omega arith
-identifier_some x (high t p g) = omega arith
-
-pub spelling_some : {room : ℕ} {e : Element} {x : List ℕ} → Spells room e x → 0 < length x
-spelling_some (primitive id len) = identifier_some _ id
-spelling_some (definite id len all) = identifier_some _ id
-spelling_some (indefinite id all) = identifier_some _ id
-
 -- a message takes octets away
 pub rest_shorter : (size : ℕ) (xs rest : List ℕ) (e : Element) → Begins size xs e rest → length rest < length xs
-rest_shorter size xs rest e b = omega (arith, spelling_some b.is.spelled, ap length b.cut, length-append b.message rest)
+rest_shorter size xs rest e b = omega (arith, spells_some b.is.spelled, ap length b.cut, length-append b.message rest)
 
 -- what is shown of the rest goes on behind the text so far
 pub record HasShown (xs rest old now : List ℕ) : Type 0 where
