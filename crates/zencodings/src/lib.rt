@@ -7,6 +7,7 @@ mod apdus;
 pub mod boxes;
 #[cfg(test)]
 mod damaged;
+pub mod dice;
 pub mod encodings;
 #[cfg(test)]
 mod fields;

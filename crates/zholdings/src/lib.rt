@@ -2,8 +2,6 @@
 #![tactic(auto)]
 
 #[cfg(test)]
-mod dice;
-#[cfg(test)]
 mod facts;
 #[cfg(test)]
 mod known;

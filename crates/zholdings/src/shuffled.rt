@@ -1,5 +1,4 @@
 // Facts of few keys, so that many meet, in orders of no kind in particular and joined from parts: their list is that of the reference.
-use crate::dice::Dice;
 use crate::facts::nothing;
 use crate::known::add_in_order;
 use crate::reference::{facts_of, list};
@@ -7,6 +6,7 @@ use crate::shown::has_list;
 use std::alloc::{AllocError, Global};
 use std::process::Abort;
 use std::test::Fail;
+use zencodings::dice::Dice;
 use zencodings::rows::each_row;
 use zencodings::unread::Unread;
 use zknow::{Knowledge, Mode};

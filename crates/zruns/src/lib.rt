@@ -10,8 +10,6 @@ mod broken;
 #[cfg(test)]
 mod devices;
 #[cfg(test)]
-mod dice;
-#[cfg(test)]
 mod faults;
 #[cfg(test)]
 mod folders;

@@ -1,10 +1,10 @@
 // Worlds of no kind in particular: with moves and without, what is printed is worked out from their entries.
-use crate::dice::Dice;
 use crate::runs::is_listed;
 use crate::wants::Want;
 use crate::written::{put_entry, put_question, put_settings, put_target};
 use std::alloc::{AllocError, Global};
 use std::process::Abort;
+use zencodings::dice::Dice;
 use zencodings::rows::held;
 use zencodings::unread::Unread;
 use zoom::Move;

@@ -1,10 +1,10 @@
 // Which entries match, by the definition: word for word and entry by entry.
-use crate::dice::Dice;
 use crate::target::matching::{names, query as query_of_row, target_of_rows};
 use crate::target::{database, found};
 use std::alloc::{AllocError, Global};
 use std::process::Abort;
 use std::test::Fail;
+use zencodings::dice::Dice;
 use zencodings::rows::held;
 use zencodings::unread::Unread;
 use zquery::{Attr, AttrValue, Query, Rpn, TermValue};

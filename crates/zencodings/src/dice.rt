@@ -1,19 +1,20 @@
-//! Numbers that come again in each run, for facts, queries and orders of no kind in particular.
+//! Numbers that come again in each run, for facts, queries, worlds, moves and orders of no kind in particular.
 use std::alloc::{AllocError, Global};
 
 /// A linear congruential generator (Knuth, The Art of Computer Programming, volume 2, 3.3.4).
 #[derive(Drop)]
-pub(crate) struct Dice {
+pub struct Dice {
     state: u64,
 }
 
 impl Dice {
-    pub(crate) fn new(seed: u64) -> Dice {
+    /// The numbers that come from a seed.
+    pub fn new(seed: u64) -> Dice {
         Dice { state: seed }
     }
 
     /// A number below this one; 0 where there is none.
-    pub(crate) fn below(&mut self, bound: u64) -> u64 {
+    pub fn below(&mut self, bound: u64) -> u64 {
         self.state = self
             .state
             .wrapping_mul(6364136223846793005)
@@ -22,13 +23,13 @@ impl Dice {
     }
 
     /// One of these texts; the empty one where there is none.
-    pub(crate) fn one(&mut self, texts: &[&'static str]) -> &'static str {
+    pub fn one(&mut self, texts: &[&'static str]) -> &'static str {
         let at = self.below(texts.len() as u64);
         texts.get(at as usize).copied().unwrap_or("")
     }
 
     /// The numbers below a count in some order.
-    pub(crate) fn order(&mut self, alloc: Global, count: usize) -> Result<Vec<usize>, AllocError> {
+    pub fn order(&mut self, alloc: Global, count: usize) -> Result<Vec<usize>, AllocError> {
         let mut order: Vec<usize> = (0..count).collect(alloc)?;
         for at in 0..order.len() {
             let other = self.below(count as u64) as usize;
