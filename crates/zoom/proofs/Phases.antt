@@ -1,5 +1,5 @@
 -- What a log says at each phase of what drives a connection.
-use Rattle.std.proofs.Common.{◌≡◌, ◌⊎◌, inl, inr, ℕ, suc, ◌+◌, ◌-◌, ◌<◌, ◌≤◌, Bool, true, false, cond, List, [], ◌∷◌, ◌++◌, length, Option, None, Some, refl, sym, ap, ◌∙◌, arith, true≢false}
+use Rattle.std.proofs.Common.{◌≡◌, inl, inr, ℕ, suc, ◌+◌, ◌-◌, ◌<◌, ◌≤◌, Bool, true, false, cond, List, [], ◌∷◌, ◌++◌, length, Option, None, Some, refl, sym, ap, ◌∙◌, arith, true≢false}
 use Rattle.std.specs.Prelude.{◌||◌, nat_lt}
 use Rattle.std.specs.List.{list_any}
 use Rattle.zapdu.specs.declared.apdu.Apdu.{Apdu}
@@ -8,6 +8,7 @@ use Rattle.zplan.specs.Plan as plan
 use Rattle.zplan.specs.Plan.{Operation, Event, Sends, Receives, Closes, Opens, Finds, Shows, IsAsked, first, search, cut, rest, IsDue, IsNext, asked_in, replies_in, outstanding_in}
 use Rattle.zplan.specs.Positions.{IsIn, first_of}
 use Rattle.zplan.specs.Agenda.{put_list}
+use Rattle.zplan.proofs.Agendas.{in_put}
 use Rattle.zorigin.specs.declared.state.State.{State}
 use Rattle.zorigin.specs.declared.state.State.TheVariants as origins
 use Rattle.zorigin.specs.declared.answer.Answer.{Answer}
@@ -158,16 +159,6 @@ length_put l (m ∷ ms) =
       | true ↦ omega arith
       | false ↦ omega (arith, later)
     ]
-
-pub in_put : (x l : List ℕ) (ms : List (List ℕ)) → IsIn x (put_list l ms) → (x ≡ l) ⊎ IsIn x ms
-in_put x l [] (inl e) = inl e
-in_put x l [] (inr i) = absurd i
-in_put x l (m ∷ ms) i =
-    let later = in_put x l ms in
-    elim (nat_lt (first_of l) (first_of m)) as (λ t. IsIn x (cond t (l ∷ m ∷ ms) (m ∷ put_list l ms)) → (x ≡ l) ⊎ IsIn x (m ∷ ms)) [
-      | true ↦ λ j. j
-      | false ↦ λ j. elim j [ inl e ↦ inr (inl e) | inr k ↦ elim (later k) [ inl e ↦ inl e | inr g ↦ inr (inr g) ] ]
-    ] i
 
 pub apart_put : (l : List ℕ) (ms : List (List ℕ)) → NoneBegins (first_of l) ms → BeginApart ms → BeginApart (put_list l ms)
 apart_put l [] n a = (λ m i. absurd i, tt)

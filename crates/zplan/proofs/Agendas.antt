@@ -56,7 +56,8 @@ ascends_put r (m ∷ ms) a n =
           (from_put (first_of m + 1) r ms (omega arith) a.0, later)
     ] refl
 
-in_put : (x r : List ℕ) (ms : List (List ℕ)) → IsIn x (put_list r ms) → (x ≡ r) ⊎ IsIn x ms
+-- a list among those that it was put to is the one that was put, or one of those before
+pub in_put : (x r : List ℕ) (ms : List (List ℕ)) → IsIn x (put_list r ms) → (x ≡ r) ⊎ IsIn x ms
 in_put x r [] (inl e) = inl e
 in_put x r [] (inr i) = absurd i
 in_put x r (m ∷ ms) i =

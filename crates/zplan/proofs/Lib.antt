@@ -14,5 +14,5 @@ mod Entries
 mod Among
 mod Uncuts
 mod Plans
-mod Agendas
+pub mod Agendas
 mod AgendaSteps
