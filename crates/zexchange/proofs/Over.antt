@@ -9,14 +9,10 @@ use Rattle.std.proofs.lemmas.List.Sorted.{IsPermutation-refl, length_permutation
 use Rattle.zapdu.specs.declared.apdu.Apdu.{Apdu}
 use Rattle.zapdu.specs.declared.apdu.Apdu.TheVariants as apdus
 use Rattle.zapdu.specs.declared.productions.close.Close.{Close}
-use Rattle.zapdu.specs.declared.productions.init_response.InitResponse.{InitResponse}
 use Rattle.zorigin.specs.declared.settings.Settings.{Settings}
 use Rattle.zorigin.specs.declared.answer.Answer.{Answer}
-use Rattle.zorigin.specs.declared.answer.What.{What}
-use Rattle.zorigin.specs.declared.answer.What.TheVariants as what
-use Rattle.zorigin.specs.Fitting.{Fits}
 use Rattle.zorigin.specs.Sending.{encoding_of}
-use Rattle.zorigin.specs.Log.{opening, is_init, is_init_call, is_close_call}
+use Rattle.zorigin.specs.Log.{opening, is_init_call, is_close_call}
 use Rattle.zorigin.proofs.Accepting.{IsIn, among, contained, accepted_so}
 use Rattle.ztarget.specs.Receiving.{is_close, may_release}
 use Rattle.zoom.specs.States.{is_stopped}
@@ -33,7 +29,7 @@ use Rattle.zexchange.proofs.Logs.{accepted_got, closed_got}
 use Rattle.zexchange.proofs.Parts.{IsPart, part_front, part_none, before_last, left_none, right_none, none_in_none, last_in}
 use Rattle.zexchange.proofs.Pendings.{Follows, in_order, followed}
 use Rattle.zexchange.proofs.Sounds.{left_of, more_owed, permuted, due, got_owed, pending_owed, converses, coming_is}
-use Rattle.zexchange.proofs.States.{Rejects, stopped_so, found_in}
+use Rattle.zexchange.proofs.States.{Rejects, stopped_so, rejecting, found_in}
 
 -- ---- a Close is the last
 
@@ -45,19 +41,6 @@ kind_of (apdus.SearchResponse v) = inl refl
 kind_of (apdus.PresentRequest v) = inl refl
 kind_of (apdus.PresentResponse v) = inl refl
 kind_of (apdus.Close c) = inr (c, refl)
-
--- a response to Init that rejects the association
-rejecting : (w : What) (reply : Apdu) → is_init w ≡ true → Fits w reply → Rejects reply
-    → (v : InitResponse) × (reply ≡ apdus.InitResponse v) × (v.result ≡ false)
-rejecting what.Init (apdus.InitRequest v) i f r = absurd f
-rejecting what.Init (apdus.InitResponse v) i f r = (v, refl, r)
-rejecting what.Init (apdus.SearchRequest v) i f r = absurd f
-rejecting what.Init (apdus.SearchResponse v) i f r = absurd f
-rejecting what.Init (apdus.PresentRequest v) i f r = absurd f
-rejecting what.Init (apdus.PresentResponse v) i f r = absurd f
-rejecting what.Init (apdus.Close v) i f r = absurd f
-rejecting what.Search reply i f r = absurd (true≢false (sym i))
-rejecting (what.Present ranges) reply i f r = absurd (true≢false (sym i))
 
 module _ (laws : AccordLaws) (holdings : Holdings) (settings : Settings) (deeds : List Deed) (p : Heard)
     (events : List Event) (host : HostState)

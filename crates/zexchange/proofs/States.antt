@@ -6,6 +6,7 @@ use Rattle.std.proofs.lemmas.Bool.{or_right}
 use Rattle.std.proofs.lemmas.Bool.Decides.{nat_tests}
 use Rattle.zapdu.specs.declared.apdu.Apdu.{Apdu}
 use Rattle.zapdu.specs.declared.apdu.Apdu.TheVariants as apdus
+use Rattle.zapdu.specs.declared.productions.init_response.InitResponse.{InitResponse}
 use Rattle.zapdu.specs.declared.productions.close.Close.{Close as CloseApdu}
 use Rattle.zorigin.specs.declared.answer.Answer.{Answer}
 use Rattle.zorigin.specs.declared.answer.Asked.{Asked}
@@ -62,16 +63,23 @@ stopped_so None false closing true None e s = absurd (true≢false (sym s))
 stopped_so None false closing false None e s = absurd (true≢false (sym s))
 stopped_so None false closing begun (Some a) e s = inr (a, refl, stops_by closing a.reply s)
 
+-- a response to Init that rejects the association
+pub rejecting : (w : What) (reply : Apdu) → is_init w ≡ true → Fits w reply → Rejects reply
+    → (v : InitResponse) × (reply ≡ apdus.InitResponse v) × (v.result ≡ false)
+rejecting what.Init (apdus.InitRequest v) i f r = absurd f
+rejecting what.Init (apdus.InitResponse v) i f r = (v, refl, r)
+rejecting what.Init (apdus.SearchRequest v) i f r = absurd f
+rejecting what.Init (apdus.SearchResponse v) i f r = absurd f
+rejecting what.Init (apdus.PresentRequest v) i f r = absurd f
+rejecting what.Init (apdus.PresentResponse v) i f r = absurd f
+rejecting what.Init (apdus.Close v) i f r = absurd f
+rejecting what.Search reply i f r = absurd (true≢false (sym i))
+rejecting (what.Present ranges) reply i f r = absurd (true≢false (sym i))
+
 pub rejected : (w : What) (reply : Apdu) → is_init w ≡ true → Fits w reply → Rejects reply → is_rejection reply ≡ true
-rejected what.Init (apdus.InitRequest v) i f r = absurd f
-rejected what.Init (apdus.InitResponse v) i f r = ap not r
-rejected what.Init (apdus.SearchRequest v) i f r = absurd f
-rejected what.Init (apdus.SearchResponse v) i f r = absurd f
-rejected what.Init (apdus.PresentRequest v) i f r = absurd f
-rejected what.Init (apdus.PresentResponse v) i f r = absurd f
-rejected what.Init (apdus.Close v) i f r = absurd f
-rejected what.Search reply i f r = absurd (true≢false (sym i))
-rejected (what.Present ranges) reply i f r = absurd (true≢false (sym i))
+rejected w reply i f r =
+    let x = rejecting w reply i f r in
+    subst (λ z. is_rejection z ≡ true) (sym x.1) (ap not x.2)
 
 -- a Close fits no operation
 pub fits_no_close : (w : What) (reply : Apdu) → Fits w reply → (c : CloseApdu) → reply ≡ apdus.Close c → ⊥
