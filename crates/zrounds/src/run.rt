@@ -47,6 +47,7 @@ pub fn run_over<W: Way>(
     ensures ran { IfOk result (λ meta. Ran questions.items settings targets.items meta) }
     ensures whole { W.sure ≡ true
         → IfOk result (λ meta. RanWhole questions.items settings targets.items meta) }
+    ensures size { IfOk result (λ meta. length meta.pool.connections ≡ length questions.items) }
 {
     let mut meta = Meta::new(alloc, Seq::from_vec(questions), settings)?;
     let mut peers = peers_of(alloc, targets)?;
@@ -74,6 +75,7 @@ pub fn run_world(
     requires equal { length targets.items ≡ length questions.items }
     ensures ran { IfOk result (λ meta. Ran questions.items settings targets.items meta) }
     ensures whole { IfOk result (λ meta. RanWhole questions.items settings targets.items meta) }
+    ensures size { IfOk result (λ meta. length meta.pool.connections ≡ length questions.items) }
     ensures list { IfOk result
         (λ meta. out.new.items ≡ out.old.items ++ listing names.now mode meta.pool.knowledge) }
     ensures err { OnErr result (out.new.items ≡ out.old.items) }
