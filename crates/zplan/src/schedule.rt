@@ -1,5 +1,5 @@
 //! The Presents of one result set.
-ghost use Rattle.std.specs.Prelude.{◌≡◌, ◌<◌, true, false, IfOk, length};
+ghost use Rattle.std.specs.Prelude.{◌≡◌, ◌<◌, true, false, IfOk, OnErr, IfNone, length};
 ghost use Rattle.zplan.specs.Positions.{up_to};
 ghost use Rattle.zplan.specs.Ranges.{AreWanted, positions};
 ghost use Rattle.zplan.specs.Agenda.{SameAgenda, IsFirstOf, IsSent, IsAnswered, HasWaiting, whole_agenda};
@@ -65,11 +65,13 @@ impl Schedule {
     }
 
     /// The list that is due with the least first position, as ranges, or none. It stays due until `sent` says that its
-    /// Present was sent: until then the same list is given again. Refused only for want of memory: the same lists are
-    /// then due, and wait.
+    /// Present was sent: until then the same list is given again. Where none is due, nothing can be sent. Refused only
+    /// for want of memory: nothing has then changed.
     pub fn next(&mut self, alloc: Global) -> Result<Option<Vec<Range>>, AllocError>
         ensures same { SameAgenda self.old self.new }
         ensures ok { IfOk result (λ o. IsFirstOf self.new o) }
+        ensures none { IfOk result (λ o. IfNone o (self.new.ready ≡ false)) }
+        ensures err { OnErr result (self.new ≡ self.old) }
     {
         match first_due(&self.entries) {
             Some(at) => Ok(Some(ranges_of(alloc, &self.entries[at].list)?)),
