@@ -28,7 +28,7 @@ use Rattle.zoom.specs.History.{History, only, After}
 use Rattle.zoom.specs.Befalling.{Befell, IsStateAt, IsCallAnswer, IsPoolFinished}
 use Rattle.zoom.specs.Laws.{OneHearing}
 use Rattle.zoom.specs.Steering.{Errand, errand_of}
-use Rattle.zoom.specs.Drivers.{DriverState, IsDriver, Stays, Offers, GivesNext, KnowsSent, KnowsRefused}
+use Rattle.zoom.specs.Drivers.{DriverState, IsDriver, Stays, Offers, Rests, GivesNext, KnowsSent, KnowsRefused}
 use Rattle.zoom.specs.Metas.{MetaLinks, settings_of, AreDriven, MetaAfter, made, Progress, Drives}
 use Rattle.zoom.specs.Metas.{left_of, left_at, Gave, AdvancesBy, AdvancesTo, IssuesTo, DrivesTo}
 use Rattle.zoom.specs.Metas.{Tells, is_skipped, is_complete, IsFinished}
@@ -118,6 +118,8 @@ unfolding progress_join
 drives_join questions s c h n m mid new x y = record {
   progress = progress_join questions s c h n m mid new x y.progress;
   rests = λ question q asked heard. y.rests question q asked
+      (subst (λ l. HasHeard (settings_of s) (only c l) q) (made_more c y.progress.calls x.calls h) heard);
+  tried = λ q heard. y.tried q
       (subst (λ l. HasHeard (settings_of s) (only c l) q) (made_more c y.progress.calls x.calls h) heard);
 }
 
@@ -333,6 +335,9 @@ stopped_to E hearing c old state lt is stopped questions s h a = record {
   rests = λ q p asked heard. λ f.
       let e = state_is hearing questions s h old c state a lt is p heard in
       absurd (true≢false (sym stopped ∙ ap is_stopped e ∙ f));
+  tried = λ p heard. λ f o.
+      let e = state_is hearing questions s h old c state a lt is p heard in
+      absurd (true≢false (sym stopped ∙ ap is_stopped e ∙ f));
 }
 
 -- none was given
@@ -345,12 +350,17 @@ idle_to E hearing c old new state was x lt is pool at ds stays gives questions s
     let b = stays_after questions s h old new c was x a pool at ds stays in
     let drives : slice_get new.drivers c ≡ Some x = ap (λ z. slice_get z c) ds
     ∙ get_same old.drivers c x (slice_get_within old.drivers c was at) in
+    let here = question_at questions s h old c a lt in
+    let rests : (q : Question) (p : Heard) → slice_get questions c ≡ Some q → HasHeard (settings_of s) (only c h) p
+    → is_stopped (state_at p) ≡ false → Rests (errand_of s q) p.settings p.log = λ q p asked heard f.
+    gives (errand_of s q) p.settings p.log (b.driven.each c q x p asked drives heard)
+    (state_is hearing questions s h old c state a lt is p heard
+    ∙ origin_state (settings_of s) (only c h) p heard f) in
     record {
       progress = progress_none hearing questions s c h new b;
-      rests = λ q p asked heard. λ f call next. gives (errand_of s q) p.settings p.log
-          (b.driven.each c q x p asked drives heard)
-          (state_is hearing questions s h old c state a lt is p heard
-          ∙ origin_state (settings_of s) (only c h) p heard f) call next;
+      rests = λ q p asked heard. λ f call next. (rests q p asked heard f).none call next;
+      tried = λ p heard. λ f o. (rests here.0 p here.1 heard f).tried
+          (sym (ap is_stopped (origin_state (settings_of s) (only c h) p heard f)) ∙ f) o;
     }
 
 -- memory was wanting

@@ -1,5 +1,5 @@
 -- What drives a connection still knows its log, once an entry more came.
-use Rattle.std.proofs.Common.{◌≡◌, inl, inr, ℕ, ◌+◌, ◌-◌, ◌<◌, ◌≤◌, Bool, true, false, cond, not, List, [], ◌∷◌, ◌++◌, map, length, Option, None, Some, Ok, Err, refl, sym, ap, subst, ◌∙◌, arith, true≢false, append-nil}
+use Rattle.std.proofs.Common.{◌≡◌, ◌≢◌, inl, inr, ℕ, ◌+◌, ◌-◌, ◌<◌, ◌≤◌, Bool, true, false, cond, not, List, [], ◌∷◌, ◌++◌, map, length, Option, None, Some, Ok, Err, refl, sym, ap, subst, ◌∙◌, arith, true≢false, append-nil}
 use Rattle.std.specs.Prelude.{◌||◌, is_none}
 use Rattle.std.specs.List.{list_any, find, flat_map}
 use Rattle.std.proofs.lemmas.Grind.{flat_map-append}
@@ -30,10 +30,10 @@ use Rattle.zorigin.specs.Log.{Log, Made, Got, Past, past, standing, state_of, st
 use Rattle.zoom.specs.declared.phase.Phase.{Phase}
 use Rattle.zoom.specs.declared.phase.Phase.TheVariants as phases
 use Rattle.zoom.specs.Driving.{plan_of, operation_for, events_of, made_event, got_event, can_search, can_present, IsDueEvent, IsDueCall, DrivenLaws}
-use Rattle.zoom.specs.Steering.{Errand, IsNextCall, IsSteeredCall, is_skip, may_call, skipped_in, complete_in, is_rejected, room_in}
+use Rattle.zoom.specs.Steering.{Errand, IsNextCall, IsSteeredCall, is_skip, may_call, skipped_in, complete_in, is_rejected, room_in, IsTried}
 use Rattle.zoom.specs.Drivers.{DriverState, IsDriver, IsAt, AtFresh, AtOpened, AtCounted, AtAsking, AtDone, AtClosed, HasOpening, AllAnswered, NoneBegins, BeginApart, events_at, opened_events, searched_events, found_events, left_in, Stays, Offers, IsPrepared, Prepares, IsSamePhase, IsSentAgenda, SendsAt, KnowsSent, KnowsRefused, RefusedLaw, HasVersion, CanBeSent, HasFound}
 use Rattle.zoom.proofs.Phases.{uncallable, any_last, none_due, length_put, apart_put}
-use Rattle.zoom.proofs.Nexts.{room_few}
+use Rattle.zoom.proofs.Nexts.{room_few, found_some}
 use Rattle.zoom.proofs.Drivings.{sent_known}
 
 no_some : {A : Type 0} {x : A} → Some x ≡ None → ⊥
@@ -161,6 +161,7 @@ record Moved (e : Errand) (settings : Settings) (log more : Log) : Type 0 where
   can : is_ready (state_of (past settings more)) ≡ true
       → (is_ready (state_of (past settings log)) ≡ true) × (can_search e.ask (past settings more) ≡ can_search e.ask (past settings log))
   closed : may_call (state_of (past settings log)) ≡ false → may_call (state_of (past settings more)) ≡ false
+  skipped : skipped_in settings log ≡ true → skipped_in settings more ≡ true
 
 same_opening : (p q : Past) → q.accepted ≡ p.accepted → opening q ≡ opening p
 same_opening p q h = ap (find opens) h
@@ -203,6 +204,11 @@ moved_found : (e : Errand) (settings : Settings) (log more : Log) → Moved e se
     → HasFound e.ask (past settings log) three count → HasFound e.ask (past settings more) three count
 moved_found e settings log more m three count h =
     kept_found e.ask (past settings log) (past settings more) three count (ap (flat_map search_in) m.admitted) m.accepted h
+
+still_tried : (e : Errand) (settings : Settings) (log more : Log) → Moved e settings log more → IsTried settings log
+    → IsTried settings more
+still_tried e settings log more m (inl some) = inl (λ none. some (sym (ap (flat_map search_in) m.admitted) ∙ none))
+still_tried e settings log more m (inr t) = inr (m.skipped t)
 
 moved_at : (e : Errand) (settings : Settings) (log more : Log) → Moved e settings log more → (ph : Phase) → IsAt e settings log ph → IsAt e settings more ph
 moved_at e settings log more m phases.Fresh a = record {
@@ -251,14 +257,21 @@ moved_at e settings log more m phases.Done a = record {
   all = subst AllAnswered (sym m.events) a.all;
   outstanding = ap outstanding_in m.events ∙ a.outstanding;
   opening = still e settings log more m a.opening;
+  tried = still_tried e settings log more m a.tried;
 }
 moved_at e settings log more m phases.Closed a = record {
   all = subst AllAnswered (sym m.events) a.all;
   closed = m.closed a.closed;
   opening = still e settings log more m a.opening;
+  tried = λ f. still_tried e settings log more m
+      (a.tried (ap is_rejected (sym (same_opening (past settings log) (past settings more) m.accepted)) ∙ f));
 }
 
 -- ---- a refused call
+
+or_more : (a b : Bool) → b ≡ true → (a || b) ≡ true
+or_more true b t = refl
+or_more false b t = t
 
 refused_moved : (e : Errand) (settings : Settings) (log : Log) (call : origin.Call) (reason : CallRefused)
     → refusal (standing (past settings log)) call ≡ Some reason → Moved e settings log (Made call ∷ log)
@@ -270,6 +283,7 @@ refused_moved e settings log call reason q =
       accepted = ap (λ (p : Past). p.accepted) same;
       can = λ r. (sym (ap (λ p. is_ready (state_of p)) same) ∙ r, ap (can_search e.ask) same);
       closed = λ c. ap (λ p. may_call (state_of p)) same ∙ c;
+      skipped = or_more (is_skip (refusal (standing (past settings log)) call) call) (skipped_in settings log);
     }
 
 refused_driver : (e : Errand) (settings : Settings) (log : Log) (call : origin.Call) (reason : CallRefused) (old new : DriverState)
@@ -294,19 +308,29 @@ refused_driver e settings log call reason old new o q er sk co l le at =
       at = at;
     }
 
+skip_made : (settings : Settings) (log : Log) (call : origin.Call) → (r : Option CallRefused)
+    → refusal (standing (past settings log)) call ≡ r → is_skip r call ≡ true → skipped_in settings (Made call ∷ log) ≡ true
+skip_made settings log call r q t = ap (λ z. is_skip z call || skipped_in settings log) q
+    ∙ ap (λ b. b || skipped_in settings log) t
+
 -- the search was refused: nothing is left to ask for
-refused_search : (e : Errand) (settings : Settings) (log : Log) (op set : ℕ) (reason : CallRefused) (present three : Bool)
-    → refusal (standing (past settings log)) (origin.Search 1 1 e.ask) ≡ Some reason → is_ready (state_of (past settings log)) ≡ true
-    → AtOpened e settings log present three → AtDone e settings log
-refused_search e settings log op set reason present three q rd a =
+refused_search : (e : Errand) (settings : Settings) (log : Log) (call : origin.Call) (reason : CallRefused)
+    (present three : Bool) → refusal (standing (past settings log)) call ≡ Some reason → is_skip (Some reason) call ≡ true
+    → refusal (standing (past settings log)) (origin.Search 1 1 e.ask) ≡ Some reason
+    → is_ready (state_of (past settings log)) ≡ true → AtOpened e settings log present three
+    → AtDone e settings (Made call ∷ log)
+refused_search e settings log call reason present three refused skip q rd a =
+    let m = refused_moved e settings log call reason refused in
     let no : a.search ≡ false = sym (a.can rd) ∙ ap is_none q in
-    let ev : events_at e settings log ≡ opened_events false three = a.events ∙ ap (λ b. opened_events b three) no in
+    let ev : events_at e settings (Made call ∷ log) ≡ opened_events false three =
+    m.events ∙ a.events ∙ ap (λ b. opened_events b three) no in
     record {
       none = subst (λ z. (b : Operation) → IsDue e.wanted e.step z b → ⊥) (sym ev)
           (none_due e.wanted e.step (opened_events false three) (inl refl) (λ t x. absurd (cc)) (λ c x. absurd (cc)) (λ l m x. absurd (cc)));
       all = subst AllAnswered (sym ev) answered;
       outstanding = ap outstanding_in ev;
-      opening = a.opening;
+      opening = still e settings log (Made call ∷ log) m a.opening;
+      tried = inr (skip_made settings log call (Some reason) refused skip);
     }
   where
     answered : AllAnswered (opened_events false three)
@@ -360,8 +384,9 @@ skipped_by : (op set : ℕ) (ask : Ask) (reason : CallRefused) (old new : Driver
     → new.left ≡ left_in new.errand.window new.phase → (e : Errand) (settings : Settings) (log : Log)
     → Offers e settings log old (origin.Search op set ask)
     → refusal (standing (past settings log)) (origin.Search op set ask) ≡ Some reason
+    → is_skip (Some reason) (origin.Search op set ask) ≡ true
     → IsDriver e settings (Made (origin.Search op set ask) ∷ log) new × (new.left < old.left)
-skipped_by op set ask reason old new er ph sk co l e settings log o q =
+skipped_by op set ask reason old new er ph sk co l e settings log o q t =
     let k = o.knows in let f = o.offered in
     let was : old.left ≡ 2 = k.left ∙ ap (left_in e.window) f.2 in
     let is : new.left ≡ 1 = l ∙ ap (left_in new.errand.window) ph in
@@ -369,8 +394,7 @@ skipped_by op set ask reason old new er ph sk co l e settings log o q =
     let c : origin.Search op set ask ≡ origin.Search 1 1 e.ask = search_same op set ask e.ask f.4 f.5 f.6 in
     let r : refusal (standing (past settings log)) (origin.Search 1 1 e.ask) ≡ Some reason = ap (refusal (standing (past settings log))) (sym c) ∙ q in
     let done : AtDone e settings (Made (origin.Search op set ask) ∷ log) =
-    moved_at e settings log (Made (origin.Search op set ask) ∷ log) (refused_moved e settings log (origin.Search op set ask) reason q) phases.Done
-    (refused_search e settings log 1 1 reason f.0 f.1 r f.3 a) in (
+    refused_search e settings log (origin.Search op set ask) reason f.0 f.1 q t r f.3 a in (
       refused_driver e settings log (origin.Search op set ask) reason old new o q er sk co (l ∙ ap (λ z. left_in z.window new.phase) (er ∙ k.errand))
           (omega (arith, was, is)) (subst (IsAt e settings (Made (origin.Search op set ask) ∷ log)) (sym ph) done),
       omega (arith, was, is),
@@ -387,7 +411,7 @@ knows_refused old new er ph sk co l e settings log call reason o q = by call o q
     by : (call : origin.Call) → Offers e settings log old call → refusal (standing (past settings log)) call ≡ Some reason
         → is_skip (Some reason) call ≡ true → IsDriver e settings (Made call ∷ log) new × (new.left < old.left)
     by (origin.Search op set ask) o q t =
-        skipped_by op set ask reason old new er ph (sk ∙ ap (λ b. b || old.skipped) (sym t)) co l e settings log o q
+        skipped_by op set ask reason old new er ph (sk ∙ ap (λ b. b || old.skipped) (sym t)) co l e settings log o q t
     by origin.Init o q t = absurd (true≢false (sym t ∙ unskipped_init reason))
     by (origin.Present op set ranges) o q t = absurd (true≢false (sym t ∙ unskipped_present reason op set ranges))
     by origin.Close o q t = absurd (true≢false (sym t ∙ unskipped_close reason))
@@ -425,6 +449,7 @@ refused_reply = λ e settings log d reply reason k q.
       can = subst (λ z. is_ready (state_of z) ≡ true → (is_ready (state_of p) ≡ true) × (can_search e.ask z ≡ can_search e.ask p)) (sym same)
           (refused_can e.ask p reason);
       closed = λ c. ap (λ z. may_call (state_of z)) same ∙ refused_closed p reason c;
+      skipped = λ t. t;
     } in
     record {
       steered = k.steered;
@@ -453,6 +478,7 @@ closed_reply e settings log d reply k q =
       accepted = ap (λ (z : Past). z.accepted) same;
       can = λ r. absurd (true≢false (sym r ∙ ap (λ z. is_ready (state_of z)) same ∙ closed_ready p.fault (list_any is_close_call p.admitted) (list_any is_init_call p.admitted) (opening p)));
       closed = λ c. ap (λ z. may_call (state_of z)) same ∙ closed_call p.fault (list_any is_close_call p.admitted) (list_any is_init_call p.admitted) (opening p);
+      skipped = λ t. t;
     } in
     record {
       steered = k.steered;
@@ -531,6 +557,19 @@ sent_searches settings log call q =
     ∙ flat_map-append search_in (past settings log).admitted (call ∷ [])
     ∙ ap (λ l. flat_map search_in (past settings log).admitted ++ l) (append-nil (search_in call))
 
+some_more : {A : Type 0} (xs ys : List A) → xs ≢ [] → xs ++ ys ≢ []
+some_more [] ys some = absurd (some refl)
+some_more (x ∷ xs) ys some = λ none. absurd (cc)
+
+-- what was tried stays so
+sent_tried : (settings : Settings) (log : Log) (call : origin.Call) → refusal (standing (past settings log)) call ≡ None
+    → IsTried settings log → IsTried settings (Made call ∷ log)
+sent_tried settings log call q (inl some) =
+    inl (λ none. some_more (flat_map search_in (past settings log).admitted) (search_in call) some
+    (sym (sent_searches settings log call q) ∙ none))
+sent_tried settings log call q (inr t) =
+    inr (or_more (is_skip (refusal (standing (past settings log)) call) call) (skipped_in settings log) t)
+
 -- while the search was not sent there is none
 pub unsearched : (ask : Ask) (settings : Settings) (log : Log) → (IsIn plan.Search (asked_in (events_of ask settings log)) → ⊥)
     → flat_map search_in (past settings log).admitted ≡ []
@@ -605,8 +644,8 @@ idle_answered e settings log a k z (plan.Present l) i q = none a.waiting (sym k.
     none (x ∷ ls) h i = absurd (omega (arith, h))
 
 sent_closed : (e : Errand) (settings : Settings) (log : Log) → refusal (standing (past settings log)) origin.Close ≡ None → HasOpening (past settings log)
-    → AllAnswered (events_at e settings log) → AtClosed e settings (Made origin.Close ∷ log)
-sent_closed e settings log q o all =
+    → AllAnswered (events_at e settings log) → IsTried settings log → AtClosed e settings (Made origin.Close ∷ log)
+sent_closed e settings log q o all tried =
     let p = past settings log in
     let same : past settings (Made origin.Close ∷ log) ≡ admit p origin.Close = ap (admit_unless p origin.Close) q in
     let any : list_any is_close_call (p.admitted ++ origin.Close ∷ []) ≡ true = any_last p.admitted origin.Close ∙ last (list_any is_close_call p.admitted) in
@@ -617,6 +656,7 @@ sent_closed e settings log q o all =
           (subst (λ a. may_call (state_from p.fault p.closed true (list_any is_init_call (p.admitted ++ origin.Close ∷ [])) a) ≡ false) (sym o.1)
           (uncallable p.fault p.closed (list_any is_init_call (p.admitted ++ origin.Close ∷ [])) o.0));
       opening = (o.0, sent_opening settings log origin.Close q ∙ o.1);
+      tried = λ f. sent_tried settings log origin.Close q tried;
     }
   where
     last : (b : Bool) → (b || true) ≡ true
@@ -634,13 +674,13 @@ answered_whole e events none all a asked = by (replies_in events a) refl
 
 sent_close : (e : Errand) (settings : Settings) (log : Log) (old new : DriverState) → Offers e settings log old origin.Close
     → refusal (standing (past settings log)) origin.Close ≡ None → new.phase ≡ phases.Closed → new.errand ≡ old.errand → new.skipped ≡ old.skipped
-    → new.complete ≡ true → new.left ≡ left_in e.window new.phase → HasOpening (past settings log) → AllAnswered (events_at e settings log) → 0 < old.left
+    → new.complete ≡ true → new.left ≡ left_in e.window new.phase → HasOpening (past settings log) → AllAnswered (events_at e settings log) → IsTried settings log → 0 < old.left
     → IsDriver e settings (Made origin.Close ∷ log) new × (new.left < old.left)
-sent_close e settings log old new o q ph er sk co l op all lt =
+sent_close e settings log old new o q ph er sk co l op all tried lt =
     let n : IsNextCall e settings log origin.Close = o.offered.1 in
     let z : new.left ≡ 0 = l ∙ ap (left_in e.window) ph in
     sent_driver e settings log origin.Close old new o q n (answered_whole e (events_at e settings log) n.next.0 all) er sk co l (omega (arith, z, lt))
-    (subst (IsAt e settings (Made origin.Close ∷ log)) (sym ph) (sent_closed e settings log q op all))
+    (subst (IsAt e settings (Made origin.Close ∷ log)) (sym ph) (sent_closed e settings log q op all tried))
 
 -- the request of a search that was admitted can be sent
 sent_sendable : (s : Standing) (op set : ℕ) (ask : Ask) → refusal s (origin.Search op set ask) ≡ None
@@ -732,10 +772,11 @@ knows_sent laws driven number origin.Close old new s er sk co l = λ e settings 
       | inl is ↦
           let a : AtDone e settings log = subst (IsAt e settings log) is k.at in
           let was : old.left ≡ 1 = k.left ∙ ap (left_in e.window) is in
-          sent_close e settings log old new o q s er sk co left a.opening a.all (omega (arith, was))
+          sent_close e settings log old new o q s er sk co left a.opening a.all a.tried (omega (arith, was))
       | inr x ↦
           let a : AtAsking e settings log x.0 = subst (IsAt e settings log) x.1 k.at in
           let was : old.left ≡ e.window + 2 - length x.0.waiting = k.left ∙ ap (left_in e.window) x.1 in
           let z = o.offered.1.next.1 in let out = a.outstanding in
-          sent_close e settings log old new o q s er sk co left a.opening (idle_answered e settings log x.0 a z) (omega (arith, was, z, out))
+          sent_close e settings log old new o q s er sk co left a.opening (idle_answered e settings log x.0 a z)
+          (inl (found_some e.ask (past settings log) x.0.three a.count a.set)) (omega (arith, was, z, out))
     ]

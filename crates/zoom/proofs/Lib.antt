@@ -8,6 +8,7 @@ pub mod Meetings
 pub mod Metas
 pub mod Advancing
 pub mod Phases
+pub mod Closings
 pub mod Nexts
 pub mod Kept
 pub mod Telling

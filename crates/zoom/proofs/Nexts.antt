@@ -1,31 +1,33 @@
 -- What drives a connection gives the call that is next, and none where none is.
-use Rattle.std.proofs.Common.{◌≡◌, inl, inr, ℕ, ◌+◌, ◌-◌, ◌<◌, ◌≤◌, Bool, true, false, cond, [], ◌∷◌, length, Option, None, Some, refl, sym, ap, subst, ◌∙◌, arith, true≢false}
+use Rattle.std.proofs.Common.{◌≡◌, inl, inr, ℕ, ◌+◌, ◌-◌, ◌<◌, ◌≤◌, Bool, true, false, cond, List, [], ◌∷◌, length, Option, None, Some, refl, sym, ap, subst, ◌∙◌, arith, true≢false}
 use Rattle.std.specs.Prelude.{◌||◌, is_none}
-use Rattle.std.specs.List.{list_any}
+use Rattle.std.specs.List.{list_any, flat_map}
 use Rattle.zplan.specs.Plan as plan
 use Rattle.zplan.specs.Plan.{Operation, Sends, Closes, first, search, IsDue, IsDriven, IsNext, asked_in, replies_in, outstanding_in, start_of}
 use Rattle.zplan.specs.Positions.{IsIn, IsWanted, first_of}
 use Rattle.zplan.specs.Agenda.{Agenda}
 use Rattle.zplan.specs.Laws.{NextLaws, BoundLaws}
 use Rattle.zorigin.specs.declared.settings.Settings.{Settings}
+use Rattle.zorigin.specs.declared.settings.Ask.{Ask}
 use Rattle.zorigin.specs.declared.refusal.CallRefused.{CallRefused}
 use Rattle.zorigin.specs.Standings.{is_fresh, is_ready}
 use Rattle.zorigin.specs.Standings as origin
 use Rattle.zorigin.specs.Ranges.{positions}
 use Rattle.zorigin.specs.Calls.{refusal}
-use Rattle.zorigin.specs.Log.{Log, Past, past, standing, state_of, state_from, opening, force_after, is_close_call, is_init_call}
+use Rattle.zorigin.specs.Log.{Log, Past, past, standing, state_of, state_from, opening, force_after, is_close_call, is_init_call, search_in}
 use Rattle.zoom.specs.declared.call.Call.{Call}
 use Rattle.zoom.specs.declared.state.State.{State}
 use Rattle.zoom.specs.declared.phase.Phase.{Phase}
 use Rattle.zoom.specs.declared.phase.Phase.TheVariants as phases
 use Rattle.zoom.specs.CallsOf.{call_of}
-use Rattle.zoom.specs.States.{state_as}
+use Rattle.zoom.specs.States.{state_as, is_stopped}
 use Rattle.zoom.specs.Driving.{plan_of, DrivenLaws}
-use Rattle.zoom.specs.Steering.{Errand, IsNextCall, IsSteeredCall, room_in, may_call}
-use Rattle.zoom.specs.Drivers.{DriverState, IsDriver, IsAt, AtFresh, AtOpening, AtOpened, AtSearching, AtAsking, HasOpening, events_at, opened_events, Offers, IsOffered, GivesNext, GivesAt, GivesIf, GivesAsked, GivesInRoom, AsksFirst, room_for, has_room, is_fresh_state}
+use Rattle.zoom.specs.Steering.{Errand, IsNextCall, IsSteeredCall, room_in, may_call, is_rejected, IsTried}
+use Rattle.zoom.specs.Drivers.{DriverState, IsDriver, IsAt, AtFresh, AtOpening, AtOpened, AtSearching, AtAsking, AtClosed, HasOpening, HasFound, events_at, opened_events, Offers, IsOffered, Rests, GivesNext, GivesAt, GivesIf, GivesAsked, GivesInRoom, AsksFirst, room_for, has_room, is_fresh_state}
 use Rattle.zoom.specs.Due.{DueLaws, CanAskFor}
 use Rattle.zoom.proofs.Wants.{few_ranges}
 use Rattle.zoom.proofs.Phases.{unready, unfresh, concurrent_by, room_ready, no_room, fresh_as, no_call, call_ready, none_due, none_next, full_next}
+use Rattle.zoom.proofs.Closings.{closes_in, closing_known, open_ready, rejected_stopped}
 
 -- ---- states
 
@@ -206,7 +208,7 @@ module _ (next : NextLaws) (laws : DrivenLaws) (due : DueLaws) (bounds : BoundLa
 -- ---- at each phase
 
 abbrev GivesHere : Errand → Settings → Log → DriverState → Option Call → Type 0
-GivesHere e settings log d None = (call : origin.Call) → IsNextCall e settings log call → ⊥
+GivesHere e settings log d None = Rests e settings log
 GivesHere e settings log d (Some call) = Offers e settings log d (call_of call)
 
 unstanding : (e : Errand) (settings : Settings) (log : Log) → HasOpening (past settings log)
@@ -221,45 +223,96 @@ standing_ready : (e : Errand) (settings : Settings) (log : Log) → has_room (ro
 standing_ready e settings log t =
     let r = roomy (room_for e.window (state_as (state_of (past settings log)))) t in (room_at e.window (past settings log) r.0 r.1).0
 
+no_list : {A : Type 0} {x : A} {xs : List A} → x ∷ xs ≡ [] → ⊥
+no_list e = cc
+
+pub found_some : (ask : Ask) (p : Past) (three : Bool) (count : ℕ) → HasFound ask p three count
+    → flat_map search_in p.admitted ≡ [] → ⊥
+found_some ask p three count h none = no_list (sym h.asked ∙ none)
+
+-- once the search was tried, it rests where none is next
+tried_rests : (e : Errand) (settings : Settings) (log : Log) → IsTried settings log
+    → ((call : origin.Call) → IsNextCall e settings log call → ⊥) → Rests e settings log
+tried_rests e settings log tried none = record { none = none; tried = λ f o. tried }
+
+-- before the association was answered
+unopened_rests : (e : Errand) (settings : Settings) (log : Log) → opening (past settings log) ≡ None
+    → ((call : origin.Call) → IsNextCall e settings log call → ⊥) → Rests e settings log
+unopened_rests e settings log n none = record { none = none; tried = λ f o. absurd (no_some (sym o.1 ∙ n)) }
+
+-- where the search is next, it rests in no connection that goes on
+opened_rests : (e : Errand) (settings : Settings) (log : Log) (present three : Bool)
+    → (a : AtOpened e settings log present three)
+    → has_room (room_for e.window (state_as (state_of (past settings log)))) ≡ false → Rests e settings log
+opened_rests e settings log present three a f =
+    let p = past settings log in
+    let closing : list_any is_close_call p.admitted ≡ false =
+    closing_known e.ask settings log ∙ ap closes_in a.events in
+    let unready : is_ready (state_of p) ≡ false =
+    no_room e.window (state_of p) (unroomy (room_for e.window (state_as (state_of p))) f) in
+    record {
+      none = unstanding e settings log a.opening f;
+      tried = λ going o. absurd (true≢false (sym (open_ready p a.opening closing going) ∙ unready));
+    }
+
+closed_rests : (e : Errand) (settings : Settings) (log : Log) → AtClosed e settings log → Rests e settings log
+closed_rests e settings log a = record {
+  none = stands_not e settings log a.closed;
+  tried = λ going o. by going (is_rejected (opening (past settings log))) refl;
+}
+  where
+    by : is_stopped (state_as (state_of (past settings log))) ≡ false → (b : Bool)
+        → is_rejected (opening (past settings log)) ≡ b → IsTried settings log
+    by going true t = absurd (true≢false (sym (rejected_stopped (past settings log) t) ∙ going))
+    by going false t = a.tried t
+
 given_in : NextLaws → DrivenLaws → DueLaws → BoundLaws → (e : Errand) (settings : Settings) (log : Log) (d : DriverState) → IsDriver e settings log d
     → (ph : Phase) → d.phase ≡ ph → IsAt e settings log ph → (g : Option Call)
     → GivesAt e.ask e.window (state_as (state_of (past settings log))) ph g → GivesHere e settings log d g
 given_in next laws due bounds e settings log d k phases.Fresh is a None g =
     let p = past settings log in
-    stands_not e settings log (no_call (state_of p) (sym (fresh_as (state_of p)) ∙ given_none (is_fresh_state (state_as (state_of p))) origin.Init g)
-    (unready_at p a.opening))
+    unopened_rests e settings log a.opening (stands_not e settings log
+    (no_call (state_of p) (sym (fresh_as (state_of p)) ∙ given_none (is_fresh_state (state_as (state_of p))) origin.Init g)
+    (unready_at p a.opening)))
 given_in next laws due bounds e settings log d k phases.Fresh is a (Some call) g =
     let p = past settings log in
     let x = given_some (is_fresh_state (state_as (state_of p))) origin.Init call g in
     let n = init_next e settings log k.room a (sym (fresh_as (state_of p)) ∙ x.0) in
     subst (Offers e settings log d) (sym x.1) (offer_next e settings log d k origin.Init (due.admits e settings log d origin.Init k n tt) n (is, n))
-given_in next laws due bounds e settings log d k phases.Opening is a None g = opening_none e settings log a
+given_in next laws due bounds e settings log d k phases.Opening is a None g =
+    unopened_rests e settings log a.opening (opening_none e settings log a)
 given_in next laws due bounds e settings log d k phases.Opening is a (Some call) g = absurd (no_some g)
 given_in next laws due bounds e settings log d k (phases.Opened present three) is a None g =
-    unstanding e settings log a.opening
+    opened_rests e settings log present three a
     (given_none (has_room (room_for e.window (state_as (state_of (past settings log))))) (origin.Search 1 1 e.ask) g)
 given_in next laws due bounds e settings log d k (phases.Opened present three) is a (Some call) g =
     let x = given_some (has_room (room_for e.window (state_as (state_of (past settings log))))) (origin.Search 1 1 e.ask) call g in
     subst (Offers e settings log d) (sym x.1) (offer_search due e settings log d k present three is a (standing_ready e settings log x.0))
-given_in next laws due bounds e settings log d k (phases.Searching present three) is a None g = searching_none e settings log present three a
+given_in next laws due bounds e settings log d k (phases.Searching present three) is a None g =
+    tried_rests e settings log (inl (λ none. no_list (sym a.search ∙ none))) (searching_none e settings log present three a)
 given_in next laws due bounds e settings log d k (phases.Searching present three) is a (Some call) g = absurd (no_some g)
 given_in next laws due bounds e settings log d k (phases.Counted three count) is a g x = absurd x
 given_in next laws due bounds e settings log d k (phases.Asking agenda) is a g x = by (room_for e.window (state_as (state_of (past settings log)))) refl g x
   where
+    tried : IsTried settings log
+    tried = inl (found_some e.ask (past settings log) agenda.three a.count a.set)
+
     by : (o : Option ℕ) → room_for e.window (state_as (state_of (past settings log))) ≡ o → (g : Option Call) → GivesInRoom o agenda g → GivesHere e settings log d g
-    by None q None x = unstanding e settings log a.opening (ap has_room q)
+    by None q None x = tried_rests e settings log tried (unstanding e settings log a.opening (ap has_room q))
     by None q (Some call) x = absurd (no_some x)
-    by (Some room) q None x = asking_none e settings log agenda room k.room a (room_at e.window (past settings log) room q).1 x
+    by (Some room) q None x =
+        tried_rests e settings log tried
+        (asking_none e settings log agenda room k.room a (room_at e.window (past settings log) room q).1 x)
     by (Some room) q (Some call) x =
         let r = room_at e.window (past settings log) room q in asking_some next laws due bounds e settings log d k agenda room is a r.0 r.1 call x
 given_in next laws due bounds e settings log d k phases.Done is a None g =
-    unstanding e settings log a.opening
-    (given_none (has_room (room_for e.window (state_as (state_of (past settings log))))) origin.Close g)
+    tried_rests e settings log a.tried (unstanding e settings log a.opening
+    (given_none (has_room (room_for e.window (state_as (state_of (past settings log))))) origin.Close g))
 given_in next laws due bounds e settings log d k phases.Done is a (Some call) g =
     let x = given_some (has_room (room_for e.window (state_as (state_of (past settings log))))) origin.Close call g in
     let n = close_next e settings log (standing_ready e settings log x.0) (a.none, a.outstanding) in
     subst (Offers e settings log d) (sym x.1) (offer_next e settings log d k origin.Close (due.admits e settings log d origin.Close k n tt) n (inl is, n))
-given_in next laws due bounds e settings log d k phases.Closed is a None g = stands_not e settings log a.closed
+given_in next laws due bounds e settings log d k phases.Closed is a None g = closed_rests e settings log a
 given_in next laws due bounds e settings log d k phases.Closed is a (Some call) g = absurd (no_some g)
 
 -- what is given at the phase is next

@@ -46,6 +46,9 @@ use Rattle.zoom.proofs.Drivings.{answered_number, differ}
 no_some : {A : Type 0} {x : A} → Some x ≡ None → ⊥
 no_some e = cc
 
+no_list : {A : Type 0} {x : A} {xs : List A} → x ∷ xs ≡ [] → ⊥
+no_list e = cc
+
 no_err : {A E : Type 0} {x : A} {e : E} → Err e ≡ Ok x → ⊥
 no_err e = cc
 
@@ -348,6 +351,7 @@ module _ (laws : AgendaLaws) (driven : DrivenLaws) (numbers : NumberLaw) (orderl
         closed = subst (λ o. may_call (state_from new_past.fault new_past.closed (list_any is_close_call new_past.admitted) (list_any is_init_call new_past.admitted) o) ≡ false)
             (sym op) (by new_past.fault new_past.closed (list_any is_close_call new_past.admitted) (list_any is_init_call new_past.admitted));
         opening = (a, op);
+        tried = λ t. absurd (true≢false (sym (ap is_rejected op ∙ ap is_rejection r ∙ ap not f) ∙ t));
       }
     where
       replied : (r : Reply) → AllAnswered (Receives plan.Init r ∷ Sends plan.Init ∷ [])
@@ -415,6 +419,8 @@ module _ (laws : AgendaLaws) (driven : DrivenLaws) (numbers : NumberLaw) (orderl
         all = subst AllAnswered (sym ev) replied;
         outstanding = ap outstanding_in ev;
         opening = op;
+        tried = inl (λ none. no_list
+            (sym (ap (λ (p : Past). flat_map search_in p.admitted) acc.past ∙ k.search) ∙ none));
       }
 
   -- a Present was answered

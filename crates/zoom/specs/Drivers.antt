@@ -33,9 +33,9 @@ use Rattle.zoom.specs.declared.state.State.TheVariants as states
 use Rattle.zoom.specs.declared.phase.Phase.{Phase}
 use Rattle.zoom.specs.declared.phase.Phase.TheVariants as phases
 use Rattle.zoom.specs.CallsOf.{call_of}
-use Rattle.zoom.specs.States.{state_as}
+use Rattle.zoom.specs.States.{state_as, is_stopped}
 use Rattle.zoom.specs.Driving.{can_search, can_present, counted, events_of, IsDrivenLog}
-use Rattle.zoom.specs.Steering.{Errand, IsFitErrand, IsNextCall, IsSteered, IsSteeredCall, may_call, skipped_in, complete_in}
+use Rattle.zoom.specs.Steering.{Errand, IsFitErrand, IsNextCall, IsSteered, IsSteeredCall, may_call, skipped_in, complete_in, is_rejected, IsTried}
 
 -- The errand; how far it is; how many calls can at most be made before a reply comes; whether the question was skipped;
 -- whether the association was rejected or closed.
@@ -153,10 +153,12 @@ module _ (e : Errand) (settings : Settings) (log : Log) where
     pub all : AllAnswered events_at
     pub outstanding : outstanding_in events_at ≡ 0
     pub opening : HasOpening (past settings log)
+    pub tried : IsTried settings log
 
   pub record AtClosed : Type 0 where
     pub all : AllAnswered events_at
     pub closed : may_call (state_of (past settings log)) ≡ false
+    pub tried : is_rejected (opening (past settings log)) ≡ false → IsTried settings log
     pub opening : HasOpening (past settings log)
 
   abbrev pub IsAt : Phase → Type 0
@@ -209,11 +211,17 @@ pub record Offers (e : Errand) (settings : Settings) (log : Log) (d : DriverStat
   pub steers : IsSteeredCall e settings log (refusal (standing (past settings log)) call) call
   pub offered : IsOffered e settings log d.phase call
 
--- what it gives in this state: a call; or none, where none is next
+-- None is next; and the search was tried, once the association was accepted.
+pub record Rests (e : Errand) (settings : Settings) (log : Log) : Type 0 where
+  pub none : (call : origin.Call) → IsNextCall e settings log call → ⊥
+  pub tried : is_stopped (state_as (state_of (past settings log))) ≡ false → HasOpening (past settings log)
+      → IsTried settings log
+
+-- what it gives in this state: a call; or none, where it rests
 abbrev pub GivesNext : State → Option Call → DriverState → Type 0
 GivesNext state None d =
     (e : Errand) (settings : Settings) (log : Log) → IsDriver e settings log d
-    → state ≡ state_as (state_of (past settings log)) → (call : origin.Call) → IsNextCall e settings log call → ⊥
+    → state ≡ state_as (state_of (past settings log)) → Rests e settings log
 GivesNext state (Some call) d =
     (e : Errand) (settings : Settings) (log : Log) → IsDriver e settings log d
     → state ≡ state_as (state_of (past settings log)) → Offers e settings log d (call_of call)

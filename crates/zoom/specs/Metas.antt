@@ -15,8 +15,8 @@ use Rattle.zoom.specs.Coming.{Met}
 use Rattle.zoom.specs.Heard.{Heard, HasHeard, Deed, Calls, Takes, take_at, told_as, past_of, state_at}
 use Rattle.zoom.specs.Links.{Links}
 use Rattle.zoom.specs.History.{History, only, After, AfterUpTo}
-use Rattle.zoom.specs.Steering.{Errand, errand_with, errand_of, IsAskable, AreFit, IsNextCall, skipped_in, complete_in}
-use Rattle.zoom.specs.Drivers.{DriverState, IsDriver, Offers, KnowsTold}
+use Rattle.zoom.specs.Steering.{Errand, errand_with, errand_of, IsAskable, AreFit, IsNextCall, IsTried, skipped_in, complete_in}
+use Rattle.zoom.specs.Drivers.{DriverState, IsDriver, HasOpening, Offers, KnowsTold}
 
 -- A pool, and what drives each of its connections, by number.
 pub record MetaLinks : Type 0 where
@@ -103,6 +103,10 @@ made c calls = map (λ call. (c, Calls call)) calls
 abbrev pub NoneIsNext : Errand → Heard → Type 0
 NoneIsNext e p = is_stopped (state_at p) ≡ false → (call : Call) → IsNextCall e p.settings p.log call → ⊥
 
+-- the search of a connection that goes on was admitted, or it was skipped, once the association was accepted
+abbrev pub WasTried : Heard → Type 0
+WasTried p = is_stopped (state_at p) ≡ false → HasOpening (past_of p) → IsTried p.settings p.log
+
 -- These calls of a connection were made, each the next one or the search that is skipped, and so many of them were
 -- admitted.
 pub record Progress (questions : List Question) (s : MetaSettings) (c : ℕ) (h : History) (n : ℕ) (new : MetaLinks)
@@ -113,13 +117,14 @@ pub record Progress (questions : List Question) (s : MetaSettings) (c : ℕ) (h 
       → HasHeard (settings_of s) (only c (made c calls ++ h)) q
       → length (past_of q).admitted ≡ length (past_of p).admitted + n
 
--- What driving a connection did: calls were made, and then none is next.
+-- What driving a connection did: calls were made, and then none is next; no search was passed over.
 pub record Drives (questions : List Question) (s : MetaSettings) (c : ℕ) (h : History) (n : ℕ) (new : MetaLinks)
     : Type 0 where
   pub progress : Progress questions s c h n new
   pub rests : (question : Question) (q : Heard) → slice_get questions c ≡ Some question
       → HasHeard (settings_of s) (only c (made c progress.calls ++ h)) q
       → NoneIsNext (errand_of s question) q
+  pub tried : (q : Heard) → HasHeard (settings_of s) (only c (made c progress.calls ++ h)) q → WasTried q
 
 -- where memory was wanting: calls were made
 abbrev pub DrivesBy : {E : Type 0} → List Question → MetaSettings → ℕ → History → Result ℕ E → MetaLinks → Type 0

@@ -1,7 +1,7 @@
 -- A connection that is driven for one question: which call is next, and the logs in which each call was the next one
 -- (Z39.50-2003, 3.2.1.1, 3.2.2.1, 3.2.3.1 and 3.2.11.1).
-use Rattle.std.specs.Prelude.{◌≡◌, ℕ, pos, ◌<◌, ◌≤◌, Bool, true, false, ◌||◌, not, if◌then◌else◌, List, [], ◌∷◌, map, length, Option, None, Some}
-use Rattle.std.specs.List.{list_any}
+use Rattle.std.specs.Prelude.{◌≡◌, ◌≢◌, ◌⊎◌, ℕ, pos, ◌<◌, ◌≤◌, Bool, true, false, ◌||◌, not, if◌then◌else◌, List, [], ◌∷◌, map, length, Option, None, Some}
+use Rattle.std.specs.List.{list_any, flat_map}
 use Rattle.zapdu.specs.declared.apdu.Apdu.{Apdu}
 use Rattle.zapdu.specs.declared.apdu.Apdu.TheVariants as apdus
 use Rattle.zplan.specs.declared.range.Range.{Range as PlanRange}
@@ -17,7 +17,7 @@ use Rattle.zorigin.specs.declared.state.State.{State}
 use Rattle.zorigin.specs.Standings.{Call, Init, Search, Present, Close, is_fresh, is_ready}
 use Rattle.zorigin.specs.Ranges.{positions}
 use Rattle.zorigin.specs.Calls.{refusal}
-use Rattle.zorigin.specs.Log.{Log, Made, Got, Past, past, standing, state_of, opening, force_after, is_close_call}
+use Rattle.zorigin.specs.Log.{Log, Made, Got, Past, past, standing, state_of, opening, force_after, is_close_call, search_in}
 use Rattle.zoom.specs.declared.question.Question.{Question}
 use Rattle.zoom.specs.declared.question.MetaSettings.{MetaSettings}
 use Rattle.zoom.specs.Driving.{plan_of, events_of, IsNumbered}
@@ -132,6 +132,10 @@ skipped_in settings [] = false
 skipped_in settings (Made call ∷ log) =
     is_skip (refusal (standing (past settings log)) call) call || skipped_in settings log
 skipped_in settings (Got reply ∷ log) = skipped_in settings log
+
+-- the search was admitted, or skipped
+abbrev pub IsTried : Settings → Log → Type 0
+IsTried settings log = (flat_map search_in (past settings log).admitted ≢ []) ⊎ (skipped_in settings log ≡ true)
 
 abbrev pub is_rejection : Apdu → Bool
 is_rejection (apdus.InitResponse v) = not v.result

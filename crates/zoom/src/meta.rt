@@ -98,7 +98,8 @@ impl Meta {
     /// target accepted, the search; once its count is known, Presents by least first position, as many as may wait for
     /// their answers, of what is wanted and of what short answers left; and Close, once nothing is due and nothing is
     /// outstanding. The origin admits each of them but a search that is not offered or cannot be sent, which is
-    /// skipped: so afterwards none is next. Where no memory is found, the calls that were made stand.
+    /// skipped: so afterwards none is next, and where the association was accepted and the connection goes on, its
+    /// search was admitted or it counts as skipped. Where no memory is found, the calls that were made stand.
     pub fn drive(&mut self, c: u32) -> Result<u32, AllocError>
         requires { c < length self.old.pool.connections }
         ensures after { DrivesTo c result self.old self.new }
