@@ -1,5 +1,6 @@
 //! What waits to go out on a connection is written to a device.
-ghost use Rattle.std.specs.Prelude.{◌≡◌, ◌<◌, length};
+ghost use Rattle.std.specs.Prelude.{◌≡◌, ◌<◌, [], length, OnOk};
+ghost use Rattle.zoom.specs.Links.{waiting_at};
 ghost use Rattle.ztalk.specs.declared.outgoing.PushError.TheVariants as errors;
 ghost use Rattle.ztalk.specs.Devices.{WritesAll};
 ghost use Rattle.ztalk.specs.Pushes.{Pushes, IsBroken};
@@ -41,13 +42,14 @@ pub(crate) fn write_all<W: Sink>(sink: &mut W, octets: &[u8]) -> Result<(), Fail
     Ok(())
 }
 
-/// Writes what waits to go out on a connection: each octet is written once.
+/// Writes what waits to go out on a connection: each octet is written once, and then nothing waits.
 ///
 /// Refusals: `Write`, where the device failed; the connection has then failed for that reason. `Memory`; nothing was
 /// written or forgotten then.
 pub fn push<W: Sink>(alloc: Global, meta: &mut Meta, c: u32, sink: &mut W) -> Result<(), PushError>
     requires { c < length meta.old.pool.connections }
     ensures pushes { Pushes c result meta.old meta.new (W.state sink.old) (W.state sink.new) }
+    ensures none { OnOk result (waiting_at meta.new.pool c ≡ []) }
     ensures stopped { IsBroken c result meta.new }
     ensures size { length meta.new.pool.connections ≡ length meta.old.pool.connections }
 {
