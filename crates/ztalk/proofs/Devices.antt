@@ -13,7 +13,7 @@ pub raised_failed : (old new : ℕ) → new ≡ raised old → HasFailed old new
 raised_failed old new is = by (cases_lt old most_failures)
   where
     by : (old < most_failures) ⊎ (most_failures ≤ old) → HasFailed old new
-    by (inl lt) = inl (omega (arith, lt, is, min-eq_left {n = old + 1} {m = most_failures} (omega (arith, lt))))
+    by (inl lt) = inl (is ∙ min-eq_left {n = old + 1} {m = most_failures} (omega (arith, lt)))
     by (inr le) = inr (is ∙ min-eq_right {n = most_failures} {m = old + 1} (omega (arith, le)))
 
 -- ---- octets that are written in several calls

@@ -1,5 +1,5 @@
 -- How a talk ends.
-use Rattle.std.proofs.Common.{◌≡◌, ◌∙◌, sym, ap, subst, inl, inr, ◌⊎◌, ℕ, suc, ◌+◌, ◌<◌, ◌≤◌, Bool, true, false, List, [], ◌∷◌, ◌++◌, length, Some, Result, Ok, Err, refl, true≢false, arith}
+use Rattle.std.proofs.Common.{◌≡◌, ◌∙◌, sym, ap, subst, ℕ, suc, ◌+◌, ◌<◌, ◌≤◌, Bool, true, false, List, [], ◌∷◌, ◌++◌, length, Some, Result, Ok, Err, refl, true≢false, arith}
 use Rattle.std.specs.Io.KnownBytes.{Keeps, IsAtEnd, Consumes}
 use Rattle.std.proofs.KnownBytes.{Consumes-trans, Consumes-kept}
 use Rattle.zoom.specs.declared.question.Question.{Question}
@@ -12,19 +12,20 @@ use Rattle.zoom.specs.States.{is_stopped}
 use Rattle.zoom.specs.Heard.{Feeds, Takes, Ends, Stops, state_at}
 use Rattle.zoom.specs.Links.{stop_at}
 use Rattle.zoom.specs.Befalling.{IsStateAt}
-use Rattle.zoom.specs.Laws.{OneHearing, UpToLaw}
+use Rattle.zoom.specs.Laws.{OneHearing, OneMeeting, UpToLaw}
 use Rattle.zoom.specs.History.{History, only, AfterUpTo}
 use Rattle.zoom.specs.Metas.{MetaLinks, MetaAfter, MetaAfterUpTo, MetaBefell, MetaTook, settings_of}
 use Rattle.zoom.proofs.Metas.{heard_at}
 use Rattle.ztalk.specs.declared.conversation.TalkError.TheVariants as errors
-use Rattle.ztalk.specs.Devices.{DeviceState, HasFailed}
-use Rattle.ztalk.specs.Talks.{reason_of, IsStoppedFor, Stage, Due, Waiting, Over, Ended, Talk, GoesOn, Stopped, Talks, reads, ends, same}
+use Rattle.ztalk.specs.Devices.{DeviceState, HasFailed, Rests}
+use Rattle.ztalk.specs.Talks.{reason_of, ended_well, IsStoppedFor, Stage, Due, Waiting, Over, Ended, Talk, GoesOn, Stopped, Talks, reads, ends, same}
 use Rattle.ztalk.specs.Turns.{GoesAlone}
 use Rattle.ztalk.specs.declared.conversation.TalkError.{TalkError}
 use Rattle.ztalk.specs.declared.outgoing.PushError.{PushError}
 use Rattle.ztalk.specs.declared.outgoing.PushError.TheVariants as pushes
 use Rattle.ztalk.specs.Pushes.{IsBroken}
-use Rattle.ztalk.specs.Talking.{IsOver, Settles, Listens, Finishes, ended_well, talk_error}
+use Rattle.ztalk.specs.Talking.{EndedWell, Settles, Listens, Finishes, talk_error}
+use Rattle.ztalk.proofs.Hearing.{ends_stopped}
 use Rattle.ztalk.proofs.Speaking.{Begun, begun_on}
 
 -- the same, of a reader that gave nothing more
@@ -66,16 +67,16 @@ fed_on c old new piece l l2 befell came sound some few held = record {
 -- ---- how it ends
 
 -- the connection was stopped by its messages
-pub ends_over : (c n turns : ℕ) (a b d : MetaLinks) (l l2 k k2 k3 : DeviceState) → Begun c n Due a b l l2 k k2
-    → (r : Bool) → Settles c (Ok r) b d k2 k3 → r ≡ true → Talks c turns (Ok tt) a d l l2 k k3
-ends_over c n turns a b d l l2 k k2 k3 one true s e = record {
+pub ends_over : (c n turns : ℕ) (a b d : MetaLinks) (l l2 k k2 k3 : DeviceState) → n ≤ turns
+    → Begun c n Due a b l l2 k k2 → (r : Bool) → Settles c (Ok r) b d k2 k3 → r ≡ true → Talks c turns (Ok tt) a d l l2 k k3
+ends_over c n turns a b d l l2 k k2 k3 few one true s e = record {
   on = λ q s' h x.
       let t = (s l2).on q s' h n l k (one.on q s' h x) in
-      record { reads = n; stage = Over; talk = t; at = inl refl; over = t.stands };
-  blamed = tt;
+      record { reads = n; stage = Over; talk = t; at = few; over = t.stands };
+  blamed = (one.reader, (s l2).writer ∙ one.writer);
   stopped = tt;
 }
-ends_over c n turns a b d l l2 k k2 k3 one false s e = absurd (true≢false (sym e))
+ends_over c n turns a b d l l2 k k2 k3 few one false s e = absurd (true≢false (sym e))
 
 -- no message is there
 pub waits_on : (c n : ℕ) (a b d : MetaLinks) (l l2 k k2 k3 : DeviceState) → Begun c n Due a b l l2 k k2
@@ -85,15 +86,15 @@ waits_on c n a b d l l2 k k2 k3 one false s e =
     begun_on c n Due Waiting same a b d l l2 l2 k k2 k3 one (s l2)
 
 -- a write failed, or memory was wanting
-pub ends_unsettled : (c n turns : ℕ) (a b d : MetaLinks) (l l2 k k2 k3 : DeviceState) → Begun c n Due a b l l2 k k2
-    → (e : PushError) → Settles c (Err e) b d k2 k3 → IsBroken {A = Bool} c (Err e) d
+pub ends_unsettled : (c n turns : ℕ) (a b d : MetaLinks) (l l2 k k2 k3 : DeviceState) → n ≤ turns
+    → Begun c n Due a b l l2 k k2 → (e : PushError) → Settles c (Err e) b d k2 k3 → IsBroken {A = Bool} c (Err e) d
     → Talks c turns (Err (talk_error e)) a d l l2 k k3
-ends_unsettled c n turns a b d l l2 k k2 k3 one pushes.Write off broken = record {
-  on = λ q s h x. off.on q s h n l l2 k (one.on q s h x);
-  blamed = subst (λ z. HasFailed z k3.failures) one.writer off.failed;
+ends_unsettled c n turns a b d l l2 k k2 k3 few one pushes.Write off broken = record {
+  on = λ q s h x. (n, few, off.on q s h n l l2 k (one.on q s h x));
+  blamed = (subst (λ z. HasFailed z k3.failures) one.writer off.failed, one.reader);
   stopped = broken;
 }
-ends_unsettled c n turns a b d l l2 k k2 k3 one pushes.Memory off broken = record {
+ends_unsettled c n turns a b d l l2 k k2 k3 few one pushes.Memory off broken = record {
   on = λ q s h x. tt;
   blamed = tt;
   stopped = tt;
@@ -114,25 +115,31 @@ pub ends_turned : (c n : ℕ) (a b d : MetaLinks) (l l2 k k2 : DeviceState) → 
     → Talks c n (Err errors.Turns) a d l l2 k k2
 ends_turned c n a b d l l2 k k2 one befell is = record {
   on = λ q s h x. stopped_by c n Waiting reasons.Turns a b d l l2 k k2 (λ q s h x. one.on q s h x) befell q s h x;
-  blamed = tt;
+  blamed = (one.reader, one.writer);
   stopped = is;
 }
 
 -- a read failed, or memory was wanting
-pub ends_unheard : (c n turns : ℕ) (a b d : MetaLinks) (l l2 l3 k k2 : DeviceState) → Begun c n Waiting a b l l2 k k2
-    → (e : TalkError) → Listens c (Err e) b d l2 l3 → Talks c turns (Err e) a d l l3 k k2
-ends_unheard c n turns a b d l l2 l3 k k2 one errors.Read h = record {
+pub ends_unheard : (c n turns : ℕ) (a b d : MetaLinks) (l l2 l3 k k2 : DeviceState) → n < turns
+    → Begun c n Waiting a b l l2 k k2 → (e : TalkError) → Listens c (Err e) b d l2 l3
+    → Talks c turns (Err e) a d l l3 k k2
+ends_unheard c n turns a b d l l2 l3 k k2 few one errors.Read h = record {
   on = λ q s g x. (
     n,
+    few,
     stopped_by c n Waiting reasons.Read a b d l l3 k k2 (kept c n Waiting a b l l2 l3 k k2 one h.1) h.0 q s g x,
   );
-  blamed = subst (λ z. HasFailed z l3.failures) one.reader h.2;
+  blamed = (subst (λ z. HasFailed z l3.failures) one.reader h.2, one.writer);
   stopped = h.3;
 }
-ends_unheard c n turns a b d l l2 l3 k k2 one errors.Write h = absurd h
-ends_unheard c n turns a b d l l2 l3 k k2 one errors.Ended h = absurd h
-ends_unheard c n turns a b d l l2 l3 k k2 one errors.Turns h = absurd h
-ends_unheard c n turns a b d l l2 l3 k k2 one errors.Memory h = record { on = λ q s g x. tt; blamed = tt; stopped = tt }
+ends_unheard c n turns a b d l l2 l3 k k2 few one errors.Write h = absurd h
+ends_unheard c n turns a b d l l2 l3 k k2 few one errors.Ended h = absurd h
+ends_unheard c n turns a b d l l2 l3 k k2 few one errors.Turns h = absurd h
+ends_unheard c n turns a b d l l2 l3 k k2 few one errors.Memory h = record {
+  on = λ q s g x. tt;
+  blamed = tt;
+  stopped = tt;
+}
 
 -- octets were read
 pub hears_on : (c n : ℕ) (a b d : MetaLinks) (l l2 l3 k k2 : DeviceState) → Begun c n Waiting a b l l2 k k2
@@ -142,14 +149,31 @@ hears_on c n a b d l l2 l3 k k2 one true h e =
     subst (λ z. Begun c z Due a d l l3 k k2) one_more (begun_on c n Waiting Due suc a b d l l2 l3 k k2 k2 one (h k2))
 hears_on c n a b d l l2 l3 k k2 one false h e = absurd (true≢false (sym e))
 
+-- ended, and that for the end of its input
+pub cut_off : (state : State) → is_stopped state ≡ true → ended_well state ≡ false → state ≡ states.Failed reasons.Ended
+cut_off states.Fresh over e = absurd (true≢false (sym over))
+cut_off states.Initialising over e = absurd (true≢false (sym over))
+cut_off (states.Ready v3 concurrent named) over e = absurd (true≢false (sym over))
+cut_off states.Closing over e = absurd (true≢false (sym over))
+cut_off states.Closed over e = absurd (true≢false e)
+cut_off (states.Failed reasons.Ended) over e = refl
+cut_off (states.Failed (reasons.Frame kind at)) over e = absurd (true≢false e)
+cut_off (states.Failed (reasons.Decode error)) over e = absurd (true≢false e)
+cut_off (states.Failed (reasons.Refused reason)) over e = absurd (true≢false e)
+cut_off (states.Failed reasons.Connect) over e = absurd (true≢false e)
+cut_off (states.Failed reasons.Read) over e = absurd (true≢false e)
+cut_off (states.Failed reasons.Write) over e = absurd (true≢false e)
+cut_off (states.Failed reasons.Turns) over e = absurd (true≢false e)
+cut_off (states.Failed reasons.Memory) over e = absurd (true≢false e)
+
 -- the input ended
-module _ (c n turns : ℕ) (a b : MetaLinks) (l l2 l3 k k2 : DeviceState) (one : Begun c n Waiting a b l l2 k k2)
-    (still : Keeps l2.octets l3.octets) (end : IsAtEnd l3.octets)
+module _ (c n turns : ℕ) (a b : MetaLinks) (l l2 l3 k k2 : DeviceState) (few : n < turns)
+    (one : Begun c n Waiting a b l l2 k k2) (still : Rests l2 l3) (end : IsAtEnd l3.octets)
   where
     at_end : (d : MetaLinks) → GoesAlone c Waiting Ended b d
         → (q : List Question) (s : MetaSettings) (h : History) → MetaAfter q s h a → Talk q s c h n Ended d l l3 k k2
     at_end d goes q s h x =
-        (goes l3 k2).on q s h n l k (kept c n Waiting a b l l2 l3 k k2 one still q s h x)
+        (goes l3 k2).on q s h n l k (kept c n Waiting a b l l2 l3 k k2 one still.octets q s h x)
 
     finished : (d : MetaLinks) (r : Result (Unit {0}) TalkError) → Finishes c r b d → Talks c turns r a d l l3 k k2
     finished d (Ok u) f = record {
@@ -159,15 +183,23 @@ module _ (c n turns : ℕ) (a b : MetaLinks) (l l2 l3 k k2 : DeviceState) (one :
             reads = n;
             stage = Ended;
             talk = t;
-            at = inr (refl, end);
-            over = λ p heard. sym (f.1 q s (t.more ++ h) p t.after heard);
+            at = (few, end, λ p heard. sym (f.1 q s (t.more ++ h) p t.after heard));
+            over = t.stands;
           };
-      blamed = tt;
+      blamed = (still.failures ∙ one.reader, one.writer);
       stopped = tt;
     }
     finished d (Err errors.Ended) f = record {
-      on = λ q s h x. (n, stopped_by c n Ended reasons.Ended a f.0.0 d l l3 k k2 (at_end f.0.0 f.0.1) f.0.2 q s h x);
-      blamed = end;
+      on = λ q s h x.
+          let t = at_end f.0.0 f.0.1 q s h x in
+          record {
+            reads = n;
+            few = few;
+            stopped = record { meta = f.0.0; talk = t; after = f.0.3 q s (t.more ++ h) t.after };
+            cut = λ p heard.
+                cut_off (state_at p) (t.stands p heard) (sym (f.0.2 q s (t.more ++ h) p t.after heard));
+          };
+      blamed = (end, still.failures ∙ one.reader, one.writer);
       stopped = f.1;
     }
     finished d (Err errors.Read) f = absurd f
@@ -175,12 +207,12 @@ module _ (c n turns : ℕ) (a b : MetaLinks) (l l2 l3 k k2 : DeviceState) (one :
     finished d (Err errors.Turns) f = absurd f
     finished d (Err errors.Memory) f = record { on = λ q s h x. tt; blamed = tt; stopped = tt }
 
-pub ends_finished : (c n turns : ℕ) (a b d g : MetaLinks) (l l2 l3 k k2 : DeviceState) → Begun c n Waiting a b l l2 k k2
-    → (r : Bool) → Listens c (Ok r) b d l2 l3 → r ≡ false → (f : Result (Unit {0}) TalkError) → Finishes c f d g
-    → Talks c turns f a g l l3 k k2
-ends_finished c n turns a b d g l l2 l3 k k2 one true h e f fin = absurd (true≢false e)
-ends_finished c n turns a b d g l l2 l3 k k2 one false h e f fin =
-    finished c n turns a b l l2 l3 k k2 one h.1 h.2 g f (subst (λ z. Finishes c f z g) h.0 fin)
+pub ends_finished : (c n turns : ℕ) (a b d g : MetaLinks) (l l2 l3 k k2 : DeviceState) → n < turns
+    → Begun c n Waiting a b l l2 k k2 → (r : Bool) → Listens c (Ok r) b d l2 l3 → r ≡ false
+    → (f : Result (Unit {0}) TalkError) → Finishes c f d g → Talks c turns f a g l l3 k k2
+ends_finished c n turns a b d g l l2 l3 k k2 few one true h e f fin = absurd (true≢false e)
+ends_finished c n turns a b d g l l2 l3 k k2 few one false h e f fin =
+    finished c n turns a b l l2 l3 k k2 few one h.1 h.2 g f (subst (λ z. Finishes c f z g) h.0 fin)
 
 -- memory was wanting, and the connection was stopped for that
 pub ends_starved : (c turns : ℕ) (a d : MetaLinks) (l l2 k k2 : DeviceState) → Talks c turns (Err errors.Memory) a d l l2 k k2
@@ -189,9 +221,9 @@ ends_starved c turns a d l l2 k k2 = record { on = λ q s h x. tt; blamed = tt; 
 -- ---- the end of the input
 
 -- what was left of it was taken
-pub goes_ended : UpToLaw → (c : ℕ) (old mid new : MetaLinks) → MetaBefell c Ends old mid → MetaTook c mid new
-    → GoesAlone c Waiting Ended old new
-goes_ended law c old mid new befell took left held = record {
+pub goes_ended : UpToLaw → OneMeeting → (c : ℕ) (old mid new : MetaLinks) → MetaBefell c Ends old mid
+    → MetaTook c mid new → GoesAlone c Waiting Ended old new
+goes_ended law meeting c old mid new befell took left held = record {
   on = λ q s h n source sink t.
       let a : MetaAfter q s ((c, Ends) ∷ (t.more ++ h)) mid = befell q s (t.more ++ h) t.after in
       record {
@@ -200,7 +232,7 @@ goes_ended law c old mid new befell took left held = record {
         written = t.written;
         follows = ends t.follows;
         after = took q s ((c, Ends) ∷ (t.more ++ h)) (up q s ((c, Ends) ∷ (t.more ++ h)) a);
-        stands = tt;
+        stands = ends_stopped meeting t.follows refl;
         came = t.came;
         went = t.went;
       };
@@ -217,22 +249,14 @@ goes_ended law c old mid new befell took left held = record {
       size = a.size;
     }
 
-well_stopped : (state : State) → ended_well state ≡ true → is_stopped state ≡ true
-well_stopped states.Fresh e = e
-well_stopped states.Initialising e = e
-well_stopped (states.Ready v3 concurrent named) e = e
-well_stopped states.Closing e = e
-well_stopped states.Closed e = refl
-well_stopped (states.Failed reason) e = refl
-
 -- what is told of the connection's state
-pub over_tells : UpToLaw → OneHearing → (c : ℕ) (meta : MetaLinks) (state : State) → c < length meta.pool.connections
-    → IsStateAt c meta.pool state → ended_well state ≡ true → IsOver c meta
-over_tells law hearing c meta state lt is well q s h p a heard =
+pub well_tells : UpToLaw → OneHearing → (c : ℕ) (meta : MetaLinks) (state : State) (well : Bool)
+    → c < length meta.pool.connections → IsStateAt c meta.pool state → ended_well state ≡ well → EndedWell c meta well
+well_tells law hearing c meta state well lt is e q s h p a heard =
     let up : AfterUpTo (settings_of s) c h meta.pool = law (settings_of s) c h meta.pool a.pool in
     let now = heard_at (settings_of s) h up.heard meta.pool.connections c up.stands lt in
     let same : up.heard c ≡ p = hearing (settings_of s) (only c h) (up.heard c) p now heard in
-    sym (well_stopped state well) ∙ ap is_stopped (is (settings_of s) c h up ∙ ap state_at same)
+    sym e ∙ ap ended_well (is (settings_of s) c h up ∙ ap state_at same)
 
 -- ---- the reason
 

@@ -16,7 +16,7 @@ use Rattle.zoom.specs.declared.answer.TakeError.{TakeError}
 use Rattle.zoom.specs.declared.answer.TakeError.TheVariants as errors
 use Rattle.zoom.specs.States.{is_stopped, is_closing}
 use Rattle.zoom.specs.Coming.{Met, Stopped, Message, Foreign, Fault, Rest, Nothing}
-use Rattle.zoom.specs.Heard.{Heard, HasHeard, Takes, Meets, took_as, told_of, take_at, heed, stop_by, end_by, truncated, state_at, past_of, IsDone}
+use Rattle.zoom.specs.Heard.{Heard, HasHeard, Takes, Ends, Meets, took_as, told_of, take_at, heed, stop_by, end_by, truncated, state_at, past_of, IsDone}
 use Rattle.zoom.specs.History.{History, only, AfterUpTo}
 use Rattle.zoom.specs.Befalling.{IsTakeAnswer}
 use Rattle.zoom.specs.Laws.{OneMeeting, OneHearing, UpToLaw}
@@ -24,7 +24,7 @@ use Rattle.zoom.specs.Metas.{MetaLinks, MetaAfter, MetaAfterUpTo, MetaTook, sett
 use Rattle.zoom.proofs.Pools.{only_same}
 use Rattle.zoom.proofs.Metas.{heard_at}
 use Rattle.ztalk.specs.declared.turns.Turn.TheVariants as turns
-use Rattle.ztalk.specs.Talks.{Stage, Due, Listening, Waiting, Over, StandsAt, AnswersNext, IsStoppedAt, Follows, hears, lacks, stops, is_message}
+use Rattle.ztalk.specs.Talks.{Stage, Due, Listening, Waiting, Over, StandsAt, AnswersNext, IsStoppedAt, Ended, Follows, begins, speaks, hears, lacks, stops, reads, ends, is_message}
 use Rattle.ztalk.specs.Turns.{Hears, GoesAlone, turn_of}
 
 -- ---- answers after which the connection is stopped
@@ -65,6 +65,88 @@ take_last p (Foreign error) m l = refl
 take_last p (Fault kind at) m l = refl
 take_last p (Rest n) m l = rest_last p n p.ended l
 take_last p Nothing m l = none_last p p.ended l
+
+-- ---- the end of the input, where no message is there
+
+abbrev IsNothing : Result Step TakeError → Type 0
+IsNothing (Ok steps.Nothing) = Unit {0}
+IsNothing (Ok _) = ⊥
+IsNothing (Err e) = ⊥
+
+told_some : (r : Result Taken Refused) → IsNothing (told_of r) → ⊥
+told_some (Ok (taken.Opened a)) l = l
+told_some (Ok (taken.Rejected a)) l = l
+told_some (Ok (taken.Answered a)) l = l
+told_some (Ok taken.Closed) l = l
+told_some (Err reason) l = l
+
+rest_kept : (p : Heard) (n : ℕ) (b : Bool)
+    → IsNothing (cond b (Err (errors.Frame kinds.Truncated n)) (Ok steps.Nothing))
+    → cond b (stop_by p (truncated n)) p ≡ p
+rest_kept p n true l = absurd l
+rest_kept p n false l = refl
+
+none_kept : (p : Heard) (b : Bool) → IsNothing (Ok (cond b steps.Ended steps.Nothing)) → cond b (end_by p) p ≡ p
+none_kept p true l = absurd l
+none_kept p false l = refl
+
+-- a Take that answered Nothing changed nothing
+take_none : (p : Heard) (met : Met) → IsNothing (took_as p met) → take_at p met ≡ p
+take_none p Stopped l = absurd l
+take_none p (Message v) l = absurd (told_some (verdict (standing (past_of p)) v) l)
+take_none p (Foreign error) l = absurd l
+take_none p (Fault kind at) l = absurd l
+take_none p (Rest n) l = rest_kept p n p.ended l
+take_none p Nothing l = none_kept p p.ended l
+
+abbrev ended_at : Heard → Heard
+ended_at p = record p { ended = true }
+
+-- the next Take, where the input ended since, stops the connection
+dry_last : OneMeeting → (p : Heard) (m n : Met) → Meets p m → IsNothing (took_as p m) → Meets (ended_at p) n
+    → is_stopped (state_at (take_at (ended_at p) n)) ≡ true
+dry_last meeting p m Stopped at l then = then
+dry_last meeting p m (Message v) at l then =
+    absurd (told_some (verdict (standing (past_of p)) v)
+    (subst (λ z. IsNothing (took_as p z)) (meeting p m (Message v) at then) l))
+dry_last meeting p m (Foreign error) at l then = refl
+dry_last meeting p m (Fault kind at_octet) at l then = refl
+dry_last meeting p m (Rest n) at l then = refl
+dry_last meeting p m Nothing at l then = end_last (ended_at p)
+
+dry_stopped : OneMeeting → (s : MetaSettings) (c : ℕ) (h : History) → AnswersNext s c h steps.Nothing
+    → IsStoppedAt s c ((c, Takes) ∷ (c, Ends) ∷ (c, Takes) ∷ h)
+dry_stopped meeting s c h next p heard =
+    let mine : only c ((c, Takes) ∷ (c, Ends) ∷ (c, Takes) ∷ h) ≡ Takes ∷ Ends ∷ Takes ∷ only c h =
+    only_same c Takes ((c, Ends) ∷ (c, Takes) ∷ h)
+    ∙ ap (λ z. Takes ∷ z) (only_same c Ends ((c, Takes) ∷ h) ∙ ap (λ z. Ends ∷ z) (only_same c Takes h)) in
+    by (subst (λ z. HasHeard (settings_of s) z p) mine heard)
+  where
+    by : HasHeard (settings_of s) (Takes ∷ Ends ∷ Takes ∷ only c h) p → is_stopped (state_at p) ≡ true
+    by last =
+        let ended = last.1 in
+        let first = ended.1 in
+        let was : Heard = first.0 in
+        let took = first.2 in
+        let then = last.2 in
+        let t = next was first.1 in
+        let nothing : IsNothing (took_as was took.0) =
+        subst (λ z. IsNothing (took_as was z)) (meeting was t.0 took.0 t.1 took.1) (subst IsNothing (sym t.2) tt) in
+        let same : last.0 ≡ ended_at was = ended.2 ∙ ap ended_at (took.2 ∙ take_none was took.0 nothing) in
+        subst (λ z. is_stopped (state_at z) ≡ true) (sym (then.2 ∙ ap (λ z. take_at z then.0) same))
+        (dry_last meeting was took.0 then.0 took.1 nothing (subst (λ z. Meets z then.0) same then.1))
+
+-- a talk at which no message was there
+pub ends_stopped : OneMeeting → {q : List Question} {s : MetaSettings} {c : ℕ} {h more : History}
+    {read written : List ℕ} {n : ℕ} {stage : Stage} → Follows q s c h more read written n stage → stage ≡ Waiting
+    → IsStoppedAt s c ((c, Takes) ∷ (c, Ends) ∷ (more ++ h))
+ends_stopped meeting {s = s} {c = c} {h = h} (lacks {more = more} f next) is = dry_stopped meeting s c (more ++ h) next
+ends_stopped meeting begins is = absurd cc
+ends_stopped meeting (speaks calls octets f idle) is = absurd cc
+ends_stopped meeting (hears step f next m) is = absurd cc
+ends_stopped meeting (stops f) is = absurd cc
+ends_stopped meeting (reads piece f some few) is = absurd cc
+ends_stopped meeting (ends f) is = absurd cc
 
 -- ---- what is answered
 

@@ -16,13 +16,14 @@ use Rattle.zoom.proofs.Pools.{only_same, only_other}
 use Rattle.ztalk.specs.declared.among.Phase.{Phase}
 use Rattle.ztalk.specs.declared.among.Phase.TheVariants as phases
 use Rattle.ztalk.specs.Devices.{DeviceState, HasFailed, Rests, HasRisen, most_failures, raised}
-use Rattle.ztalk.specs.Talks.{Stage, Due, Waiting, Over, Ended, Talk, GoesOn, Broken, StandsAt, IsStoppedAt, same}
+use Rattle.ztalk.specs.Talks.{Stage, Due, Waiting, Over, Ended, Talk, GoesOn, Broken, StandsAt, IsStoppedAt, IsCutOff, same}
 use Rattle.ztalk.specs.Turns.{BreaksOff}
 use Rattle.ztalk.specs.Arrivals.{Arrives, Drains}
 use Rattle.ztalk.specs.declared.among.Arrival.{Arrival}
 use Rattle.ztalk.specs.declared.among.Arrival.TheVariants as arrivals
 use Rattle.ztalk.specs.Among.{Seen, TalkAmong, GoesAmong, StoppedAmong, closes, drains, fails_to_read, fails_to_write, is_cut_off, turns_out, PhaseAmong, IsAmong, StepsAmong}
-use Rattle.ztalk.proofs.Apart.{behind, one_more, others_follow, after_alike, follows_alike, rest, rest_mine, before_rest, reordered}
+use Rattle.ztalk.proofs.Ending.{cut_off}
+use Rattle.ztalk.proofs.Apart.{behind, one_more, others_follow, heard_alike, after_alike, follows_alike, rest, rest_mine, before_rest, reordered}
 
 -- ---- counts
 
@@ -177,7 +178,8 @@ steps_trans c n m k turns a b d x y z one two = record {
 
 -- ---- settling
 
-module _ (c n turns : ℕ) (old new : MetaLinks) (before : Seen) (is : before.phase ≡ phases.Due) (held : DeviceState)
+module _ (c n turns : ℕ) (le : n ≤ turns) (old new : MetaLinks) (before : Seen) (is : before.phase ≡ phases.Due)
+    (held : DeviceState)
   where
     pub settled_waiting : ((left : DeviceState) → GoesOn c Due Waiting same old new left left before.sink held)
         → StepsAmong c n n turns old new before (with_sink before held phases.Waiting)
@@ -210,10 +212,16 @@ module _ (c n turns : ℕ) (old new : MetaLinks) (before : Seen) (is : before.ph
           as_phase phases.Due q s c h now n turns first before is among in
           let w = goes_among q s c h now g.reads Due Over same first before
           (with_sink before held phases.Over) old new (λ k. tt) (goes before.source) a g.talk in
+          let less : g.reads ≤ n = g.few in
           record {
             later = w.later;
             after = w.after;
-            among = record { ended = closes w.talk; over = w.stands };
+            among = record {
+              reads = g.reads;
+              few = omega (arith, less, le);
+              ended = closes w.talk (record { reader = g.reader; writer = (goes before.source).writer ∙ g.writer });
+              over = w.stands;
+            };
             others = w.others;
           };
     }
@@ -225,17 +233,19 @@ module _ (c n turns : ℕ) (old new : MetaLinks) (before : Seen) (is : before.ph
           let g : GoesAmong q s c h now n Due first before =
           as_phase phases.Due q s c h now n turns first before is among in
           let base = rest c now h in
-          let b : Broken q s c base new first.source before.source first.sink held =
+          let b : Broken q s c base g.reads new first.source before.source first.sink held =
           off.on q s base g.reads first.source before.source first.sink
           (talk_last q s c h now g.reads Due first before old (λ k. tt) a g.talk) in
           let given : History = (c, Gives b.octets) ∷ b.more in
+          let less : g.reads ≤ n = g.few in
           record {
             later = (c, Stops reasons.Write) ∷ (given ++ base);
             after = b.after;
             among = record {
+              reads = g.reads;
+              few = omega (arith, less, le);
               ended = fails_to_write
                   (record {
-                    reads = b.reads;
                     more = b.more;
                     read = b.read;
                     written = b.written;
@@ -248,7 +258,7 @@ module _ (c n turns : ℕ) (old new : MetaLinks) (before : Seen) (is : before.ph
                     went = b.went;
                     front = b.front;
                   })
-                  (subst (λ z. HasFailed z held.failures) g.writer off.failed);
+                  (subst (λ z. HasFailed z held.failures) g.writer off.failed) g.reader;
               over = stopped_over s c reasons.Write (given ++ base);
             };
             others = λ i far.
@@ -259,8 +269,8 @@ module _ (c n turns : ℕ) (old new : MetaLinks) (before : Seen) (is : before.ph
 
 -- ---- polling
 
-module _ (c n turns : ℕ) (old new : MetaLinks) (before : Seen) (is : before.phase ≡ phases.Waiting) (left : DeviceState)
-    (polls : ℕ) (counted : polls ≡ raised before.polls)
+module _ (c n turns : ℕ) (lt : n < turns) (old new : MetaLinks) (before : Seen) (is : before.phase ≡ phases.Waiting)
+    (left : DeviceState) (polls : ℕ) (counted : polls ≡ raised before.polls)
   where
     polled_more : (first : Seen) → HasRisen n first.polls before.polls → HasRisen (n + 1) first.polls polls
     polled_more first was = subst (HasRisen (n + 1) first.polls) (sym counted) (risen_more n first.polls before.polls was)
@@ -320,15 +330,18 @@ module _ (c n turns : ℕ) (old new : MetaLinks) (before : Seen) (is : before.ph
       on = λ q s h now first a among.
           let g : GoesAmong q s c h now n Waiting first before =
           as_phase phases.Waiting q s c h now n turns first before is among in
+          let less : g.reads ≤ n = g.few in
           record {
             later = (c, Stops reasons.Read) ∷ now;
             after = befell q s now a;
             among = record {
+              reads = g.reads;
+              few = omega (arith, less, lt);
               ended = fails_to_read
                   (stopped q s c h now g.reads Waiting reasons.Read first (with_source before left polls phases.Over)
                   (kept q s c h now g.reads Waiting first before (with_source before left polls phases.Over) still
                   refl g.talk))
-                  (subst (λ z. HasFailed z left.failures) g.reader failed);
+                  (subst (λ z. HasFailed z left.failures) g.reader failed) g.writer;
               over = stopped_over s c reasons.Read now;
             };
             others = λ i far. only_other c i (Stops reasons.Read) now far;
@@ -346,12 +359,19 @@ module _ (c n turns : ℕ) (old new : MetaLinks) (before : Seen) (is : before.ph
           let w = goes_among q s c h now g.reads Waiting Ended same first quiet quiet old new (λ k. tt)
           (f.0 left before.sink) a
           (kept q s c h now g.reads Waiting first before quiet rests.octets refl g.talk) in
+          let t = w.talk in
+          let less : g.reads ≤ n = g.few in
           record {
             later = w.later;
             after = w.after;
             among = record {
-              ended = drains w.talk end;
-              over = λ p heard. sym (f.1 q s w.later p w.after heard);
+              reads = g.reads;
+              few = omega (arith, less, lt);
+              ended = drains t
+                  (λ p heard.
+                  sym (f.1 q s w.later p w.after (heard_alike (settings_of s) c w.later (t.more ++ h) p t.mine heard)))
+                  end (record { reader = rests.failures ∙ g.reader; writer = g.writer });
+              over = w.stands;
             };
             others = w.others;
           };
@@ -365,11 +385,28 @@ module _ (c n turns : ℕ) (old new : MetaLinks) (before : Seen) (is : before.ph
           let w = goes_among q s c h now g.reads Waiting Ended same first quiet quiet old mid (λ k. tt)
           (f.0.1 left before.sink) a
           (kept q s c h now g.reads Waiting first before quiet rests.octets refl g.talk) in
+          let t = w.talk in
+          let less : g.reads ≤ n = g.few in
+          let cut : IsCutOff s c (t.more ++ h) = λ p heard.
+          let then = heard_alike (settings_of s) c w.later (t.more ++ h) p t.mine heard in
+          cut_off (state_at p) (w.stands p then) (sym (f.0.2 q s w.later p w.after then)) in
           record {
             later = (c, Stops reasons.Ended) ∷ w.later;
-            after = f.0.2 q s w.later w.after;
+            after = f.0.3 q s w.later w.after;
             among = record {
-              ended = is_cut_off (stopped q s c h w.later g.reads Ended reasons.Ended first quiet w.talk) end;
+              reads = g.reads;
+              few = omega (arith, less, lt);
+              ended = is_cut_off
+                  (record {
+                    more = t.more;
+                    read = t.read;
+                    written = t.written;
+                    follows = t.follows;
+                    mine = one_more c (Stops reasons.Ended) w.later (t.more ++ h) t.mine;
+                    came = t.came;
+                    went = t.went;
+                  })
+                  cut end (record { reader = rests.failures ∙ g.reader; writer = g.writer });
               over = stopped_over s c reasons.Ended w.later;
             };
             others = λ i far. only_other c i (Stops reasons.Ended) w.later far ∙ w.others i far;
@@ -424,9 +461,12 @@ turned_out c n old new before is befell = record {
         later = (c, Stops reasons.Turns) ∷ now;
         after = befell q s now a;
         among = record {
+          reads = g.reads;
+          few = g.few;
           ended = turns_out
               (stopped q s c h now g.reads Waiting reasons.Turns first last
-              (kept q s c h now g.reads Waiting first before last quiet refl g.talk)) g.few g.polled;
+              (kept q s c h now g.reads Waiting first before last quiet refl g.talk)) g.polled
+              (record { reader = g.reader; writer = g.writer });
           over = stopped_over s c reasons.Turns now;
         };
         others = λ i far. only_other c i (Stops reasons.Turns) now far;

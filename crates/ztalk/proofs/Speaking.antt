@@ -60,7 +60,6 @@ module _ (E : Type 0) (c n : ℕ) (old mid new : MetaLinks) (drove : DrivesTo {E
         let d : Drives q s c (t.more ++ h) n mid = drove q s (t.more ++ h) t.after in
         let calls = d.progress.calls in
         record {
-          reads = reads;
           more = made c calls ++ t.more;
           read = t.read;
           written = t.written;

@@ -50,9 +50,8 @@ module _ (q : List Question) (s : MetaSettings) (c : ℕ) (h now later : History
       went = t.went;
     }
 
-    broken_same : BrokenAmong q s c h now first last → BrokenAmong q s c h later first last
+    broken_same : {reads : ℕ} → BrokenAmong q s c h now reads first last → BrokenAmong q s c h later reads first last
     broken_same b = record {
-      reads = b.reads;
       more = b.more;
       read = b.read;
       written = b.written;
@@ -65,13 +64,36 @@ module _ (q : List Question) (s : MetaSettings) (c : ℕ) (h now later : History
       front = b.front;
     }
 
-    ends_same : {turns : ℕ} → EndsAmong q s c h now turns first last → EndsAmong q s c h later turns first last
-    ends_same (closes t) = closes (talk_same t)
-    ends_same (drains t end) = drains (talk_same t) end
-    ends_same (fails_to_read t failed) = fails_to_read (stopped_same t) failed
-    ends_same (fails_to_write b failed) = fails_to_write (broken_same b) failed
-    ends_same (is_cut_off t end) = is_cut_off (stopped_same t) end
-    ends_same (turns_out t few risen) = turns_out (stopped_same t) few risen
+    ends_same : {reads turns : ℕ} → EndsAmong q s c h now reads turns first last
+        → EndsAmong q s c h later reads turns first last
+    ends_same (closes t sound) = closes (talk_same t) sound
+    ends_same (drains t well end sound) =
+        drains
+        (record {
+          more = t.more;
+          read = t.read;
+          written = t.written;
+          follows = t.follows;
+          mine = e ∙ t.mine;
+          came = t.came;
+          went = t.went;
+        })
+        well end sound
+    ends_same (fails_to_read t failed sound) = fails_to_read (stopped_same t) failed sound
+    ends_same (fails_to_write b failed sound) = fails_to_write (broken_same b) failed sound
+    ends_same (is_cut_off t cut end sound) =
+        is_cut_off
+        (record {
+          more = t.more;
+          read = t.read;
+          written = t.written;
+          follows = t.follows;
+          mine = e ∙ t.mine;
+          came = t.came;
+          went = t.went;
+        })
+        cut end sound
+    ends_same (turns_out t risen sound) = turns_out (stopped_same t) risen sound
 
     goes_same : {n : ℕ} {stage : Stage} → GoesAmong q s c h now n stage first last → GoesAmong q s c h later n stage first last
     goes_same t = record {
@@ -87,7 +109,12 @@ module _ (q : List Question) (s : MetaSettings) (c : ℕ) (h now later : History
         → PhaseAmong phase q s c h later n turns first last
     phase_same n turns phases.Due t = goes_same t
     phase_same n turns phases.Waiting t = goes_same t
-    phase_same n turns phases.Over t = record { ended = ends_same t.ended; over = over_alike s c now later (sym e) t.over }
+    phase_same n turns phases.Over t = record {
+      reads = t.reads;
+      few = t.few;
+      ended = ends_same t.ended;
+      over = over_alike s c now later (sym e) t.over;
+    }
 
 -- ---- one connection of many
 

@@ -12,8 +12,8 @@ use Rattle.zoom.specs.Metas.{MetaLinks, MetaAfter}
 use Rattle.ztalk.specs.declared.among.Ends.{Ends}
 use Rattle.ztalk.specs.declared.among.Phase.{Phase}
 use Rattle.ztalk.specs.declared.among.Phase.TheVariants as phases
-use Rattle.ztalk.specs.Devices.{DeviceState, AppendsFront, HasFailed, HasRisen}
-use Rattle.ztalk.specs.Talks.{Stage, Due, Listening, Waiting, Over, Ended, Follows, IsStoppedAt}
+use Rattle.ztalk.specs.Devices.{DeviceState, AppendsFront, HasFailed, HasRisen, HasNoFailure}
+use Rattle.ztalk.specs.Talks.{Stage, Due, Listening, Waiting, Over, Ended, Follows, IsStoppedAt, HasEndedWell, IsCutOff}
 
 -- What is seen of the devices of a connection, and where its talk stands.
 pub record Seen : Type 0 where
@@ -69,9 +69,8 @@ pub record StoppedAmong
 
 -- A write failed: of the octets that were to go out then, a front went.
 pub record BrokenAmong
-    (questions : List Question) (s : MetaSettings) (c : ℕ) (h now : History) (first last : Seen)
+    (questions : List Question) (s : MetaSettings) (c : ℕ) (h now : History) (reads : ℕ) (first last : Seen)
     : Type 0 where
-  pub reads : ℕ
   pub more : History
   pub read : List ℕ
   pub written : List ℕ
@@ -83,30 +82,42 @@ pub record BrokenAmong
   pub went : Appends first.sink.octets before.octets written
   pub front : AppendsFront before.octets last.sink.octets octets
 
--- How a talk ended: the connection was stopped by its messages, or before; the input ended, and the connection with it;
--- a read or a write failed; the input ended, and the connection was not Closing; the source was polled as many times as
--- it may be, and the connection was not stopped.
-pub data EndsAmong
-    (questions : List Question) (s : MetaSettings) (c : ℕ) (h now : History) (turns : ℕ) (first last : Seen)
-    : Type 0 where
-  closes : {reads : ℕ} → TalkAmong questions s c h now reads Over first last
-      → EndsAmong questions s c h now turns first last
-  drains : {reads : ℕ} → TalkAmong questions s c h now reads Ended first last → IsAtEnd last.source.octets
-      → EndsAmong questions s c h now turns first last
-  fails_to_read : {reads : ℕ} → StoppedAmong questions s c h now reads Waiting reasons.Read first last
-      → HasFailed first.source.failures last.source.failures → EndsAmong questions s c h now turns first last
-  fails_to_write : BrokenAmong questions s c h now first last
-      → HasFailed first.sink.failures last.sink.failures → EndsAmong questions s c h now turns first last
-  is_cut_off : {reads : ℕ} → StoppedAmong questions s c h now reads Ended reasons.Ended first last
-      → IsAtEnd last.source.octets → EndsAmong questions s c h now turns first last
-  turns_out : {reads : ℕ} → StoppedAmong questions s c h now reads Waiting reasons.Turns first last → reads ≤ turns
-      → HasRisen turns first.polls last.polls → EndsAmong questions s c h now turns first last
+-- no call of its devices failed
+pub record AreSound (first last : Seen) : Type 0 where
+  pub reader : HasNoFailure first.source last.source
+  pub writer : HasNoFailure first.sink last.sink
 
--- a talk ended, and the connection is Closed or Failed
+-- How a talk ended, after so many reads that gave octets: the connection was stopped by its messages, or before; the
+-- input ended, and the connection otherwise; one read or one write failed; the input ended, and the connection with it,
+-- since it was not Closing and no part of a message was left; the source was polled as many times as it may be, and the
+-- connection was not stopped.
+pub data EndsAmong
+    (questions : List Question) (s : MetaSettings) (c : ℕ) (h now : History) (reads turns : ℕ) (first last : Seen)
+    : Type 0 where
+  closes : TalkAmong questions s c h now reads Over first last → AreSound first last
+      → EndsAmong questions s c h now reads turns first last
+  drains : (talk : TalkAmong questions s c h now reads Ended first last) → HasEndedWell s c (talk.more ++ h)
+      → IsAtEnd last.source.octets → AreSound first last → EndsAmong questions s c h now reads turns first last
+  fails_to_read : StoppedAmong questions s c h now reads Waiting reasons.Read first last
+      → HasFailed first.source.failures last.source.failures → HasNoFailure first.sink last.sink
+      → EndsAmong questions s c h now reads turns first last
+  fails_to_write : BrokenAmong questions s c h now reads first last
+      → HasFailed first.sink.failures last.sink.failures → HasNoFailure first.source last.source
+      → EndsAmong questions s c h now reads turns first last
+  is_cut_off : (talk : StoppedAmong questions s c h now reads Ended reasons.Ended first last)
+      → IsCutOff s c (talk.more ++ h) → IsAtEnd last.source.octets → AreSound first last
+      → EndsAmong questions s c h now reads turns first last
+  turns_out : StoppedAmong questions s c h now reads Waiting reasons.Turns first last
+      → HasRisen turns first.polls last.polls → AreSound first last
+      → EndsAmong questions s c h now reads turns first last
+
+-- a talk ended, after no more reads than may be made, and the connection is Closed or Failed
 pub record IsDoneAmong
     (questions : List Question) (s : MetaSettings) (c : ℕ) (h now : History) (turns : ℕ) (first last : Seen)
     : Type 0 where
-  pub ended : EndsAmong questions s c h now turns first last
+  pub reads : ℕ
+  pub few : reads ≤ turns
+  pub ended : EndsAmong questions s c h now reads turns first last
   pub over : IsStoppedAt s c now
 
 -- what a phase says, after so many polls, of a talk that may take so many

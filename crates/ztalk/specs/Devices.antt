@@ -1,5 +1,5 @@
 -- What reading and writing does to a device.
-use Rattle.std.specs.Prelude.{◌≡◌, ◌⊎◌, ℕ, ◌+◌, ◌-◌, ◌^◌, ◌<◌, min, List, ◌++◌, Option, None, Some, Result, Ok, Err}
+use Rattle.std.specs.Prelude.{◌≡◌, ◌⊎◌, ℕ, ◌+◌, ◌-◌, ◌^◌, min, List, ◌++◌, Option, None, Some, Result, Ok, Err}
 use Rattle.std.specs.Io.{ReadsAtMost}
 use Rattle.std.specs.Io.KnownBytes.{Keeps, Appends, ReadConsumes, WriteAppends}
 
@@ -30,9 +30,17 @@ pub record Writes {E : Type 0} (old new : DeviceState) (answer : Result ℕ E) (
   pub octets : WriteAppends old.octets new.octets answer piece
   pub count : Counts old.failures new.failures answer
 
--- a call failed, by the count, or the count stands at its largest value
+-- the count rose by so many, or stands at its largest value
+abbrev pub HasRisen : ℕ → ℕ → ℕ → Type 0
+HasRisen n old new = (new ≡ old + n) ⊎ (new ≡ most_failures)
+
+-- one call failed, by the count, or the count stands at its largest value
 abbrev pub HasFailed : ℕ → ℕ → Type 0
-HasFailed old new = (old < new) ⊎ (new ≡ most_failures)
+HasFailed old new = HasRisen 1 old new
+
+-- no call failed, by the count
+abbrev pub HasNoFailure : DeviceState → DeviceState → Type 0
+HasNoFailure old new = new.failures ≡ old.failures
 
 -- known octets grow by a front of these
 pub record AppendsFront (old new : Option (List ℕ)) (octets : List ℕ) : Type 0 where
@@ -63,7 +71,3 @@ abbrev pub Polls : {E : Type 0} → DeviceState → DeviceState → Result (Opti
 Polls {E} old new (Ok (Some n)) piece = Reads {E = E} old new (Ok n) piece
 Polls old new (Ok None) piece = Rests old new
 Polls {E} old new (Err e) piece = Reads {E = E} old new (Err e) piece
-
--- the count rose by so many, or stands at its largest value
-abbrev pub HasRisen : ℕ → ℕ → ℕ → Type 0
-HasRisen n old new = (new ≡ old + n) ⊎ (new ≡ most_failures)

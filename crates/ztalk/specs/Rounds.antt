@@ -1,5 +1,5 @@
 -- What rounds do, in which each connection that is not over is polled once.
-use Rattle.std.specs.Prelude.{◌≡◌, ◌+◌, ℕ, nat_lt, if◌then◌else◌, List, Option, None, Some}
+use Rattle.std.specs.Prelude.{◌≡◌, ◌+◌, ◌<◌, ℕ, nat_lt, if◌then◌else◌, List, Option, None, Some}
 use Rattle.zoom.specs.declared.question.Question.{Question}
 use Rattle.zoom.specs.declared.question.MetaSettings.{MetaSettings}
 use Rattle.zoom.specs.History.{History, only}
@@ -44,9 +44,10 @@ pub record Goes {E : Type 0}
   pub on : (q : List Question) (s : MetaSettings) (h : History) (first : List (Option E))
       → AllAmong see q s h n turns first before old → AllAmong see q s h m turns first last new
 
--- one round, whatever went before
+-- one round of at most so many, whatever went before
 abbrev pub Rounds : {E : Type 0} → (E → Seen) → List (Option E) → List (Option E) → MetaLinks → MetaLinks → Type 0
-Rounds see before last old new = (n turns : ℕ) → Goes see (for_each n) (for_each (n + 1)) turns before last old new
+Rounds see before last old new =
+    (n turns : ℕ) → n < turns → Goes see (for_each n) (for_each (n + 1)) turns before last old new
 
 -- rounds from the start on
 pub record RoundsFrom {E : Type 0}

@@ -1,10 +1,8 @@
 -- What the steps of a talk do.
 use Rattle.std.specs.Prelude.{◌≡◌, ℕ, suc, Bool, true, false, Some, Result, Ok, Err}
 use Rattle.std.specs.Io.KnownBytes.{Keeps, IsAtEnd}
-use Rattle.zoom.specs.declared.state.State.{State}
 use Rattle.zoom.specs.declared.state.State.TheVariants as states
 use Rattle.zoom.specs.declared.state.Reason.TheVariants as reasons
-use Rattle.zoom.specs.States.{is_stopped}
 use Rattle.zoom.specs.Heard.{Stops, state_at}
 use Rattle.zoom.specs.Links.{stop_at}
 use Rattle.zoom.specs.Metas.{MetaLinks, MetaBefell, Tells}
@@ -12,20 +10,13 @@ use Rattle.ztalk.specs.declared.outgoing.PushError.{PushError}
 use Rattle.ztalk.specs.declared.outgoing.PushError.TheVariants as pushes
 use Rattle.ztalk.specs.declared.conversation.TalkError.{TalkError}
 use Rattle.ztalk.specs.declared.conversation.TalkError.TheVariants as errors
-use Rattle.ztalk.specs.Devices.{DeviceState, HasFailed}
-use Rattle.ztalk.specs.Talks.{Due, Waiting, Over, Ended, GoesOn, same}
+use Rattle.ztalk.specs.Devices.{DeviceState, HasFailed, Rests}
+use Rattle.ztalk.specs.Talks.{Due, Waiting, Over, Ended, GoesOn, ended_well, same}
 use Rattle.ztalk.specs.Turns.{GoesAlone, BreaksOff}
 
 abbrev pub talk_error : PushError → TalkError
 talk_error pushes.Write = errors.Write
 talk_error pushes.Memory = errors.Memory
-
--- the connection ended, and not for the end of its input
-abbrev pub ended_well : State → Bool
-ended_well states.Closed = true
-ended_well (states.Failed reasons.Ended) = false
-ended_well (states.Failed reason) = true
-ended_well _ = false
 
 -- what settling did: the connection was stopped; no message is there; a write failed
 abbrev pub Settles : ℕ → Result Bool PushError → MetaLinks → MetaLinks → DeviceState → DeviceState → Type 0
@@ -39,22 +30,23 @@ Settles c (Err pushes.Memory) old new sink held = Unit {0}
 abbrev pub Listens : ℕ → Result Bool TalkError → MetaLinks → MetaLinks → DeviceState → DeviceState → Type 0
 Listens c (Ok true) old new source left =
     (held : DeviceState) → GoesOn c Waiting Due suc old new source left held held
-Listens c (Ok false) old new source left = (new ≡ old) × Keeps source.octets left.octets × IsAtEnd left.octets
+Listens c (Ok false) old new source left = (new ≡ old) × Rests source left × IsAtEnd left.octets
 Listens c (Err errors.Read) old new source left =
     MetaBefell c (Stops reasons.Read) old new × Keeps source.octets left.octets
     × HasFailed source.failures left.failures × (stop_at new.pool c ≡ Some (states.Failed reasons.Read))
 Listens c (Err errors.Memory) old new source left = Unit {0}
 Listens c (Err _) old new source left = ⊥
 
--- each history that can have left the connection has it Closed or Failed
-abbrev pub IsOver : ℕ → MetaLinks → Type 0
-IsOver c meta = Tells c meta (λ p. is_stopped (state_at p)) true
+-- whether each history that can have left the connection has it ended, and not for the end of its input
+abbrev pub EndedWell : ℕ → MetaLinks → Bool → Type 0
+EndedWell c meta well = Tells c meta (λ p. ended_well (state_at p)) well
 
 -- what the end of the input did: the connection ended otherwise; or it was not Closing
 abbrev pub Finishes : ℕ → Result (Unit {0}) TalkError → MetaLinks → MetaLinks → Type 0
-Finishes c (Ok _) old new = GoesAlone c Waiting Ended old new × IsOver c new
+Finishes c (Ok _) old new = GoesAlone c Waiting Ended old new × EndedWell c new true
 Finishes c (Err errors.Ended) old new =
-    ((mid : MetaLinks) × GoesAlone c Waiting Ended old mid × MetaBefell c (Stops reasons.Ended) mid new)
+    ((mid : MetaLinks) × GoesAlone c Waiting Ended old mid × EndedWell c mid false
+    × MetaBefell c (Stops reasons.Ended) mid new)
     × (stop_at new.pool c ≡ Some (states.Failed reasons.Ended))
 Finishes c (Err errors.Memory) old new = Unit {0}
 Finishes c (Err _) old new = ⊥

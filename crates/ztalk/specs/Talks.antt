@@ -1,10 +1,11 @@
 -- A connection that is driven over devices: in which order its deeds follow one another, and what was read and written
 -- (Z39.50-2003, 3.2).
-use Rattle.std.specs.Prelude.{◌≡◌, ◌⊎◌, ℕ, suc, ◌<◌, ◌≤◌, Bool, true, false, List, [], ◌∷◌, ◌++◌, length, slice_get, Some, Result, Ok, Err}
+use Rattle.std.specs.Prelude.{◌≡◌, ℕ, suc, ◌<◌, ◌≤◌, Bool, true, false, List, [], ◌∷◌, ◌++◌, length, slice_get, Some, Result, Ok, Err}
 use Rattle.std.specs.Io.KnownBytes.{Appends, Consumes, IsAtEnd}
 use Rattle.zorigin.specs.Standings.{Call}
 use Rattle.zoom.specs.declared.question.Question.{Question}
 use Rattle.zoom.specs.declared.question.MetaSettings.{MetaSettings}
+use Rattle.zoom.specs.declared.state.State.{State}
 use Rattle.zoom.specs.declared.state.State.TheVariants as states
 use Rattle.zoom.specs.declared.state.Reason.{Reason}
 use Rattle.zoom.specs.declared.state.Reason.TheVariants as reasons
@@ -17,7 +18,7 @@ use Rattle.zoom.specs.History.{History, only}
 use Rattle.zoom.specs.Links.{stop_at}
 use Rattle.zoom.specs.Steering.{errand_of}
 use Rattle.zoom.specs.Metas.{MetaLinks, MetaAfter, NoneIsNext, made, settings_of}
-use Rattle.ztalk.specs.Devices.{DeviceState, AppendsFront, HasFailed}
+use Rattle.ztalk.specs.Devices.{DeviceState, AppendsFront, HasFailed, HasNoFailure}
 use Rattle.ztalk.specs.declared.conversation.TalkError.{TalkError}
 use Rattle.ztalk.specs.declared.conversation.TalkError.TheVariants as errors
 
@@ -45,9 +46,25 @@ AnswersNext s c h step =
 abbrev pub IsStoppedAt : MetaSettings → ℕ → History → Type 0
 IsStoppedAt s c h = (p : Heard) → HasHeard (settings_of s) (only c h) p → is_stopped (state_at p) ≡ true
 
+-- the connection ended, and not for the end of its input
+abbrev pub ended_well : State → Bool
+ended_well states.Closed = true
+ended_well (states.Failed reasons.Ended) = false
+ended_well (states.Failed reason) = true
+ended_well _ = false
+
+-- each of those has it so
+abbrev pub HasEndedWell : MetaSettings → ℕ → History → Type 0
+HasEndedWell s c h = (p : Heard) → HasHeard (settings_of s) (only c h) p → ended_well (state_at p) ≡ true
+
+-- each has it Failed, for the end of its input: it was not Closing, and no part of a message was left
+abbrev pub IsCutOff : MetaSettings → ℕ → History → Type 0
+IsCutOff s c h = (p : Heard) → HasHeard (settings_of s) (only c h) p → state_at p ≡ states.Failed reasons.Ended
+
 -- what a stage says of the connection
 abbrev pub StandsAt : Stage → MetaSettings → ℕ → History → Type 0
 StandsAt Over s c h = IsStoppedAt s c h
+StandsAt Ended s c h = IsStoppedAt s c h
 StandsAt _ s c h = Unit {0}
 
 -- a message was taken and accepted
@@ -125,10 +142,9 @@ pub record Stopped
 
 -- A write failed: of the octets that were to go out then, a front went.
 pub record Broken
-    (questions : List Question) (s : MetaSettings) (c : ℕ) (h : History) (new : MetaLinks)
+    (questions : List Question) (s : MetaSettings) (c : ℕ) (h : History) (reads : ℕ) (new : MetaLinks)
     (source left sink held : DeviceState)
     : Type 0 where
-  pub reads : ℕ
   pub more : History
   pub read : List ℕ
   pub written : List ℕ
@@ -140,41 +156,65 @@ pub record Broken
   pub went : Appends sink.octets before.octets written
   pub front : AppendsFront before.octets held.octets octets
 
+-- how it ended by itself, after so many reads that gave octets, of at most so many: the connection was stopped by its
+-- messages, or before; or one read more gave none, since the input ended, and the connection ended otherwise
+abbrev pub EndsAt : Stage → ℕ → ℕ → MetaSettings → ℕ → History → DeviceState → Type 0
+EndsAt Over n turns s c h left = n ≤ turns
+EndsAt Ended n turns s c h left = (n < turns) × IsAtEnd left.octets × HasEndedWell s c h
+EndsAt _ n turns s c h left = ⊥
+
 -- it ended by itself: the connection was stopped, or its input ended
 pub record EndsItself
-    (questions : List Question) (s : MetaSettings) (c : ℕ) (h : History) (meta : MetaLinks)
+    (questions : List Question) (s : MetaSettings) (c : ℕ) (h : History) (turns : ℕ) (meta : MetaLinks)
     (source left sink held : DeviceState)
     : Type 0 where
   pub reads : ℕ
   pub stage : Stage
   pub talk : Talk questions s c h reads stage meta source left sink held
-  pub at : (stage ≡ Over) ⊎ ((stage ≡ Ended) × IsAtEnd left.octets)
+  pub at : EndsAt stage reads turns s c (talk.more ++ h) left
   pub over : IsStoppedAt s c (talk.more ++ h)
 
+-- the input ended, after fewer reads than may be made, and the connection with it: it was not Closing, and no part of a
+-- message was left
+pub record EndsShort
+    (questions : List Question) (s : MetaSettings) (c : ℕ) (h : History) (turns : ℕ) (new : MetaLinks)
+    (source left sink held : DeviceState)
+    : Type 0 where
+  pub reads : ℕ
+  pub few : reads < turns
+  pub stopped : Stopped questions s c h reads Ended reasons.Ended new source left sink held
+  pub cut : IsCutOff s c (stopped.talk.more ++ h)
+
 -- What a talk did after each history that can have left the connections before it: it ended by itself; a read or a
--- write
--- failed; the input ended and the connection was not Closing; so many reads gave octets, and the connection was not
--- stopped after them. Where memory was wanting, nothing is told.
+-- write failed; the input ended and the connection was not Closing; so many reads gave octets, and the connection was
+-- not stopped after them. No more reads are made than that. Where memory was wanting, nothing is told.
 abbrev pub TalkedBy
     : List Question → MetaSettings → ℕ → History → ℕ → Result (Unit {0}) TalkError → MetaLinks
     → DeviceState → DeviceState → DeviceState → DeviceState → Type 0
-TalkedBy questions s c h turns (Ok _) new source left sink held = EndsItself questions s c h new source left sink held
+TalkedBy questions s c h turns (Ok _) new source left sink held =
+    EndsItself questions s c h turns new source left sink held
 TalkedBy questions s c h turns (Err errors.Read) new source left sink held =
-    (reads : ℕ) × Stopped questions s c h reads Waiting reasons.Read new source left sink held
+    (reads : ℕ) × (reads < turns) × Stopped questions s c h reads Waiting reasons.Read new source left sink held
 TalkedBy questions s c h turns (Err errors.Write) new source left sink held =
-    Broken questions s c h new source left sink held
+    (reads : ℕ) × (reads ≤ turns) × Broken questions s c h reads new source left sink held
 TalkedBy questions s c h turns (Err errors.Ended) new source left sink held =
-    (reads : ℕ) × Stopped questions s c h reads Ended reasons.Ended new source left sink held
+    EndsShort questions s c h turns new source left sink held
 TalkedBy questions s c h turns (Err errors.Turns) new source left sink held =
     Stopped questions s c h turns Waiting reasons.Turns new source left sink held
 TalkedBy questions s c h turns (Err errors.Memory) new source left sink held = Unit {0}
 
--- what a refusal tells of the devices: a call of one failed, or the reader has no octet left
+-- What a talk tells of the devices: one call of the one that is blamed failed, and none of the other; else none did,
+-- and the reader has no octet left where the input ended.
 abbrev pub IsBlamed : Result (Unit {0}) TalkError → DeviceState → DeviceState → DeviceState → DeviceState → Type 0
-IsBlamed (Err errors.Read) source left sink held = HasFailed source.failures left.failures
-IsBlamed (Err errors.Write) source left sink held = HasFailed sink.failures held.failures
-IsBlamed (Err errors.Ended) source left sink held = IsAtEnd left.octets
-IsBlamed _ source left sink held = Unit {0}
+IsBlamed (Ok _) source left sink held = HasNoFailure source left × HasNoFailure sink held
+IsBlamed (Err errors.Read) source left sink held =
+    HasFailed source.failures left.failures × HasNoFailure sink held
+IsBlamed (Err errors.Write) source left sink held =
+    HasFailed sink.failures held.failures × HasNoFailure source left
+IsBlamed (Err errors.Ended) source left sink held =
+    IsAtEnd left.octets × HasNoFailure source left × HasNoFailure sink held
+IsBlamed (Err errors.Turns) source left sink held = HasNoFailure source left × HasNoFailure sink held
+IsBlamed (Err errors.Memory) source left sink held = Unit {0}
 
 -- the reason that a refusal leaves the connection failed with
 abbrev pub reason_of : TalkError → Reason

@@ -36,7 +36,7 @@ Hears c turns.Over old new = GoesAlone c Listening Over old new
 pub record BreaksOff (c : ℕ) (from : Stage) (old new : MetaLinks) (sink held : DeviceState) : Type 0 where
   pub on : (questions : List Question) (s : MetaSettings) (h : History) (reads : ℕ) (source left first : DeviceState)
       → Talk questions s c h reads from old source left first sink
-      → Broken questions s c h new source left first held
+      → Broken questions s c h reads new source left first held
   pub failed : HasFailed sink.failures held.failures
 
 -- what making the calls that are due, and writing what waits, did

@@ -1,5 +1,5 @@
 //! One connection's part of talks that go on at once.
-ghost use Rattle.std.specs.Prelude.{◌≡◌, ◌<◌, ℕ, ◌+◌, length, if◌then◌else◌, IfOk, OnOk};
+ghost use Rattle.std.specs.Prelude.{◌≡◌, ◌<◌, ◌≤◌, ℕ, ◌+◌, length, if◌then◌else◌, IfOk, OnOk};
 ghost use Rattle.ztalk.specs.declared.among.Phase.TheVariants as phases;
 ghost use Rattle.ztalk.specs.Among.{seen, StepsAmong};
 ghost use Rattle.ztalk.specs.Arrivals.{Arrives, Drains};
@@ -112,7 +112,7 @@ fn settle_ends<R: Polled, W: Sink>(
 ) -> Result<bool, AllocError>
     requires c { c < length meta.old.pool.connections }
     requires phase { ends.old.phase ≡ phases.Due }
-    ensures steps { OnOk result ((n turns : ℕ) → StepsAmong c n n turns meta.old meta.new
+    ensures steps { OnOk result ((n turns : ℕ) → n ≤ turns → StepsAmong c n n turns meta.old meta.new
         (seen R.state R.polls W.state ends.old) (seen R.state R.polls W.state ends.new)) }
     ensures phase { IfOk result (λ on. ends.new.phase ≡ (if on then phases.Waiting else phases.Over)) }
     ensures size { length meta.new.pool.connections ≡ length meta.old.pool.connections }
@@ -160,7 +160,7 @@ fn hear_ends<R: Polled, W: Sink>(
 ) -> Result<Part, AllocError>
     requires c { c < length meta.old.pool.connections }
     requires phase { ends.old.phase ≡ phases.Waiting }
-    ensures steps { OnOk result ((n turns : ℕ) → StepsAmong c n (n + 1) turns meta.old meta.new
+    ensures steps { OnOk result ((n turns : ℕ) → n < turns → StepsAmong c n (n + 1) turns meta.old meta.new
         (seen R.state R.polls W.state ends.old) (seen R.state R.polls W.state ends.new)) }
     ensures size { length meta.new.pool.connections ≡ length meta.old.pool.connections }
 {
@@ -191,7 +191,7 @@ pub(crate) fn take_part<R: Polled, W: Sink>(
     wait: bool,
 ) -> Result<Part, AllocError>
     requires { c < length meta.old.pool.connections }
-    ensures steps { OnOk result ((n turns : ℕ) → StepsAmong c n (n + 1) turns meta.old meta.new
+    ensures steps { OnOk result ((n turns : ℕ) → n < turns → StepsAmong c n (n + 1) turns meta.old meta.new
         (seen R.state R.polls W.state ends.old) (seen R.state R.polls W.state ends.new)) }
     ensures size { length meta.new.pool.connections ≡ length meta.old.pool.connections }
 {

@@ -17,8 +17,10 @@ use zoom::Meta;
 /// may wait; the others may not.
 ///
 /// Each of them is Closed or Failed then: by its messages, by its calls or by the end of its input, or for the reason
-/// `Read`, `Write` or `Ended`, as `talk` says, or for `Turns`, where it was polled that many times. One that fails
-/// costs its own connection alone. Nothing befalls a connection that has no ends. Before each round `watch` looks on.
+/// `Read`, `Write` or `Ended`, as `talk` says, or for `Turns`, where it was polled that many times. No more reads of it
+/// give octets than there are rounds, and none of its devices is called again after a call of one failed. One that
+/// fails costs its own connection alone. Nothing befalls a connection that has no ends. Before each round `watch` looks
+/// on.
 ///
 /// An error only where no memory was found; of the connections nothing more is told then.
 pub fn talk_at_once<R: Polled, W: Sink, V: Watch>(
@@ -117,8 +119,8 @@ fn take_part_if<R: Polled, W: Sink>(
     wait: bool,
 ) -> Result<Part, AllocError>
     requires { c < length meta.old.pool.connections }
-    ensures steps { OnOk result ((n turns : ℕ) → OptionSteps (seen R.state R.polls W.state) c n (n + 1) turns
-        ends.old ends.new meta.old meta.new) }
+    ensures steps { OnOk result ((n turns : ℕ) → n < turns → OptionSteps (seen R.state R.polls W.state) c n (n + 1)
+        turns ends.old ends.new meta.old meta.new) }
     ensures size { length meta.new.pool.connections ≡ length meta.old.pool.connections }
 {
     match ends {

@@ -5,15 +5,15 @@ ghost use Rattle.zoom.specs.Links.{stop_at};
 ghost use Rattle.zoom.specs.Metas.{MetaTook};
 ghost use Rattle.ztalk.specs.declared.conversation.TalkError.TheVariants as errors;
 ghost use Rattle.ztalk.specs.Pushes.{IsBroken};
-ghost use Rattle.ztalk.specs.Talks.{Talks, reason_of};
-ghost use Rattle.ztalk.specs.Talking.{talk_error, ended_well, Settles, Listens, Finishes};
+ghost use Rattle.ztalk.specs.Talks.{Talks, ended_well, reason_of};
+ghost use Rattle.ztalk.specs.Talking.{talk_error, Settles, Listens, Finishes};
 
 use crate::device::{Sink, Source};
 use crate::outgoing::PushError;
 use crate::turns::{Turn, take_turn};
 use std::alloc::{AllocError, Global};
 use thiserror::Error;
-use zoom::laws::{one_hearing, up_to};
+use zoom::laws::{one_hearing, one_meeting, up_to};
 use zoom::{Meta, Reason, State, TakeError};
 
 /// The most octets of one read.
@@ -137,6 +137,7 @@ pub(crate) fn finish(meta: &mut Meta, c: u32) -> Result<(), TalkError>
 {
     up_to();
     one_hearing();
+    one_meeting();
     meta.end(c);
     take_last(meta, c)?;
     if ended_well(meta.state(c)) {
@@ -180,11 +181,12 @@ fn converse<R: Source, W: Sink>(
 /// 4,096 octets, at most so many times, and goes on. A reader that has none left ends the connection's input.
 ///
 /// `Ok` where the connection is Closed, or failed for its messages, or was stopped before. What was read is what it was
-/// fed, and all that it sent was written. Else the connection has failed for the reason that is answered.
+/// fed, and all that it sent was written. Else the connection has failed for the reason that is answered. It never
+/// reads more often than that, nor calls a device again that failed.
 ///
-/// Refusals: `Read` and `Write`, where that device failed; `Ended`, where the input ended behind a whole message and
-/// the connection was not Closing; `Turns`, where that many reads gave octets, and the connection did not end after
-/// them; `Memory`, where of what the last message says a part may be known.
+/// Refusals: `Read` and `Write`, where that device failed, and the other did not; `Ended`, where the input ended behind
+/// a whole message and the connection was not Closing; `Turns`, where that many reads gave octets, and the connection
+/// did not end after them; `Memory`, where of what the last message says a part may be known.
 pub fn talk<R: Source, W: Sink>(
     alloc: Global,
     meta: &mut Meta,

@@ -1,3 +1,4 @@
+use Rattle.std.proofs.Common.{arith}
 use Rattle.ztalk.specs.Among.{seen}
 use Rattle.ztalk.proofs.Joining.{steps_trans}
 use Rattle.ztalk.proofs.among.take_leave.Goals as goal
@@ -8,4 +9,4 @@ returns-then-branch-clause-steps g c n =
     (seen g.R.Polled.state g.R.Polled.polls g.W.Sink.state c.args.ends.now)
     (seen g.R.Polled.state g.R.Polled.polls g.W.Sink.state c.settle_ends.new.ends)
     (seen g.R.Polled.state g.R.Polled.polls g.W.Sink.state c.turn_out-then-branch.new.ends)
-    (c.in_ok-settle_ends-in-Due.ensures.steps n n) (c.turn_out-then-branch.ensures.steps n)
+    (c.in_ok-settle_ends-in-Due.ensures.steps n n (omega arith)) (c.turn_out-then-branch.ensures.steps n)

@@ -9,17 +9,17 @@ loop-c-preserved g c =
     let lt : c.loop-c.c < length c.loop-c.ends = search rules in
     let was = get_or c.loop-c.ends c.loop-c.c c.index-ends-c.result in
     let is = slice_get-get_or c.loop-c.ends c.loop-c.c c.index-ends-c.result lt in (
-      λ n turns.
+      λ n turns few.
           round_goes (seen g.R.Polled.state g.R.Polled.polls g.W.Sink.state) c.loop-c.c n turns c.args.ends.now
           c.loop-c.ends was c.take_part_if.new.ends c.args.meta.now c.loop-c.meta
-          c.take_part_if.new.meta lt is (c.loop-c.invariant.0 n turns)
-          (c.in_ok-part.ensures.steps n turns),
+          c.take_part_if.new.meta lt is (c.loop-c.invariant.0 n turns few)
+          (c.in_ok-part.ensures.steps n turns few),
       c.take_part_if.ensures.size ∙ c.loop-c.invariant.1,
       set_length c.loop-c.ends c.loop-c.c c.take_part_if.new.ends ∙ c.loop-c.invariant.2,
     )
 
 pub returns-clause-round : goal.returns-clause-round
-returns-clause-round g c n turns =
+returns-clause-round g c n turns few =
     let le : length c.loop-c.ends ≤ c.loop-c.c = search rules in
     round_ends (seen g.R.Polled.state g.R.Polled.polls g.W.Sink.state) c.loop-c.c n turns c.args.ends.now
-    c.loop-c.ends c.args.meta.now c.loop-c.meta le (c.loop-c.invariant.0 n turns)
+    c.loop-c.ends c.args.meta.now c.loop-c.meta le (c.loop-c.invariant.0 n turns few)

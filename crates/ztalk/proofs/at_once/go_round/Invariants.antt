@@ -1,11 +1,11 @@
-use Rattle.std.proofs.Common.{◌≡◌, ℕ, length}
+use Rattle.std.proofs.Common.{◌≡◌, ◌<◌, ℕ, length}
 use Rattle.ztalk.specs.Among.{seen}
 use Rattle.ztalk.specs.Rounds.{Goes, for_each, one_more_below}
 use Rattle.ztalk.proofs.at_once.go_round.Given as goal
 
 abbrev pub invariant-loop-c : goal.invariant-loop-c
 invariant-loop-c g l =
-    ((n turns : ℕ) → Goes (seen g.R.Polled.state g.R.Polled.polls g.W.Sink.state) (for_each n) (one_more_below l.c n)
-    turns l.initial.ends l.ends l.initial.meta l.meta)
+    ((n turns : ℕ) → n < turns → Goes (seen g.R.Polled.state g.R.Polled.polls g.W.Sink.state) (for_each n)
+    (one_more_below l.c n) turns l.initial.ends l.ends l.initial.meta l.meta)
     × (length l.meta.pool.connections ≡ length l.initial.meta.pool.connections)
     × (length l.ends ≡ length l.initial.ends)
