@@ -1,7 +1,7 @@
 //! A target in memory answers over devices.
-ghost use Rattle.std.specs.Prelude.{◌≡◌, ◌||◌, OnOk};
+ghost use Rattle.std.specs.Prelude.{◌≡◌, ◌||◌};
 ghost use Rattle.ztalk.specs.declared.replies.AnswerError.TheVariants as errors;
-ghost use Rattle.ztalk.specs.Answers.{Serves, Hands, AnswersPiece, Answers};
+ghost use Rattle.ztalk.specs.Answers.{ServesAll, Hands, AnswersPiece, Answers};
 
 use crate::device::{Failed, Sink, Source};
 use crate::outgoing::write_all;
@@ -39,7 +39,7 @@ impl From<AllocError> for AnswerError {
 
 /// Releases all replies, in order.
 fn release_all(host: &mut Host) -> Result<(), AllocError>
-    ensures { OnOk result (Serves host.old host.new) }
+    ensures { ServesAll result host.old host.new }
 {
     for _ in 0..u64::MAX {
         if !host.release(0)? {
@@ -95,8 +95,10 @@ fn answer_piece<R: Source, W: Sink>(
 /// it stopped: reads up to 4,096 octets, at most so many times, feeds them to it, releases all its replies in order,
 /// and writes them.
 ///
-/// Refusals: `Read` and `Write`, where that device failed; `Turns`, where that many reads gave octets, and the target
-/// goes on; `Memory`.
+/// Refusals: `Read` and `Write`, where that device failed, and the other did not; `Turns`, where that many reads gave
+/// octets, and the target goes on; `Memory`. After each of them the host stands where the octets fed and the replies
+/// released have left it, stopped where memory was wanting for one of them. No device is called again after a call of
+/// it failed.
 pub fn answer<R: Source, W: Sink>(
     alloc: Global,
     host: &mut Host,
@@ -104,7 +106,7 @@ pub fn answer<R: Source, W: Sink>(
     sink: &mut W,
     reads: u32,
 ) -> Result<(), AnswerError>
-    ensures { Answers result host.old host.new (R.state source.old) (R.state source.new)
+    ensures { Answers reads result host.old host.new (R.state source.old) (R.state source.new)
         (W.state sink.old) (W.state sink.new) }
 {
     for _ in 0..reads {

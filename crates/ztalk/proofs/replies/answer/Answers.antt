@@ -1,61 +1,56 @@
-use Rattle.std.proofs.Common.{◌∙◌, ap, inl, subst, sym, Err}
+use Rattle.std.proofs.Common.{◌≡◌, ◌∙◌, ◌<◌, ap, subst, sym, Err, arith, rules}
 use Rattle.std.proofs.lemmas.Result.{err_from_is_err_and}
 use Rattle.ztalk.specs.Answers.{Answers}
-use Rattle.ztalk.proofs.Answering.{on_same, on_trans, piece_on, piece_off, answers_well, answers_done, answers_turns, answers_failed}
+use Rattle.ztalk.proofs.Answering.{begun, piece_on, answers_end, answers_done, answers_turns, answers_failed}
 use Rattle.ztalk.proofs.replies.answer.Goals as goal
 
 pub loop-init : goal.loop-init
-loop-init g c = on_same c.args.host.now (g.R.Source.state c.args.source.now) (g.W.Sink.state c.args.sink.now)
+loop-init g c = begun c.args.host.now (g.R.Source.state c.args.source.now) (g.W.Sink.state c.args.sink.now)
 
 pub returns-then-is_done : goal.returns-then-is_done
 returns-then-is_done g c =
-    answers_done c.args.host.now c.loop.host (g.R.Source.state c.args.source.now) (g.R.Source.state c.loop.source)
-    (g.W.Sink.state c.args.sink.now) (g.W.Sink.state c.loop.sink) c.loop.invariant
-    (sym c.is_done.ensures ∙ c.if-is_done.true)
+    let few : c.loop.counter < c.args.reads = search rules in
+    answers_done c.loop.counter c.args.reads c.args.host.now c.loop.host (g.R.Source.state c.args.source.now)
+    (g.R.Source.state c.loop.source) (g.W.Sink.state c.args.sink.now) (g.W.Sink.state c.loop.sink) c.loop.invariant
+    (omega (arith, few)) (sym c.is_done.ensures ∙ c.if-is_done.true)
 
 pub loop-preserved : goal.loop-preserved
 loop-preserved g c =
-    on_trans c.args.host.now c.loop.host c.answer_piece.new.host (g.R.Source.state c.args.source.now)
+    piece_on c.loop.counter c.args.host.now c.loop.host c.answer_piece.new.host (g.R.Source.state c.args.source.now)
     (g.R.Source.state c.loop.source) (g.R.Source.state c.answer_piece.new.source) (g.W.Sink.state c.args.sink.now)
-    (g.W.Sink.state c.loop.sink) (g.W.Sink.state c.answer_piece.new.sink) c.loop.invariant
-    (piece_on c.in_ok-answer_piece.field-0 c.loop.host c.answer_piece.new.host (g.R.Source.state c.loop.source)
-    (g.R.Source.state c.answer_piece.new.source) (g.W.Sink.state c.loop.sink) (g.W.Sink.state c.answer_piece.new.sink)
-    c.in_ok-answer_piece.ensures)
+    (g.W.Sink.state c.loop.sink) (g.W.Sink.state c.answer_piece.new.sink) c.loop.invariant c.in_ok-answer_piece.field-0
+    c.in_ok-answer_piece.ensures c.if-not-branch.false
 
 pub returns-then-not-branch : goal.returns-then-not-branch
 returns-then-not-branch g c =
-    answers_well c.args.host.now c.answer_piece.new.host (g.R.Source.state c.args.source.now)
-    (g.R.Source.state c.answer_piece.new.source) (g.W.Sink.state c.args.sink.now)
-    (g.W.Sink.state c.answer_piece.new.sink)
-    (on_trans c.args.host.now c.loop.host c.answer_piece.new.host (g.R.Source.state c.args.source.now)
-    (g.R.Source.state c.loop.source) (g.R.Source.state c.answer_piece.new.source) (g.W.Sink.state c.args.sink.now)
-    (g.W.Sink.state c.loop.sink) (g.W.Sink.state c.answer_piece.new.sink) c.loop.invariant
-    (piece_on c.in_ok-answer_piece.field-0 c.loop.host c.answer_piece.new.host (g.R.Source.state c.loop.source)
-    (g.R.Source.state c.answer_piece.new.source) (g.W.Sink.state c.loop.sink) (g.W.Sink.state c.answer_piece.new.sink)
-    c.in_ok-answer_piece.ensures))
-    (inl (piece_off c.in_ok-answer_piece.field-0 c.loop.host c.answer_piece.new.host (g.R.Source.state c.loop.source)
-    (g.R.Source.state c.answer_piece.new.source) (g.W.Sink.state c.loop.sink) (g.W.Sink.state c.answer_piece.new.sink)
-    c.in_ok-answer_piece.ensures c.if-not-branch.true))
+    let few : c.loop.counter < c.args.reads = search rules in
+    answers_end c.loop.counter c.args.reads c.args.host.now c.loop.host c.answer_piece.new.host
+    (g.R.Source.state c.args.source.now) (g.R.Source.state c.loop.source) (g.R.Source.state c.answer_piece.new.source)
+    (g.W.Sink.state c.args.sink.now) (g.W.Sink.state c.loop.sink) (g.W.Sink.state c.answer_piece.new.sink) few
+    c.loop.invariant c.in_ok-answer_piece.field-0 c.in_ok-answer_piece.ensures c.if-not-branch.true
 
 pub returns-in_err-answer_piece : goal.returns-in_err-answer_piece
 returns-in_err-answer_piece g c =
+    let few : c.loop.counter < c.args.reads = search rules in
     let p = err_from_is_err_and c.from_residual.result c.from_residual.ensures.1 in
-    subst (λ z. Answers z c.args.host.now c.answer_piece.new.host (g.R.Source.state c.args.source.now)
+    subst (λ z. Answers c.args.reads z c.args.host.now c.answer_piece.new.host (g.R.Source.state c.args.source.now)
     (g.R.Source.state c.answer_piece.new.source) (g.W.Sink.state c.args.sink.now)
     (g.W.Sink.state c.answer_piece.new.sink)) (sym (p.1 ∙ ap Err p.2))
-    (answers_failed c.args.host.now c.loop.host (g.R.Source.state c.args.source.now) (g.R.Source.state c.loop.source)
-    (g.W.Sink.state c.args.sink.now) (g.W.Sink.state c.loop.sink) c.loop.invariant c.in_err-answer_piece.field-0.0
-    c.answer_piece.new.host (g.R.Source.state c.answer_piece.new.source) (g.W.Sink.state c.answer_piece.new.sink)
-    c.in_err-answer_piece.ensures)
+    (answers_failed c.loop.counter c.args.reads c.args.host.now c.loop.host (g.R.Source.state c.args.source.now)
+    (g.R.Source.state c.loop.source) (g.W.Sink.state c.args.sink.now) (g.W.Sink.state c.loop.sink) c.loop.invariant
+    few c.in_err-answer_piece.field-0.0 c.answer_piece.new.host (g.R.Source.state c.answer_piece.new.source)
+    (g.W.Sink.state c.answer_piece.new.sink) c.in_err-answer_piece.ensures)
 
 pub returns-then-is_done-2 : goal.returns-then-is_done-2
 returns-then-is_done-2 g c =
-    answers_done c.args.host.now c.loop.host (g.R.Source.state c.args.source.now) (g.R.Source.state c.loop.source)
-    (g.W.Sink.state c.args.sink.now) (g.W.Sink.state c.loop.sink) c.loop.invariant
-    (sym c.is_done-2.ensures ∙ c.if-is_done-2.true)
+    let all : c.loop.counter ≡ c.args.reads = search rules in
+    answers_done c.loop.counter c.args.reads c.args.host.now c.loop.host (g.R.Source.state c.args.source.now)
+    (g.R.Source.state c.loop.source) (g.W.Sink.state c.args.sink.now) (g.W.Sink.state c.loop.sink) c.loop.invariant
+    (omega (arith, all)) (sym c.is_done-2.ensures ∙ c.if-is_done-2.true)
 
 pub returns : goal.returns
 returns g c =
-    answers_turns c.args.host.now c.loop.host (g.R.Source.state c.args.source.now) (g.R.Source.state c.loop.source)
-    (g.W.Sink.state c.args.sink.now) (g.W.Sink.state c.loop.sink) c.loop.invariant
+    let all : c.loop.counter ≡ c.args.reads = search rules in
+    answers_turns c.loop.counter c.args.reads c.args.host.now c.loop.host (g.R.Source.state c.args.source.now)
+    (g.R.Source.state c.loop.source) (g.W.Sink.state c.args.sink.now) (g.W.Sink.state c.loop.sink) c.loop.invariant all
     (sym c.is_done-2.ensures ∙ c.if-is_done-2.false)

@@ -1,6 +1,8 @@
-use Rattle.std.proofs.Common.{◌≡◌, ◌∙◌, ◌++◌, ap, subst}
+use Rattle.std.proofs.Common.{◌≡◌, ◌∙◌, ◌++◌, ap, subst, sym, Err}
+use Rattle.std.proofs.lemmas.Result.{err_from_is_err_and}
 use Rattle.std.specs.Io.KnownBytes.{Appends}
-use Rattle.ztalk.proofs.Answering.{on_handed}
+use Rattle.ztalk.specs.Answers.{Hands}
+use Rattle.ztalk.proofs.Answering.{on_handed, starves_unhanded}
 use Rattle.ztalk.proofs.replies.write_replies.Goals as goal
 
 pub returns-in-Ok : goal.returns-in-Ok
@@ -12,3 +14,10 @@ returns-in-Ok g c left =
     let held = g.W.Sink.state c.write_all.new.sink in
     on_handed c.args.host.now c.outgoing.new.self waiting left sink held c.in_ok-outgoing.ensures.after
     (subst (λ z. Appends sink.octets held.octets z) all c.in-Ok.ensures.0) c.in-Ok.ensures.1
+
+pub returns-in_err-outgoing : goal.returns-in_err-outgoing
+returns-in_err-outgoing g c =
+    let p = err_from_is_err_and c.from_residual.result c.from_residual.ensures.1 in
+    let sink = g.W.Sink.state c.args.sink.now in
+    subst (λ z. Hands z c.args.host.now c.outgoing.new.self sink sink) (sym (p.1 ∙ ap Err p.2))
+    (starves_unhanded c.args.host.now c.outgoing.new.self sink c.in_err-outgoing.ensures.err)
