@@ -37,7 +37,7 @@ pub(crate) enum Turn {
 }
 
 /// A pool of connections, each of which is driven for one question (Z39.50-2003, 3.2): which calls are made is decided
-/// here. Its caller carries octets, takes messages, and lets it drive after each.
+/// here. Its caller carries octets, takes messages, and lets it drive after each. What is known changes by takes alone.
 #[derive(Drop)]
 pub struct Meta {
     pool: Pool,
@@ -103,6 +103,7 @@ impl Meta {
     pub fn drive(&mut self, c: u32) -> Result<u32, AllocError>
         requires { c < length self.old.pool.connections }
         ensures after { DrivesTo c result self.old self.new }
+        ensures known { self.new.pool.knowledge ≡ self.old.pool.knowledge }
         ensures size { length self.new.pool.connections ≡ length self.old.pool.connections }
     {
         one_hearing();
@@ -121,6 +122,7 @@ impl Meta {
     fn advance(&mut self, c: u32) -> Result<Turn, AllocError>
         requires { c < length self.old.pool.connections }
         ensures after { AdvancesTo c result self.old self.new }
+        ensures known { self.new.pool.knowledge ≡ self.old.pool.knowledge }
         ensures size { length self.new.pool.connections ≡ length self.old.pool.connections }
     {
         one_hearing();
@@ -138,6 +140,7 @@ impl Meta {
     fn issue(&mut self, c: u32, call: &Call) -> Result<Turn, AllocError>
         requires { c < length self.old.pool.connections }
         ensures after { IssuesTo c (call_of call.now) result self.old self.new }
+        ensures known { self.new.pool.knowledge ≡ self.old.pool.knowledge }
         ensures size { length self.new.pool.connections ≡ length self.old.pool.connections }
     {
         one_hearing();
@@ -162,6 +165,7 @@ impl Meta {
         requires { c < length self.old.pool.connections }
         ensures after { OnOk result (MetaBefell c (Feeds piece.now) self.old self.new) }
         ensures err { OnErr result (self.new ≡ self.old) }
+        ensures known { self.new.pool.knowledge ≡ self.old.pool.knowledge }
         ensures size { length self.new.pool.connections ≡ length self.old.pool.connections }
     {
         self.pool.feed(c, piece)
@@ -192,6 +196,7 @@ impl Meta {
     pub fn end(&mut self, c: u32)
         requires { c < length self.old.pool.connections }
         ensures after { MetaBefell c Ends self.old self.new }
+        ensures known { self.new.pool.knowledge ≡ self.old.pool.knowledge }
         ensures size { length self.new.pool.connections ≡ length self.old.pool.connections }
     {
         self.pool.end(c);
@@ -202,6 +207,7 @@ impl Meta {
         requires { c < length self.old.pool.connections }
         ensures after { MetaBefell c (Stops reason) self.old self.new }
         ensures stopped { stop_at self.new.pool c ≡ Some (states.Failed reason) }
+        ensures known { self.new.pool.knowledge ≡ self.old.pool.knowledge }
         ensures size { length self.new.pool.connections ≡ length self.old.pool.connections }
     {
         self.pool.stop(c, reason);
@@ -216,6 +222,7 @@ impl Meta {
         ensures none { OnOk result (waiting_at self.new.pool c ≡ []) }
         ensures err { OnErr result (self.new ≡ self.old) }
         ensures out { OnErr result (out.new.items ≡ out.old.items) }
+        ensures known { self.new.pool.knowledge ≡ self.old.pool.knowledge }
         ensures size { length self.new.pool.connections ≡ length self.old.pool.connections }
     {
         self.pool.outgoing(c, out)

@@ -21,7 +21,8 @@ use zknow::Knowledge;
 use zorigin::{CallRefused, Settings};
 
 /// Connections to targets, by number from 0 on, and all that their replies say. A connection's number is its target's.
-/// It sends and receives nothing itself: octets are fed to it, and those that are to go out are asked for.
+/// It sends and receives nothing itself: octets are fed to it, and those that are to go out are asked for. What is
+/// known changes by takes alone.
 ///
 /// Contracts speak of each history, the list of what befell the connections so far, that can have left it. A call that
 /// is refused for want of memory is no event of it.
@@ -87,6 +88,7 @@ impl Pool {
         ensures answer { IsCallAnswer c (call_of call.now) self.old result }
         ensures after { IsCalled result → Befell c (Calls (call_of call.now)) self.old self.new }
         ensures err { OnErr result (self.new ≡ self.old) }
+        ensures known { self.new.knowledge ≡ self.old.knowledge }
         ensures size { length self.new.connections ≡ length self.old.connections }
     {
         self.connections[c as usize].call(call)
@@ -98,6 +100,7 @@ impl Pool {
         requires { c < length self.old.connections }
         ensures after { OnOk result (Befell c (Feeds piece.now) self.old self.new) }
         ensures err { OnErr result (self.new ≡ self.old) }
+        ensures known { self.new.knowledge ≡ self.old.knowledge }
         ensures size { length self.new.connections ≡ length self.old.connections }
     {
         self.connections[c as usize].feed(piece)
@@ -142,6 +145,7 @@ impl Pool {
     pub fn end(&mut self, c: u32)
         requires { c < length self.old.connections }
         ensures after { Befell c Ends self.old self.new }
+        ensures known { self.new.knowledge ≡ self.old.knowledge }
         ensures size { length self.new.connections ≡ length self.old.connections }
     {
         self.connections[c as usize].end();
@@ -152,6 +156,7 @@ impl Pool {
         requires { c < length self.old.connections }
         ensures after { Befell c (Stops reason) self.old self.new }
         ensures stopped { stop_at self.new c ≡ Some (states.Failed reason) }
+        ensures known { self.new.knowledge ≡ self.old.knowledge }
         ensures size { length self.new.connections ≡ length self.old.connections }
     {
         self.connections[c as usize].stop(reason);
@@ -167,6 +172,7 @@ impl Pool {
         ensures none { OnOk result (waiting_at self.new c ≡ []) }
         ensures err { OnErr result (self.new ≡ self.old) }
         ensures out { OnErr result (out.new.items ≡ out.old.items) }
+        ensures known { self.new.knowledge ≡ self.old.knowledge }
         ensures size { length self.new.connections ≡ length self.old.connections }
     {
         self.connections[c as usize].outgoing(out)

@@ -26,6 +26,7 @@ loop-preserved c = elim c.match-branch-2.branch [
         c.in_ok-advance.ensures.after),
     c.in_ok-advance.ensures.size ∙ c.loop.invariant.1,
     omega (arith, c.loop.invariant.2),
+    c.in_ok-advance.ensures.known ∙ c.loop.invariant.3,
   )
   | in-Skipped w ↦ rw w.admitted-is (
     drove_skipped AllocError c.args.c c.loop.admitted c.loop.counter c.args.self.now c.loop.self c.advance.new.self
@@ -33,6 +34,7 @@ loop-preserved c = elim c.match-branch-2.branch [
         c.in_ok-advance.ensures.after),
     c.in_ok-advance.ensures.size ∙ c.loop.invariant.1,
     omega (arith, c.loop.invariant.2),
+    c.in_ok-advance.ensures.known ∙ c.loop.invariant.3,
   )
 ]
 
