@@ -25,6 +25,10 @@ pub record HasTellable (taken : Taken) : Type 0 where
 abbrev pub IsRead : Apdu → Type 0
 IsRead reply = (e : Element) × Writes reply e
 
+-- facts that were known stay known
+abbrev pub Grows : List Fact → List Fact → Type 0
+Grows old new = (q : Fact) → Contains old q → Contains new q
+
 -- all these facts were added to what was known; or a part of them
 abbrev pub AddsAll : List Fact → List Fact → List Fact → Type 0
 AddsAll old facts new = IsUnion (Contains old) (Contains facts) (Contains new)

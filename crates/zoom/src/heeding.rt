@@ -5,7 +5,7 @@ ghost use Rattle.zorigin.specs.declared.settings.Settings.{Settings};
 ghost use Rattle.zorigin.specs.Log.{Log, Got, past, standing, After};
 ghost use Rattle.zorigin.specs.Replies.{verdict};
 ghost use Rattle.zoom.specs.Coming.{Message};
-ghost use Rattle.zoom.specs.Learned.{IsRead};
+ghost use Rattle.zoom.specs.Learned.{IsRead, Grows};
 ghost use Rattle.zoom.specs.Heard.{Heard, told_by, news_at, IsDone};
 ghost use Rattle.zoom.specs.Steps.{HeedsAs, HeedsOn, HeedsPart};
 
@@ -48,6 +48,7 @@ fn heed_reply(
     ensures part { (p : Heard) → After p.settings p.log origin.old → result ≡ Err TakeError.Memory
         → IsPartOfUnion (Contains knowledge.old) (Contains (news_at target p (Message reply.now)))
         (Contains knowledge.new) }
+    ensures grows { Grows knowledge.old knowledge.new }
 {
     let peeked = origin.peek(reply);
     match learn_verdict(alloc, target, knowledge, &peeked) {
@@ -67,6 +68,7 @@ pub(crate) fn heed(
     ensures done { HeedsOn target node.now result origin.old origin.new knowledge.old knowledge.new }
     ensures memory { result ≡ Err TakeError.Memory → origin.new ≡ origin.old }
     ensures part { HeedsPart target node.now result origin.old knowledge.old knowledge.new }
+    ensures grows { Grows knowledge.old knowledge.new }
 {
     match from_node(alloc, node) {
         Ok(reply) => heed_reply(alloc, origin, target, knowledge, &reply),

@@ -3,6 +3,7 @@ ghost use Rattle.std.specs.Prelude.{◌≡◌, ◌<◌, ◌≤◌, ◌^◌, [], 
 ghost use Rattle.zoom.specs.declared.state.State.TheVariants as states;
 ghost use Rattle.zoom.specs.CallsOf.{call_of};
 ghost use Rattle.zoom.specs.Heard.{Feeds, Ends, Gives, Stops, IsDone};
+ghost use Rattle.zoom.specs.Learned.{Grows};
 ghost use Rattle.zoom.specs.Links.{waiting_at, stop_at};
 ghost use Rattle.zoom.specs.Befalling.{IsStateAt, IsTakeAnswer, HasGivenAll};
 ghost use Rattle.zoom.specs.Steering.{AreFit};
@@ -177,6 +178,7 @@ impl Meta {
         ensures answer { IsTakeAnswer c self.old.pool result }
         ensures after { IsDone result → MetaTook c self.old self.new }
         ensures memory { result ≡ Err TakeError.Memory → MetaKeeps c self.old self.new }
+        ensures grows { Grows self.old.pool.knowledge self.new.pool.knowledge }
         ensures waiting { waiting_at self.new.pool c ≡ waiting_at self.old.pool c }
         ensures size { length self.new.pool.connections ≡ length self.old.pool.connections }
     {

@@ -4,6 +4,7 @@ ghost use Rattle.zorigin.specs.Log.{IsCalled};
 ghost use Rattle.zoom.specs.declared.state.State.TheVariants as states;
 ghost use Rattle.zoom.specs.CallsOf.{call_of};
 ghost use Rattle.zoom.specs.Heard.{Calls, Feeds, Ends, Gives, Stops, IsDone};
+ghost use Rattle.zoom.specs.Learned.{Grows};
 ghost use Rattle.zoom.specs.Links.{waiting_at, stop_at};
 ghost use Rattle.zoom.specs.History.{After};
 ghost use Rattle.zoom.specs.Befalling.{Befell, IsStateAt, IsCallAnswer, IsTakeAnswer, IsToldAnswer, Took, Keeps, HasGivenAll, IsPoolFinished};
@@ -106,7 +107,8 @@ impl Pool {
         self.connections[c as usize].feed(piece)
     }
 
-    /// Takes one message of a connection, and adds to what is known what it says.
+    /// Takes one message of a connection, and adds to what is known what it says. Whatever is answered, what was known
+    /// stays known.
     ///
     /// Refused as `Frame`, `Decode` or `Refused`: the connection has then failed for that reason, and what is known
     /// stays. Refused as `Memory`: the message is kept for the next take, all that was known is known, and of what the
@@ -116,6 +118,7 @@ impl Pool {
         ensures answer { IsTakeAnswer c self.old result }
         ensures after { IsDone result → Took c self.old self.new }
         ensures memory { result ≡ Err TakeError.Memory → Keeps c self.old self.new }
+        ensures grows { Grows self.old.knowledge self.new.knowledge }
         ensures waiting { waiting_at self.new c ≡ waiting_at self.old c }
         ensures size { length self.new.connections ≡ length self.old.connections }
     {
@@ -131,6 +134,7 @@ impl Pool {
         ensures answer { IsToldAnswer c self.old result }
         ensures after { IsDone result → Took c self.old self.new }
         ensures memory { result ≡ Err TakeError.Memory → Keeps c self.old self.new }
+        ensures grows { Grows self.old.knowledge self.new.knowledge }
         ensures waiting { waiting_at self.new c ≡ waiting_at self.old c }
         ensures size { length self.new.connections ≡ length self.old.connections }
     {

@@ -6,6 +6,7 @@ ghost use Rattle.zoom.specs.declared.state.Reason.TheVariants as reasons;
 ghost use Rattle.zoom.specs.States.{is_stopped, goes_on};
 ghost use Rattle.zoom.specs.Coming.{limit};
 ghost use Rattle.zoom.specs.Heard.{Heard, state_at, IsDone};
+ghost use Rattle.zoom.specs.Learned.{Grows};
 ghost use Rattle.zoom.specs.Leaving.{Frames, Matches};
 ghost use Rattle.zoom.specs.Steps.{Draws, LacksTo, TakesOn, TakesPart, KeepsOn, stop_after, held_after};
 
@@ -23,6 +24,7 @@ impl Connection {
         ensures done { TakesOn target result self.old self.new knowledge.old knowledge.new }
         ensures memory { KeepsOn result self.old self.new }
         ensures part { TakesPart target result self.old knowledge.old knowledge.new }
+        ensures grows { Grows knowledge.old knowledge.new }
         ensures waiting { self.new.waiting ≡ self.old.waiting }
     {
         if is_stopped(self.state()) {

@@ -14,4 +14,5 @@ returns-in_default c = record {
       c.in_default.not-Memory c.in-Err.ensures a;
   memory = λ e. refl;
   part = λ p a e. part_none c.args.knowledge.now;
+  grows = λ q i. i;
 }

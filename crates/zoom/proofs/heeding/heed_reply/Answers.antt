@@ -14,3 +14,9 @@ returns-in-Ok-clause-part c = λ p a e. news_part c.args.target p c.args.reply.n
 pub returns-clause-part : goal.returns-clause-part
 returns-clause-part c = λ p a e. news_part c.args.target p c.args.reply.now c.peek-peeked.result _ _
     (c.peek-peeked.ensures.answer p.settings p.log a) c.learn_verdict.ensures.part
+
+pub returns-in-Ok-clause-grows : goal.returns-in-Ok-clause-grows
+returns-in-Ok-clause-grows c = c.learn_verdict.ensures.part.keeps
+
+pub returns-clause-grows : goal.returns-clause-grows
+returns-clause-grows c = c.learn_verdict.ensures.part.keeps

@@ -43,3 +43,9 @@ returns-in-Ok-clause-waiting c = rw (← c.self.view_is) c.in-Ok.ensures.waiting
 
 pub returns-in-Err-clause-waiting : goal.returns-in-Err-clause-waiting
 returns-in-Err-clause-waiting c = rw (← c.self.view_is) c.in-Err.ensures.waiting
+
+pub returns-in-Ok-clause-grows : goal.returns-in-Ok-clause-grows
+returns-in-Ok-clause-grows c = rw (← c.self.view_is) c.in-Ok.ensures.grows
+
+pub returns-in-Err-clause-grows : goal.returns-in-Err-clause-grows
+returns-in-Err-clause-grows c = rw (← c.self.view_is) c.in-Err.ensures.grows

@@ -36,3 +36,6 @@ returns-clause-waiting c =
     let lt = rw (← c.self.view_is) at c.requires in
     rw (← c.self.view_is) (waits_put old new c.args.c c.take-taken.new.self lt refl ∙ c.take-taken.ensures.waiting
     ∙ waits_at old c.args.c _ c.index_mut.result.now lt c.index_mut.ensures.value)
+
+pub returns-clause-grows : goal.returns-clause-grows
+returns-clause-grows c = rw (← c.self.view_is) c.take-taken.ensures.grows
