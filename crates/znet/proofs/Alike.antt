@@ -5,10 +5,10 @@ use Rattle.zoom.specs.declared.question.MetaSettings.{MetaSettings}
 use Rattle.zoom.specs.declared.state.Reason.TheVariants as reasons
 use Rattle.zoom.specs.Heard.{Gives, Stops}
 use Rattle.zoom.specs.History.{History, only}
-use Rattle.zoom.specs.Metas.{made}
+use Rattle.zoom.specs.Metas.{made, settings_of}
 use Rattle.zoom.proofs.Pools.{only_other}
-use Rattle.ztalk.specs.Talks.{IsStoppedAt}
-use Rattle.ztalk.proofs.Apart.{behind, none_before, none_both, others_made, others_follow, idle_alike, over_alike, follows_alike}
+use Rattle.ztalk.specs.Talks.{IsStoppedAt, IsCutOff}
+use Rattle.ztalk.proofs.Apart.{behind, none_before, none_both, others_made, others_follow, heard_alike, idle_alike, over_alike, follows_alike}
 use Rattle.ztalk.proofs.Joining.{stopped_over}
 use Rattle.znet.specs.Asking.{has, Opening, unreached, begun, unsent, Talking, ends_itself, is_stopped as was_stopped, TalksIf, IsTalkedOut, IsTalkedOutIf}
 use Rattle.znet.specs.AskingSteps.{IsOpened, IsOpenedIf}
@@ -60,11 +60,16 @@ opening_alike {q = q} {s = s} {c = c} {h = h} k e (begun calls octets idle) =
 opening_alike {q = q} {s = s} {c = c} {h = h} k e (unsent calls octets idle) =
     unsent calls octets (idle_alike q s c (made c calls ++ h) (made c calls ++ k) (behind c (made c calls) h k e) idle)
 
+cut_alike : (s : MetaSettings) (c : ℕ) (h k : History) → only c h ≡ only c k → IsCutOff s c h → IsCutOff s c k
+cut_alike s c h k e cut p heard = cut p (heard_alike (settings_of s) c h k p e heard)
+
 talking_alike : {q : List Question} {s : MetaSettings} {at_once : Bool} {c : ℕ} {h more : History} (k : History)
     → only c h ≡ only c k → Talking q s at_once c h more → Talking q s at_once c k more
 talking_alike {s = s} {c = c} {h = h} k e (ends_itself {more = more} f over) =
     ends_itself (follows_alike k e f) (over_alike s c (more ++ h) (more ++ k) (behind c more h k e) over)
-talking_alike k e (was_stopped reason f for) = was_stopped reason (follows_alike k e f) for
+talking_alike {s = s} {c = c} {h = h} k e (was_stopped {more = more} reason f for cut) =
+    was_stopped reason (follows_alike k e f) for
+    (λ is. cut_alike s c (more ++ h) (more ++ k) (behind c more h k e) (cut is))
 
 pub talks_alike : (q : List Question) (s : MetaSettings) (at_once : Bool) (c : ℕ) (h k more : History) (reached : Bool)
     → only c h ≡ only c k → TalksIf q s at_once c h reached more → TalksIf q s at_once c k reached more
@@ -85,7 +90,7 @@ others_opening {c = c} i (unsent calls octets idle) far =
 others_talking : {q : List Question} {s : MetaSettings} {at_once : Bool} {c : ℕ} {h more : History} (i : ℕ)
     → Talking q s at_once c h more → (c == i) ≡ false → only i more ≡ []
 others_talking i (ends_itself f over) far = others_follow i f far
-others_talking {c = c} i (was_stopped {more = more} reason f for) far =
+others_talking {c = c} i (was_stopped {more = more} reason f for cut) far =
     only_other c i (Stops reason) more far ∙ others_follow i f far
 
 pub others_talk : (q : List Question) (s : MetaSettings) (at_once : Bool) (c : ℕ) (h more : History) (reached : Bool)

@@ -1,5 +1,5 @@
 -- The hosts are talked with at once.
-use Rattle.std.proofs.Common.{◌≡◌, ◌∙◌, sym, subst, arith, ℕ, zero, suc, ◌<◌, Bool, true, false, List, [], ◌∷◌, ◌++◌, length, Option, None, Some, is_some}
+use Rattle.std.proofs.Common.{◌≡◌, ◌∙◌, sym, subst, arith, ℕ, zero, suc, ◌<◌, ◌≤◌, Bool, true, false, List, [], ◌∷◌, ◌++◌, length, Option, None, Some, is_some}
 use Rattle.zoom.specs.declared.question.Question.{Question}
 use Rattle.zoom.specs.declared.question.MetaSettings.{MetaSettings}
 use Rattle.zoom.specs.declared.state.Reason.TheVariants as reasons
@@ -27,27 +27,33 @@ at_push phase (y ∷ xs) x all is (suc c) = at_push phase xs x (λ d. all (suc d
 module _ (q : List Question) (s : MetaSettings) (c : ℕ) (h now : History) (over : IsStoppedAt s c now)
     (o : IsOpened q s c true h) where
   -- as the talk ended
-  ended : (first last : Seen) → EndsAmong q s c h now 1000000000 first last → IsTalkedOut q s true c now
-  ended first last (closes t) =
-      talked_out q s true c h now t.more o (ends_itself t.follows (over_alike s c now (t.more ++ h) t.mine over)) t.mine over
-  ended first last (drains t end) =
-      talked_out q s true c h now t.more o (ends_itself t.follows (over_alike s c now (t.more ++ h) t.mine over)) t.mine over
-  ended first last (fails_to_read b failed) =
-      talked_out q s true c h now ((c, Stops reasons.Read) ∷ b.more) o (was_stopped reasons.Read b.follows tt) b.mine over
-  ended first last (fails_to_write b failed) =
+  ended : (reads : ℕ) (first last : Seen) → reads ≤ 1000000000 → EndsAmong q s c h now reads 1000000000 first last
+      → IsTalkedOut q s true c now
+  ended reads first last few (closes t sound) =
+      talked_out q s true c h now t.more o
+      (ends_itself t.follows (over_alike s c now (t.more ++ h) t.mine over)) t.mine over
+  ended reads first last few (drains t well end sound) =
+      talked_out q s true c h now t.more o
+      (ends_itself t.follows (over_alike s c now (t.more ++ h) t.mine over)) t.mine over
+  ended reads first last few (fails_to_read b failed sound) =
+      talked_out q s true c h now ((c, Stops reasons.Read) ∷ b.more) o
+      (was_stopped reasons.Read b.follows tt (λ is. absurd cc)) b.mine over
+  ended reads first last few (fails_to_write b failed sound) =
       talked_out q s true c h now ((c, Stops reasons.Write) ∷ (c, Gives b.octets) ∷ b.more) o
-      (was_stopped reasons.Write b.follows tt) b.mine over
-  ended first last (is_cut_off b end) =
-      talked_out q s true c h now ((c, Stops reasons.Ended) ∷ b.more) o (was_stopped reasons.Ended b.follows tt) b.mine over
-  ended first last (turns_out b few polled) =
-      talked_out q s true c h now ((c, Stops reasons.Turns) ∷ b.more) o (was_stopped reasons.Turns b.follows few) b.mine over
+      (was_stopped reasons.Write b.follows tt (λ is. absurd cc)) b.mine over
+  ended reads first last few (is_cut_off b cut end sound) =
+      talked_out q s true c h now ((c, Stops reasons.Ended) ∷ b.more) o
+      (was_stopped reasons.Ended b.follows tt (λ is. cut)) b.mine over
+  ended reads first last few (turns_out b polled sound) =
+      talked_out q s true c h now ((c, Stops reasons.Turns) ∷ b.more) o
+      (was_stopped reasons.Turns b.follows few (λ is. absurd cc)) b.mine over
 
 module _ {B : Type 0} (see : B → Seen) (q : List Question) (s : MetaSettings) (c : ℕ) (h now : History) where
   done_at : (first last : Option B) (chosen : Bool) → IsOpenedIf chosen q s c (is_some first) h
       → IsDone see q s c h now 1000000000 first last → IsTalkedOutIf chosen q s true c now
   done_at None None true o d = none_talked q s true c h now o d
   done_at None None false o d = d ∙ o.1
-  done_at (Some x) (Some y) true o d = ended q s c h now d.over o (see x) (see y) d.ended
+  done_at (Some x) (Some y) true o d = ended q s c h now d.over o d.reads (see x) (see y) d.few d.ended
   done_at (Some x) (Some y) false o d = absurd (let e = o.0 in cc)
   done_at None (Some y) chosen o d = absurd d
   done_at (Some x) None chosen o d = absurd d

@@ -38,32 +38,33 @@ pub talks_stopped : (c : ℕ) (e : TalkError) (old new : MetaLinks) (source left
     → Talks c 1000000 (Err e) old new source left sink held → (e ≡ talks.Memory → ⊥) → TalksOut c true old new
 talks_stopped c talks.Read old new source left sink held t other = record {
   on = λ q s h a.
-      let e = (t.on q s h a).1 in
+      let e = (t.on q s h a).2 in
       record {
         more = (c, Stops reasons.Read) ∷ e.talk.more;
-        talked = was_stopped reasons.Read e.talk.follows tt;
+        talked = was_stopped reasons.Read e.talk.follows tt (λ is. absurd cc);
         after = e.after;
         over = λ is. stopped_over s c reasons.Read (e.talk.more ++ h);
       };
 }
 talks_stopped c talks.Write old new source left sink held t other = record {
   on = λ q s h a.
-      let e = t.on q s h a in
+      let e = (t.on q s h a).2 in
       record {
         more = (c, Stops reasons.Write) ∷ (c, Gives e.octets) ∷ e.more;
-        talked = was_stopped reasons.Write e.follows tt;
+        talked = was_stopped reasons.Write e.follows tt (λ is. absurd cc);
         after = e.after;
         over = λ is. stopped_over s c reasons.Write ((c, Gives e.octets) ∷ e.more ++ h);
       };
 }
 talks_stopped c talks.Ended old new source left sink held t other = record {
   on = λ q s h a.
-      let e = (t.on q s h a).1 in
+      let e = t.on q s h a in
+      let ended = e.stopped.talk in
       record {
-        more = (c, Stops reasons.Ended) ∷ e.talk.more;
-        talked = was_stopped reasons.Ended e.talk.follows tt;
-        after = e.after;
-        over = λ is. stopped_over s c reasons.Ended (e.talk.more ++ h);
+        more = (c, Stops reasons.Ended) ∷ ended.more;
+        talked = was_stopped reasons.Ended ended.follows tt (λ is. e.cut);
+        after = e.stopped.after;
+        over = λ is. stopped_over s c reasons.Ended (ended.more ++ h);
       };
 }
 talks_stopped c talks.Turns old new source left sink held t other = record {
@@ -71,7 +72,7 @@ talks_stopped c talks.Turns old new source left sink held t other = record {
       let e = t.on q s h a in
       record {
         more = (c, Stops reasons.Turns) ∷ e.talk.more;
-        talked = was_stopped reasons.Turns e.talk.follows refl;
+        talked = was_stopped reasons.Turns e.talk.follows refl (λ is. absurd cc);
         after = e.after;
         over = λ is. stopped_over s c reasons.Turns (e.talk.more ++ h);
       };

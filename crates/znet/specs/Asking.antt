@@ -11,7 +11,7 @@ use Rattle.zoom.specs.Heard.{Gives, Stops}
 use Rattle.zoom.specs.History.{History, only}
 use Rattle.zoom.specs.Metas.{MetaLinks, MetaAfter, made}
 use Rattle.ztalk.specs.Among.{ends_at}
-use Rattle.ztalk.specs.Talks.{Stage, Listening, Waiting, Ended, Follows, IsIdle, IsStoppedAt}
+use Rattle.ztalk.specs.Talks.{Stage, Listening, Waiting, Ended, Follows, IsIdle, IsStoppedAt, IsCutOff}
 
 -- whether there is something of a connection
 abbrev pub has : {A : Type 0} → List (Option A) → ℕ → Bool
@@ -43,7 +43,8 @@ StopsFor at_once Waiting reads reasons.Turns = TurnsOut at_once reads
 StopsFor at_once Ended reads reasons.Ended = Unit {0}
 StopsFor at_once _ reads reason = ⊥
 
--- A talk to its end: the connection is then over by itself, or stopped.
+-- A talk to its end: the connection is then over by itself, or stopped; for the end of its input only where it has
+-- failed for that.
 pub data Talking (questions : List Question) (s : MetaSettings) (at_once : Bool) (c : ℕ) (h : History)
     : History → Type 0 where
   ends_itself : {more : History} {read written : List ℕ} {reads : ℕ} {stage : Stage}
@@ -51,6 +52,7 @@ pub data Talking (questions : List Question) (s : MetaSettings) (at_once : Bool)
       → Talking questions s at_once c h more
   is_stopped : {more : History} {read written : List ℕ} {reads : ℕ} {stage : Stage} (reason : Reason)
       → Follows questions s c h more read written reads stage → StopsFor at_once stage reads reason
+      → (reason ≡ reasons.Ended → IsCutOff s c (more ++ h))
       → Talking questions s at_once c h ((c, Stops reason) ∷ more)
 
 -- the host is talked with, where it can be
