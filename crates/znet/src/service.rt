@@ -1,5 +1,6 @@
 //! A target in memory is served.
 ghost use Rattle.std.specs.Prelude.{◌≡◌, ◌<◌, ◌^◌, length};
+ghost use Rattle.znet.specs.declared.service.ServeError.TheVariants.{Memory};
 ghost use Rattle.ztarget.specs.Receiving.{new_target};
 ghost use Rattle.ztarget.specs.Searching.{entries_in};
 
@@ -29,6 +30,8 @@ pub enum ServeError {
 }
 
 impl From<AllocError> for ServeError {
+    ghost from_gives = { λ _ e. e ≡ Memory };
+
     fn from(_: AllocError) -> ServeError {
         ServeError::Memory
     }
