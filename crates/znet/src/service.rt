@@ -39,7 +39,7 @@ impl From<AllocError> for ServeError {
 
 /// Serves so many connections, one after the other, each with a target that has received nothing yet (Z39.50-2003,
 /// 3.2). A client that breaks off, sends what is no Z39.50, is silent for 30 seconds or takes more than an hour costs
-/// its own connection alone.
+/// its own connection alone. Where no connection is to be served nothing is done, and that does not fail.
 ///
 /// Refusals: `Listen`, where no connection can be taken; and `Memory`.
 pub fn serve<C: Clock, L: OpenListener>(
@@ -52,6 +52,7 @@ pub fn serve<C: Clock, L: OpenListener>(
 where
     L::Stream: Read + Write + OpenStream,
     requires { length (entries_in target.now.databases) < 2 ^ 32 }
+    ensures none { count ≡ 0 → result ≡ Ok tt }
 {
     for _ in 0..count {
         let Ok((stream, _)) = listener.accept() else {
