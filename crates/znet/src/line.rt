@@ -1,4 +1,5 @@
 //! A TCP stream as the devices of a conversation, with time limits.
+ghost use Rattle.std.specs.Prelude.{◌≡◌, IfOk};
 
 use bytes::Bytes;
 use std::io;
@@ -61,8 +62,13 @@ pub struct Line<'a, C, S> {
 }
 
 impl<'a, C: Clock, S: OpenStream + Drop> Line<'a, C, S> {
-    /// Of a stream, with limits of 30 seconds for a read and for a write, and of an hour for all of them.
-    pub fn new(clock: &'a C, stream: S) -> io::Result<Line<'a, C, S>> {
+    /// Of a stream, with limits of 30 seconds for a read and for a write, and of an hour for all of them. What comes is
+    /// that of the stream itself, the hour begins at one time for both ways, and no call of either failed yet.
+    pub fn new(clock: &'a C, stream: S) -> io::Result<Line<'a, C, S>>
+        ensures stream { IfOk result (λ line. line.source.inner.stream ≡ stream) }
+        ensures begun { IfOk result (λ line. line.sink.inner.begun ≡ line.source.inner.begun) }
+        ensures sound { IfOk result (λ line. (line.source.failures ≡ 0) × (line.sink.failures ≡ 0)) }
+    {
         set_limits(&stream)?;
         let begun = Instant::now(clock)?;
         let other = stream.try_clone()?;
@@ -81,7 +87,12 @@ pub(crate) fn set_limits<S: OpenStream>(stream: &S) -> io::Result<()> {
     stream.set_nodelay(true)
 }
 
-fn limited<C, S>(clock: &C, begun: Instant, stream: S) -> Device<Timed<'_, C, S>> {
+/// A stream as a device of which no call failed yet, with the hour that began then.
+fn limited<C, S>(clock: &C, begun: Instant, stream: S) -> Device<Timed<'_, C, S>>
+    ensures stream { result.inner.stream ≡ stream }
+    ensures begun { result.inner.begun ≡ begun }
+    ensures sound { result.failures ≡ 0 }
+{
     Device::new(Timed {
         clock,
         begun,
