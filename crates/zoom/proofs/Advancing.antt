@@ -15,7 +15,7 @@ use Rattle.zorigin.specs.Standings.{Call, Standing}
 use Rattle.zorigin.specs.Calls.{refusal, call_answer, answer_by}
 use Rattle.zorigin.specs.Sending.{request_of, sent_of}
 use Rattle.zorigin.specs.Laws.{IsSent}
-use Rattle.zorigin.specs.Log.{Log, Made, Past, past, standing, state_of, admit_unless}
+use Rattle.zorigin.specs.Log.{Log, Made, Past, past, standing, state_of, admit_unless, IsCalled}
 use Rattle.zoom.specs.declared.question.Question.{Question}
 use Rattle.zoom.specs.declared.question.MetaSettings.{MetaSettings}
 use Rattle.zoom.specs.declared.state.State.{State}
@@ -29,9 +29,9 @@ use Rattle.zoom.specs.Befalling.{Befell, IsStateAt, IsCallAnswer, IsPoolFinished
 use Rattle.zoom.specs.Laws.{OneHearing}
 use Rattle.zoom.specs.Steering.{Errand, errand_of}
 use Rattle.zoom.specs.Drivers.{DriverState, IsDriver, Stays, Offers, Rests, GivesNext, KnowsSent, KnowsRefused}
-use Rattle.zoom.specs.Metas.{MetaLinks, settings_of, AreDriven, MetaAfter, made, Progress, Drives}
+use Rattle.zoom.specs.Metas.{MetaLinks, settings_of, AreDriven, MetaAfter, MetaAfterUpTo, made, Progress, Drives}
 use Rattle.zoom.specs.Metas.{left_of, left_at, Gave, AdvancesBy, AdvancesTo, IssuesTo, DrivesTo}
-use Rattle.zoom.specs.Metas.{Tells, is_skipped, is_complete, IsFinished}
+use Rattle.zoom.specs.Metas.{Tells, TellsUpTo, is_skipped, is_complete, IsFinished, IsFinishedUpTo}
 use Rattle.zoom.specs.declared.meta.Turn.{Turn}
 use Rattle.zoom.specs.declared.meta.Turn.TheVariants as turns
 use Rattle.zoom.proofs.Pools.{only_same, after_up_to, got, get_same}
@@ -207,6 +207,13 @@ heard_now : (questions : List Question) (s : MetaSettings) (h : History) (meta :
     → HasHeard (settings_of s) (only c h) (a.pool.heard c)
 heard_now questions s h meta c a lt = heard_at (settings_of s) h a.pool.heard meta.pool.connections c a.pool.stands lt
 
+-- what it answers, where all that is known is what was accepted
+answered_call : (settings : Settings) (h : History) (pool : Links) (c : ℕ) (call : Call)
+    (answer : Result (Unit {0}) CallRefused) (a : After settings h pool) → IsCallAnswer c call pool answer
+    → IsCalled answer → answer ≡ called_as (a.heard c) call
+unfolding after_up_to
+answered_call settings h pool c call answer a is done = is settings c h (after_up_to settings c h pool a) done
+
 pub admitted_to : (E : Type 0) → OneHearing → (c : ℕ) (call : Call) (old new : MetaLinks) (was x : DriverState)
     → c < length old.pool.connections → Befell c (Calls call) old.pool new.pool
     → IsCallAnswer c call old.pool (Ok tt) → slice_get old.drivers c ≡ Some was → KnowsSent call was x
@@ -230,7 +237,7 @@ admitted_to E hearing c call old new was x lt befell answer at knows ds size que
 
     none : (p : Heard) → HasHeard (settings_of s) (only c h) p → p.stop ≡ None → refusal (standing (past_of p)) call ≡ None
     none p heard n = ok_call p call n (subst (λ z. Ok tt ≡ called_as z call)
-        (hearing (settings_of s) (only c h) (a.pool.heard c) p now heard) (answer (settings_of s) h a.pool tt))
+        (hearing (settings_of s) (only c h) (a.pool.heard c) p now heard) (answered_call (settings_of s) h old.pool c call (Ok tt) a.pool answer tt))
 
     less : x.left < was.left
     less =
@@ -267,7 +274,7 @@ refused_to E hearing law c call reason old new was x other lt befell answer at k
     none : (p : Heard) → HasHeard (settings_of s) (only c h) p → p.stop ≡ None
         → refusal (standing (past_of p)) call ≡ Some reason
     none p heard n = err_call law p call reason n (subst (λ z. Err reason ≡ called_as z call)
-        (hearing (settings_of s) (only c h) (a.pool.heard c) p now heard) (answer (settings_of s) h a.pool other))
+        (hearing (settings_of s) (only c h) (a.pool.heard c) p now heard) (answered_call (settings_of s) h old.pool c call (Err reason) a.pool answer other))
 
     offers : (q : Question) (p : Heard) → slice_get questions c ≡ Some q → HasHeard (settings_of s) (only c h) p
         → Offers (errand_of s q) p.settings p.log was call
@@ -462,28 +469,57 @@ drove_all E c n k old new d lt many questions s h a =
 -- ---- what is told
 
 pub finished_meta : OneHearing → (meta : MetaLinks) (answer : Bool) → IsPoolFinished meta.pool answer
-    → IsFinished meta answer
-finished_meta hearing meta answer fin questions s h a =
-    let f = fin (settings_of s) h a.pool in (
+    → IsFinishedUpTo meta answer
+finished_meta hearing meta answer fin questions s d h a =
+    let f = fin (settings_of s) d h a.pool in
+    let now : (c : ℕ) → c < length meta.pool.connections → HasHeard (settings_of s) (only c h) (a.pool.heard c) =
+    λ c lt. heard_at (settings_of s) h a.pool.heard meta.pool.connections c a.pool.stands lt in (
       λ t c p lt heard.
           let in_pool : c < length meta.pool.connections = subst (λ n. c < n) (sym a.size) lt in
           subst (λ z. is_stopped (state_at z) ≡ true)
-          (hearing (settings_of s) (only c h) (a.pool.heard c) p (heard_now questions s h meta c a in_pool) heard)
+          (hearing (settings_of s) (only c h) (a.pool.heard c) p (now c in_pool) heard)
           (f.0 t c in_pool),
-      λ all. f.1 (λ c lt. all c (a.pool.heard c) (subst (λ n. c < n) a.size lt) (heard_now questions s h meta c a lt)),
+      λ all. f.1 (λ c lt. all c (a.pool.heard c) (subst (λ n. c < n) a.size lt) (now c lt)),
     )
 
+-- the question of a connection
+asked_at : (questions : List Question) (s : MetaSettings) (d : ℕ) (h : History) (meta : MetaLinks) (c : ℕ)
+    → MetaAfterUpTo questions s d h meta → c < length meta.pool.connections
+    → (q : Question) × (slice_get questions c ≡ Some q)
+asked_at questions s d h meta c a lt = let n = a.size in
+    slice_some questions c (let le : c < length questions = omega (arith, lt, n) in le)
+
 pub skipped_tells : (meta : MetaLinks) (c : ℕ) (d : DriverState) → c < length meta.pool.connections
-    → slice_get meta.drivers c ≡ Some d → Tells c meta is_skipped d.skipped
-skipped_tells meta c d lt at questions s h p a heard =
-    let q = question_at questions s h meta c a lt in
+    → slice_get meta.drivers c ≡ Some d → TellsUpTo c meta is_skipped d.skipped
+skipped_tells meta c d lt at questions s i h p a heard =
+    let q = asked_at questions s i h meta c a lt in
     (a.driven.each c q.0 d p q.1 at heard).skipped
 
 pub complete_tells : (meta : MetaLinks) (c : ℕ) (d : DriverState) → c < length meta.pool.connections
-    → slice_get meta.drivers c ≡ Some d → Tells c meta is_complete d.complete
-complete_tells meta c d lt at questions s h p a heard =
-    let q = question_at questions s h meta c a lt in
+    → slice_get meta.drivers c ≡ Some d → TellsUpTo c meta is_complete d.complete
+complete_tells meta c d lt at questions s i h p a heard =
+    let q = asked_at questions s i h meta c a lt in
     (a.driven.each c q.0 d p q.1 at heard).complete
+
+-- ---- where no Take found no memory
+
+meta_up_to : (questions : List Question) (s : MetaSettings) (d : ℕ) (h : History) (meta : MetaLinks)
+    → MetaAfter questions s h meta → MetaAfterUpTo questions s d h meta
+meta_up_to questions s d h meta a = record {
+  fit = a.fit;
+  askable = a.askable;
+  pool = after_up_to (settings_of s) d h meta.pool a.pool;
+  driven = a.driven;
+  size = a.size;
+}
+
+pub tells_after : (c : ℕ) (meta : MetaLinks) (tells : Heard → Bool) (answer : Bool) → TellsUpTo c meta tells answer
+    → Tells c meta tells answer
+tells_after c meta tells answer t questions s h p a heard =
+    t questions s c h p (meta_up_to questions s c h meta a) heard
+
+pub finished_after : (meta : MetaLinks) (answer : Bool) → IsFinishedUpTo meta answer → IsFinished meta answer
+finished_after meta answer f questions s h a = f questions s 0 h (meta_up_to questions s 0 h meta a)
 
 -- ---- want of memory, as `?` answers it
 

@@ -262,7 +262,7 @@ taken_more meeting hearing questions s h old drivers c answer a told done lt siz
     driven_more questions s h old.drivers drivers c Takes a.driven size same (λ q d p r asked drives heard hears.
     let now = heard_at (settings_of s) h a.pool.heard old.pool.connections c a.pool.stands lt in
     let is : a.pool.heard c ≡ p = hearing (settings_of s) (only c h) (a.pool.heard c) p now heard in
-    let t = told (settings_of s) h a.pool done in
+    let t = told (settings_of s) c h a.pool done in
     let met : t.0 ≡ hears.0 = meeting p t.0 hears.0 (subst (λ z. Meets z t.0) is t.1) hears.1 in
     let answers : answer ≡ told_as p hears.0 = subst (λ z. answer ≡ told_as p z) met
     (subst (λ z. answer ≡ told_as z t.0) is t.2) in

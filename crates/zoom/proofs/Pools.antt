@@ -430,7 +430,7 @@ stopped_one n cs was all at one i k p lt e m = elim (i == n) as (λ b. (i == n) 
 ] refl
 
 pub finished_all : (pool : Links) → AllStopped (length pool.connections) pool.connections → IsPoolFinished pool true
-finished_all pool all settings h a = (
+finished_all pool all settings d h a = (
   λ t c lt. (let k = slice_there pool.connections c lt in
       all c k.0 (a.heard c) lt k.1 (a.stands.each c k.0 k.1).matches),
   λ each. refl,
@@ -439,7 +439,7 @@ finished_all pool all settings h a = (
 pub finished_not : (pool : Links) (n : ℕ) (was : Link) → n < length pool.connections
     → slice_get pool.connections n ≡ Some was
     → ((p : Heard) → Matches p was → is_stopped (state_at p) ≡ false) → IsPoolFinished pool false
-finished_not pool n was lt at one settings h a = (
+finished_not pool n was lt at one settings d h a = (
   λ e. absurd (true≢false (sym e)),
   λ each. absurd (true≢false (sym (each n lt) ∙ one (a.heard n) (a.stands.each n was at).matches)),
 )

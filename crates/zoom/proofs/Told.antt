@@ -31,8 +31,8 @@ stepped_told p Nothing = elim p.ended as (λ b. stepped (Ok (cond b told.Ended t
 
 pub take_answer : (c : ℕ) (pool : Links) (answer : Result Told TakeError) → IsToldAnswer c pool answer
     → IsTakeAnswer c pool (stepped answer)
-take_answer c pool answer t settings h a done =
-    let is = t settings h a (by answer done) in
+take_answer c pool answer t settings d h a done =
+    let is = t settings d h a (by answer done) in
     (is.0, is.1, ap stepped is.2 ∙ stepped_told (a.heard c) is.0)
   where
     by : (z : Result Told TakeError) → IsDone (stepped z) → IsDone z

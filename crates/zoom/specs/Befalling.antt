@@ -24,22 +24,22 @@ abbrev pub IsStateAt : ℕ → Links → State → Type 0
 IsStateAt c pool state =
     (settings : Settings) (d : ℕ) (h : History) (a : AfterUpTo settings d h pool) → state ≡ state_at (a.heard c)
 
--- a call's answer, memory aside
+-- a call's answer, memory aside; also after a Take of d that found none
 abbrev pub IsCallAnswer : ℕ → Call → Links → Result (Unit {0}) CallRefused → Type 0
 IsCallAnswer c call pool answer =
-    (settings : Settings) (h : History) (a : After settings h pool) → IsCalled answer
+    (settings : Settings) (d : ℕ) (h : History) (a : AfterUpTo settings d h pool) → IsCalled answer
     → answer ≡ called_as (a.heard c) call
 
--- a Take's answer: there is what it met, and this is answered then
+-- a Take's answer: there is what it met, and this is answered then; also after a Take of d that found no memory
 abbrev pub IsTakeAnswer : ℕ → Links → Result Step TakeError → Type 0
 IsTakeAnswer c pool answer =
-    (settings : Settings) (h : History) (a : AfterUpTo settings c h pool) → IsDone answer
+    (settings : Settings) (d : ℕ) (h : History) (a : AfterUpTo settings d h pool) → IsDone answer
     → (met : Met) × Meets (a.heard c) met × (answer ≡ took_as (a.heard c) met)
 
 -- the same, with what the origin took
 abbrev pub IsToldAnswer : ℕ → Links → Result Told TakeError → Type 0
 IsToldAnswer c pool answer =
-    (settings : Settings) (h : History) (a : AfterUpTo settings c h pool) → IsDone answer
+    (settings : Settings) (d : ℕ) (h : History) (a : AfterUpTo settings d h pool) → IsDone answer
     → (met : Met) × Meets (a.heard c) met × (answer ≡ told_as (a.heard c) met)
 
 -- a Take made this pool of that one
@@ -60,5 +60,5 @@ HasGivenAll c pool =
 -- each connection is Closed or Failed
 abbrev pub IsPoolFinished : Links → Bool → Type 0
 IsPoolFinished pool answer =
-    (settings : Settings) (h : History) (a : After settings h pool)
+    (settings : Settings) (d : ℕ) (h : History) (a : AfterUpTo settings d h pool)
     → (answer ≡ true) ↔ ((c : ℕ) → c < length pool.connections → is_stopped (state_at (a.heard c)) ≡ true)

@@ -181,6 +181,12 @@ Tells c meta tells answer =
     (questions : List Question) (s : MetaSettings) (h : History) (p : Heard)
     → MetaAfter questions s h meta → HasHeard (settings_of s) (only c h) p → answer ≡ tells p
 
+-- the same, also after a Take of d that found no memory
+abbrev pub TellsUpTo : ℕ → MetaLinks → (Heard → Bool) → Bool → Type 0
+TellsUpTo c meta tells answer =
+    (questions : List Question) (s : MetaSettings) (d : ℕ) (h : History) (p : Heard)
+    → MetaAfterUpTo questions s d h meta → HasHeard (settings_of s) (only c h) p → answer ≡ tells p
+
 abbrev pub is_skipped : Heard → Bool
 is_skipped p = skipped_in p.settings p.log
 
@@ -191,5 +197,12 @@ is_complete p = complete_in (past_of p)
 abbrev pub IsFinished : MetaLinks → Bool → Type 0
 IsFinished meta answer =
     (questions : List Question) (s : MetaSettings) (h : History) → MetaAfter questions s h meta
+    → (answer ≡ true) ↔ ((c : ℕ) (p : Heard) → c < length questions → HasHeard (settings_of s) (only c h) p
+    → is_stopped (state_at p) ≡ true)
+
+-- the same, also after a Take of d that found no memory
+abbrev pub IsFinishedUpTo : MetaLinks → Bool → Type 0
+IsFinishedUpTo meta answer =
+    (questions : List Question) (s : MetaSettings) (d : ℕ) (h : History) → MetaAfterUpTo questions s d h meta
     → (answer ≡ true) ↔ ((c : ℕ) (p : Heard) → c < length questions → HasHeard (settings_of s) (only c h) p
     → is_stopped (state_at p) ≡ true)

@@ -7,7 +7,7 @@ ghost use Rattle.zoom.specs.Learned.{Grows};
 ghost use Rattle.zoom.specs.Links.{waiting_at, stop_at};
 ghost use Rattle.zoom.specs.Befalling.{IsStateAt, IsTakeAnswer, HasGivenAll};
 ghost use Rattle.zoom.specs.Steering.{AreFit};
-ghost use Rattle.zoom.specs.Metas.{AreAskable, MetaAfter, MetaBefell, MetaTook, MetaKeeps, DrivesTo, AdvancesTo, IssuesTo, LearnsTold, Tells, StandFor, is_skipped, is_complete, IsFinished};
+ghost use Rattle.zoom.specs.Metas.{AreAskable, MetaAfter, MetaBefell, MetaTook, MetaKeeps, DrivesTo, AdvancesTo, IssuesTo, LearnsTold, TellsUpTo, StandFor, is_skipped, is_complete, IsFinishedUpTo};
 
 use crate::answer::{Step, TakeError, Told, step_told};
 use crate::call::Call;
@@ -173,6 +173,8 @@ impl Meta {
     }
 
     /// Takes one message of a connection, as `Pool::take` does: with the same answers, refusals and what they leave.
+    /// Behind a take that found no memory, `state`, `finished`, `skipped`, `complete` and the next take of each
+    /// connection answer what the history says.
     pub fn take(&mut self, c: u32) -> Result<Step, TakeError>
         requires { c < length self.old.pool.connections }
         ensures answer { IsTakeAnswer c self.old.pool result }
@@ -239,7 +241,7 @@ impl Meta {
 
     /// Whether every connection is Closed or Failed. It takes no memory.
     pub fn finished(&self) -> bool
-        ensures { IsFinished self.now result }
+        ensures { IsFinishedUpTo self.now result }
     {
         one_hearing();
         self.pool.is_finished()
@@ -249,7 +251,7 @@ impl Meta {
     /// takes no memory.
     pub fn skipped(&self, c: u32) -> bool
         requires { c < length self.now.pool.connections }
-        ensures { Tells c self.now is_skipped result }
+        ensures { TellsUpTo c self.now is_skipped result }
     {
         self.drivers[c as usize].is_skipped()
     }
@@ -257,7 +259,7 @@ impl Meta {
     /// Whether the target rejected the association or the connection's own Close was sent. It takes no memory.
     pub fn complete(&self, c: u32) -> bool
         requires { c < length self.now.pool.connections }
-        ensures { Tells c self.now is_complete result }
+        ensures { TellsUpTo c self.now is_complete result }
     {
         self.drivers[c as usize].is_complete()
     }

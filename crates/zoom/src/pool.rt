@@ -26,7 +26,8 @@ use zorigin::{CallRefused, Settings};
 /// known changes by takes alone.
 ///
 /// Contracts speak of each history, the list of what befell the connections so far, that can have left it. A call that
-/// is refused for want of memory is no event of it.
+/// is refused for want of memory is no event of it. Behind a take that was, states and answers are what the history
+/// says, of each connection.
 #[derive(Drop)]
 pub struct Pool {
     connections: Vec<Connection>,

@@ -44,7 +44,7 @@ takes_at law hearing c old new answer taken there told done took is questions s 
     let up = up_to_meta law questions s c h old a in
     let now = heard_at (settings_of s) h up.pool.heard old.pool.connections c up.pool.stands there in
     let same : up.pool.heard c ≡ p = hearing (settings_of s) (only c h) (up.pool.heard c) p now heard in
-    let t = told (settings_of s) h up.pool done in
+    let t = told (settings_of s) c h up.pool done in
     let answers : answer ≡ took_as p t.0 = subst (λ z. answer ≡ took_as z t.0) same t.2 in
     (took questions s h up, (t.0, subst (λ z. Meets z t.0) same t.1, sym (ap is_taken answers) ∙ is))
 

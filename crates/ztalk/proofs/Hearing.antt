@@ -169,7 +169,7 @@ module _ (law : UpToLaw) (hearing : OneHearing) (meeting : OneMeeting) (c : ℕ)
         let up : AfterUpTo (settings_of s) c h old.pool = law (settings_of s) c h old.pool a.pool in
         let now = heard_at (settings_of s) h up.heard old.pool.connections c up.stands lt in
         let is : up.heard c ≡ p = hearing (settings_of s) (only c h) (up.heard c) p now heard in
-        subst (λ z. (met : Met) × Meets z met × (answer ≡ took_as z met)) is (told (settings_of s) h up done)
+        subst (λ z. (met : Met) × Meets z met × (answer ≡ took_as z met)) is (told (settings_of s) c h up done)
 
     stopped_after : IsLast answer → (q : List Question) (s : MetaSettings) (h : History) → MetaAfter q s h old
         → IsStoppedAt s c ((c, Takes) ∷ h)

@@ -1,5 +1,6 @@
-use Rattle.std.proofs.Common.{◌∙◌, subst, arith}
-use Rattle.zoom.specs.Metas.{IsFinished}
+use Rattle.std.proofs.Common.{true, ◌∙◌, subst, arith}
+use Rattle.zoom.specs.Metas.{IsFinishedUpTo}
+use Rattle.zoom.proofs.Advancing.{finished_after}
 use Rattle.zrounds.proofs.RunHalts.{finished_halts}
 use Rattle.zrounds.proofs.RunSpares.{spares_trans}
 use Rattle.zrounds.proofs.RunRounds.{grown_more, finished_whole, most_whole}
@@ -10,12 +11,14 @@ pub returns-then-finished-clause-ends : goal.returns-then-finished-clause-ends
 returns-then-finished-clause-ends g c =
     let meta = c.loop.meta in
     world_ends c.args.meta.now meta meta c.args.peers.now c.loop.peers c.loop.invariant.0
-    (halts_ends meta meta c.loop.peers (finished_halts meta (subst (IsFinished meta) c.if-finished.true c.finished.ensures)))
+    (halts_ends meta meta c.loop.peers (finished_halts meta
+    (finished_after meta true (subst (IsFinishedUpTo meta) c.if-finished.true c.finished.ensures))))
 
 pub returns-then-finished-clause-whole : goal.returns-then-finished-clause-whole
 returns-then-finished-clause-whole g c = λ sure.
     finished_whole c.exchange_laws.ensures c.loop.counter c.args.meta.now c.loop.meta c.args.peers.now c.loop.peers
-    (c.loop.invariant.2 sure) (subst (IsFinished c.loop.meta) c.if-finished.true c.finished.ensures)
+    (c.loop.invariant.2 sure)
+    (finished_after c.loop.meta true (subst (IsFinishedUpTo c.loop.meta) c.if-finished.true c.finished.ensures))
 
 pub loop-preserved : goal.loop-preserved
 loop-preserved g c = (

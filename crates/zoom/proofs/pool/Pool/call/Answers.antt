@@ -1,8 +1,14 @@
 use Rattle.std.proofs.Common.{refl}
 use Rattle.zoom.specs.Heard.{Calls, hears_call}
 use Rattle.zoom.specs.CallsOf.{call_of}
-use Rattle.zoom.proofs.Pools.{gained, accepts_call}
+use Rattle.zoom.proofs.Pools.{at_index, gained, accepts_call}
 use Rattle.zoom.proofs.pool.Pool.call.Goals as goal
+
+pub returns-clause-answer : goal.returns-clause-answer
+returns-clause-answer c = rw (← c.self.view_is) (λ settings d h a done.
+    let l = at_index settings h a.heard _ c.args.c _ c.index_mut.result.now (rw (← c.self.view_is) at c.requires)
+    a.stands c.index_mut.ensures.value in
+    c.call.ensures.answer (a.heard c.args.c) l.matches done)
 
 pub returns-clause-after : goal.returns-clause-after
 returns-clause-after c = rw (← c.self.view_is) (λ done.

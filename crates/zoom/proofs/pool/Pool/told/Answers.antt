@@ -4,7 +4,7 @@ use Rattle.zoom.proofs.Pools.{at_index, taken_after, kept_up_to, waits_at, waits
 use Rattle.zoom.proofs.pool.Pool.told.Goals as goal
 
 pub returns-clause-answer : goal.returns-clause-answer
-returns-clause-answer c = rw (← c.self.view_is) (λ settings h a done.
+returns-clause-answer c = rw (← c.self.view_is) (λ settings d h a done.
     let l = at_index settings h a.heard _ c.args.c _ c.index_mut.result.now (rw (← c.self.view_is) at c.requires)
     a.stands c.index_mut.ensures.value in
     let t = c.take-taken.ensures.done (a.heard c.args.c) l.matches done in
