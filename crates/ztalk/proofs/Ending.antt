@@ -68,7 +68,8 @@ fed_on c old new piece l l2 befell came sound some few held = record {
 
 -- the connection was stopped by its messages
 pub ends_over : (c n turns : ℕ) (a b d : MetaLinks) (l l2 k k2 k3 : DeviceState) → n ≤ turns
-    → Begun c n Due a b l l2 k k2 → (r : Bool) → Settles c (Ok r) b d k2 k3 → r ≡ true → Talks c turns (Ok tt) a d l l2 k k3
+    → Begun c n Due a b l l2 k k2 → (r : Bool) → Settles c (Ok r) b d k2 k3 → r ≡ true
+    → Talks c turns (Ok tt) a d l l2 k k3
 ends_over c n turns a b d l l2 k k2 k3 few one true s e = record {
   on = λ q s' h x.
       let t = (s l2).on q s' h n l k (one.on q s' h x) in
@@ -95,7 +96,7 @@ ends_unsettled c n turns a b d l l2 k k2 k3 few one pushes.Write off broken = re
   stopped = broken;
 }
 ends_unsettled c n turns a b d l l2 k k2 k3 few one pushes.Memory off broken = record {
-  on = λ q s h x. tt;
+  on = λ q s h x. record { meta = d; halted = off q s h n l l2 k (one.on q s h x); known = refl };
   blamed = tt;
   stopped = tt;
 }
@@ -136,7 +137,7 @@ ends_unheard c n turns a b d l l2 l3 k k2 few one errors.Write h = absurd h
 ends_unheard c n turns a b d l l2 l3 k k2 few one errors.Ended h = absurd h
 ends_unheard c n turns a b d l l2 l3 k k2 few one errors.Turns h = absurd h
 ends_unheard c n turns a b d l l2 l3 k k2 few one errors.Memory h = record {
-  on = λ q s g x. tt;
+  on = λ q s g x. record { meta = d; halted = h k2 q s g n l l2 k (one.on q s g x); known = refl };
   blamed = tt;
   stopped = tt;
 }
@@ -205,7 +206,11 @@ module _ (c n turns : ℕ) (a b : MetaLinks) (l l2 l3 k k2 : DeviceState) (few :
     finished d (Err errors.Read) f = absurd f
     finished d (Err errors.Write) f = absurd f
     finished d (Err errors.Turns) f = absurd f
-    finished d (Err errors.Memory) f = record { on = λ q s h x. tt; blamed = tt; stopped = tt }
+    finished d (Err errors.Memory) f = record {
+      on = λ q s h x. record { meta = d; halted = f k2 q s h n l l2 k (one.on q s h x); known = refl };
+      blamed = tt;
+      stopped = tt;
+    }
 
 pub ends_finished : (c n turns : ℕ) (a b d g : MetaLinks) (l l2 l3 k k2 : DeviceState) → n < turns
     → Begun c n Waiting a b l l2 k k2 → (r : Bool) → Listens c (Ok r) b d l2 l3 → r ≡ false
@@ -215,8 +220,16 @@ ends_finished c n turns a b d g l l2 l3 k k2 few one false h e f fin =
     finished c n turns a b l l2 l3 k k2 few one h.1 h.2 g f (subst (λ z. Finishes c f z g) h.0 fin)
 
 -- memory was wanting, and the connection was stopped for that
-pub ends_starved : (c turns : ℕ) (a d : MetaLinks) (l l2 k k2 : DeviceState) → Talks c turns (Err errors.Memory) a d l l2 k k2
-ends_starved c turns a d l l2 k k2 = record { on = λ q s h x. tt; blamed = tt; stopped = tt }
+pub ends_starved : (c turns : ℕ) (a b d : MetaLinks) (l l2 k k2 : DeviceState)
+    → Talks c turns (Err errors.Memory) a b l l2 k k2 → d.pool.knowledge ≡ b.pool.knowledge
+    → Talks c turns (Err errors.Memory) a d l l2 k k2
+ends_starved c turns a b d l l2 k k2 t same_known = record {
+  on = λ q s h x.
+      let starved = t.on q s h x in
+      record { meta = starved.meta; halted = starved.halted; known = same_known ∙ starved.known };
+  blamed = tt;
+  stopped = tt;
+}
 
 -- ---- the end of the input
 

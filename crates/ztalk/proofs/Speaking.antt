@@ -6,19 +6,22 @@ use Rattle.zorigin.specs.Standings.{Call}
 use Rattle.zoom.specs.declared.question.Question.{Question}
 use Rattle.zoom.specs.declared.question.MetaSettings.{MetaSettings}
 use Rattle.zoom.specs.declared.state.Reason.TheVariants as reasons
-use Rattle.zoom.specs.Heard.{Gives, Stops}
+use Rattle.zoom.specs.Heard.{Ends, Gives, Stops}
 use Rattle.zoom.specs.History.{History}
-use Rattle.zoom.specs.Metas.{MetaLinks, MetaAfter, MetaBefell, DrivesTo, Drives, made}
+use Rattle.zoom.specs.Laws.{UpToLaw}
+use Rattle.zoom.specs.Metas.{MetaLinks, MetaAfter, MetaAfterUpTo, MetaBefell, MetaKeeps, DrivesTo, Drives, Progress, made, settings_of}
 use Rattle.ztalk.specs.Devices.{DeviceState, AppendsFront, HasFailed}
 use Rattle.ztalk.specs.declared.outgoing.PushError.{PushError}
 use Rattle.ztalk.specs.declared.outgoing.PushError.TheVariants as pushes
 use Rattle.ztalk.specs.declared.turns.Turn.{Turn}
 use Rattle.ztalk.specs.declared.turns.Turn.TheVariants as turns
 use Rattle.ztalk.specs.Pushes.{MetaBroke, Pushes}
-use Rattle.ztalk.specs.Talks.{Stage, Due, Listening, Waiting, Over, Talk, GoesOn, begins, speaks, reads, same}
+use Rattle.ztalk.specs.Talks.{Stage, Due, Listening, Waiting, Over, Talk, GoesOn, HaltsFrom, begins, speaks, reads, same}
 use Rattle.zoom.specs.Links.{waiting_at}
+use Rattle.zoom.proofs.Pools.{only_other}
 use Rattle.ztalk.specs.Talking.{Settles}
-use Rattle.ztalk.specs.Turns.{BreaksOff, Speaks, Hears, TakesTurn}
+use Rattle.ztalk.specs.Turns.{BreaksOff, HaltsAlone, Speaks, Hears, TakesTurn}
+use Rattle.ztalk.proofs.Apart.{none_both, others_made, others_follow}
 
 -- ---- speaking
 
@@ -75,6 +78,78 @@ module _ (E : Type 0) (c n : ℕ) (old mid new : MetaLinks) (drove : DrivesTo {E
         };
     failed = failed;
   }
+
+-- ---- memory is wanting
+
+-- what a history can have left, it can have left up to the connection's next take
+pub up_to_take : UpToLaw → (q : List Question) (s : MetaSettings) (c : ℕ) (h : History) (meta : MetaLinks)
+    → MetaAfter q s h meta → MetaAfterUpTo q s c h meta
+up_to_take law q s c h meta a = record {
+  fit = a.fit;
+  askable = a.askable;
+  pool = law (settings_of s) c h meta.pool a.pool;
+  driven = a.driven;
+  size = a.size;
+}
+
+-- nothing was done
+pub halts_same : UpToLaw → (c : ℕ) (from : Stage) (old new : MetaLinks) → new ≡ old → HaltsAlone c from old new
+halts_same law c from old new e held q s h n source left sink t = record {
+  more = t.more;
+  others = λ i far. others_follow i t.follows far;
+  after = up_to_take law q s c (t.more ++ h) new (subst (MetaAfter q s (t.more ++ h)) (sym e) t.after);
+}
+
+-- a take was not done
+pub halts_keeps : UpToLaw → (c : ℕ) (from : Stage) (old new : MetaLinks) → MetaKeeps c old new
+    → HaltsAlone c from old new
+halts_keeps law c from old new keeps held q s h n source left sink t = record {
+  more = t.more;
+  others = λ i far. others_follow i t.follows far;
+  after = keeps q s (t.more ++ h) (up_to_take law q s c (t.more ++ h) old t.after);
+}
+
+-- nor one behind the end of the input
+pub halts_ended : UpToLaw → (c : ℕ) (from : Stage) (old mid new : MetaLinks) → MetaBefell c Ends old mid
+    → MetaKeeps c mid new → HaltsAlone c from old new
+halts_ended law c from old mid new befell keeps held q s h n source left sink t = record {
+  more = (c, Ends) ∷ t.more;
+  others = λ i far. only_other c i Ends t.more far ∙ others_follow i t.follows far;
+  after = keeps q s ((c, Ends) ∷ (t.more ++ h))
+      (up_to_take law q s c ((c, Ends) ∷ (t.more ++ h)) mid (befell q s (t.more ++ h) t.after));
+}
+
+-- calls were made
+halts_made : UpToLaw → (c : ℕ) (from : Stage) (old new : MetaLinks)
+    → ((q : List Question) (s : MetaSettings) (h : History) → MetaAfter q s h old → (m : ℕ) × Progress q s c h m new)
+    → HaltsAlone c from old new
+halts_made law c from old new drove held q s h n source left sink t =
+    let d = (drove q s (t.more ++ h) t.after).1 in
+    record {
+      more = made c d.calls ++ t.more;
+      others = λ i far.
+          none_both i (made c d.calls) t.more (others_made c i d.calls far) (others_follow i t.follows far);
+      after = up_to_take law q s c ((made c d.calls ++ t.more) ++ h) new
+          (subst (λ z. MetaAfter q s z new) (sym (append_assoc (made c d.calls) t.more h)) d.after);
+    }
+
+-- not all that are due
+pub halts_driven : UpToLaw → (E : Type 0) (e : E) (c : ℕ) (old new : MetaLinks) → DrivesTo {E = E} c (Err e) old new
+    → HaltsAlone c Due old new
+halts_driven law E e c old new drove = halts_made law c Due old new (λ q s h a. drove q s h a)
+
+-- all that are due, and what waits was not handed out
+halts_unsaid : UpToLaw → (E : Type 0) (c n : ℕ) (old mid new : MetaLinks) → DrivesTo {E = E} c (Ok n) old mid
+    → new ≡ mid → HaltsAlone c Due old new
+halts_unsaid law E c n old mid new drove e =
+    halts_made law c Due old new
+    (λ q s h a. (n, subst (λ z. Progress q s c h n z) (sym e) (drove q s h a).progress))
+
+-- behind what went on
+pub halts_after : (c : ℕ) (from mid : Stage) (f : ℕ → ℕ) (a b d : MetaLinks) (k k2 : DeviceState)
+    → ((left : DeviceState) → GoesOn c from mid f a b left left k k2) → HaltsFrom c mid b d k2 → HaltsFrom c from a d k
+halts_after c from mid f a b d k k2 one off q s h n source left sink t =
+    off q s h (f n) source left sink ((one left).on q s h n source sink t)
 
 -- ---- one after the other
 
@@ -143,13 +218,14 @@ pub broke : (c : ℕ) (octets : List ℕ) (old mid new : MetaLinks) → MetaBefe
 broke c octets old mid new one two q s h a = two q s ((c, Gives octets) ∷ h) (one q s h a)
 
 -- calls were made, and what waited was written or not
-pub speaks_by : (E : Type 0) (c n : ℕ) (old mid new : MetaLinks) (sink held : DeviceState) (r : Result (Unit {0}) PushError)
+pub speaks_by : UpToLaw → (E : Type 0) (c n : ℕ) (old mid new : MetaLinks) (sink held : DeviceState)
+    (r : Result (Unit {0}) PushError)
     → DrivesTo {E = E} c (Ok n) old mid → Pushes c r mid new sink held → Speaks c r old new sink held
-speaks_by E c n old mid new sink held (Ok u) d p =
+speaks_by law E c n old mid new sink held (Ok u) d p =
     speaks_on E c n old mid new d (waiting_at mid.pool c) sink held p.0 p.1 p.2
-speaks_by E c n old mid new sink held (Err pushes.Write) d p =
+speaks_by law E c n old mid new sink held (Err pushes.Write) d p =
     speaks_broken E c n old mid new d (waiting_at mid.pool c) sink held p.0 p.1 p.2
-speaks_by E c n old mid new sink held (Err pushes.Memory) d p = tt
+speaks_by law E c n old mid new sink held (Err pushes.Memory) d p = halts_unsaid law E c n old mid new d p.0 sink
 
 -- and then a message was taken
 pub turned : (c : ℕ) (turn : Turn) (old mid new : MetaLinks) (sink held : DeviceState)
@@ -165,7 +241,7 @@ turned c turns.Over old mid new sink held one two = λ left.
 pub unturned : (c : ℕ) (e : PushError) (old new : MetaLinks) (sink held : DeviceState) → Speaks c (Err e) old new sink held
     → TakesTurn c (Err e) old new sink held
 unturned c pushes.Write old new sink held s = s
-unturned c pushes.Memory old new sink held s = tt
+unturned c pushes.Memory old new sink held s = s
 
 -- a turn failed behind others
 pub unsettled : (c : ℕ) (e : PushError) (old mid new : MetaLinks) (sink held then_held : DeviceState)
@@ -173,4 +249,5 @@ pub unsettled : (c : ℕ) (e : PushError) (old mid new : MetaLinks) (sink held t
     → TakesTurn c (Err e) mid new held then_held → Settles c (Err e) old new sink then_held
 unsettled c pushes.Write old mid new sink held then_held one two =
     breaks_after c Due old mid new sink held then_held one two
-unsettled c pushes.Memory old mid new sink held then_held one two = tt
+unsettled c pushes.Memory old mid new sink held then_held one two =
+    halts_after c Due Due same old mid new sink held one two

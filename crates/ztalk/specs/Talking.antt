@@ -11,8 +11,8 @@ use Rattle.ztalk.specs.declared.outgoing.PushError.TheVariants as pushes
 use Rattle.ztalk.specs.declared.conversation.TalkError.{TalkError}
 use Rattle.ztalk.specs.declared.conversation.TalkError.TheVariants as errors
 use Rattle.ztalk.specs.Devices.{DeviceState, HasFailed, Rests}
-use Rattle.ztalk.specs.Talks.{Due, Waiting, Over, Ended, GoesOn, ended_well, same}
-use Rattle.ztalk.specs.Turns.{GoesAlone, BreaksOff}
+use Rattle.ztalk.specs.Talks.{Due, Waiting, Over, Ended, GoesOn, HaltsFrom, ended_well, same}
+use Rattle.ztalk.specs.Turns.{GoesAlone, HaltsAlone, BreaksOff}
 
 abbrev pub talk_error : PushError → TalkError
 talk_error pushes.Write = errors.Write
@@ -24,7 +24,7 @@ Settles c (Ok true) old new sink held = (left : DeviceState) → GoesOn c Due Ov
 Settles c (Ok false) old new sink held =
     (left : DeviceState) → GoesOn c Due Waiting same old new left left sink held
 Settles c (Err pushes.Write) old new sink held = BreaksOff c Due old new sink held
-Settles c (Err pushes.Memory) old new sink held = Unit {0}
+Settles c (Err pushes.Memory) old new sink held = HaltsFrom c Due old new sink
 
 -- what listening did: octets were read and fed; none are left; reading failed; memory was wanting
 abbrev pub Listens : ℕ → Result Bool TalkError → MetaLinks → MetaLinks → DeviceState → DeviceState → Type 0
@@ -34,7 +34,7 @@ Listens c (Ok false) old new source left = (new ≡ old) × Rests source left ×
 Listens c (Err errors.Read) old new source left =
     MetaBefell c (Stops reasons.Read) old new × Keeps source.octets left.octets
     × HasFailed source.failures left.failures × (stop_at new.pool c ≡ Some (states.Failed reasons.Read))
-Listens c (Err errors.Memory) old new source left = Unit {0}
+Listens c (Err errors.Memory) old new source left = HaltsAlone c Waiting old new
 Listens c (Err _) old new source left = ⊥
 
 -- whether each history that can have left the connection has it ended, and not for the end of its input
@@ -48,5 +48,5 @@ Finishes c (Err errors.Ended) old new =
     ((mid : MetaLinks) × GoesAlone c Waiting Ended old mid × EndedWell c mid false
     × MetaBefell c (Stops reasons.Ended) mid new)
     × (stop_at new.pool c ≡ Some (states.Failed reasons.Ended))
-Finishes c (Err errors.Memory) old new = Unit {0}
+Finishes c (Err errors.Memory) old new = HaltsAlone c Waiting old new
 Finishes c (Err _) old new = ⊥

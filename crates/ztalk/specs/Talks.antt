@@ -1,6 +1,6 @@
 -- A connection that is driven over devices: in which order its deeds follow one another, and what was read and written
 -- (Z39.50-2003, 3.2).
-use Rattle.std.specs.Prelude.{◌≡◌, ℕ, suc, ◌<◌, ◌≤◌, Bool, true, false, List, [], ◌∷◌, ◌++◌, length, slice_get, Some, Result, Ok, Err}
+use Rattle.std.specs.Prelude.{◌≡◌, ℕ, suc, ◌<◌, ◌≤◌, ◌==◌, Bool, true, false, List, [], ◌∷◌, ◌++◌, length, slice_get, Some, Result, Ok, Err}
 use Rattle.std.specs.Io.KnownBytes.{Appends, Consumes, IsAtEnd}
 use Rattle.zorigin.specs.Standings.{Call}
 use Rattle.zoom.specs.declared.question.Question.{Question}
@@ -17,7 +17,7 @@ use Rattle.zoom.specs.Heard.{Heard, HasHeard, Feeds, Takes, Ends, Gives, Stops, 
 use Rattle.zoom.specs.History.{History, only}
 use Rattle.zoom.specs.Links.{stop_at}
 use Rattle.zoom.specs.Steering.{errand_of}
-use Rattle.zoom.specs.Metas.{MetaLinks, MetaAfter, NoneIsNext, made, settings_of}
+use Rattle.zoom.specs.Metas.{MetaLinks, MetaAfter, MetaAfterUpTo, NoneIsNext, made, settings_of}
 use Rattle.ztalk.specs.Devices.{DeviceState, AppendsFront, HasFailed, HasNoFailure}
 use Rattle.ztalk.specs.declared.conversation.TalkError.{TalkError}
 use Rattle.ztalk.specs.declared.conversation.TalkError.TheVariants as errors
@@ -129,6 +129,28 @@ pub record GoesOn
 abbrev pub same : ℕ → ℕ
 same n = n
 
+-- ---- memory is wanting
+
+-- Deeds of this connection alone followed the history, and of what its next take makes known a part may be known.
+pub record Halted (questions : List Question) (s : MetaSettings) (c : ℕ) (h : History) (new : MetaLinks) : Type 0 where
+  pub more : History
+  pub others : (i : ℕ) → (c == i) ≡ false → only i more ≡ []
+  pub after : MetaAfterUpTo questions s c (more ++ h) new
+
+-- so, behind any talk at this stage that wrote to this device
+abbrev pub HaltsFrom : ℕ → Stage → MetaLinks → MetaLinks → DeviceState → Type 0
+HaltsFrom c from old new held =
+    (questions : List Question) (s : MetaSettings) (h : History) (reads : ℕ) (source left sink : DeviceState)
+    → Talk questions s c h reads from old source left sink held → Halted questions s c h new
+
+-- memory was wanting, and the host then stopped the connection: no more and no less is known for that
+pub record OutOfMemory
+    (questions : List Question) (s : MetaSettings) (c : ℕ) (h : History) (new : MetaLinks)
+    : Type 0 where
+  pub meta : MetaLinks
+  pub halted : Halted questions s c h meta
+  pub known : new.pool.knowledge ≡ meta.pool.knowledge
+
 -- ---- how it ends
 
 -- a talk came to this stage, and its host then stopped the connection
@@ -187,7 +209,8 @@ pub record EndsShort
 
 -- What a talk did after each history that can have left the connections before it: it ended by itself; a read or a
 -- write failed; the input ended and the connection was not Closing; so many reads gave octets, and the connection was
--- not stopped after them. No more reads are made than that. Where memory was wanting, nothing is told.
+-- not stopped after them. No more reads are made than that. Where memory was wanting, nothing else befell the other
+-- connections, and what is known is what the deeds of this one, and perhaps a part of its next take, have made known.
 abbrev pub TalkedBy
     : List Question → MetaSettings → ℕ → History → ℕ → Result (Unit {0}) TalkError → MetaLinks
     → DeviceState → DeviceState → DeviceState → DeviceState → Type 0
@@ -201,7 +224,7 @@ TalkedBy questions s c h turns (Err errors.Ended) new source left sink held =
     EndsShort questions s c h turns new source left sink held
 TalkedBy questions s c h turns (Err errors.Turns) new source left sink held =
     Stopped questions s c h turns Waiting reasons.Turns new source left sink held
-TalkedBy questions s c h turns (Err errors.Memory) new source left sink held = Unit {0}
+TalkedBy questions s c h turns (Err errors.Memory) new source left sink held = OutOfMemory questions s c h new
 
 -- What a talk tells of the devices: one call of the one that is blamed failed, and none of the other; else none did,
 -- and the reader has no octet left where the input ended.

@@ -11,7 +11,7 @@ use Rattle.ztalk.specs.declared.turns.Turn.TheVariants as turns
 use Rattle.ztalk.specs.declared.outgoing.PushError.{PushError}
 use Rattle.ztalk.specs.declared.outgoing.PushError.TheVariants as errors
 use Rattle.ztalk.specs.Devices.{DeviceState, HasFailed}
-use Rattle.ztalk.specs.Talks.{Stage, Due, Listening, Waiting, Over, Talk, GoesOn, Broken, same}
+use Rattle.ztalk.specs.Talks.{Stage, Due, Listening, Waiting, Over, Talk, GoesOn, HaltsFrom, Broken, same}
 
 abbrev pub turn_of : Step → Turn
 turn_of steps.Opened = turns.Message
@@ -25,6 +25,10 @@ turn_of steps.Stopped = turns.Over
 -- a talk goes on, and its devices rest
 abbrev pub GoesAlone : ℕ → Stage → Stage → MetaLinks → MetaLinks → Type 0
 GoesAlone c from to old new = (left held : DeviceState) → GoesOn c from to same old new left left held held
+
+-- memory was wanting, whatever the devices
+abbrev pub HaltsAlone : ℕ → Stage → MetaLinks → MetaLinks → Type 0
+HaltsAlone c from old new = (held : DeviceState) → HaltsFrom c from old new held
 
 -- what taking a message did
 abbrev pub Hears : ℕ → Turn → MetaLinks → MetaLinks → Type 0
@@ -43,7 +47,7 @@ pub record BreaksOff (c : ℕ) (from : Stage) (old new : MetaLinks) (sink held :
 abbrev pub Speaks : ℕ → Result (Unit {0}) PushError → MetaLinks → MetaLinks → DeviceState → DeviceState → Type 0
 Speaks c (Ok _) old new sink held = (left : DeviceState) → GoesOn c Due Listening same old new left left sink held
 Speaks c (Err errors.Write) old new sink held = BreaksOff c Due old new sink held
-Speaks c (Err errors.Memory) old new sink held = Unit {0}
+Speaks c (Err errors.Memory) old new sink held = HaltsFrom c Due old new sink
 
 -- what both did, one after the other: a message was taken; none is there; the connection was stopped; a write failed
 abbrev pub TakesTurn : ℕ → Result Turn PushError → MetaLinks → MetaLinks → DeviceState → DeviceState → Type 0
@@ -54,4 +58,4 @@ TakesTurn c (Ok turns.Nothing) old new sink held =
 TakesTurn c (Ok turns.Over) old new sink held =
     (left : DeviceState) → GoesOn c Due Over same old new left left sink held
 TakesTurn c (Err errors.Write) old new sink held = BreaksOff c Due old new sink held
-TakesTurn c (Err errors.Memory) old new sink held = Unit {0}
+TakesTurn c (Err errors.Memory) old new sink held = HaltsFrom c Due old new sink

@@ -1,8 +1,8 @@
 //! A connection is driven over devices until it ends.
-ghost use Rattle.std.specs.Prelude.{◌≡◌, ◌<◌, length, Some, IfErr, OnOk};
+ghost use Rattle.std.specs.Prelude.{◌≡◌, ◌<◌, length, Some, IfErr, OnOk, OnErr};
 ghost use Rattle.zoom.specs.declared.state.State.TheVariants as states;
 ghost use Rattle.zoom.specs.Links.{stop_at};
-ghost use Rattle.zoom.specs.Metas.{MetaTook};
+ghost use Rattle.zoom.specs.Metas.{MetaTook, MetaKeeps};
 ghost use Rattle.ztalk.specs.declared.conversation.TalkError.TheVariants as errors;
 ghost use Rattle.ztalk.specs.Pushes.{IsBroken};
 ghost use Rattle.ztalk.specs.Talks.{Talks, ended_well, reason_of};
@@ -72,6 +72,7 @@ pub(crate) fn settle<W: Sink>(
     ensures stopped { IsBroken c result meta.new }
     ensures size { length meta.new.pool.connections ≡ length meta.old.pool.connections }
 {
+    up_to();
     for _ in 0..u64::MAX {
         match take_turn(alloc, meta, c, sink)? {
             Turn::Message => {}
@@ -89,6 +90,7 @@ fn listen<R: Source>(meta: &mut Meta, c: u32, source: &mut R) -> Result<bool, Ta
     ensures listens { Listens c result meta.old meta.new (R.state source.old) (R.state source.new) }
     ensures size { length meta.new.pool.connections ≡ length meta.old.pool.connections }
 {
+    up_to();
     let mut piece = [0u8; PIECE];
     match source.read(&mut piece) {
         Ok(0) => Ok(false),
@@ -118,6 +120,7 @@ fn ended_well(state: State) -> bool
 fn take_last(meta: &mut Meta, c: u32) -> Result<(), AllocError>
     requires { c < length meta.old.pool.connections }
     ensures took { OnOk result (MetaTook c meta.old meta.new) }
+    ensures keeps { OnErr result (MetaKeeps c meta.old meta.new) }
     ensures size { length meta.new.pool.connections ≡ length meta.old.pool.connections }
 {
     match meta.take(c) {
@@ -186,7 +189,8 @@ fn converse<R: Source, W: Sink>(
 ///
 /// Refusals: `Read` and `Write`, where that device failed, and the other did not; `Ended`, where the input ended behind
 /// a whole message and the connection was not Closing; `Turns`, where that many reads gave octets, and the connection
-/// did not end after them; `Memory`, where of what the last message says a part may be known.
+/// did not end after them; `Memory`, where what is known is what the messages taken say, and perhaps a part of what the
+/// next one says. Whatever is answered, nothing befalls the other connections.
 pub fn talk<R: Source, W: Sink>(
     alloc: Global,
     meta: &mut Meta,

@@ -1,7 +1,8 @@
 //! Turns of a talk: what is due is written, and one message is taken.
-ghost use Rattle.std.specs.Prelude.{◌≡◌, ◌<◌, length, IfOk};
+ghost use Rattle.std.specs.Prelude.{◌≡◌, ◌<◌, length, IfOk, OnErr};
 ghost use Rattle.ztalk.specs.Pushes.{IsBroken};
-ghost use Rattle.ztalk.specs.Turns.{turn_of, Hears, Speaks, TakesTurn};
+ghost use Rattle.ztalk.specs.Talks.{Listening};
+ghost use Rattle.ztalk.specs.Turns.{turn_of, HaltsAlone, Hears, Speaks, TakesTurn};
 
 use crate::device::Sink;
 use crate::outgoing::{PushError, push};
@@ -34,6 +35,7 @@ fn turn_of(step: Step) -> Turn
 fn hear(meta: &mut Meta, c: u32) -> Result<Turn, AllocError>
     requires { c < length meta.old.pool.connections }
     ensures hears { IfOk result (λ turn. Hears c turn meta.old meta.new) }
+    ensures halts { OnErr result (HaltsAlone c Listening meta.old meta.new) }
     ensures size { length meta.new.pool.connections ≡ length meta.old.pool.connections }
 {
     up_to();
@@ -55,6 +57,7 @@ fn speak<W: Sink>(alloc: Global, meta: &mut Meta, c: u32, sink: &mut W) -> Resul
     ensures stopped { IsBroken c result meta.new }
     ensures size { length meta.new.pool.connections ≡ length meta.old.pool.connections }
 {
+    up_to();
     meta.drive(c)?;
     push(alloc, meta, c, sink)
 }

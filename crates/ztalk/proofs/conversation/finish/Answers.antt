@@ -1,4 +1,8 @@
-use Rattle.std.proofs.Common.{sym, subst, ◌∙◌, ◌<◌, true, false}
+use Rattle.std.proofs.Common.{ap, sym, subst, ◌∙◌, ◌<◌, true, false, Err}
+use Rattle.std.proofs.lemmas.Result.{err_from_is_err_and}
+use Rattle.ztalk.specs.Talks.{Waiting}
+use Rattle.ztalk.specs.Talking.{Finishes}
+use Rattle.ztalk.proofs.Speaking.{halts_ended}
 use Rattle.ztalk.proofs.Ending.{goes_ended, well_tells}
 use Rattle.ztalk.proofs.conversation.finish.Goals as goal
 
@@ -24,3 +28,10 @@ returns-clause-finishes c = (
   ),
   c.stop.ensures.stopped,
 )
+
+pub returns-in_err-take_last-clause-finishes : goal.returns-in_err-take_last-clause-finishes
+returns-in_err-take_last-clause-finishes c =
+    let p = err_from_is_err_and c.from_residual.result c.from_residual.ensures.1 in
+    subst (λ z. Finishes c.args.c z c.args.meta.now c.take_last.new.meta) (sym (p.1 ∙ ap Err p.2))
+    (halts_ended c.up_to.ensures c.args.c Waiting c.args.meta.now c.end.new.self c.take_last.new.meta
+    c.end.ensures.after c.in_err-take_last.ensures.keeps)

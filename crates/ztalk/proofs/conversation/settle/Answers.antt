@@ -3,7 +3,7 @@ use Rattle.std.proofs.lemmas.Result.{err_from_is_err_and}
 use Rattle.ztalk.specs.Talks.{Due, Waiting, Over, same}
 use Rattle.ztalk.specs.Talking.{Settles}
 use Rattle.ztalk.specs.Turns.{TakesTurn}
-use Rattle.ztalk.proofs.Speaking.{goes_same, goes_trans, unsettled}
+use Rattle.ztalk.proofs.Speaking.{goes_same, goes_trans, halts_after, halts_same, unsettled}
 use Rattle.ztalk.proofs.conversation.settle.Goals as goal
 
 pub loop-init : goal.loop-init
@@ -44,3 +44,10 @@ loop-preserved g c = (
       (g.W.Sink.state c.take_turn.new.sink)) c.in-Message.is c.in_ok-take_turn.ensures.turn left),
   c.take_turn.ensures.size ∙ c.loop.invariant.1,
 )
+
+pub returns-clause-settles : goal.returns-clause-settles
+returns-clause-settles g c =
+    let sink = g.W.Sink.state c.args.sink.now in
+    let held = g.W.Sink.state c.loop.sink in
+    halts_after c.args.c Due Due same c.args.meta.now c.loop.meta c.loop.meta sink held c.loop.invariant.0
+    (halts_same c.up_to.ensures c.args.c Due c.loop.meta c.loop.meta refl held)

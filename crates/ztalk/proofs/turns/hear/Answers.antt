@@ -1,6 +1,8 @@
-use Rattle.std.proofs.Common.{sym, subst}
+use Rattle.std.proofs.Common.{ap, sym, subst, Err}
 use Rattle.ztalk.specs.Turns.{Hears}
 use Rattle.ztalk.proofs.Hearing.{hears_step, hears_refusal}
+use Rattle.ztalk.proofs.Speaking.{halts_keeps}
+use Rattle.ztalk.specs.Talks.{Listening}
 use Rattle.ztalk.proofs.turns.hear.Goals as goal
 
 pub returns-in-Ok-clause-hears : goal.returns-in-Ok-clause-hears
@@ -14,5 +16,11 @@ returns-in_default c = record {
   hears = hears_refusal c.up_to.ensures c.one_hearing.ensures c.one_meeting.ensures c.args.c c.args.meta.now
       c.take.new.self c.requires c.in-Err.error c.in_default.not-Memory c.in-Err.ensures.answer
       (c.in-Err.ensures.after c.in_default.not-Memory);
+  halts = tt;
   size = c.take.ensures.size;
 }
+
+pub returns-in-Memory-clause-halts : goal.returns-in-Memory-clause-halts
+returns-in-Memory-clause-halts c =
+    halts_keeps c.up_to.ensures c.args.c Listening c.args.meta.now c.take.new.self
+    (c.in-Err.ensures.memory (ap Err c.in-Memory.is))

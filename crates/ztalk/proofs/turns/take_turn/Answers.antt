@@ -1,5 +1,18 @@
-use Rattle.ztalk.proofs.Speaking.{turned}
+use Rattle.std.proofs.Common.{◌∙◌, ap, subst, sym, Err}
+use Rattle.std.proofs.lemmas.Result.{err_from_is_err_and}
+use Rattle.ztalk.specs.Talks.{Due, Listening, same}
+use Rattle.ztalk.specs.Turns.{TakesTurn}
+use Rattle.ztalk.proofs.Speaking.{halts_after, turned}
 use Rattle.ztalk.proofs.turns.take_turn.Goals as goal
+
+pub returns-in_err-hear-clause-turn : goal.returns-in_err-hear-clause-turn
+returns-in_err-hear-clause-turn g c =
+    let p = err_from_is_err_and c.from_residual-in_err-hear.result c.from_residual-in_err-hear.ensures.1 in
+    let sink = g.W.Sink.state c.args.sink.now in
+    let held = g.W.Sink.state c.speak.new.sink in
+    subst (λ z. TakesTurn c.args.c z c.args.meta.now c.hear.new.meta sink held) (sym (p.1 ∙ ap Err p.2))
+    (halts_after c.args.c Due Listening same c.args.meta.now c.speak.new.meta c.hear.new.meta sink held
+    c.in_ok-speak.ensures.speaks (c.in_err-hear.ensures.halts held))
 
 pub returns-clause-turn : goal.returns-clause-turn
 returns-clause-turn g c =
