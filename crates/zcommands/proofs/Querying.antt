@@ -1,14 +1,15 @@
 -- A query that a text stands for is printed, and has an element, unless memory runs out.
-use Rattle.std.proofs.Common.{◌≡◌, ℕ, List, true, false, Result, Ok, Err, IfErr, refl}
+use Rattle.std.proofs.Common.{◌≡◌, ℕ, List, true, false, Some, Result, Ok, Err, IfErr, IfOk, refl}
 use Rattle.zber.specs.Elements.{Element}
 use Rattle.zasn.specs.declared.error.BuildError.{BuildError}
 use Rattle.zasn.specs.declared.error.BuildError.TheVariants as builds
-use Rattle.zasn.specs.Answers.{IsWritten}
+use Rattle.zasn.specs.Answers.{IsWritten, Makes}
 use Rattle.zquery.specs.declared.notation.print.PrintError.{PrintError}
 use Rattle.zquery.specs.declared.notation.print.PrintError.TheVariants as prints
 use Rattle.zquery.specs.Trees.{RpnQuery}
 use Rattle.zquery.specs.Notation.Printing.{printable}
 use Rattle.zquery.specs.Element.Type1.{WritesQuery}
+use Rattle.zquery.specs.Element.Type1Reading.{query_spelt}
 use Rattle.zquery.specs.Notation.Laws.{TextPrintable, TextSpellable}
 use Rattle.zcommands.specs.Pqf.{IsQueryOf}
 
@@ -27,3 +28,8 @@ memory_or_no_element q (Err builds.Memory) some is = refl
 
 pub built : (q : RpnQuery) (r : Result Element BuildError) → TextSpellable → ((text : List ℕ) × IsQueryOf text q) → IsWritten (WritesQuery q) r → IfErr r (λ e. e ≡ builds.Memory)
 built q r law known is = memory_or_no_element q r (law known.0 q known.1.0) is
+
+-- the element is the one that is made
+pub spelled : (q : RpnQuery) (r : Result Element BuildError) → Makes (query_spelt q) r → IfOk r (λ n. query_spelt q ≡ Some n)
+spelled q (Ok n) is = is
+spelled q (Err e) is = tt

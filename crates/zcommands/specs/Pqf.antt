@@ -1,5 +1,5 @@
 -- What `pqf` prints of a text.
-use Rattle.std.specs.Prelude.{◌≡◌, ◌≤◌, ℕ, List, [], ◌∷◌, ◌++◌, Result, Ok, Err, codes}
+use Rattle.std.specs.Prelude.{◌≡◌, ◌≤◌, ℕ, List, [], ◌∷◌, ◌++◌, Some, Result, Ok, Err, codes}
 use Rattle.hex.specs.Hex.{encode_lower}
 use Rattle.zber.specs.AsnTags.{context}
 use Rattle.zber.specs.Elements.{Element, cons}
@@ -8,6 +8,7 @@ use Rattle.zquery.specs.Trees.{RpnQuery, height}
 use Rattle.zquery.specs.Notation.Texts.{IsText, IsFault}
 use Rattle.zquery.specs.Notation.Printing.{query_text}
 use Rattle.zquery.specs.Element.Type1.{WritesQuery}
+use Rattle.zquery.specs.Element.Type1Reading.{query_spelt}
 use Rattle.zcommands.specs.Faults.{answer_status}
 use Rattle.zcommands.specs.Devices.{Device, Stays, Gains, Stops, TellsAnswer}
 use Rattle.zcommands.specs.declared.fault.Fault.{Fault}
@@ -22,6 +23,10 @@ element_text n = encode_lower (canonical (cons (context 21) (n ∷ [])))
 abbrev pub IsQueryOf : List ℕ → RpnQuery → Type 0
 IsQueryOf text q = IsText text q × (height q.root ≤ 32)
 
+-- the element stands for the query, and is the one that is made of it
+abbrev pub IsElementOf : RpnQuery → Element → Type 0
+IsElementOf q n = WritesQuery q n × (query_spelt q ≡ Some n)
+
 -- the printed query, and its element
 unfoldable pub query_lines : RpnQuery → Element → List ℕ
 query_lines q n = query_text q ++ codes "\n" ++ element_text n ++ codes "\n"
@@ -29,7 +34,7 @@ query_lines q n = query_text q ++ codes "\n" ++ element_text n ++ codes "\n"
 -- what an answer of `pqf` says of the text, and of what was written: each query of a text can be printed, and has an
 -- element
 abbrev pub TellsQuery : List ℕ → List ℕ → List ℕ → Result (Unit {0}) Fault → Type 0
-TellsQuery text old new (Ok _) = (q : RpnQuery) × (n : Element) × IsQueryOf text q × WritesQuery q n
+TellsQuery text old new (Ok _) = (q : RpnQuery) × (n : Element) × IsQueryOf text q × IsElementOf q n
     × (new ≡ old ++ query_lines q n)
 TellsQuery text old new (Err (Query kind at)) = IsFault text (record { at = at; kind = kind })
 TellsQuery text old new (Err Memory) = Unit {0}
@@ -37,7 +42,7 @@ TellsQuery text old new (Err _) = ⊥
 
 -- the text has a query, and these are its lines
 abbrev pub AreLinesOf : List ℕ → List ℕ → Type 0
-AreLinesOf text lines = (q : RpnQuery) × (n : Element) × IsQueryOf text q × WritesQuery q n × (lines ≡ query_lines q n)
+AreLinesOf text lines = (q : RpnQuery) × (n : Element) × IsQueryOf text q × IsElementOf q n × (lines ≡ query_lines q n)
 
 -- what an answer of `pqf` says of the text, and of what was written to a stream
 abbrev pub PrintsQuery : List ℕ → Device → Device → Result (Unit {0}) Fault → Type 0

@@ -1,8 +1,9 @@
 //! The command `pqf`: a query in the prefix notation, as it is understood and as it goes out.
-ghost use Rattle.std.specs.Prelude.{◌≡◌, ℕ, List, [], ◌∷◌, ◌++◌, OnOk, IfOk, IfErr};
+ghost use Rattle.std.specs.Prelude.{◌≡◌, ℕ, List, [], ◌∷◌, ◌++◌, Some, OnOk, IfOk, IfErr};
 ghost use Rattle.zber.specs.Elements.{Element};
 ghost use Rattle.zquery.specs.Notation.Printing.{query_text};
 ghost use Rattle.zquery.specs.Element.Type1.{WritesQuery};
+ghost use Rattle.zquery.specs.Element.Type1Reading.{query_spelt};
 ghost use Rattle.zcommands.specs.Pqf.{IsQueryOf, element_text, query_lines, TellsQuery, PrintsQuery, DoesPqf};
 ghost use Rattle.zcommands.specs.Devices.{held};
 
@@ -16,7 +17,7 @@ use zquery::laws::{text_printable, text_spellable};
 use zquery::{BuildError, PrintError, Query, parse_pqf, print_pqf, to_node};
 
 /// Prints the query of a text in the prefix notation, and in hexadecimal the element `[21]` that a SearchRequest holds
-/// it in; or tells on standard error why the text is no query. Nothing is printed then.
+/// it in, as `zquery::to_node` makes it; or tells on standard error why the text is no query. Nothing is printed then.
 pub fn pqf<W: Write, E: Write>(
     alloc: Global,
     text: &str,
@@ -74,6 +75,7 @@ fn put_text(alloc: Global, query: &Query, lines: &mut Vec<u8>) -> Result<(), Pri
 fn node_of(alloc: Global, query: &Query) -> Result<Node, BuildError>
     requires { (text : List ℕ) × IsQueryOf text query.now }
     ensures written { IfOk result (WritesQuery query.now) }
+    ensures spelled { IfOk result (λ node. query_spelt query.now ≡ Some node) }
     ensures memory { IfErr result (λ e. e ≡ BuildError.Memory) }
 {
     text_spellable();
