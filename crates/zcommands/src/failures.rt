@@ -1,29 +1,42 @@
 //! What is told of connections that failed.
-ghost use Rattle.std.specs.Prelude.{◌≡◌, ◌<◌, ◌^◌, ◌++◌, length, OnOk, IfOk};
+ghost use Rattle.std.specs.Prelude.{◌≡◌, ◌<◌, ◌^◌, ◌++◌, length, OnOk, OnErr, IfOk};
 ghost use Rattle.zcommands.specs.Finished.{failure_line, AreLinesFrom};
+ghost use Rattle.zoom.specs.declared.state.State.TheVariants as states;
 
 use bytes::Bytes;
 use std::alloc::{AllocError, Global};
 use zapdu::quote;
-use zoom::{Meta, State};
+use zoom::{Meta, Reason, State};
 
-/// Appends the line of a connection, where it failed: the name of its target, and why.
+/// Appends the line of a connection, where it failed: the name of its target, and why. Where memory runs out nothing is
+/// appended.
 pub fn put_failure(
     alloc: Global,
     name: &Bytes,
     state: State,
     text: &mut Vec<u8>,
 ) -> Result<(), AllocError>
-    ensures { OnOk result (text.new.items ≡ text.old.items ++ failure_line name.now state) }
+    ensures line { OnOk result (text.new.items ≡ text.old.items ++ failure_line name.now state) }
+    ensures kept { OnErr result (text.new.items ≡ text.old.items) }
 {
     let State::Failed(reason) = state else {
         return Ok(());
     };
-    text.extend_from_slice(b"zmeta: target ")?;
-    quote(alloc, name.as_slice(), text)?;
-    text.extend_from_slice(b": ")?;
-    text.extend_from_slice(reason.word().as_bytes())?;
-    text.extend_from_slice(b"\n")
+    let line = line_of(alloc, name, reason)?;
+    text.extend_from_slice(line.as_slice())
+}
+
+/// The line of a connection that failed.
+fn line_of(alloc: Global, name: &Bytes, reason: Reason) -> Result<Vec<u8>, AllocError>
+    ensures { IfOk result (λ line. line.items ≡ failure_line name.now (states.Failed reason)) }
+{
+    let mut line = Vec::new(alloc);
+    line.extend_from_slice(b"zmeta: target ")?;
+    quote(alloc, name.as_slice(), &mut line)?;
+    line.extend_from_slice(b": ")?;
+    line.extend_from_slice(reason.word().as_bytes())?;
+    line.extend_from_slice(b"\n")?;
+    Ok(line)
 }
 
 /// The lines of the connections that failed, in order, by the names of their targets.
