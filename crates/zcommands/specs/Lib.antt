@@ -6,6 +6,7 @@ pub mod Faults
 pub mod Fields
 pub mod Files
 pub mod Finished
+pub mod Input
 pub mod Join
 pub mod Lines
 pub mod Loop

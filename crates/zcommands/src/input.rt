@@ -1,6 +1,7 @@
 //! Devices that are read to their end.
-ghost use Rattle.std.specs.Prelude.{◌≡◌, ◌≤◌, ◌*◌, ◌⊎◌, IfOk, IfSome, IfErr, OnOk, vec_len, true, false};
+ghost use Rattle.std.specs.Prelude.{◌≡◌, ◌≤◌, ◌*◌, ◌⊎◌, IfOk, IfSome, IfErr, OnOk, Err, vec_len, true, false};
 ghost use Rattle.std.specs.Io.KnownBytes.{IsAtEnd};
+ghost use Rattle.zcommands.specs.Input.{LosesFront};
 
 use crate::fault::Fault;
 use std::alloc::Global;
@@ -36,6 +37,8 @@ impl<'a, R: Read> Input<'a, R> {
 
     /// All that the stream has left, read in at most 1,000,000 reads of at most 4,096 octets, the last of which finds
     /// the end. `Read` of the stream's path where a read fails, or that many find no end; what was read is lost then.
+    /// `Memory` is no failure of the stream, and is not noted as one. Whatever the answer, the stream has an end of
+    /// its octets left.
     pub fn read_all(&mut self, alloc: Global) -> Result<Vec<u8>, Fault<'a>>
         ensures whole { IfOk result (λ v. IfSome (R.remaining self.old.reader) (λ xs. v.items ≡ xs)) }
         ensures end { OnOk result (IsAtEnd (R.remaining self.new.reader)) }
@@ -44,6 +47,8 @@ impl<'a, R: Read> Input<'a, R> {
         ensures path { self.new.path ≡ self.old.path }
         ensures err { IfErr result (λ f. ((f ≡ Fault.Read self.old.path) × (self.new.has_failed ≡ true))
             ⊎ (f ≡ Fault.Memory)) }
+        ensures rest { LosesFront (R.remaining self.old.reader) (R.remaining self.new.reader) }
+        ensures kept { result ≡ Err Fault.Memory → self.new.has_failed ≡ self.old.has_failed }
     {
         let answer = read_pieces(alloc, &mut self.reader, self.path);
         if matches!(answer, Err(Fault::Read(_))) {
@@ -62,6 +67,7 @@ fn read_pieces<'a, R: Read>(
     ensures whole { IfOk result (λ v. IfSome (R.remaining reader.old) (λ xs. v.items ≡ xs)) }
     ensures end { OnOk result (IsAtEnd (R.remaining reader.new)) }
     ensures short { IfOk result (λ v. vec_len v ≤ 4096 * 1000000) }
+    ensures rest { LosesFront (R.remaining reader.old) (R.remaining reader.new) }
     ensures err { IfErr result (λ f. (f ≡ Fault.Read path.entry) ⊎ (f ≡ Fault.Memory)) }
 {
     let mut octets = Vec::new(alloc);
