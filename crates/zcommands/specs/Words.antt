@@ -1,5 +1,5 @@
 -- What the words of a command line ask for.
-use Rattle.std.specs.Prelude.{◌≡◌, ◌⊎◌, ℕ, Bool, true, false, List, [], ◌∷◌, Option, Some, None, codes}
+use Rattle.std.specs.Prelude.{◌≡◌, ◌⊎◌, ℕ, Bool, true, false, List, [], ◌∷◌, slice_get, Option, Some, None, codes}
 use Rattle.std.specs.Borrow.{Bor}
 use Rattle.std.specs.Option.{option_map}
 use Rattle.std.specs.Str.Parse.{digits_value, without_leading_plus}
@@ -79,6 +79,13 @@ Asks name found (Ask world saved at_once only mode) =
 Asks name found (Loop world saved mode) = (name ≡ codes "loop") × AsksSearch found world.now (now_of saved) mode
 Asks name found (Serve address whose world count) = (name ≡ codes "serve") × Gives found (codes "ADDRESS") address.now
     × Gives found (codes "NAME") whose.now × Gives found (codes "FILE") world.now × GivesNumber found (codes "N") count
+
+-- Words ask for this: the one behind the program's name is a command's, and these are arguments that were found for it.
+pub record AreFor (words : List (List ℕ)) (asked : Words) : Type 0 where
+  pub name : List ℕ
+  pub found : Found
+  pub stands : slice_get words 1 ≡ Some name
+  pub asks : Asks name found asked
 
 -- what is done for the words: their command, with these arguments and none other
 abbrev pub Does

@@ -1,11 +1,11 @@
 //! The words of the command line, read with `clap`.
 
-ghost use Rattle.std.specs.Prelude.{◌≡◌, IfOk, IfSome, codes};
+ghost use Rattle.std.specs.Prelude.{◌≡◌, IfOk, IfSome, codes, map, option_map, slice_get, string_bytes};
 ghost use Rattle.clap.specs.Words.{kind_of, found_of};
 ghost use Rattle.clap.specs.declared.error.kind.ErrorKind.TheVariants.{InvalidValue};
 ghost use Rattle.zcommands.specs.Devices.{held};
 ghost use Rattle.zcommands.specs.Files.{texts_of};
-ghost use Rattle.zcommands.specs.Words.{Asks, GivesAny, HasMode, TellsWords};
+ghost use Rattle.zcommands.specs.Words.{AreFor, Asks, GivesAny, HasMode, TellsWords};
 
 use crate::fault::{Fault, Status};
 use crate::forms::command;
@@ -69,17 +69,43 @@ pub enum Words<'a> {
     },
 }
 
-/// What the words ask for, the first being the program's name. Else the text for words that are wrong or that ask for
-/// help; its kind is `OutOfMemory` where memory ran out.
-pub fn parse<'a>(alloc: Global, words: &'a [String]) -> Result<Words<'a>, Error> {
+/// What the words ask for, the first being the program's name and the second that of the command. Else the text for
+/// words that are wrong or that ask for help; its kind is `OutOfMemory` where memory ran out.
+pub fn parse<'a>(alloc: Global, words: &'a [String]) -> Result<Words<'a>, Error>
+    ensures asks { IfOk result (AreFor (map string_bytes words.now)) }
+{
     let mut command = command(alloc)?;
     let matches = command.try_get_matches_from_mut(words)?;
-    if let Some((name, found)) = matches.subcommand()
-        && let Some(asked) = words_of(alloc, name, found)?
+    if let Some((_, found)) = matches.subcommand()
+        && let Some(asked) = asked_of(alloc, words, found)?
     {
         return Ok(asked);
     }
     Err(command.error(ErrorKind::InvalidSubcommand, "no such command")?)
+}
+
+/// What words ask for with the arguments that were found for their command. `None` where there is no command.
+fn asked_of<'a>(
+    alloc: Global,
+    words: &[String],
+    found: &ArgMatches<'a>,
+) -> Result<Option<Words<'a>>, AllocError>
+    ensures asks { IfOk result (λ asked. IfSome asked (AreFor (map string_bytes words.now))) }
+{
+    match second(words) {
+        Some(name) => words_of(alloc, name, found),
+        None => Ok(None),
+    }
+}
+
+/// The word behind the program's name.
+fn second(words: &[String]) -> Option<&str>
+    ensures { option_map (λ word. word.now) result ≡ slice_get (map string_bytes words.now) 1 }
+{
+    match words.get(1) {
+        Some(word) => Some(word.as_str()),
+        None => None,
+    }
 }
 
 /// What the command of this name asks for with the arguments that were found. `None` where no command has the name, or
