@@ -1,5 +1,5 @@
 -- What the words of a command line ask for.
-use Rattle.std.specs.Prelude.{◌≡◌, ◌⊎◌, ℕ, Bool, true, false, List, [], ◌∷◌, slice_get, Option, Some, None, codes}
+use Rattle.std.specs.Prelude.{◌≡◌, ◌⊎◌, ℕ, Bool, true, false, List, [], ◌∷◌, slice_get, Option, Some, None, Result, Ok, Err, codes}
 use Rattle.std.specs.Borrow.{Bor}
 use Rattle.std.specs.Option.{option_map}
 use Rattle.std.specs.Str.Parse.{digits_value, without_leading_plus}
@@ -127,3 +127,18 @@ pub record TellsWords (error : Error) (output printed errors told : Device) (sta
 -- words that are not UTF-8 are wrong, unless memory ran out
 abbrev pub IsWrong : Status → Type 0
 IsWrong status = (status ≡ statuses.Words) ⊎ (status ≡ statuses.Memory)
+
+-- what is done for words: what they ask for; or it is told that they ask for nothing, and the input is left as it is
+abbrev pub DoesAsked
+    : (List ℕ → Option (List ℕ)) → List (List ℕ) → Result Words Error → Device → Device → Device → Device → Device
+    → Device → Status → Type 0
+DoesAsked octets words (Ok asked) input rest output printed errors told status =
+    AreFor words asked × Does octets asked input rest output printed errors told status
+DoesAsked octets words (Err error) input rest output printed errors told status =
+    (rest ≡ input) × TellsWords error output printed errors told status
+
+abbrev pub DoesWords
+    : (List ℕ → Option (List ℕ)) → List (List ℕ) → Device → Device → Device → Device → Device → Device → Status
+    → Type 0
+DoesWords octets words input rest output printed errors told status =
+    (asked : Result Words Error) × DoesAsked octets words asked input rest output printed errors told status

@@ -1,7 +1,7 @@
 //! From the words of the command line to what is done for them.
-ghost use Rattle.std.specs.Prelude.{◌≡◌, ◌≢◌, IfErr, MatchResult};
+ghost use Rattle.std.specs.Prelude.{◌≡◌, ◌≢◌, Err, IfErr, IfOk, MatchResult, map, string_bytes};
 ghost use Rattle.zcommands.specs.Devices.{left, held};
-ghost use Rattle.zcommands.specs.Words.{Does, TellsWords, IsWrong};
+ghost use Rattle.zcommands.specs.Words.{Does, DoesWords, TellsWords, IsWrong};
 
 use crate::ask::ask_named;
 use crate::choice::Choice;
@@ -25,8 +25,9 @@ use std::io::{ErrorKind, Read, Write};
 use std::net::Net;
 use std::time::Clock;
 
-/// Does what the words ask for, the first being the program's name. Without words they are not UTF-8, or memory ran
-/// out. While catalogues are asked, the screen, where there is one, is told how far that is.
+/// Does what the words ask for, the first being the program's name and the second that of the command. Without words
+/// they are not UTF-8, or memory ran out: nothing is read or printed then, and where memory ran out the answer is
+/// `Memory`. While catalogues are asked, the screen, where there is one, is told how far that is.
 pub fn run<'a, S: Folder + Net + Clock, R: Read, W: Write, E: Write, P: Write + Drop>(
     alloc: Global,
     system: &S,
@@ -36,20 +37,38 @@ pub fn run<'a, S: Folder + Net + Clock, R: Read, W: Write, E: Write, P: Write + 
     errors: &mut Output<'a, E>,
     screen: Option<P>,
 ) -> Status
-    ensures { IfErr words.entry (λ _. IsWrong result) }
+    ensures done { IfOk words.entry (λ words. DoesWords (S.octets system.now) (map string_bytes words.now)
+        (left R.remaining input.old) (left R.remaining input.new)
+        (held W.contents output.old) (held W.contents output.new)
+        (held E.contents errors.old) (held E.contents errors.new) result) }
+    ensures wrong { IfErr words.entry (λ _. IsWrong result) }
+    ensures memory { words.entry ≡ Err ErrorKind.OutOfMemory → result ≡ Status.Memory }
+    ensures silent { IfErr words.entry (λ _. held W.contents output.new ≡ held W.contents output.old) }
+    ensures unread { IfErr words.entry (λ _. input.new ≡ input.old) }
 {
     match words {
-        Ok(words) => answer(
-            alloc,
-            system,
-            words::parse(alloc, words),
-            input,
-            output,
-            errors,
-            screen,
-        ),
+        Ok(words) => answer_words(alloc, system, words, input, output, errors, screen),
         Err(kind) => refuse(alloc, kind, output, errors),
     }
+}
+
+/// Does what words ask for.
+fn answer_words<'a, S: Folder + Net + Clock, R: Read, W: Write, E: Write, P: Write + Drop>(
+    alloc: Global,
+    system: &S,
+    words: &[String],
+    input: &mut Input<'a, R>,
+    output: &mut Output<'a, W>,
+    errors: &mut Output<'a, E>,
+    screen: Option<P>,
+) -> Status
+    ensures { DoesWords (S.octets system.now) (map string_bytes words.now)
+        (left R.remaining input.old) (left R.remaining input.new)
+        (held W.contents output.old) (held W.contents output.new)
+        (held E.contents errors.old) (held E.contents errors.new) result }
+{
+    let asked = words::parse(alloc, words);
+    answer(alloc, system, asked, input, output, errors, screen)
 }
 
 /// Does what was asked for, or tells why nothing was.
