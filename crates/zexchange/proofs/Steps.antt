@@ -20,7 +20,7 @@ use Rattle.ztarget.specs.declared.database.Database.{Database}
 use Rattle.ztarget.specs.declared.settings.TargetSettings.{TargetSettings}
 use Rattle.zoom.specs.States.{state_as, is_stopped, or_else}
 use Rattle.zoom.specs.Coming.{Met, Stopped, Message, Foreign, Fault, Rest, Nothing, IsBehind, AreMetAs}
-use Rattle.zoom.specs.Heard.{Deed, Calls, Feeds, Takes, Heard, Meets, past_of, state_at, take_at, heed, end_by, stop_by, truncated, hears_call}
+use Rattle.zoom.specs.Heard.{Deed, Calls, Feeds, Takes, Gives, Heard, HasHeard, Meets, past_of, state_at, take_at, heed, end_by, stop_by, truncated, hears_call}
 use Rattle.zoom.specs.Hosts.{HostState, Holdings, HostAfter, HasReceived, IsStopping, Event, Fed, Released, HandedOut, Served, HasServed, Hears, Ignores, Sends}
 use Rattle.zoom.proofs.Hosts.{messages_longer}
 use Rattle.zaccord.specs.Accord.{requests, replies_due, AreTaken, AccordLaws}
@@ -92,9 +92,13 @@ calls holdings settings deeds p events host call s reads =
     } in
     subst (λ z. IsSound holdings settings (Calls call ∷ deeds) z events host) (sym is) now
 
-pub gives : GivesLaw
-gives holdings settings deeds p events host octets s = record {
-  heard = (p, s.heard, refl);
+-- ---- deeds that leave the connection as it was
+
+still : (holdings : Holdings) (settings : Settings) (deeds more : List Deed) (p : Heard) (events : List Event)
+    (host : HostState) → HasHeard settings more p → IsSound holdings settings deeds p events host
+    → IsSound holdings settings more p events host
+still holdings settings deeds more p events host heard s = record {
+  heard = heard;
   served = s.served;
   plain = s.plain;
   to = s.to;
@@ -112,6 +116,10 @@ gives holdings settings deeds p events host octets s = record {
   answers = s.answers;
 }
 
+pub gives : GivesLaw
+gives holdings settings deeds p events host octets s =
+    still holdings settings deeds (Gives octets ∷ deeds) p events host (p, s.heard, refl) s
+
 -- ---- octets that come to the connection
 
 module _ (holdings : Holdings) (settings : Settings) (deeds : List Deed) (p : Heard) (events : List Event)
@@ -122,24 +130,9 @@ module _ (holdings : Holdings) (settings : Settings) (deeds : List Deed) (p : He
 
   fed_by : (b : Bool) → (is_stopped (state_at p) || p.ended) ≡ b
       → IsSound holdings settings (Feeds piece ∷ deeds) (cond b p longer) events host
-  fed_by true e = record {
-    heard = (p, s.heard, ap (λ b. cond b p longer) (sym e));
-    served = s.served;
-    plain = s.plain;
-    to = s.to;
-    sends = s.sends;
-    from = s.from;
-    comes = s.comes;
-    goes = s.goes;
-    goes_on = s.goes_on;
-    sound = s.sound;
-    serves = s.serves;
-    coming = s.coming;
-    got = s.got;
-    count = s.count;
-    asks = s.asks;
-    answers = s.answers;
-  }
+  fed_by true e =
+      still holdings settings deeds (Feeds piece ∷ deeds) p events host
+      (p, s.heard, ap (λ b. cond b p longer) (sym e)) s
   fed_by false e = record {
     heard = (p, s.heard, ap (λ b. cond b p longer) (sym e));
     served = s.served;
@@ -313,24 +306,8 @@ module _ (holdings : Holdings) (settings : Settings) (deeds : List Deed) (p : He
   took_none : (met : Met) → Meets p met → take_at p met ≡ p → IsSound holdings settings (Takes ∷ deeds)
       (take_at p met) events host
   took_none met m is =
-      let now : IsSound holdings settings (Takes ∷ deeds) p events host = record {
-        heard = (p, s.heard, (met, m, sym is));
-        served = s.served;
-        plain = s.plain;
-        to = s.to;
-        sends = s.sends;
-        from = s.from;
-        comes = s.comes;
-        goes = s.goes;
-        goes_on = s.goes_on;
-        sound = s.sound;
-        serves = s.serves;
-        coming = s.coming;
-        got = s.got;
-        count = s.count;
-        asks = s.asks;
-        answers = s.answers;
-      } in
+      let now : IsSound holdings settings (Takes ∷ deeds) p events host =
+      still holdings settings deeds (Takes ∷ deeds) p events host (p, s.heard, (met, m, sym is)) s in
       subst (λ z. IsSound holdings settings (Takes ∷ deeds) z events host) (sym is) now
 
   open_by : (b : Bool) → (past_of p).closed ≡ b → is_stopped (state_at p) ≡ false → b ≡ false
