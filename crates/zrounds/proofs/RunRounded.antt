@@ -16,9 +16,9 @@ use Rattle.zoom.specs.Metas.{MetaLinks, MetaAfter, settings_of}
 use Rattle.zexchange.specs.Exchange.{IsSettled, OneServedLaw, LongerLaw, RestsLaw, EndedLaw, fed_to}
 use Rattle.zrounds.specs.declared.peers.Peer.{Peer}
 use Rattle.zrounds.specs.Run.{is_over}
-use Rattle.zrounds.specs.RunSound.{of, IsFine, HasLong, IsLost, Stepped, Loses, Adds, Steps, Rounded, Rounds}
+use Rattle.zrounds.specs.RunSound.{of, IsFine, HasLong, Stepped, Loses, Adds, Steps, Rounded, Rounds}
 use Rattle.zrounds.specs.RunPeers.{BringsAll, Emptied, Empties}
-use Rattle.zrounds.proofs.RunSound.{only_more, of_append, lost_more, adds_more, loses_more}
+use Rattle.zrounds.proofs.RunSound.{only_more, of_append, lost_then, adds_more, loses_more}
 use Rattle.zrounds.proofs.RunCarries.{fed_to_append}
 use Rattle.zrounds.proofs.RunHeard.{heard_all}
 use Rattle.zrounds.proofs.RunPeers.{nothing_behind, to_of, from_of, sent_so}
@@ -133,13 +133,8 @@ module _ (hearing : OneHearing) (longer : LongerLaw) (one_served : OneServedLaw)
     -- a reply that is too long stays so
     long_then : (l : Loses questions s c h target mid) → Loses questions s c h target new
     long_then l =
-        let more : Adds questions s c (of c l.deeds ++ h) new = takes.adds questions s (of c l.deeds ++ h) l.after in
-        loses_more questions s c h new target l.deeds (record {
-          deeds = more.deeds;
-          after = more.after;
-          lost = lost_more hearing longer questions s c (of c l.deeds ++ h) q target more.deeds new more.after at
-              (subst (IsLost s target) (sym (only_more c l.deeds h)) l.lost);
-        })
+        lost_then hearing longer questions s c h q target mid new at l
+        (takes.adds questions s (of c l.deeds ++ h) l.after)
 
     module _ (one : Stepped questions s c h q target true true p events mid a) where
       abbrev past : History

@@ -194,20 +194,22 @@ module _ (questions : List Question) (s : MetaSettings) (c : ℕ) (h : History) 
         still = λ e. t.still (both_same a b e).1 ∙ same (both_same a b e).0;
       }
 
+-- a reply that is too long stays so
+pub lost_then : OneHearing → LongerLaw → (questions : List Question) (s : MetaSettings) (c : ℕ) (h : History)
+    (q : Question) (target : TargetState) (mid new : MetaLinks) → slice_get questions c ≡ Some q
+    → (l : Loses questions s c h target mid) → Adds questions s c (of c l.deeds ++ h) new
+    → Loses questions s c h target new
+lost_then hearing longer questions s c h q target mid new at l more =
+    loses_more questions s c h new target l.deeds (record {
+      deeds = more.deeds;
+      after = more.after;
+      lost = lost_more hearing longer questions s c (of c l.deeds ++ h) q target more.deeds new more.after at
+          (subst (IsLost s target) (sym (only_more c l.deeds h)) l.lost);
+    })
+
 module _ (hearing : OneHearing) (longer : LongerLaw) (c : ℕ) (one two three a b : Bool) (old mid new : MetaLinks)
     (was between now : Peer) (f : Steps c one two a old mid was between) (g : Steps c two three b mid new between now)
   where
-    lost_then : (questions : List Question) (s : MetaSettings) (h : History) (q : Question) (target : TargetState)
-        → slice_get questions c ≡ Some q → Loses questions s c h target mid → Loses questions s c h target new
-    lost_then questions s h q target at l =
-        let more : Adds questions s c (of c l.deeds ++ h) new = g.adds questions s (of c l.deeds ++ h) l.after in
-        loses_more questions s c h new target l.deeds (record {
-          deeds = more.deeds;
-          after = more.after;
-          lost = lost_more hearing longer questions s c (of c l.deeds ++ h) q target more.deeds new more.after at
-              (subst (IsLost s target) (sym (only_more c l.deeds h)) l.lost);
-        })
-
     fine_then : (questions : List Question) (s : MetaSettings) (h : History) (q : Question) (target : TargetState)
         (p : Heard) (events : List Event) (t : Stepped questions s c h q target two a p events mid between)
         → Stepped questions s c (of c t.deeds ++ h) q target three b t.later (t.acts ++ events) new now
@@ -225,7 +227,9 @@ module _ (hearing : OneHearing) (longer : LongerLaw) (c : ℕ) (one two three a 
         fine_then questions s h q target p events t
         (g.fine questions s (of c t.deeds ++ h) q target t.later (t.acts ++ events) t.after at
         (subst (λ z. IsFine s q target two z t.later (t.acts ++ events) between) (sym (only_more c t.deeds h)) t.fine))
-    steps_then questions s h q target p events at (inr l) = inr (lost_then questions s h q target at l)
+    steps_then questions s h q target p events at (inr l) =
+        inr (lost_then hearing longer questions s c h q target mid new at l
+        (g.adds questions s (of c l.deeds ++ h) l.after))
 
     adds_then : (questions : List Question) (s : MetaSettings) (h : History)
         → Adds questions s c h mid → Adds questions s c h new
