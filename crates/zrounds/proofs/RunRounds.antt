@@ -329,32 +329,33 @@ module _ (laws : ExchangeLaws) (s : MetaSettings) (t : TargetState) where
   kept_whole n q deeds peer (inl k) over = inl (whole_by q true deeds k.0 k.1 peer k.2 (over k.0 k.2.sound.heard))
   kept_whole n q deeds peer (inr lost) over = inr lost
 
-pub ran_whole : ExchangeLaws → (least : ℕ → ℕ) (qs : List Question) (s : MetaSettings) (ts : List TargetState)
-    (meta : MetaLinks) (peers : List Peer) (w : WorldFine least qs s ts meta peers) → AreOver qs s w.history
+ran_by : (least : ℕ → ℕ) (qs : List Question) (s : MetaSettings) (ts : List TargetState) (meta : MetaLinks)
+    (peers : List Peer) (w : WorldFine least qs s ts meta peers)
+    → ((c : ℕ) (q : Question) (t : TargetState) (p : Peer) → slice_get qs c ≡ Some q
+    → IsKept (least c) s q t (only c w.history) p → IsWhole s t (only c w.history) ⊎ IsLost s t (only c w.history))
     → RanWhole qs s ts meta
-ran_whole laws least qs s ts meta peers w over = record {
+ran_by least qs s ts meta peers w each = record {
   history = w.history;
   after = w.after;
   whole = λ c t at.
       let within : c < length ts = slice_get_within ts c t at in
       let q = slice_some qs c (let g : c < length qs = omega (arith, within, w.equal) in g) in
       let p = slice_some peers c (let g : c < length peers = omega (arith, within, w.size) in g) in
-      kept_whole laws s t (least c) q.0 (only c w.history) p.0 (w.kept c q.0 t p.0 q.1 at p.1)
-      (λ x heard. over c x (let g : c < length qs = omega (arith, within, w.equal) in g) heard);
+      each c q.0 t p.0 q.1 (w.kept c q.0 t p.0 q.1 at p.1);
 }
+
+pub ran_whole : ExchangeLaws → (least : ℕ → ℕ) (qs : List Question) (s : MetaSettings) (ts : List TargetState)
+    (meta : MetaLinks) (peers : List Peer) (w : WorldFine least qs s ts meta peers) → AreOver qs s w.history
+    → RanWhole qs s ts meta
+ran_whole laws least qs s ts meta peers w over =
+    ran_by least qs s ts meta peers w (λ c q t p at kept.
+    kept_whole laws s t (least c) q (only c w.history) p kept
+    (λ x heard. over c x (slice_get_within qs c q at) heard))
 
 -- where so much was said of each, each is finished, unless some reply is too long
 pub ran_kept : ExchangeLaws → OneHearing → (qs : List Question) (s : MetaSettings) (ts : List TargetState)
     (meta : MetaLinks) (peers : List Peer) → WorldFine (λ i. most) qs s ts meta peers → RanWhole qs s ts meta
-ran_kept laws hearing qs s ts meta peers w = record {
-  history = w.history;
-  after = w.after;
-  whole = λ c t at.
-      let within : c < length ts = slice_get_within ts c t at in
-      let q = slice_some qs c (let g : c < length qs = omega (arith, within, w.equal) in g) in
-      let p = slice_some peers c (let g : c < length peers = omega (arith, within, w.size) in g) in
-      by c q.0 t p.0 q.1 (w.kept c q.0 t p.0 q.1 at p.1);
-}
+ran_kept laws hearing qs s ts meta peers w = ran_by (λ i. most) qs s ts meta peers w by
   where
     by : (c : ℕ) (q : Question) (t : TargetState) (p : Peer) → slice_get qs c ≡ Some q
         → IsKept most s q t (only c w.history) p
