@@ -6,6 +6,7 @@ use Rattle.zapdu.specs.declared.apdu.Apdu.{Apdu}
 use Rattle.zapdu.specs.declared.apdu.Apdu.TheVariants as apdus
 use Rattle.zapdu.specs.declared.productions.init_response.InitResponse.{InitResponse}
 use Rattle.zapdu.specs.declared.productions.close.Close.{Close as CloseApdu}
+use Rattle.zplan.specs.Positions.{IsIn}
 use Rattle.zorigin.specs.declared.settings.Settings.{Settings}
 use Rattle.zorigin.specs.declared.answer.What.{What}
 use Rattle.zorigin.specs.declared.answer.What.TheVariants as what
@@ -22,7 +23,8 @@ use Rattle.zorigin.specs.Fitting.{Fits}
 use Rattle.zorigin.specs.Replies.{numbered_as, named, taken_as, judged, against, answered, verdict}
 use Rattle.zorigin.specs.Accepts.{id_of}
 use Rattle.zorigin.specs.Log.{Log, Past, past, operation_of, asked, answers, is_answered, outstanding, opens, opening, is_init_call, is_close_call, state_from, state_of, numbered, standing}
-use Rattle.zorigin.proofs.Accepting.{IsIn, contained, among, looked_up, accepted_so}
+use Rattle.zorigin.proofs.Members.{contained, among, find_in, in_filter}
+use Rattle.zorigin.proofs.Accepting.{looked_up, accepted_so}
 use Rattle.zorigin.proofs.Fittings.{fits_none}
 use Rattle.zorigin.proofs.Ids.{spelled_number}
 use Rattle.zorigin.proofs.Operations.{same_op, distinct_filter}
@@ -32,7 +34,7 @@ use Rattle.ztarget.specs.declared.database.Database.{Database}
 use Rattle.ztarget.specs.declared.settings.TargetSettings.{TargetSettings}
 use Rattle.ztarget.specs.Replies.{Answer, standing_after, owed, reply_of, replies}
 use Rattle.zaccord.specs.Accord.{AreTaken, Converses, requests, replies_due, IsUnanswered, IsReplyTo, IsTakenAs, TakenLaw, AcceptsLaw, UnansweredLaw, ApartLaw, OwesLaw, OwesCloseLaw, FitsLaw}
-use Rattle.zaccord.proofs.Members.{in_reverse, any_of, find_in, in_filter, in_flat, flat_in, apart_moved, apart_parts}
+use Rattle.zaccord.proofs.Members.{in_reverse, any_of, in_flat, flat_in, apart_moved, apart_parts}
 use Rattle.zaccord.proofs.Owing.{Replies, EndsAssociation, reply_id, reply_fits, answer_replies, replying, replies_apart, newest, refused_alone}
 use Rattle.zaccord.proofs.Calls.{request_id, request_asks, call_id, call_kind, operation_id, same_number, one_asked, some_same}
 use Rattle.zaccord.proofs.Requests.{IsAccepting, open_so, are_sent}

@@ -4,6 +4,7 @@ use Rattle.std.proofs.lemmas.Bool.Decides.{nat_tests}
 use Rattle.std.specs.List.{range_with_len}
 use Rattle.std.specs.Option.{option_map}
 use Rattle.zapdu.specs.declared.apdu.Apdu.{Apdu}
+use Rattle.zplan.specs.Positions.{IsIn}
 use Rattle.zorigin.specs.declared.range.Range.{Range}
 use Rattle.zorigin.specs.declared.answer.What.TheVariants as what
 use Rattle.zorigin.specs.declared.answer.Asked.{Asked}
@@ -15,12 +16,11 @@ use Rattle.zorigin.specs.Sending.{init_request, search_request, present_request,
 use Rattle.zorigin.specs.Changes.{init_asked}
 use Rattle.zorigin.specs.Accepts.{id_of}
 use Rattle.zorigin.specs.Log.{operation_of}
-use Rattle.zorigin.proofs.Accepting.{IsIn}
+use Rattle.zorigin.proofs.Members.{any_in}
 use Rattle.zorigin.proofs.Ids.{spelled_number}
 use Rattle.zorigin.proofs.Operations.{has, AreDistinct}
 use Rattle.ztarget.specs.Initialising.{natural}
 use Rattle.ztarget.specs.Positions as asked_for
-use Rattle.zaccord.proofs.Members.{any_in}
 use Rattle.zaccord.proofs.Owing.{Asks}
 
 -- ---- the request of a call

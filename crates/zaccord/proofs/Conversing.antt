@@ -7,6 +7,8 @@ use Rattle.zapdu.specs.declared.apdu.Apdu.TheVariants as apdus
 use Rattle.zapdu.specs.declared.productions.init_request.InitRequest.{InitRequest}
 use Rattle.zapdu.specs.declared.productions.init_response.InitResponse.{InitResponse}
 use Rattle.zapdu.specs.declared.productions.close.Close.{Close as CloseApdu}
+use Rattle.zplan.specs.Positions.{IsIn}
+use Rattle.zplan.proofs.Cuts.{in_either}
 use Rattle.zorigin.specs.declared.settings.Settings.{Settings}
 use Rattle.zorigin.specs.declared.answer.What.{What}
 use Rattle.zorigin.specs.declared.answer.What.TheVariants as what
@@ -24,7 +26,8 @@ use Rattle.zorigin.specs.Fitting.{Fits}
 use Rattle.zorigin.specs.Replies.{verdict}
 use Rattle.zorigin.specs.Accepts.{id_of, Refers}
 use Rattle.zorigin.specs.Log.{Log, Made, Got, Past, past, operation_of, asked, opens, opening, is_init_call, state_of, standing, request_list, admit_unless, after_verdict}
-use Rattle.zorigin.proofs.Accepting.{IsIn, contained, among, same_call, stays, accepted_so}
+use Rattle.zorigin.proofs.Members.{contained, among, find_in}
+use Rattle.zorigin.proofs.Accepting.{same_call, stays, accepted_so}
 use Rattle.zorigin.proofs.Orderly.{orderly, sent_request}
 use Rattle.zorigin.proofs.Proper.{not_false}
 use Rattle.ztarget.specs.declared.database.Database.{Database}
@@ -34,7 +37,7 @@ use Rattle.ztarget.specs.Standing.{Terms, Open, Ended, Standing as TargetStandin
 use Rattle.ztarget.specs.Initialising.{bit, init_response, is_accepted, terms}
 use Rattle.ztarget.specs.Replies.{Answer, answer, answer_at, left_by, standing_after, owed, reply_of, replies}
 use Rattle.zaccord.specs.Accord.{AreTaken, Converses, requests, replies_due}
-use Rattle.zaccord.proofs.Members.{in_parts, reverse_push, of_reverse, find_in, in_flat}
+use Rattle.zaccord.proofs.Members.{reverse_push, of_reverse, in_flat}
 use Rattle.zaccord.proofs.Owing.{Replies, reply_id, search_state, answer_replies, replied}
 use Rattle.zaccord.proofs.Calls.{IsRequestOf, request_id, call_id, operation_id, some_same}
 use Rattle.zaccord.proofs.Requests.{IsAccepting, ready_past, call_ready, new_id, ComesBetween, Runs, search_between, present_between, are_sent, init_in, same_verdict, fresh_past}
@@ -173,7 +176,7 @@ module _ (databases : List Database) (target : TargetSettings) (settings : Setti
         (among x.reply (replies_due databases target settings (Made c ∷ log)) (k.owed x then)) in
         let earlier = replies_due databases target settings log in
         contained x.reply earlier
-        (elim (in_parts x.reply earlier (reply_of (owed databases target (requests settings log) s.request)) all) [
+        (elim (in_either x.reply earlier (reply_of (owed databases target (requests settings log) s.request)) all) [
           | inl i ↦ i
           | inr i ↦ absurd (not_to s.request e s.made
               (last s.request (owed databases target (requests settings log) s.request) refl i))

@@ -1,30 +1,18 @@
 -- Members of lists, and lists of APDUs of which no two have one reference id.
-use Rattle.std.proofs.Common.{◌≡◌, ◌≢◌, ◌⊎◌, inl, inr, ℕ, Bool, true, false, cond, ◌||◌, List, [], ◌∷◌, ◌++◌, reverse, filter, Option, None, Some, refl, sym, ap, subst, ◌∙◌, true≢false, IsPermutation}
+use Rattle.std.proofs.Common.{◌≡◌, ◌≢◌, inl, inr, ℕ, Bool, true, false, ◌||◌, List, [], ◌∷◌, ◌++◌, reverse, Option, None, Some, refl, sym, ap, subst, ◌∙◌, true≢false, IsPermutation}
 use Rattle.std.specs.Bool.{Decides, one_answer}
-use Rattle.std.specs.List.{list_any, find, flat_map, AllByRecursion, IsDistinct}
+use Rattle.std.specs.List.{list_any, flat_map, AllByRecursion, IsDistinct}
 use Rattle.std.specs.Str.{bytes_eq}
 use Rattle.std.proofs.lemmas.List.{reverse-append, reverse-reverse}
 use Rattle.std.proofs.lemmas.Slice.Eq.{bytes_eq-Decides}
 use Rattle.std.proofs.lemmas.Map.Keys.{IsDistinct-IsPermutation}
 use Rattle.zapdu.specs.declared.apdu.Apdu.{Apdu}
+use Rattle.zplan.specs.Positions.{IsIn}
+use Rattle.zplan.proofs.Cuts.{in_left, in_right, in_either}
 use Rattle.zorigin.specs.Accepts.{id_of}
-use Rattle.zorigin.proofs.Accepting.{IsIn}
+use Rattle.zorigin.proofs.Members.{of_all}
 
 module _ {X : Type 0} where
-  pub in_front : (x : X) (xs ys : List X) → IsIn x xs → IsIn x (xs ++ ys)
-  in_front x [] ys i = absurd i
-  in_front x (y ∷ xs) ys (inl e) = inl e
-  in_front x (y ∷ xs) ys (inr i) = inr (in_front x xs ys i)
-
-  pub in_behind : (x : X) (xs ys : List X) → IsIn x ys → IsIn x (xs ++ ys)
-  in_behind x [] ys i = i
-  in_behind x (y ∷ xs) ys i = inr (in_behind x xs ys i)
-
-  pub in_parts : (x : X) (xs ys : List X) → IsIn x (xs ++ ys) → IsIn x xs ⊎ IsIn x ys
-  in_parts x [] ys i = inr i
-  in_parts x (y ∷ xs) ys (inl e) = inl (inl e)
-  in_parts x (y ∷ xs) ys (inr i) = elim (in_parts x xs ys i) [ inl j ↦ inl (inr j) | inr j ↦ inr j ]
-
   pub reverse_push : (xs : List X) (x : X) → reverse (xs ++ x ∷ []) ≡ x ∷ reverse xs
   reverse_push xs x = reverse-append xs (x ∷ [])
 
@@ -33,9 +21,9 @@ module _ {X : Type 0} where
 
   pub in_reverse : (x : X) (xs : List X) → IsIn x xs → IsIn x (reverse xs)
   in_reverse x [] i = absurd i
-  in_reverse x (y ∷ xs) (inl e) = subst (IsIn x) (sym (reverse_cons y xs)) (in_behind x (reverse xs) (y ∷ []) (inl e))
+  in_reverse x (y ∷ xs) (inl e) = subst (IsIn x) (sym (reverse_cons y xs)) (in_right x (reverse xs) (y ∷ []) (inl e))
   in_reverse x (y ∷ xs) (inr i) =
-      subst (IsIn x) (sym (reverse_cons y xs)) (in_front x (reverse xs) (y ∷ []) (in_reverse x xs i))
+      subst (IsIn x) (sym (reverse_cons y xs)) (in_left x (reverse xs) (y ∷ []) (in_reverse x xs i))
 
   pub of_reverse : (x : X) (xs : List X) → IsIn x (reverse xs) → IsIn x xs
   of_reverse x xs i = subst (IsIn x) (reverse-reverse xs) (in_reverse x (reverse xs) i)
@@ -43,17 +31,6 @@ module _ {X : Type 0} where
   pub all_of : (P : X → Type 0) (xs : List X) → ((x : X) → IsIn x xs → P x) → AllByRecursion P xs
   all_of P [] h = tt
   all_of P (x ∷ xs) h = (h x (inl refl), all_of P xs (λ y i. h y (inr i)))
-
-  pub of_all : (P : X → Type 0) (xs : List X) (x : X) → AllByRecursion P xs → IsIn x xs → P x
-  of_all P [] x h i = absurd i
-  of_all P (y ∷ xs) x h (inl e) = subst P (sym e) h.0
-  of_all P (y ∷ xs) x h (inr i) = of_all P xs x h.1 i
-
-  pub any_in : (t : X → Bool) (xs : List X) (x : X) → IsIn x xs → t x ≡ true → list_any t xs ≡ true
-  any_in t [] x i h = absurd i
-  any_in t (y ∷ xs) x (inl e) h = let here : t y ≡ true = ap t (sym e) ∙ h in rw here refl
-  any_in t (y ∷ xs) x (inr i) h =
-      let more = any_in t xs x i h in elim (t y) as (λ b. (b || list_any t xs) ≡ true) [ true ↦ refl | false ↦ more ]
 
   pub any_of : (t : X → Bool) (xs : List X) → list_any t xs ≡ true → (x : X) × IsIn x xs × (t x ≡ true)
   any_of t [] h = absurd (true≢false (sym h))
@@ -64,28 +41,12 @@ module _ {X : Type 0} where
         | false ↦ λ e g. let m = more g in (m.0, inr m.1, m.2)
       ] refl h
 
-  pub find_in : (t : X → Bool) (xs : List X) (x : X) → find t xs ≡ Some x → IsIn x xs × (t x ≡ true)
-  find_in t [] x h = absurd (cc)
-  find_in t (y ∷ xs) x h =
-      let more = find_in t xs x in
-      elim (t y) as (λ b. t y ≡ b → cond b (Some y) (find t xs) ≡ Some x → IsIn x (y ∷ xs) × (t x ≡ true)) [
-        | true ↦ λ e g. let same : y ≡ x = cc in (inl (sym same), subst (λ (z : X). t z ≡ true) same e)
-        | false ↦ λ e g. let m = more g in (inr m.0, m.1)
-      ] refl h
-
-  pub in_filter : (t : X → Bool) (xs : List X) (x : X) → IsIn x xs → t x ≡ true → IsIn x (filter t xs)
-  in_filter t [] x i h = absurd i
-  in_filter t (y ∷ xs) x (inl e) h = rw (ap t (sym e) ∙ h) (inl e)
-  in_filter t (y ∷ xs) x (inr i) h =
-      let more = in_filter t xs x i h in
-      elim (t y) as (λ b. IsIn x (cond b (y ∷ filter t xs) (filter t xs))) [ true ↦ inr more | false ↦ more ]
-
 -- a member of the lists that are made of the members is made of one
 pub in_flat : {X Y : Type 0} (f : X → List Y) (xs : List X) (y : Y) → IsIn y (flat_map f xs)
     → (x : X) × IsIn x xs × IsIn y (f x)
 in_flat f [] y i = absurd i
 in_flat {X} f (x ∷ xs) y i =
-    elim (in_parts y (f x) (flat_map f xs) i) as (λ _. (z : X) × IsIn z (x ∷ xs) × IsIn y (f z)) [
+    elim (in_either y (f x) (flat_map f xs) i) as (λ _. (z : X) × IsIn z (x ∷ xs) × IsIn y (f z)) [
       | inl j ↦ (x, inl refl, j)
       | inr j ↦ (let m = in_flat f xs y j in (m.0, inr m.1, m.2))
     ]
@@ -93,8 +54,8 @@ in_flat {X} f (x ∷ xs) y i =
 pub flat_in : {X Y : Type 0} (f : X → List Y) (xs : List X) (x : X) (y : Y) → IsIn x xs → IsIn y (f x)
     → IsIn y (flat_map f xs)
 flat_in f [] x y i j = absurd i
-flat_in f (z ∷ xs) x y (inl e) j = in_front y (f z) (flat_map f xs) (subst (λ w. IsIn y (f w)) e j)
-flat_in f (z ∷ xs) x y (inr i) j = in_behind y (f z) (flat_map f xs) (flat_in f xs x y i j)
+flat_in f (z ∷ xs) x y (inl e) j = in_left y (f z) (flat_map f xs) (subst (λ w. IsIn y (f w)) e j)
+flat_in f (z ∷ xs) x y (inr i) j = in_right y (f z) (flat_map f xs) (flat_in f xs x y i j)
 
 -- ---- reference ids
 
@@ -156,7 +117,7 @@ pub apart_push : (vs : List Apdu) (v : Apdu) → ((w : Apdu) → IsIn w vs → i
     → AreApart (vs ++ v ∷ [])
 apart_push [] v h d = apart_cons v [] (λ w i. absurd i) apart_none
 apart_push (x ∷ vs) v h d =
-    apart_cons x (vs ++ v ∷ []) (λ w i. elim (in_parts w vs (v ∷ []) i) [
+    apart_cons x (vs ++ v ∷ []) (λ w i. elim (in_either w vs (v ∷ []) i) [
       | inl j ↦ apart_first x vs d w j
       | inr j ↦ elim j [ inl e ↦ subst (λ y. id_of x ≢ id_of y) (sym e) (h x (inl refl)) | inr none ↦ absurd none ]
     ]) (apart_push vs v (λ w i. h w (inr i)) (apart_rest x vs d))
@@ -165,7 +126,7 @@ apart_push (x ∷ vs) v h d =
 pub apart_parts : (xs ys : List Apdu) (a b : Apdu) → AreApart (xs ++ ys) → IsIn a xs → IsIn b ys → id_of a ≢ id_of b
 apart_parts [] ys a b d i j = absurd i
 apart_parts (x ∷ xs) ys a b d (inl e) j =
-    subst (λ y. id_of y ≢ id_of b) (sym e) (apart_first x (xs ++ ys) d b (in_behind b xs ys j))
+    subst (λ y. id_of y ≢ id_of b) (sym e) (apart_first x (xs ++ ys) d b (in_right b xs ys j))
 apart_parts (x ∷ xs) ys a b d (inr i) j = apart_parts xs ys a b (apart_rest x (xs ++ ys) d) i j
 
 pub apart_moved : (xs ys : List Apdu) → IsPermutation xs ys → AreApart xs → AreApart ys

@@ -6,12 +6,13 @@ use Rattle.zapdu.specs.declared.productions.init_request.InitRequest.{InitReques
 use Rattle.zapdu.specs.declared.productions.search_request.SearchRequest.{SearchRequest}
 use Rattle.zapdu.specs.declared.productions.search_response.SearchResponse.{SearchResponse}
 use Rattle.zapdu.specs.declared.productions.present_response.PresentResponse.{PresentResponse}
+use Rattle.zplan.specs.Positions.{IsIn}
+use Rattle.zplan.proofs.Cuts.{in_left, in_right, in_either}
 use Rattle.zorigin.specs.declared.answer.What.{What}
 use Rattle.zorigin.specs.declared.answer.What.TheVariants as what
 use Rattle.zorigin.specs.Ranges.{positions}
 use Rattle.zorigin.specs.Fitting.{FitsSearch, FitsPresent, Fits}
 use Rattle.zorigin.specs.Accepts.{id_of}
-use Rattle.zorigin.proofs.Accepting.{IsIn}
 use Rattle.ztarget.specs.declared.database.Database.{Database}
 use Rattle.ztarget.specs.declared.settings.TargetSettings.{TargetSettings}
 use Rattle.ztarget.specs.declared.error.TargetError.{TargetError}
@@ -22,7 +23,7 @@ use Rattle.ztarget.specs.Initialising.{init_response, is_accepted, terms}
 use Rattle.ztarget.specs.Responding.{search_fault, asked_by, presented}
 use Rattle.ztarget.specs.Replies.{Answer, close_reply, found_by_query, to_init, to_close, to_search_unless, to_search, to_present, answer, left_by, standing_after, owed, reply_of, replies}
 use Rattle.zaccord.specs.Accord.{AreTaken}
-use Rattle.zaccord.proofs.Members.{in_front, in_behind, in_parts, AreApart, apart_none, apart_first, apart_rest, apart_push}
+use Rattle.zaccord.proofs.Members.{AreApart, apart_none, apart_first, apart_rest, apart_push}
 use Rattle.zaccord.proofs.FittingReplies.{found_fits, failed_fits, presented_fits, presented_id}
 
 -- the request is for such
@@ -190,7 +191,7 @@ module _ (target : TargetSettings) where
         → (v : Apdu) × IsIn v received × Replies v x
     replied [] x i = absurd i
     replied (v ∷ received) x i =
-        elim (in_parts x (replies databases target received) (reply_of (owed databases target received v)) i) [
+        elim (in_either x (replies databases target received) (reply_of (owed databases target received v)) i) [
           | inl j ↦ (let m = replied received x j in (m.0, inr m.1, m.2))
           | inr j ↦ (v, inl refl, last (owed databases target received v) refl j)
         ]
@@ -210,14 +211,14 @@ module _ (target : TargetSettings) where
     replying (w ∷ received) t v (inl e) =
         let a = t.0.0 in (
           a.reply,
-          in_behind a.reply (replies databases target received) (reply_of (owed databases target received w))
+          in_right a.reply (replies databases target received) (reply_of (owed databases target received w))
               (subst (λ r. IsIn a.reply (reply_of r)) (sym t.0.1) (inl refl)),
           subst (λ y. Replies y a.reply) (sym e)
               (answer_replies (state_after received) (standing_after databases target received).sets w a t.0.1),
         )
     replying (w ∷ received) t v (inr i) =
         let m = replying received t.1 v i in
-        (m.0, in_front m.0 (replies databases target received) (reply_of (owed databases target received w)) m.1, m.2)
+        (m.0, in_left m.0 (replies databases target received) (reply_of (owed databases target received w)) m.1, m.2)
 
     -- replies are apart where requests are
     pub replies_apart : (received : List Apdu) → AreApart received → AreApart (replies databases target received)

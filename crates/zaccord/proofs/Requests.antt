@@ -4,6 +4,8 @@ use Rattle.std.specs.List.{list_any}
 use Rattle.zapdu.specs.declared.apdu.Apdu.{Apdu}
 use Rattle.zapdu.specs.declared.apdu.Apdu.TheVariants as apdus
 use Rattle.zapdu.specs.declared.productions.init_response.InitResponse.{InitResponse}
+use Rattle.zplan.specs.Positions.{IsIn}
+use Rattle.zplan.proofs.Cuts.{in_left, in_right, in_either}
 use Rattle.zorigin.specs.declared.settings.Settings.{Settings}
 use Rattle.zorigin.specs.declared.range.Range.{Range}
 use Rattle.zorigin.specs.declared.settings.Ask.{Ask}
@@ -24,11 +26,11 @@ use Rattle.zorigin.specs.Replies.{verdict}
 use Rattle.zorigin.specs.Changes.{force_in}
 use Rattle.zorigin.specs.Laws.{IsOrderly}
 use Rattle.zorigin.specs.Log.{Log, Made, Got, Past, past, operation_of, asked, is_init, opens, opening, is_init_call, is_close_call, state_by, closing_state, state_from, state_of, standing, request_list, admit_unless, after_verdict}
-use Rattle.zorigin.proofs.Accepting.{IsIn, contained, among}
+use Rattle.zorigin.proofs.Members.{contained, among, any_in, find_in}
 use Rattle.zorigin.proofs.Operations.{has}
 use Rattle.zorigin.proofs.Orderly.{orderly, sent_request}
 use Rattle.zorigin.proofs.Proper.{free, fresh_op, ready_if}
-use Rattle.zaccord.proofs.Members.{in_front, in_behind, in_parts, reverse_push, of_reverse, any_in, find_in, in_flat, flat_in, AreApart, apart_none, apart_cons}
+use Rattle.zaccord.proofs.Members.{reverse_push, of_reverse, in_flat, flat_in, AreApart, apart_none, apart_cons}
 use Rattle.zaccord.proofs.Calls.{IsRequestOf, call_id, some_same, present_so, request_id, operation_id, call_kind, same_number, has_self}
 
 -- ---- what the states say
@@ -208,12 +210,12 @@ module _ (p : Past) (ok : IsOrderly p) where
   init_before c n h = let a = (ready_past p (call_ready p c n h)).0 in init_in p ok a.answer a.is
 
   init_among : (c : Call) → refusal (standing p) c ≡ None → IsIn Init (p.admitted ++ c ∷ [])
-  init_among Init h = in_behind Init p.admitted (Init ∷ []) (inl refl)
+  init_among Init h = in_right Init p.admitted (Init ∷ []) (inl refl)
   init_among (Search op set ask) h =
-      in_front Init p.admitted (Search op set ask ∷ []) (init_before (Search op set ask) refl h)
+      in_left Init p.admitted (Search op set ask ∷ []) (init_before (Search op set ask) refl h)
   init_among (Present op set ranges) h =
-      in_front Init p.admitted (Present op set ranges ∷ []) (init_before (Present op set ranges) refl h)
-  init_among Close h = in_front Init p.admitted (Close ∷ []) (init_before Close refl h)
+      in_left Init p.admitted (Present op set ranges ∷ []) (init_before (Present op set ranges) refl h)
+  init_among Close h = in_left Init p.admitted (Close ∷ []) (init_before Close refl h)
 
   runs_on : (c : Call) (v : Apdu) → refusal (standing p) c ≡ None → request_of (standing p) c ≡ Some v
       → AreSent p.admitted p.sent
@@ -234,23 +236,23 @@ module _ (p : Past) (ok : IsOrderly p) where
       )
   runs_on Close v h m k going =
       absurd (true≢false (sym (any_in is_close_call (p.admitted ++ Close ∷ []) Close
-      (in_behind Close p.admitted (Close ∷ []) (inl refl)) refl) ∙ going))
+      (in_right Close p.admitted (Close ∷ []) (inl refl)) refl) ∙ going))
 
   are_sent_more : (c : Call) (v : Apdu) → refusal (standing p) c ≡ None → request_of (standing p) c ≡ Some v
       → AreSent p.admitted p.sent
       → AreSent (p.admitted ++ c ∷ []) (p.sent ++ v ∷ [])
   are_sent_more c v h m k = record {
-    made = λ w i. elim (in_parts w p.sent (v ∷ []) i) [
-      | inl j ↦ (let o = k.made w j in (o.0, in_front o.0 p.admitted (c ∷ []) o.1, o.2))
+    made = λ w i. elim (in_either w p.sent (v ∷ []) i) [
+      | inl j ↦ (let o = k.made w j in (o.0, in_left o.0 p.admitted (c ∷ []) o.1, o.2))
       | inr j ↦ elim j [
-        | inl e ↦ (c, in_behind c p.admitted (c ∷ []) (inl refl), (standing p, m ∙ ap (λ x. Some x) (sym e)))
+        | inl e ↦ (c, in_right c p.admitted (c ∷ []) (inl refl), (standing p, m ∙ ap (λ x. Some x) (sym e)))
         | inr none ↦ absurd none
       ]
     ];
-    each = λ d i. elim (in_parts d p.admitted (c ∷ []) i) [
-      | inl j ↦ (let o = k.each d j in (o.0, in_front o.0 p.sent (v ∷ []) o.1, o.2))
+    each = λ d i. elim (in_either d p.admitted (c ∷ []) i) [
+      | inl j ↦ (let o = k.each d j in (o.0, in_left o.0 p.sent (v ∷ []) o.1, o.2))
       | inr j ↦ elim j [
-        | inl e ↦ (v, in_behind v p.sent (v ∷ []) (inl refl), (standing p, ap (request_of (standing p)) e ∙ m))
+        | inl e ↦ (v, in_right v p.sent (v ∷ []) (inl refl), (standing p, ap (request_of (standing p)) e ∙ m))
         | inr none ↦ absurd none
       ]
     ];

@@ -53,6 +53,7 @@ use Rattle.zoom.proofs.Due.{opened_of}
 use Rattle.zoom.proofs.MetaLaws.{driver_of}
 use Rattle.zoom.proofs.Orders.{from_answer, of_answer}
 use Rattle.zaccord.specs.Accord.{requests}
+use Rattle.zaccord.proofs.Members.{in_flat, flat_in}
 use Rattle.zschedules.proofs.Answered.{is_replied, complete_whole}
 use Rattle.zschedules.proofs.Openings.{opened_past, at_opening, init_replied}
 use Rattle.zschedules.proofs.Replies.{CameFrom, came, kept_reply}
@@ -60,7 +61,7 @@ use Rattle.zschedules.proofs.Same.{opens_for, find_there}
 use Rattle.zschedules.proofs.Sets.{set_for, of_set}
 use Rattle.zcatalogue.specs.Catalogue.{entries_for, positions_due, shown_at, found_facts, fault_facts, answer_facts, catalogue, AreOwed, RecordsFit, CanAsk, CatalogueLaw, UnaskedLaw}
 use Rattle.zcatalogue.proofs.Standings.{given, response, search_by, find_in, accepts, refuses, force_of}
-use Rattle.zcatalogue.proofs.Members.{to_flat, of_flat, to_map, of_map, length_at, of_seen, to_seen}
+use Rattle.zcatalogue.proofs.Members.{to_map, of_map, length_at, of_seen, to_seen}
 use Rattle.zcatalogue.proofs.Presents.{records_back, none_told, kept_of}
 use Rattle.zcatalogue.proofs.Replied.{search_reply, PresentedAt, opened, searched, presented_at, for_opens}
 
@@ -413,7 +414,7 @@ module _ (orderly : (s : Settings) (l : Log) → IsOrderly (past s l))
         let due : IsIn seen.0 (positions_due q entries) =
         subst (λ o. IsIn seen.0 (up_to (plan.found o) wanted)) (count_is none) within in
         let as_it_is = shown_so (given offers).size q.syntax seen.1 (small seen.0 seen.1 due seen.3) in
-        inr (to_flat (shown_at c q entries) (positions_due q entries) seen.0 f due
+        inr (flat_in (shown_at c q entries) (positions_due q entries) seen.0 f due
         (subst (λ z. IsIn z (shown_at c q entries seen.0)) (sym (seen.4 ∙ ap (Seen c 1 (pos seen.0)) as_it_is))
         (to_map (λ y. Seen c 1 (pos seen.0) (in_syntax q.syntax y))
         (at_positions entries (seen.0 ∷ [])) seen.1 seen.3)))
@@ -421,7 +422,7 @@ module _ (orderly : (s : Settings) (l : Log) → IsOrderly (past s l))
     to_present : fault ≡ None → (f : Fact) → IsIn f (flat_map (shown_at c q entries) (positions_due q entries))
         → IsKnown f
     to_present none f i =
-        let at = of_flat (shown_at c q entries) (positions_due q entries) f i in
+        let at = in_flat (shown_at c q entries) (positions_due q entries) f i in
         let y = of_map (λ z. Seen c 1 (pos at.0) (in_syntax q.syntax z)) (at_positions entries (at.0 ∷ [])) f at.2 in
         let shows = shows_laws.all wanted s.step answers_in k.steps served (length entries) at.0 asks_search
         (count_is none) at.1 in

@@ -1,28 +1,12 @@
 -- Members of lists, and what stands at positions.
 use Rattle.std.proofs.Common.{◌≡◌, inl, inr, ℕ, zero, suc, ◌-◌, ◌<◌, ◌≤◌, List, [], ◌∷◌, ◌++◌, map, take, drop, length, refl, sym, ap, subst, ◌∙◌, arith}
 use Rattle.std.specs.Prelude.{pos}
-use Rattle.std.specs.List.{flat_map}
 use Rattle.zapdu.specs.declared.productions.record.Record.{Record}
 use Rattle.zknow.specs.declared.fact.Fact.{Fact}
 use Rattle.zknow.specs.declared.fact.Fact.TheVariants.{Seen}
 use Rattle.zplan.specs.Positions.{IsIn}
-use Rattle.zplan.proofs.Cuts.{in_left, in_right, in_either}
 use Rattle.zorigin.specs.Facts.{seen_at}
 use Rattle.ztarget.specs.Positions.{at_positions}
-
-pub to_flat : {X Y : Type 0} (g : X → List Y) (xs : List X) (x : X) (y : Y) → IsIn x xs → IsIn y (g x)
-    → IsIn y (flat_map g xs)
-to_flat g [] x y i j = absurd i
-to_flat g (z ∷ xs) x y (inl e) j = in_left y (g z) (flat_map g xs) (subst (λ w. IsIn y (g w)) e j)
-to_flat g (z ∷ xs) x y (inr i) j = in_right y (g z) (flat_map g xs) (to_flat g xs x y i j)
-
-pub of_flat : {X Y : Type 0} (g : X → List Y) (xs : List X) (y : Y) → IsIn y (flat_map g xs)
-    → (x : X) × IsIn x xs × IsIn y (g x)
-of_flat g [] y i = absurd i
-of_flat g (z ∷ xs) y i = elim (in_either y (g z) (flat_map g xs) i) [
-  | inl j ↦ (z, inl refl, j)
-  | inr j ↦ let r = of_flat g xs y j in (r.0, inr r.1, r.2)
-]
 
 pub to_map : {X Y : Type 0} (g : X → Y) (xs : List X) (x : X) → IsIn x xs → IsIn (g x) (map g xs)
 to_map g [] x i = absurd i

@@ -1,8 +1,9 @@
 -- Where no reply is waited for, all that was sent was answered.
 use Rattle.std.proofs.Common.{◌≡◌, ◌⊎◌, inl, inr, Bool, true, false, cond, not, List, [], ◌∷◌, ◌++◌, filter, Option, None, Some, Result, Ok, Err, refl, sym, ap, subst, ◌∙◌, true≢false}
 use Rattle.zplan.specs.Plan.{Operation, Event, Reply, same, asked_in, replies_in}
-use Rattle.zplan.specs.Positions as plan
 use Rattle.zplan.proofs.Order.{same_self}
+use Rattle.zplan.specs.Positions.{IsIn}
+use Rattle.zplan.proofs.Cuts.{in_left, in_right, in_either}
 use Rattle.zorigin.specs.declared.settings.Settings.{Settings}
 use Rattle.zorigin.specs.declared.settings.Ask.{Ask}
 use Rattle.zorigin.specs.declared.answer.Asked.{Asked}
@@ -16,14 +17,14 @@ use Rattle.zorigin.specs.Calls.{refusal}
 use Rattle.zorigin.specs.Replies.{verdict}
 use Rattle.zorigin.specs.Changes.{init_asked, search_asked, present_asked}
 use Rattle.zorigin.specs.Log.{Log, Made, Got, Past, past, standing, state_of, asked, operation_of, answers, is_answered, outstanding, admit_unless, after_verdict}
-use Rattle.zorigin.proofs.Accepting.{IsIn, among, contained}
+use Rattle.zorigin.proofs.Members.{contained, among}
 use Rattle.zorigin.proofs.Operations.{same_op}
 use Rattle.zorigin.proofs.Orderly.{orderly}
 use Rattle.zoom.specs.Driving.{plan_of, operation_for, reply_for, made_event, answer_event, got_event, events_of}
 use Rattle.zoom.specs.Drivers.{AllAnswered}
 use Rattle.zoom.proofs.Drivings.{asked_more, replies_call, same_events}
 use Rattle.zoom.proofs.Drivings as drivings
-use Rattle.zaccord.proofs.Members.{in_front, in_behind, in_parts, any_of}
+use Rattle.zaccord.proofs.Members.{any_of}
 use Rattle.zexchange.proofs.Endings.{same_asked}
 
 no_some : {A : Type 0} {x : A} → Some x ≡ None → ⊥
@@ -37,15 +38,15 @@ IsFor p a = (q : Asked) × IsIn q (asked p) × (operation_for q.what ≡ a)
 
 for_older : (p : Past) (call : Call) (a : Operation) → IsFor p a → IsFor (admit_unless p call None) a
 for_older p call a f =
-    (f.0, subst (IsIn f.0) (sym (asked_more p call)) (in_front f.0 (asked p) (operation_of call) f.1), f.2)
+    (f.0, subst (IsIn f.0) (sym (asked_more p call)) (in_left f.0 (asked p) (operation_of call) f.1), f.2)
 
 for_newest : (p : Past) (call : Call) (q : Asked) (a : Operation) → IsIn q (operation_of call)
     → operation_for q.what ≡ a → IsFor (admit_unless p call None) a
 for_newest p call q a i e =
-    (q, subst (IsIn q) (sym (asked_more p call)) (in_behind q (asked p) (operation_of call) i), e)
+    (q, subst (IsIn q) (sym (asked_more p call)) (in_right q (asked p) (operation_of call) i), e)
 
 for_call : (p : Past) (call : Call) (events : List Event) (a : Operation)
-    → (plan.IsIn a (asked_in events) → IsFor p a) → plan.IsIn a (asked_in (plan_of call ∷ events))
+    → (IsIn a (asked_in events) → IsFor p a) → IsIn a (asked_in (plan_of call ∷ events))
     → IsFor (admit_unless p call None) a
 for_call p Init events a older (inl e) = for_newest p Init init_asked a (inl refl) (sym e)
 for_call p Init events a older (inr i) = for_older p Init a (older i)
@@ -58,20 +59,20 @@ for_call p (Present op set ranges) events a older (inr i) = for_older p (Present
 for_call p Close events a older i = for_older p Close a (older i)
 
 module _ (ask : Ask) (settings : Settings) where
-  known_sent : (log : Log) (a : Operation) → plan.IsIn a (asked_in (events_of ask settings log))
+  known_sent : (log : Log) (a : Operation) → IsIn a (asked_in (events_of ask settings log))
       → IsFor (past settings log) a
   known_sent [] a i = absurd i
   known_sent (Made call ∷ log) a i = made (known_sent log a) (refusal (standing (past settings log)) call) i
     where
-      made : (plan.IsIn a (asked_in (events_of ask settings log)) → IsFor (past settings log) a)
-          → (r : Option CallRefused) → plan.IsIn a (asked_in (made_event r call (events_of ask settings log)))
+      made : (IsIn a (asked_in (events_of ask settings log)) → IsFor (past settings log) a)
+          → (r : Option CallRefused) → IsIn a (asked_in (made_event r call (events_of ask settings log)))
           → IsFor (admit_unless (past settings log) call r) a
       made older (Some reason) j = older j
       made older None j = for_call (past settings log) call (events_of ask settings log) a older j
   known_sent (Got reply ∷ log) a i =
       let p = past settings log in
       let v = verdict (standing p) reply in
-      let f = known_sent log a (subst (plan.IsIn a)
+      let f = known_sent log a (subst (IsIn a)
       (same_events ask (past settings (Got reply ∷ log)) v (events_of ask settings log)) i) in
       (f.0, subst (IsIn f.0) (sym (drivings.same_asked p v)) f.1, f.2)
 
@@ -85,7 +86,7 @@ module _ (ask : Ask) (settings : Settings) where
       → ((y : Answer) → IsIn y p.accepted → HasReply events (operation_for y.asked.what)) → (y : Answer)
       → IsIn y (p.accepted ++ x ∷ [])
       → HasReply (answer_event ask q (Some x) events) (operation_for y.asked.what)
-  reply_more p q x events older y i = by (in_parts y p.accepted (x ∷ []) i)
+  reply_more p q x events older y i = by (in_either y p.accepted (x ∷ []) i)
     where
       a : Operation
       a = operation_for y.asked.what

@@ -10,6 +10,8 @@ use Rattle.std.proofs.lemmas.List.Sorted.{Contains-permutation, IsPermutation-sy
 use Rattle.zapdu.specs.declared.apdu.Apdu.{Apdu}
 use Rattle.zapdu.specs.declared.apdu.Apdu.TheVariants as apdus
 use Rattle.zapdu.specs.declared.productions.close.Close.{Close as CloseApdu}
+use Rattle.zplan.specs.Positions.{IsIn}
+use Rattle.zplan.proofs.Cuts.{in_left, in_right}
 use Rattle.zorigin.specs.declared.settings.Settings.{Settings}
 use Rattle.zorigin.specs.declared.answer.Answer.{Answer}
 use Rattle.zorigin.specs.declared.answer.Asked.{Asked}
@@ -19,7 +21,8 @@ use Rattle.zorigin.specs.Standings.{Call, Init, Close}
 use Rattle.zorigin.specs.Accepts.{id_of, Refers, IsAccepted}
 use Rattle.zorigin.specs.Sending.{encoding_of}
 use Rattle.zorigin.specs.Log.{Log, past, state_of, asked, op_of, operation_of, is_answered, outstanding, opening, is_init, is_close_call, is_init_call}
-use Rattle.zorigin.proofs.Accepting.{IsIn, among, contained, accepted_so}
+use Rattle.zorigin.proofs.Members.{contained, among}
+use Rattle.zorigin.proofs.Accepting.{accepted_so}
 use Rattle.zorigin.proofs.Ids.{spelled_number}
 use Rattle.zorigin.proofs.Orderly.{orderly}
 use Rattle.zoom.specs.declared.state.State.TheVariants as states
@@ -28,7 +31,6 @@ use Rattle.zoom.specs.Steering.{complete_in, is_rejected}
 use Rattle.zoom.specs.Heard.{Deed, Heard, past_of, state_at}
 use Rattle.zoom.specs.Hosts.{HostState, Holdings, Event, handed_out, replies_to}
 use Rattle.zaccord.specs.Accord.{requests, AccordLaws}
-use Rattle.zaccord.proofs.Members.{in_front, in_behind}
 use Rattle.zexchange.specs.Exchange.{IsSound, got_in, TookLaw, ConversesLaw, PendingLaw, EndsLaw, RestsLaw, TookAll}
 use Rattle.zexchange.proofs.Logs.{Became, got_became, closed_got, close_sent, close_admitted, close_called_in}
 use Rattle.zexchange.proofs.Replies.{close_owed}
@@ -45,9 +47,9 @@ no_some e = cc
 init_operation : (calls : List Call) → IsIn Init calls → IsIn init_asked (flat_map operation_of calls)
 init_operation [] i = absurd i
 init_operation (call ∷ calls) (inl e) =
-    in_front init_asked (operation_of call) (flat_map operation_of calls)
+    in_left init_asked (operation_of call) (flat_map operation_of calls)
     (subst (λ z. IsIn init_asked (operation_of z)) e (inl refl))
-init_operation (call ∷ calls) (inr i) = in_behind init_asked (operation_of call) (flat_map operation_of calls)
+init_operation (call ∷ calls) (inr i) = in_right init_asked (operation_of call) (flat_map operation_of calls)
     (init_operation calls i)
 
 other_op : (op : ℕ) (qs : List Asked) (b : Asked) → AllByRecursion (λ y. nat_eq op y ≡ false) (map op_of qs)

@@ -7,6 +7,7 @@ use Rattle.std.proofs.lemmas.List.Elements.{Contains-append_left, Contains-appen
 use Rattle.zapdu.specs.declared.apdu.Apdu.{Apdu}
 use Rattle.zapdu.specs.declared.apdu.Apdu.TheVariants as apdus
 use Rattle.zapdu.specs.declared.productions.close.Close.{Close as CloseApdu}
+use Rattle.zplan.specs.Positions.{IsIn}
 use Rattle.zorigin.specs.declared.settings.Settings.{Settings}
 use Rattle.zorigin.specs.declared.answer.Answer.{Answer}
 use Rattle.zorigin.specs.declared.answer.Asked.{Asked}
@@ -23,7 +24,7 @@ use Rattle.zorigin.specs.Sending.{request_of, present_request}
 use Rattle.zorigin.specs.Fitting.{fault_of}
 use Rattle.zorigin.specs.Log.{Log, Made, Got, Past, past, standing, state_of, request_list, admit_unless, after_verdict, is_close_call}
 use Rattle.zorigin.specs.Accepts.{IsAccepted}
-use Rattle.zorigin.proofs.Accepting.{IsIn, among, contained}
+use Rattle.zorigin.proofs.Members.{contained, among}
 use Rattle.zorigin.proofs.Proper.{answer_in, verdict_found}
 use Rattle.zexchange.specs.Exchange.{got_in}
 

@@ -9,11 +9,13 @@ use Rattle.std.proofs.lemmas.List.Sorted.{IsPermutation-refl, length_permutation
 use Rattle.zapdu.specs.declared.apdu.Apdu.{Apdu}
 use Rattle.zapdu.specs.declared.apdu.Apdu.TheVariants as apdus
 use Rattle.zapdu.specs.declared.productions.close.Close.{Close}
+use Rattle.zplan.specs.Positions.{IsIn}
 use Rattle.zorigin.specs.declared.settings.Settings.{Settings}
 use Rattle.zorigin.specs.declared.answer.Answer.{Answer}
 use Rattle.zorigin.specs.Sending.{encoding_of}
 use Rattle.zorigin.specs.Log.{opening, is_init_call, is_close_call}
-use Rattle.zorigin.proofs.Accepting.{IsIn, among, contained, accepted_so}
+use Rattle.zorigin.proofs.Members.{contained, among}
+use Rattle.zorigin.proofs.Accepting.{accepted_so}
 use Rattle.ztarget.specs.Receiving.{is_close, may_release}
 use Rattle.zoom.specs.States.{is_stopped}
 use Rattle.zoom.specs.Heard.{Deed, Heard, past_of, state_at}

@@ -1,7 +1,7 @@
 -- Lists that are parts of lists, in their order.
 use Rattle.std.proofs.Common.{◌≡◌, ◌⊎◌, inl, inr, ℕ, zero, suc, List, [], ◌∷◌, ◌++◌, Some, refl, sym, ap, subst, ◌∙◌}
 use Rattle.std.specs.Prelude.{remove, slice_get}
-use Rattle.zorigin.proofs.Accepting.{IsIn}
+use Rattle.zplan.specs.Positions.{IsIn}
 
 -- the first list is a part of the second, in its order
 abbrev pub IsPart : {X : Type 0} → List X → List X → Type 0

@@ -2,13 +2,13 @@
 use Rattle.std.proofs.Common.{◌≡◌, ◌⊎◌, inl, inr, ℕ, zero, suc, true, false, List, [], ◌∷◌, ◌++◌, length, None, Some, refl, sym, ap, subst, ◌∙◌, append_assoc, append-nil, true≢false, arith}
 use Rattle.std.proofs.lemmas.Bool.Decides.{nat_tests}
 use Rattle.std.specs.Prelude.{◌==◌, remove, slice_get}
+use Rattle.zplan.specs.Positions.{IsIn}
+use Rattle.zplan.proofs.Cuts.{in_left, in_either}
 use Rattle.zapdu.specs.declared.apdu.Apdu.{Apdu}
 use Rattle.zapdu.specs.declared.apdu.Apdu.TheVariants as apdus
 use Rattle.zapdu.specs.declared.productions.close.Close.{Close}
-use Rattle.zorigin.proofs.Accepting.{IsIn}
 use Rattle.ztarget.specs.Receiving.{may_go}
 use Rattle.zoom.specs.Hosts.{Holdings, Event, Fed, FedPart, Released, Lost, HandedOut, Served, HasServed, unserved, replies_to, ArePutLast, Hears, Ignores, Sends}
-use Rattle.zaccord.proofs.Members.{in_front, in_parts}
 use Rattle.zexchange.proofs.Parts.{IsPart, part_append, part_remove, part_in, last_cut, there_in}
 
 no_some : {A : Type 0} {x : A} → None ≡ Some x → ⊥
@@ -82,7 +82,7 @@ module _ (holdings : Holdings) where
         behind = f.behind ++ put.more;
         is = put.owed ∙ ap (λ z. z ++ put.more) f.is ∙ append_assoc f.before f.behind put.more;
         among = f.among;
-        late = λ v j. in_front v f.behind put.more (f.late v j);
+        late = λ v j. in_left v f.behind put.more (f.late v j);
         left = subst (λ z. IsPart z (f.behind ++ put.more)) (sym put.last)
             (part_append p.pending f.behind put.more f.left);
       }
@@ -117,7 +117,7 @@ module _ (holdings : Holdings) where
         → Follows (replies_to holdings p.received) c b (remove p.pending k)
     followed_last a b c none e i =
         let whole : a ≡ p.sent ++ x.reply ∷ [] = sym (append-nil a) ∙ ap (λ z. a ++ z) (sym none) ∙ sym e in
-        by (in_parts (apdus.Close c) p.sent (x.reply ∷ []) (subst (IsIn (apdus.Close c)) whole i))
+        by (in_either (apdus.Close c) p.sent (x.reply ∷ []) (subst (IsIn (apdus.Close c)) whole i))
       where
         by : IsIn (apdus.Close c) p.sent ⊎ IsIn (apdus.Close c) (x.reply ∷ [])
             → Follows (replies_to holdings p.received) c b (remove p.pending k)
@@ -157,7 +157,7 @@ module _ (holdings : Holdings) where
           behind = f.behind;
           is = f.is;
           among = f.among;
-          late = λ v j. by f v (in_parts v cut.0 (x.reply ∷ []) (subst (IsIn v) cut.1 j));
+          late = λ v j. by f v (in_either v cut.0 (x.reply ∷ []) (subst (IsIn v) cut.1 j));
           left = part_remove p.pending f.behind k f.left;
         }
       where

@@ -7,7 +7,7 @@ use Rattle.zapdu.specs.declared.apdu.Apdu.{Apdu}
 use Rattle.zapdu.specs.declared.apdu.Apdu.TheVariants as apdus
 use Rattle.zapdu.specs.declared.productions.close.Close.{Close}
 use Rattle.zapdu.specs.declared.productions.search_request.SearchRequest.{SearchRequest}
-use Rattle.zorigin.proofs.Accepting.{among, contained}
+use Rattle.zorigin.proofs.Members.{contained, among}
 use Rattle.ztarget.specs.declared.database.Database.{Database}
 use Rattle.ztarget.specs.declared.settings.TargetSettings.{TargetSettings}
 use Rattle.ztarget.specs.declared.error.TargetError.{TargetError}

@@ -8,6 +8,7 @@ use Rattle.zapdu.specs.declared.apdu.Apdu.{Apdu}
 use Rattle.zapdu.specs.declared.apdu.Apdu.TheVariants as apdus
 use Rattle.zapdu.specs.declared.productions.init_response.InitResponse.{InitResponse}
 use Rattle.zapdu.specs.declared.productions.close.Close.{Close as CloseApdu}
+use Rattle.zplan.specs.Positions.{IsIn}
 use Rattle.zorigin.specs.declared.answer.Answer.{Answer}
 use Rattle.zorigin.specs.declared.answer.Asked.{Asked}
 use Rattle.zorigin.specs.declared.answer.What.{What}
@@ -19,7 +20,6 @@ use Rattle.zorigin.specs.Standings.{Call, Init, Search, Present, Close, ready}
 use Rattle.zorigin.specs.Changes.{force_in}
 use Rattle.zorigin.specs.Fitting.{Fits}
 use Rattle.zorigin.specs.Log.{state_from, state_by, closing_state, opens, is_init, is_init_call, answers}
-use Rattle.zorigin.proofs.Accepting.{IsIn}
 use Rattle.zoom.specs.declared.state.State.TheVariants as states
 use Rattle.zoom.specs.States.{state_as, is_stopped}
 use Rattle.zoom.specs.Steering.{is_rejection}

@@ -15,7 +15,8 @@ use Rattle.zorigin.specs.Calls.{refusal}
 use Rattle.zorigin.specs.Replies.{verdict}
 use Rattle.zorigin.specs.Sending.{encoding_of, request_of}
 use Rattle.zorigin.specs.Log.{Made, Got, Past, standing, state_of, opening, request_list, admit_unless, after_verdict, is_close_call, is_init_call}
-use Rattle.zorigin.proofs.Accepting.{accepted_so, contained}
+use Rattle.zorigin.proofs.Members.{contained}
+use Rattle.zorigin.proofs.Accepting.{accepted_so}
 use Rattle.ztarget.specs.declared.database.Database.{Database}
 use Rattle.ztarget.specs.declared.settings.TargetSettings.{TargetSettings}
 use Rattle.zoom.specs.States.{state_as, is_stopped, or_else}

@@ -1,9 +1,11 @@
 -- The accepted replies of a log are those that some part of it accepts.
-use Rattle.std.proofs.Common.{◌≡◌, ◌⊎◌, inl, inr, ℕ, ◌<◌, zero, suc, Bool, true, false, cond, not, nat_eq, List, [], ◌∷◌, ◌++◌, map, filter, length, Option, None, Some, Result, Ok, Err, refl, sym, ap, subst, ◌∙◌, true≢false, arith}
-use Rattle.std.specs.Prelude.{Contains, slice_index_or}
+use Rattle.std.proofs.Common.{◌≡◌, ◌⊎◌, inl, inr, ℕ, Bool, true, false, cond, not, nat_eq, List, [], ◌∷◌, ◌++◌, map, Option, None, Some, Result, Ok, Err, refl, sym, ap, subst, ◌∙◌, true≢false, arith}
+use Rattle.std.specs.Prelude.{Contains}
 use Rattle.std.proofs.lemmas.Bool.Decides.{nat_tests}
 use Rattle.std.specs.List.{list_any}
 use Rattle.std.specs.Map.{lookup}
+use Rattle.zplan.specs.Positions.{IsIn}
+use Rattle.zplan.proofs.Cuts.{in_left, in_right}
 use Rattle.zapdu.specs.declared.apdu.Apdu.{Apdu}
 use Rattle.zapdu.specs.declared.apdu.Apdu.TheVariants as apdus
 use Rattle.zorigin.specs.declared.settings.Settings.{Settings}
@@ -23,64 +25,14 @@ use Rattle.zorigin.specs.Calls.{refusal}
 use Rattle.zorigin.specs.Replies.{only_of, numbered_as, named, taken_as, taken_by, judged, against, answered, verdict}
 use Rattle.zorigin.specs.Log.{Log, Entry, Made, Got, past, Past, state_of, asked, is_answered, outstanding, opening, force_after, numbered, standing, admit_unless, after_verdict}
 use Rattle.zorigin.specs.Accepts.{id_of, Refers, IsAccepted}
+use Rattle.zorigin.proofs.Members.{contained, among, in_push, any_in, in_filter, of_filter}
 use Rattle.zorigin.proofs.Operations.{has, AreDistinct, distinct_filter}
 use Rattle.zorigin.proofs.Proper.{IsProper, proper, answer_in, news}
 use Rattle.zorigin.proofs.Ids.{spelled_number, number_spelled}
 use Rattle.zorigin.proofs.Fittings.{fitting, fits_none}
 
--- ---- members
-
-abbrev pub IsIn : {X : Type 0} → X → List X → Type 0
-IsIn x [] = ⊥
-IsIn x (y ∷ ys) = (x ≡ y) ⊎ IsIn x ys
-
-pub contained : {X : Type 0} (x : X) (xs : List X) → IsIn x xs → Contains xs x
-contained x [] h = absurd h
-contained x (y ∷ ys) (inl e) = (0, (let at : 0 < length (y ∷ ys) = omega arith in at), sym e)
-contained x (y ∷ ys) (inr i) =
-    let more = contained x ys i in
-    let at : suc more.0 < length (y ∷ ys) = omega (arith, more.1) in
-    (suc more.0, at, more.2)
-
-pub among : {X : Type 0} (x : X) (xs : List X) → Contains xs x → IsIn x xs
-among {X} x xs h = by xs h.0 h.1 h.2
-  where
-    by : (ys : List X) (k : ℕ) → k < length ys → slice_index_or ys k x ≡ x → IsIn x ys
-    by [] k h e = absurd (omega arith)
-    by (y ∷ ys) zero h e = inl (sym e)
-    by (y ∷ ys) (suc k) h e = inr (by ys k (omega arith) e)
-
-pub in_push : {X : Type 0} (x y : X) (xs : List X) → IsIn x (xs ++ y ∷ []) → IsIn x xs ⊎ (x ≡ y)
-in_push x y [] (inl e) = inr e
-in_push x y [] (inr f) = absurd f
-in_push x y (z ∷ xs) (inl e) = inl (inl e)
-in_push x y (z ∷ xs) (inr i) = elim (in_push x y xs i) [ inl j ↦ inl (inr j) | inr e ↦ inr e ]
-
-in_front : {X : Type 0} (x y : X) (xs : List X) → IsIn x xs → IsIn x (xs ++ y ∷ [])
-in_front x y [] f = absurd f
-in_front x y (z ∷ xs) (inl e) = inl e
-in_front x y (z ∷ xs) (inr i) = inr (in_front x y xs i)
-
-in_last : {X : Type 0} (x : X) (xs : List X) → IsIn x (xs ++ x ∷ [])
-in_last x [] = inl refl
-in_last x (z ∷ xs) = inr (in_last x xs)
-
-in_filter : (u : Asked → Bool) (qs : List Asked) (q : Asked) → IsIn q qs → u q ≡ true → IsIn q (filter u qs)
-in_filter u [] q i h = absurd i
-in_filter u (x ∷ xs) q (inl e) h = rw (ap u (sym e) ∙ h) (inl e)
-in_filter u (x ∷ xs) q (inr i) h = let more = in_filter u xs q i h in elim (u x) as (λ b. IsIn q (cond b (x ∷ filter u xs) (filter u xs))) [ true ↦ inr more | false ↦ more ]
-
-of_filter : (u : Asked → Bool) (qs : List Asked) (q : Asked) → IsIn q (filter u qs) → IsIn q qs
-of_filter u [] q i = absurd i
-of_filter u (x ∷ xs) q i = elim (u x) as (λ b. IsIn q (cond b (x ∷ filter u xs) (filter u xs)) → IsIn q (x ∷ xs)) [
-  | true ↦ λ j. elim j [ inl e ↦ inl e | inr k ↦ inr (of_filter u xs q k) ]
-  | false ↦ λ j. inr (of_filter u xs q j)
-] i
-
 in_any : (qs : List Asked) (q : Asked) → IsIn q qs → list_any (has q.op) qs ≡ true
-in_any [] q i = absurd i
-in_any (x ∷ xs) q (inl e) = let s : x.op ≡ q.op = ap (λ (y : Asked). y.op) (sym e) in grind (arith, nat_tests)
-in_any (x ∷ xs) q (inr i) = let more = in_any xs q i in grind arith
+in_any qs q i = any_in (has q.op) qs q i (grind (arith, nat_tests))
 
 -- ---- the operation that a reference id names
 
@@ -178,16 +130,16 @@ accepted_so settings log a h = accepted_in settings log a (among a (past setting
 -- ---- and back
 
 verdict_in : (p : Past) (v : Result Taken Refused) (a : Answer) → answer_in v ≡ Some a → IsIn a (after_verdict p v).accepted
-verdict_in p (Ok (taken.Opened b)) a h = let e : b ≡ a = cc in subst (λ x. IsIn x (p.accepted ++ b ∷ [])) e (in_last b p.accepted)
-verdict_in p (Ok (taken.Rejected b)) a h = let e : b ≡ a = cc in subst (λ x. IsIn x (p.accepted ++ b ∷ [])) e (in_last b p.accepted)
-verdict_in p (Ok (taken.Answered b)) a h = let e : b ≡ a = cc in subst (λ x. IsIn x (p.accepted ++ b ∷ [])) e (in_last b p.accepted)
+verdict_in p (Ok (taken.Opened b)) a h = let e : b ≡ a = cc in subst (λ x. IsIn x (p.accepted ++ b ∷ [])) e (in_right b p.accepted (b ∷ []) (inl refl))
+verdict_in p (Ok (taken.Rejected b)) a h = let e : b ≡ a = cc in subst (λ x. IsIn x (p.accepted ++ b ∷ [])) e (in_right b p.accepted (b ∷ []) (inl refl))
+verdict_in p (Ok (taken.Answered b)) a h = let e : b ≡ a = cc in subst (λ x. IsIn x (p.accepted ++ b ∷ [])) e (in_right b p.accepted (b ∷ []) (inl refl))
 verdict_in p (Ok taken.Closed) a h = absurd (cc)
 verdict_in p (Err r) a h = absurd (cc)
 
 pub stays : (p : Past) (v : Result Taken Refused) (a : Answer) → IsIn a p.accepted → IsIn a (after_verdict p v).accepted
-stays p (Ok (taken.Opened b)) a i = in_front a b p.accepted i
-stays p (Ok (taken.Rejected b)) a i = in_front a b p.accepted i
-stays p (Ok (taken.Answered b)) a i = in_front a b p.accepted i
+stays p (Ok (taken.Opened b)) a i = in_left a p.accepted (b ∷ []) i
+stays p (Ok (taken.Rejected b)) a i = in_left a p.accepted (b ∷ []) i
+stays p (Ok (taken.Answered b)) a i = in_left a p.accepted (b ∷ []) i
 stays p (Ok taken.Closed) a i = i
 stays p (Err r) a i = elim (is_open (state_of p)) as (λ b. IsIn a (cond b (record p { fault = Some r }) p).accepted) [ true ↦ i | false ↦ i ]
 

@@ -8,6 +8,7 @@ pub mod CallSteps
 pub mod ReplySteps
 pub mod Ids
 pub mod Fittings
+pub mod Members
 pub mod Accepting
 pub mod KnownFacts
 pub mod SpelledRecords

@@ -2,7 +2,9 @@
 use Rattle.std.proofs.Common.{◌≡◌, inl, inr, ℕ, Bool, true, false, cond, nat_eq, ◌||◌, ◌==◌, List, [], ◌∷◌, ◌++◌, map, Option, None, Some, Result, Ok, Err, refl, sym, ap, subst, ◌∙◌, true≢false, arith}
 use Rattle.std.proofs.lemmas.Bool.Decides.{nat_tests}
 use Rattle.std.specs.Prelude.{Contains}
-use Rattle.std.specs.List.{list_any, find, AllByRecursion, IsDistinct}
+use Rattle.std.specs.List.{list_any, AllByRecursion, IsDistinct}
+use Rattle.zplan.specs.Positions.{IsIn}
+use Rattle.zplan.proofs.Cuts.{in_left}
 use Rattle.zapdu.specs.declared.apdu.Apdu.{Apdu}
 use Rattle.zapdu.specs.declared.apdu.Apdu.TheVariants as apdus
 use Rattle.zorigin.specs.declared.settings.Settings.{Settings}
@@ -27,22 +29,13 @@ use Rattle.zorigin.specs.Laws.{set_of, answered_op, Accepts, IsOpened, IsOrderly
 use Rattle.zorigin.proofs.Operations.{has, AreDistinct}
 use Rattle.zorigin.proofs.Searches.{of_set, AreSetsDistinct, sets_with}
 use Rattle.zorigin.proofs.Proper.{made, asked_more, proper, IsNews, news, answer_in, free, ready_if}
-use Rattle.zorigin.proofs.Accepting.{IsIn, contained, among, in_push, same_call, stays, accepted_so}
+use Rattle.zorigin.proofs.Members.{contained, among, in_push, of_all, find_in}
+use Rattle.zorigin.proofs.Accepting.{same_call, stays, accepted_so}
 use Rattle.zorigin.proofs.Calling.{ready_present}
 
 neither : (a b : Bool) → (a || b) ≡ false → (a ≡ false) × (b ≡ false)
 neither false b h = (refl, h)
 neither true b h = absurd (true≢false h)
-
-all_in : {X : Type 0} (P : X → Type 0) (xs : List X) (x : X) → AllByRecursion P xs → IsIn x xs → P x
-all_in P [] x h i = absurd i
-all_in P (y ∷ ys) x h (inl e) = subst P (sym e) h.0
-all_in P (y ∷ ys) x h (inr i) = all_in P ys x h.1 i
-
-in_append : {X : Type 0} (x : X) (xs ys : List X) → IsIn x xs → IsIn x (xs ++ ys)
-in_append x [] ys f = absurd f
-in_append x (y ∷ xs) ys (inl e) = inl e
-in_append x (y ∷ xs) ys (inr i) = inr (in_append x xs ys i)
 
 -- ---- distinct numbers
 
@@ -98,7 +91,7 @@ once settings (Got reply ∷ log) = let p = past settings log in once_verdict p 
 
 asked_call : (p : Past) (c : Call) (r : Option CallRefused) (q : Asked) → IsIn q (asked p) → IsIn q (asked (admit_unless p c r))
 asked_call p c (Some r) q i = i
-asked_call p c None q i = subst (λ l. IsIn q l) (sym (asked_more p c)) (in_append q (asked p) (operation_of c) i)
+asked_call p c None q i = subst (λ l. IsIn q l) (sym (asked_more p c)) (in_left q (asked p) (operation_of c) i)
 
 same_admitted : (p : Past) (v : Result Taken Refused) → p.admitted ≡ (after_verdict p v).admitted
 same_admitted p (Ok (taken.Opened a)) = refl
@@ -129,15 +122,6 @@ known settings log a h =
 
 -- ---- Close
 
-found_in : (t : Answer → Bool) (xs : List Answer) (a : Answer) → find t xs ≡ Some a → IsIn a xs × (t a ≡ true)
-found_in t [] a h = absurd (cc)
-found_in t (x ∷ xs) a h =
-    let more = found_in t xs a in
-    elim (t x) as (λ b. t x ≡ b → cond b (Some x) (find t xs) ≡ Some a → IsIn a (x ∷ xs) × (t a ≡ true)) [
-      | true ↦ λ e g. let same : x ≡ a = cc in (inl (sym same), subst (λ (y : Answer). t y ≡ true) same e)
-      | false ↦ λ e g. (inr (more g).0, (more g).1)
-    ] refl h
-
 pub init_what : (w : What) → is_init w ≡ true → w ≡ what.Init
 init_what what.Init h = refl
 init_what what.Search h = absurd (true≢false (sym h))
@@ -167,7 +151,7 @@ answer_ready None false closing begun (Some a) h = (a, refl, ready_accepts closi
 ready_opened : (p : Past) → is_ready (state_of p) ≡ true → IsOpened p
 ready_opened p h =
     let answer = answer_ready p.fault p.closed (list_any is_close_call p.admitted) (list_any is_init_call p.admitted) (opening p) h in
-    let found = found_in opens p.accepted answer.0 answer.1 in
+    let found = find_in opens p.accepted answer.0 answer.1 in
     record { answer = answer.0; accepted = contained answer.0 p.accepted found.0; init = init_what answer.0.asked.what found.1; accepts = answer.2 }
 
 opened_more : (p q : Past) → ((a : Answer) → IsIn a p.accepted → IsIn a q.accepted) → IsOpened p → IsOpened q
@@ -201,7 +185,7 @@ orderly settings log =
       sets = distinct_sets (searches_in p) (sets_with p.accepted (made p) ok.sets);
       known = known settings log;
       once = once settings log;
-      positions = λ q h. all_in (λ (x : Asked). asks_positions x.what ≡ true) (asked p) q ok.positions (among q (asked p) h);
+      positions = λ q h. of_all (λ (x : Asked). asks_positions x.what ≡ true) (asked p) q ok.positions (among q (asked p) h);
       closing = λ h. closing settings log (among Close p.admitted h);
     }
 
