@@ -10,7 +10,7 @@ use Rattle.zapdu.specs.declared.productions.record.Record.{Record}
 use Rattle.zorigin.specs.declared.range.Range.{Range}
 use Rattle.zorigin.specs.declared.state.Searched.{Searched}
 use Rattle.zorigin.specs.Ranges.{positions, positions_of, natural, is_past, are_ranges, follow, last_of}
-use Rattle.zorigin.specs.Sending.{sent_range, additional, composition}
+use Rattle.zorigin.specs.Sending.{sent_range, additional, composition, present_value}
 use Rattle.zorigin.specs.Fitting.{records_in, diagnostics_in}
 use Rattle.zorigin.proofs.Ranges.{follows, follow_first, natural_low, low_positions}
 use Rattle.ztarget.specs.declared.settings.TargetSettings.{TargetSettings}
@@ -23,7 +23,7 @@ use Rattle.ztarget.specs.Initialising as target
 use Rattle.ztarget.specs.Showing.{shown, held}
 use Rattle.ztarget.specs.Responding.{presented, present_unless, present_response, present_fault, composition_fault, range_fault, ranges_fault, records_of}
 use Rattle.zcatalogue.proofs.Members.{AreWithin}
-use Rattle.zcatalogue.proofs.Standings.{given, present_by}
+use Rattle.zcatalogue.proofs.Standings.{given}
 
 -- ---- ranges
 
@@ -37,7 +37,7 @@ same_positions (r ∷ rs) =
     (λ i. range_with_len (same_natural r.start i) (same_natural r.n i) ++ same_positions rs i)
 
 pub same_ranges : (named : Bool) (op : ℕ) (r : Range) (rs : List Range) (s : Searched)
-    → ranges_of (present_by named op r rs s) ≡ map sent_range (r ∷ rs)
+    → ranges_of (present_value named op r rs s) ≡ map sent_range (r ∷ rs)
 same_ranges named op r [] s = refl
 same_ranges named op r (x ∷ xs) s = refl
 
@@ -96,13 +96,13 @@ module _ (offers : TargetSettings) (named : Bool) (op : ℕ) (r : Range) (rs : L
   composition_free (Some name) = refl
 
   no_fault : (n : ℕ) → are_ranges (r ∷ rs) ≡ true → is_past (pos n) (positions (r ∷ rs)) ≡ false
-      → present_fault true (present_by named op r rs s) n ≡ None
+      → present_fault true (present_value named op r rs s) n ≡ None
   no_fault n ranges past =
       let set = ap (are_in_set n) (same_ranges named op r rs s)
       ∙ all_in_set n (pos 0) (r ∷ rs) (follows (r ∷ rs) ranges) past in
       ap (λ o. first_of o (first_of (composition_fault (composition s.elements))
-      (range_fault n (ranges_of (present_by named op r rs s))))) (ranges_free rs)
-      ∙ ap (λ o. first_of o (range_fault n (ranges_of (present_by named op r rs s)))) (composition_free s.elements)
+      (range_fault n (ranges_of (present_value named op r rs s))))) (ranges_free rs)
+      ∙ ap (λ o. first_of o (range_fault n (ranges_of (present_value named op r rs s)))) (composition_free s.elements)
       ∙ ap (λ (b : Bool). if b then None else Some (why)) set
     where
       why : Reason
@@ -110,12 +110,12 @@ module _ (offers : TargetSettings) (named : Bool) (op : ℕ) (r : Range) (rs : L
 
   pub presents : (found : List Found) → are_ranges (r ∷ rs) ≡ true
       → is_past (pos (length found)) (positions (r ∷ rs)) ≡ false
-      → presented (given offers) (present_by named op r rs s) (Some found)
-      ≡ present_response (present_by named op r rs s) (length found)
+      → presented (given offers) (present_value named op r rs s) (Some found)
+      ≡ present_response (present_value named op r rs s) (length found)
       (kept_of offers s.syntax found (positions (r ∷ rs)))
   presents found ranges past =
-      ap (present_unless (given offers).size (present_by named op r rs s) found) (no_fault (length found) ranges past)
-      ∙ ap (λ l. present_response (present_by named op r rs s) (length found) (kept_of offers s.syntax found l))
+      ap (present_unless (given offers).size (present_value named op r rs s) found) (no_fault (length found) ranges past)
+      ∙ ap (λ l. present_response (present_value named op r rs s) (length found) (kept_of offers s.syntax found l))
       (ap asked.positions (same_ranges named op r rs s) ∙ same_positions (r ∷ rs))
 
 pub all_within : (n : ℕ) (ranges : List Range) → are_ranges ranges ≡ true → is_past (pos n) (positions ranges) ≡ false

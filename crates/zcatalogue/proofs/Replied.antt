@@ -30,7 +30,7 @@ use Rattle.zorigin.specs.Changes.{present_asked, unanswered, outcome_in}
 use Rattle.zorigin.specs.Standings.{Call, Init, Search, Present, Close, Standing, is_ready, is_found, search_of}
 use Rattle.zorigin.specs.Fitting.{Fits, first_row}
 use Rattle.zorigin.specs.Ranges.{positions, are_ranges, is_past, natural}
-use Rattle.zorigin.specs.Sending.{init_request, search_request, present_request}
+use Rattle.zorigin.specs.Sending.{init_value, init_request, search_request, present_value, present_request}
 use Rattle.zorigin.specs.Calls.{refusal, or_unsendable, unsendable, early_rows, early_refusal, past_outcome, past_count, is_unready}
 use Rattle.zorigin.specs.Replies.{verdict}
 use Rattle.zorigin.specs.Log.{Log, Made, Got, past, standing, state_of, opens, is_init, asked, answers, operation_of, search_in, filed, with_outcome, outcome_by, op_of, admit_unless}
@@ -61,7 +61,7 @@ use Rattle.zaccord.specs.Accord.{requests}
 use Rattle.zaccord.proofs.Accord.{init_fits}
 use Rattle.zcatalogue.proofs.Owing.{IsAnswer, answered, Replies, kind}
 use Rattle.zcatalogue.proofs.Sent.{IsOwed, owes, IsRequest, is_request}
-use Rattle.zcatalogue.proofs.Standings.{init_of, search_by, present_by, given, response, is_search_call, find_in, IsReady, ready, StandsIn, stands, OpenedSo, same_fault}
+use Rattle.zcatalogue.proofs.Standings.{search_by, given, response, is_search_call, find_in, IsReady, ready, StandsIn, stands, OpenedSo, same_fault}
 use Rattle.zcatalogue.proofs.Standings as standings
 use Rattle.zcatalogue.proofs.Members.{AreWithin}
 use Rattle.zcatalogue.proofs.Presents.{kept_of, presents, all_within}
@@ -311,7 +311,7 @@ module _ (orderly : (s : Settings) (l : Log) → IsOrderly (past s l))
       let m = subst (Replies o.0) is (replies_to r o) in
       let call = for_init (standing (past settings o.2.earlier)) o.2.call o.0 w (requested r o) m in
       let sent = subst (λ c. IsRequest (standing (past settings o.2.earlier)) c o.0) call (requested r o) in
-      let v_is : o.0 ≡ apdus.InitRequest (init_of settings) =
+      let v_is : o.0 ≡ apdus.InitRequest (init_value settings) =
       sent ∙ ap init_request (past_settings settings o.2.earlier) in
       let g = subst (λ z. IsAnswer databases offers (before r o).state (before r o).sets z o.1) v_is (given_to r o) in
       o.3 ∙ ap (λ (b : targets.Answer). b.reply) g.1
@@ -425,7 +425,7 @@ module _ (orderly : (s : Settings) (l : Log) → IsOrderly (past s l))
       let good = ready_if (are_ranges c.2) range.0 in
       let past : is_past (pos (length found_here)) (positions c.2) ≡ false =
       sym (ap (past_outcome (positions c.2)) outcome) ∙ ap (past_count (positions c.2)) (sym sent.4) ∙ range.1 in
-      let v_is : o.0 ≡ apdus.PresentRequest (present_by offers.named c.0 first others one) =
+      let v_is : o.0 ≡ apdus.PresentRequest (present_value offers.named c.0 first others one) =
       sent.5 ∙ (λ i. present_request (is_open.force i).named c.0 first others (look.0 i)) in
       let state : t.state ≡ Open (given offers) = (stood r o).state ∙ is_open.stands in
       let set = (stood r o).sets count.0 look.1 in
@@ -436,14 +436,14 @@ module _ (orderly : (s : Settings) (l : Log) → IsOrderly (past s l))
       record {
         op = c.0;
         ranges = c.2;
-        value = present_by offers.named c.0 first others one;
+        value = present_value offers.named c.0 first others one;
         reply = o.3 ∙ ap (λ (b : targets.Answer). b.reply) g.2
-            ∙ ap (λ z. (to_present z t.sets (present_by offers.named c.0 first others one)).reply) terms
+            ∙ ap (λ z. (to_present z t.sets (present_value offers.named c.0 first others one)).reply) terms
             ∙ ap (λ z. apdus.PresentResponse
-            (presented (given offers) (present_by offers.named c.0 first others one) z)) set
+            (presented (given offers) (present_value offers.named c.0 first others one) z)) set
             ∙ ap apdus.PresentResponse (presents offers offers.named c.0 first others one found_here good_all past_all)
             ∙ ap (λ l. apdus.PresentResponse
-            (present_response (present_by offers.named c.0 first others one) (length found_here)
+            (present_response (present_value offers.named c.0 first others one) (length found_here)
             (kept_of offers q.syntax found_here (positions l)))) (sym sent.3);
         id = refl;
         asks = o.2.asks (present_asked c.0 1 c.2)

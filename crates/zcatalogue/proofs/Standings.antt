@@ -1,6 +1,6 @@
 -- Where the target stands after the requests of an origin, and what Init puts in force.
 use Rattle.std.proofs.Common.{◌≡◌, inl, inr, ℕ, Bool, true, false, cond, if◌then◌else◌, List, [], ◌∷◌, ◌++◌, Option, None, Some, refl, sym, ap, subst, ◌∙◌}
-use Rattle.std.specs.Prelude.{not, ◌&&◌, ◌||◌, codes, pos, reverse}
+use Rattle.std.specs.Prelude.{not, ◌&&◌, ◌||◌, codes, reverse}
 use Rattle.std.specs.List.{list_any, find, flat_map}
 use Rattle.std.proofs.lemmas.Slice.Eq.{bytes_eq-Decides}
 use Rattle.std.proofs.lemmas.List.Folds.{list_any-append}
@@ -10,13 +10,10 @@ use Rattle.zapdu.specs.declared.apdu.Apdu.TheVariants as apdus
 use Rattle.zapdu.specs.declared.productions.init_request.InitRequest.{InitRequest}
 use Rattle.zapdu.specs.declared.productions.init_response.InitResponse.{InitResponse}
 use Rattle.zapdu.specs.declared.productions.search_request.SearchRequest.{SearchRequest}
-use Rattle.zapdu.specs.declared.productions.present_request.PresentRequest.{PresentRequest}
 use Rattle.zapdu.specs.declared.productions.search_query.SearchQuery.TheVariants.{Rpn}
 use Rattle.zapdu.specs.declared.productions.close.Close.{Close as CloseApdu}
 use Rattle.zorigin.specs.declared.settings.Settings.{Settings}
 use Rattle.zorigin.specs.declared.settings.Ask.{Ask}
-use Rattle.zorigin.specs.declared.range.Range.{Range}
-use Rattle.zorigin.specs.declared.state.Searched.{Searched}
 use Rattle.zorigin.specs.declared.answer.Asked.{Asked}
 use Rattle.zorigin.specs.declared.answer.Answer.{Answer}
 use Rattle.zorigin.specs.declared.refusal.CallRefused.{CallRefused}
@@ -26,8 +23,7 @@ use Rattle.zorigin.specs.declared.state.State.TheVariants as states
 use Rattle.zorigin.specs.declared.state.InForce.{InForce}
 use Rattle.zorigin.specs.Changes.{force_in}
 use Rattle.zorigin.specs.Standings.{Call, Init, Search, Present, Close, is_fresh, is_ready, nothing_in_force}
-use Rattle.zorigin.specs.Sending.{init_request, search_request, versions, options, set_name, element_set, additional, composition}
-use Rattle.zorigin.specs.References.{reference_id}
+use Rattle.zorigin.specs.Sending.{init_value, init_request, search_value, search_request, present_value, set_name, close_value}
 use Rattle.zorigin.specs.Calls.{refusal}
 use Rattle.zorigin.specs.Replies.{verdict}
 use Rattle.zorigin.specs.Log.{Log, Made, Got, Past, past, standing, state_of, state_from, state_by, closing_state, opening, opens, is_init, force_after, asked, operation_of, is_close_call, is_init_call, admit_unless}
@@ -55,71 +51,17 @@ use Rattle.zorigin.proofs.Orderly.{sent_request}
 
 -- ---- the requests
 
-abbrev pub init_of : Settings → InitRequest
-init_of settings = record {
-  reference_id = Some (reference_id 0);
-  protocol_version = versions;
-  options = options;
-  preferred_message_size = pos 1048576;
-  exceptional_record_size = pos 1048576;
-  id_authentication = None;
-  implementation_id = None;
-  implementation_name = Some settings.name;
-  implementation_version = None;
-  user_information_field = None;
-  other_info = None;
-}
-
 abbrev pub search_by : Bool → Ask → SearchRequest
-search_by named ask = record {
-  reference_id = Some (reference_id 1);
-  small_set_upper_bound = ask.small;
-  large_set_lower_bound = ask.large;
-  medium_set_present_number = ask.medium;
-  replace_indicator = true;
-  result_set_name = set_name named 1;
-  database_names = ask.databases;
-  small_set_element_set_names = element_set ask.elements;
-  medium_set_element_set_names = element_set ask.elements;
-  preferred_record_syntax = ask.syntax;
-  query = Rpn ask.query;
-  additional_search_info = None;
-  other_info = None;
-}
-
-abbrev pub present_by : Bool → ℕ → Range → List Range → Searched → PresentRequest
-present_by named op first others searched = record {
-  reference_id = Some (reference_id op);
-  result_set_id = set_name named searched.set;
-  result_set_start_point = first.start;
-  number_of_records_requested = first.n;
-  additional_ranges = additional others;
-  record_composition = composition searched.elements;
-  preferred_record_syntax = searched.syntax;
-  max_segment_count = None;
-  max_record_size = None;
-  max_segment_size = None;
-  other_info = None;
-}
-
-abbrev close_value : CloseApdu
-close_value = record {
-  reference_id = None;
-  close_reason = pos 0;
-  diagnostic_information = None;
-  resource_report_format = None;
-  resource_report = None;
-  other_info = None;
-}
+search_by named ask = search_value named 1 1 ask
 
 -- what the target puts in force
 abbrev pub given : TargetSettings → Terms
 given offers = record { named = offers.named; three = true; size = size_given offers }
 
 abbrev pub response : TargetSettings → Settings → InitResponse
-response offers settings = init_response offers (init_of settings)
+response offers settings = init_response offers (init_value settings)
 
-pub given_terms : (offers : TargetSettings) (settings : Settings) → terms offers (init_of settings) ≡ given offers
+pub given_terms : (offers : TargetSettings) (settings : Settings) → terms offers (init_value settings) ≡ given offers
 given_terms offers settings = refl
 
 -- ---- lists of calls
@@ -234,7 +176,7 @@ fresh_from None false closing begun (Some x) e =
 -- where it stands, by whether Init and Close were sent
 abbrev pub expected : TargetSettings → Settings → Bool → Bool → State
 expected offers settings begun true = Ended
-expected offers settings true false = after_init offers (init_of settings)
+expected offers settings true false = after_init offers (init_value settings)
 expected offers settings false false = Fresh
 
 pub accepts : (offers : TargetSettings) (settings : Settings) → offers.refuse ≡ false
@@ -246,9 +188,9 @@ pub refuses : (offers : TargetSettings) (settings : Settings) → offers.refuse 
 refuses offers settings e = ap (λ b. not b && true) e
 
 opened_state_of : (offers : TargetSettings) (settings : Settings) → offers.refuse ≡ false
-    → after_init offers (init_of settings) ≡ Open (given offers)
+    → after_init offers (init_value settings) ≡ Open (given offers)
 opened_state_of offers settings e =
-    ap (λ (b : Bool). if b then Open (terms offers (init_of settings)) else Ended) (accepts offers settings e)
+    ap (λ (b : Bool). if b then Open (terms offers (init_value settings)) else Ended) (accepts offers settings e)
 
 -- the terms are those that it gives
 pub open_terms : (offers : TargetSettings) (settings : Settings) (begun closing : Bool) (t : Terms)
@@ -257,8 +199,8 @@ open_terms offers settings begun true t e = absurd cc
 open_terms offers settings false false t e = absurd cc
 open_terms offers settings true false t e = by ((response offers settings).result) e
   where
-    by : (b : Bool) → (if b then Open (terms offers (init_of settings)) else Ended) ≡ Open t → t ≡ given offers
-    by true f = let x : terms offers (init_of settings) ≡ t = cc in sym x
+    by : (b : Bool) → (if b then Open (terms offers (init_value settings)) else Ended) ≡ Open t → t ≡ given offers
+    by true f = let x : terms offers (init_value settings) ≡ t = cc in sym x
     by false f = absurd cc
 
 -- what is in force then
@@ -429,14 +371,14 @@ module _ (databases : List Database) (offers : TargetSettings) (settings : Setti
           → StandsIn (past settings log) → LeavesSo (past settings log) call v
       made log opened Init v admits request steering s =
           let p = past settings log in
-          let v_is : v ≡ apdus.InitRequest (init_of settings) = request ∙ ap init_request (past_settings settings log) in
+          let v_is : v ≡ apdus.InitRequest (init_value settings) = request ∙ ap init_request (past_settings settings log) in
           let free_call = free (standing p) Init admits in
           let fresh = fresh_from p.fault p.closed (list_any is_close_call p.admitted)
           (list_any is_init_call p.admitted) (opening p)
           (ready_if (is_fresh (state_of p)) free_call.state) in
           let shut = unclosed p (list_any is_close_call p.admitted) refl (proper settings log) fresh.1 in
           let st : (target_at p).state ≡ Fresh = s.state ∙ (λ i. expected offers settings (fresh.0 i) (shut i)) in
-          let leaves = init_leaves (target_at p) (init_of settings) st in
+          let leaves = init_leaves (target_at p) (init_value settings) st in
           let begun = this_last is_init_call p.admitted Init refl in
           let closing = other_last is_close_call p.admitted Init refl ∙ shut in
           let same = other_last is_search_call p.admitted Init refl in
@@ -466,7 +408,7 @@ module _ (databases : List Database) (offers : TargetSettings) (settings : Setti
           let p = past settings log in
           let call = Present op set ranges in
           let leaves = present_leaves databases offers (target_at p)
-          (present_by (standing p).force.named op request.0 request.1 request.2) in
+          (present_value (standing p).force.named op request.0 request.1 request.2) in
           let begun = other_last is_init_call p.admitted call refl in
           let closing = other_last is_close_call p.admitted call refl in
           let same = other_last is_search_call p.admitted call refl in

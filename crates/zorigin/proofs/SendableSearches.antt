@@ -18,8 +18,7 @@ use Rattle.zapdu.specs.Productions.SearchQueries.{search_query}
 use Rattle.zapdu.specs.Productions.SearchDetails.{details_of, search_details_table, search_details_parts}
 use Rattle.zapdu.specs.Productions.SearchRequests.{search_request_table, search_request_parts}
 use Rattle.zorigin.specs.declared.settings.Ask.{Ask}
-use Rattle.zorigin.specs.References.{reference_id}
-use Rattle.zorigin.specs.Sending.{too_large, is_unsendable, set_name, element_set, search_request}
+use Rattle.zorigin.specs.Sending.{too_large, is_unsendable, element_set, search_value, search_request}
 use Rattle.zorigin.proofs.SendableSizes.{octets_more, run_within, run_before}
 use Rattle.zorigin.proofs.SendableParts.{Filled, Measures, measured}
 
@@ -103,21 +102,7 @@ in_search v ns e = measured search_request_table (fields search_request_table v)
 -- the parts of a search that can be sent
 module _ (named : Bool) (op set : ℕ) (ask : Ask) where
   abbrev request : SearchRequest
-  request = record {
-    reference_id = Some (reference_id op);
-    small_set_upper_bound = ask.small;
-    large_set_lower_bound = ask.large;
-    medium_set_present_number = ask.medium;
-    replace_indicator = true;
-    result_set_name = set_name named set;
-    database_names = ask.databases;
-    small_set_element_set_names = element_set ask.elements;
-    medium_set_element_set_names = element_set ask.elements;
-    preferred_record_syntax = ask.syntax;
-    query = Rpn ask.query;
-    additional_search_info = None;
-    other_info = None;
-  }
+  request = search_value named op set ask
 
   pub searched_so : is_unsendable (search_request named op set ask) ≡ false
       → IsHalf 2097152 ask.elements × AreArcs ask.syntax

@@ -7,12 +7,16 @@ use Rattle.zber.specs.Canonical.{canonical}
 use Rattle.zber.specs.Spelling.{Begins}
 use Rattle.zapdu.specs.declared.apdu.Apdu.{Apdu}
 use Rattle.zapdu.specs.declared.apdu.Apdu.TheVariants as apdus
+use Rattle.zapdu.specs.declared.productions.close.Close.{Close as CloseApdu}
 use Rattle.zapdu.specs.declared.productions.element_set_names.ElementSetNames.{ElementSetNames}
 use Rattle.zapdu.specs.declared.productions.element_set_names.ElementSetNames.TheVariants.{Generic}
+use Rattle.zapdu.specs.declared.productions.init_request.InitRequest.{InitRequest}
+use Rattle.zapdu.specs.declared.productions.present_request.PresentRequest.{PresentRequest}
 use Rattle.zapdu.specs.declared.productions.range.Range.{Range as SentRange}
 use Rattle.zapdu.specs.declared.productions.record_composition.RecordComposition.{RecordComposition}
 use Rattle.zapdu.specs.declared.productions.record_composition.RecordComposition.TheVariants.{Simple}
 use Rattle.zapdu.specs.declared.productions.search_query.SearchQuery.TheVariants.{Rpn}
+use Rattle.zapdu.specs.declared.productions.search_request.SearchRequest.{SearchRequest}
 use Rattle.zapdu.specs.Writes.{Writes, apdu_spelt}
 use Rattle.zorigin.specs.declared.settings.Settings.{Settings}
 use Rattle.zorigin.specs.declared.range.Range.{Range}
@@ -34,8 +38,8 @@ options =
     true ∷ true ∷ false ∷ false ∷ false ∷ false ∷ false ∷ false ∷ false ∷ false ∷ false ∷ false ∷ false
     ∷ true ∷ true ∷ []
 
-abbrev pub init_request : Settings → Apdu
-init_request settings = apdus.InitRequest (record {
+abbrev pub init_value : Settings → InitRequest
+init_value settings = record {
   reference_id = Some (reference_id 0);
   protocol_version = versions;
   options = options;
@@ -47,7 +51,10 @@ init_request settings = apdus.InitRequest (record {
   implementation_version = None;
   user_information_field = None;
   other_info = None;
-})
+}
+
+abbrev pub init_request : Settings → Apdu
+init_request settings = apdus.InitRequest (init_value settings)
 
 -- a set's name is its number in decimal where names are in force
 abbrev pub set_name : Bool → ℕ → List ℕ
@@ -62,8 +69,8 @@ abbrev pub composition : Option (List ℕ) → Option RecordComposition
 composition None = None
 composition (Some name) = Some (Simple (Generic name))
 
-abbrev pub search_request : Bool → ℕ → ℕ → Ask → Apdu
-search_request named op set ask = apdus.SearchRequest (record {
+abbrev pub search_value : Bool → ℕ → ℕ → Ask → SearchRequest
+search_value named op set ask = record {
   reference_id = Some (reference_id op);
   small_set_upper_bound = ask.small;
   large_set_lower_bound = ask.large;
@@ -77,7 +84,10 @@ search_request named op set ask = apdus.SearchRequest (record {
   query = Rpn ask.query;
   additional_search_info = None;
   other_info = None;
-})
+}
+
+abbrev pub search_request : Bool → ℕ → ℕ → Ask → Apdu
+search_request named op set ask = apdus.SearchRequest (search_value named op set ask)
 
 abbrev pub sent_range : Range → SentRange
 sent_range r = record { starting_position = r.start; number_of_records = r.n }
@@ -88,8 +98,8 @@ additional [] = None
 additional (r ∷ rs) = Some (map sent_range (r ∷ rs))
 
 -- the syntax and the element set are those of the set's search
-abbrev pub present_request : Bool → ℕ → Range → List Range → Searched → Apdu
-present_request named op first others searched = apdus.PresentRequest (record {
+abbrev pub present_value : Bool → ℕ → Range → List Range → Searched → PresentRequest
+present_value named op first others searched = record {
   reference_id = Some (reference_id op);
   result_set_id = set_name named searched.set;
   result_set_start_point = first.start;
@@ -101,18 +111,24 @@ present_request named op first others searched = apdus.PresentRequest (record {
   max_record_size = None;
   max_segment_size = None;
   other_info = None;
-})
+}
+
+abbrev pub present_request : Bool → ℕ → Range → List Range → Searched → Apdu
+present_request named op first others searched = apdus.PresentRequest (present_value named op first others searched)
 
 -- reason 0, finished
-abbrev pub close_request : Apdu
-close_request = apdus.Close (record {
+abbrev pub close_value : CloseApdu
+close_value = record {
   reference_id = None;
   close_reason = pos 0;
   diagnostic_information = None;
   resource_report_format = None;
   resource_report = None;
   other_info = None;
-})
+}
+
+abbrev pub close_request : Apdu
+close_request = apdus.Close close_value
 
 -- none for a Present of a set that no search made, or of no range
 abbrev pub request_of : Standing → Call → Option Apdu
