@@ -1,5 +1,5 @@
 -- What taking a message does to a talk.
-use Rattle.std.proofs.Common.{◌≡◌, ◌∙◌, sym, ap, subst, ℕ, suc, ◌<◌, Bool, true, false, cond, List, [], ◌∷◌, ◌++◌, length, Result, Ok, Err, refl}
+use Rattle.std.proofs.Common.{◌≡◌, ◌∙◌, sym, ap, subst, ℕ, suc, ◌<◌, Bool, true, false, cond, List, ◌∷◌, ◌++◌, length, Result, Ok, Err, refl}
 use Rattle.zorigin.specs.declared.answer.Taken.{Taken}
 use Rattle.zorigin.specs.declared.answer.Taken.TheVariants as taken
 use Rattle.zorigin.specs.declared.refusal.Refused.{Refused}
@@ -24,7 +24,7 @@ use Rattle.zoom.specs.Metas.{MetaLinks, MetaAfter, MetaAfterUpTo, MetaTook, sett
 use Rattle.zoom.proofs.Pools.{only_same}
 use Rattle.zoom.proofs.Metas.{heard_at}
 use Rattle.ztalk.specs.declared.turns.Turn.TheVariants as turns
-use Rattle.ztalk.specs.Talks.{Stage, Due, Listening, Waiting, Over, StandsAt, AnswersNext, IsStoppedAt, Ended, Follows, begins, speaks, hears, lacks, stops, reads, ends, is_message}
+use Rattle.ztalk.specs.Talks.{Stage, Due, Listening, Waiting, Over, StandsAt, AnswersNext, IsStoppedAt, Follows, begins, speaks, hears, lacks, stops, reads, ends, is_message}
 use Rattle.ztalk.specs.Turns.{Hears, GoesAlone, turn_of}
 
 -- ---- answers after which the connection is stopped

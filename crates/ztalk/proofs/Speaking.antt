@@ -1,5 +1,5 @@
 -- What making the calls that are due, and writing what waits, does to a talk; and talks that go on.
-use Rattle.std.proofs.Common.{◌≡◌, ◌∙◌, sym, subst, ℕ, ◌<◌, ◌≤◌, List, [], ◌∷◌, ◌++◌, Result, Ok, Err, refl, append_assoc}
+use Rattle.std.proofs.Common.{◌≡◌, ◌∙◌, sym, subst, ℕ, List, [], ◌∷◌, ◌++◌, Result, Ok, Err, refl, append_assoc}
 use Rattle.std.specs.Io.KnownBytes.{Appends}
 use Rattle.std.proofs.KnownBytes.{Appends-trans, Appends-nil, Consumes-nil}
 use Rattle.zorigin.specs.Standings.{Call}
@@ -16,7 +16,7 @@ use Rattle.ztalk.specs.declared.outgoing.PushError.TheVariants as pushes
 use Rattle.ztalk.specs.declared.turns.Turn.{Turn}
 use Rattle.ztalk.specs.declared.turns.Turn.TheVariants as turns
 use Rattle.ztalk.specs.Pushes.{MetaBroke, Pushes}
-use Rattle.ztalk.specs.Talks.{Stage, Due, Listening, Waiting, Over, Talk, GoesOn, HaltsFrom, begins, speaks, reads, same}
+use Rattle.ztalk.specs.Talks.{Stage, Due, Listening, Waiting, Over, Talk, GoesOn, HaltsFrom, begins, speaks, same}
 use Rattle.zoom.specs.Links.{waiting_at}
 use Rattle.zoom.proofs.Pools.{only_other}
 use Rattle.ztalk.specs.Talking.{Settles}

@@ -1,4 +1,4 @@
-use Rattle.std.proofs.Common.{◌≡◌, ◌∙◌, ◌<◌, ap, subst, sym, refl, Ok, Err}
+use Rattle.std.proofs.Common.{◌∙◌, ◌<◌, ap, subst, sym, refl, Ok, Err}
 use Rattle.std.proofs.lemmas.Result.{err_from_is_err_and}
 use Rattle.ztalk.specs.Talks.{Due, Waiting, Over, same}
 use Rattle.ztalk.specs.Talking.{Settles}
