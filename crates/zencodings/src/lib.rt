@@ -33,6 +33,8 @@ mod printed;
 #[cfg(test)]
 mod queries;
 #[cfg(test)]
+mod readers;
+#[cfg(test)]
 mod records;
 pub mod rows;
 #[cfg(test)]

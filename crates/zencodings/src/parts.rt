@@ -1,7 +1,10 @@
 //! Lines of parts, each with a space before it.
+ghost use Rattle.std.specs.Prelude.{◌≡◌, ◌↔◌, ◌++◌, [], None, Some, IsTrue, IfSome, IsSomeAnd, IfOk, OnErr};
+
 use crate::rows::encoding;
 use crate::unread::Unread;
 use std::alloc::{AllocError, Global};
+use std::marker::Model;
 use zapdu::quote;
 use zber::Node;
 
@@ -12,9 +15,19 @@ pub struct Line {
     is_whole: bool,
 }
 
+impl Model for Line {
+    ghost use Rattle.std.specs.Prelude.{List, ℕ, Option, None, Some, if◌then◌else◌};
+
+    ghost Value = { Option (List ℕ) };
+
+    ghost view = { λ l. if l.is_whole then Some l.octets.items else None };
+}
+
 impl Line {
     /// The line of no part.
-    pub fn new(alloc: Global) -> Line {
+    pub fn new(alloc: Global) -> Line
+        ensures { result ≡ Some [] }
+    {
         Line {
             octets: Vec::new(alloc),
             is_whole: true,
@@ -22,12 +35,16 @@ impl Line {
     }
 
     /// Says that a part is lacking.
-    pub fn fail(&mut self) {
+    pub fn fail(&mut self)
+        ensures { self.new ≡ None }
+    {
         self.is_whole = false;
     }
 
     /// Appends octets, with no space before them.
-    pub fn put(&mut self, octets: &[u8]) {
+    pub fn put(&mut self, octets: &[u8])
+        ensures { IfSome self.new (λ after. IsSomeAnd self.old (λ before. after ≡ before ++ octets.now)) }
+    {
         if self.octets.extend_from_slice(octets).is_err() {
             self.is_whole = false;
         }
@@ -72,7 +89,10 @@ impl Line {
     }
 
     /// The octets of a whole line.
-    pub fn whole(self) -> Result<Vec<u8>, Unread> {
+    pub fn whole(self) -> Result<Vec<u8>, Unread>
+        ensures ok { IfOk result (λ v. self ≡ Some v.items) }
+        ensures err { OnErr result (self ≡ None) }
+    {
         if self.is_whole {
             Ok(self.octets)
         } else {
@@ -81,7 +101,9 @@ impl Line {
     }
 
     /// Whether these are all octets of a whole line.
-    pub fn is(&self, due: &[u8]) -> bool {
+    pub fn is(&self, due: &[u8]) -> bool
+        ensures { IsTrue result ↔ (self.now ≡ Some due.now) }
+    {
         self.is_whole && self.octets.as_slice() == due
     }
 }

@@ -1,4 +1,6 @@
 //! What the tables of vectors share: a table is a text with a row on each line, and octets stand in it as hexadecimal digits.
+ghost use Rattle.std.specs.Prelude.{◌≡◌, ◌↔◌, true, Ok, IsTrue, IsOkAnd, string_bytes};
+
 use crate::unread::Unread;
 use std::alloc::{AllocError, Global};
 use std::test::Fail;
@@ -7,7 +9,8 @@ use zber::{Framer, Node};
 /// The longest message that is read.
 pub(crate) const LIMIT: u32 = 2_097_152;
 
-/// Fails with the first row of a table that does not hold; a row that begins with `#` says what those below it are.
+/// Fails with the first row of a table that does not hold, or of which that cannot be told; a row that begins with `#` says
+/// what those below it are.
 pub fn each_row<F: Fn(Global, &str) -> Result<bool, Unread>>(
     alloc: Global,
     rows: &str,
@@ -43,13 +46,17 @@ pub fn halves(row: &str) -> (&str, &str) {
     parted(row, " => ")
 }
 
-/// Whether it was found to hold.
-pub fn held<E: Drop>(answer: Result<bool, E>) -> bool {
+/// Whether it was found to hold: not where it could not be told.
+pub fn held<E: Drop>(answer: Result<bool, E>) -> bool
+    ensures { IsTrue result ↔ (answer ≡ Ok true) }
+{
     answer.unwrap_or(false)
 }
 
 /// Whether a text is there, and is the due one.
-pub fn tells<E: Drop>(text: Result<String, E>, due: &str) -> bool {
+pub fn tells<E: Drop>(text: Result<String, E>, due: &str) -> bool
+    ensures { IsTrue result ↔ IsOkAnd text (λ t. string_bytes t ≡ due.now) }
+{
     match text {
         Ok(text) => text.as_str() == due,
         Err(_) => false,
@@ -57,7 +64,9 @@ pub fn tells<E: Drop>(text: Result<String, E>, due: &str) -> bool {
 }
 
 /// Whether octets are there, and are the due ones.
-pub fn spells<E: Drop>(octets: Result<Vec<u8>, E>, due: &[u8]) -> bool {
+pub fn spells<E: Drop>(octets: Result<Vec<u8>, E>, due: &[u8]) -> bool
+    ensures { IsTrue result ↔ IsOkAnd octets (λ v. v.items ≡ due.now) }
+{
     match octets {
         Ok(octets) => octets.as_slice() == due,
         Err(_) => false,
