@@ -1,14 +1,17 @@
-// Messages that are cut off, and messages of which one octet is another.
-use crate::apdus::APDUS;
+// Encodings that are cut off, and encodings of which one octet is another.
+use crate::boxes::diag_node;
+use crate::collected::encodings;
 use crate::framing::answers;
-use crate::plain::apdu_refusal;
-use crate::rows::{LIMIT, cut, each_row, held, octets, pair, tells};
+use crate::plain::{apdu_refusal, diag_of, is_diag, is_query, is_record};
+use crate::queries::inner;
+use crate::rows::{LIMIT, cut, each_row, element, encoding, held, octets, pair, tells};
+use crate::segments::{apdu_encoding, query_encoding, record_encoding};
 use crate::unread::Unread;
 use std::alloc::Global;
 use std::process::Abort;
 use std::test::Fail;
 use zapdu::ApduError;
-use zber::{FrameError, Framer, Node};
+use zber::{FaultKind, FrameError, Framer, Node};
 
 // Whether the first so many octets are told to be cut off there.
 fn is_truncated(alloc: Global, digits: &str, at: usize) -> Result<bool, Unread> {
@@ -18,10 +21,26 @@ fn is_truncated(alloc: Global, digits: &str, at: usize) -> Result<bool, Unread> 
     Ok(tells(answers(alloc, LIMIT, script.as_str()), due.as_str()))
 }
 
-fn is_truncated_anywhere(alloc: Global, row: &str) -> Result<bool, Unread> {
-    let (digits, _) = pair(row);
-    for at in 1..digits.len() / 2 {
-        if !held(is_truncated(alloc, digits, at)) {
+fn is_waiting(framer: &mut Framer) -> bool {
+    matches!(framer.next(), Ok(None))
+}
+
+// How many octets stand before the one with which a message or a fault comes, of octets that are fed one by one.
+fn waited(alloc: Global, digits: &str) -> Result<usize, Unread> {
+    let octets = octets(alloc, digits)?;
+    let mut framer = Framer::new(alloc, LIMIT);
+    for (before, octet) in octets.iter().enumerate() {
+        framer.feed(&[*octet])?;
+        if !is_waiting(&mut framer) {
+            return Ok(before);
+        }
+    }
+    Err(Unread)
+}
+
+fn is_truncated_anywhere(alloc: Global, digits: &str) -> Result<bool, Unread> {
+    for before in 0..waited(alloc, digits)? {
+        if !held(is_truncated(alloc, digits, before.saturating_add(1))) {
             return Ok(false);
         }
     }
@@ -29,8 +48,128 @@ fn is_truncated_anywhere(alloc: Global, row: &str) -> Result<bool, Unread> {
 }
 
 #[test]
-fn each_front_of_a_message_is_truncated(rt: HostRuntime) -> Result<(), Fail> {
-    each_row(rt.alloc(), APDUS, &is_truncated_anywhere)
+fn each_front_of_an_encoding_is_truncated(rt: HostRuntime) -> Result<(), Fail> {
+    let rows = encodings(rt.alloc())?;
+    each_row(rt.alloc(), rows.as_str(), &is_truncated_anywhere)
+}
+
+fn own_encoding(alloc: Global, node: &Node) -> Result<String, Unread> {
+    Ok(encoding(alloc, node)?)
+}
+
+fn diag_encoding(alloc: Global, node: &Node) -> Result<String, Unread> {
+    let diag = diag_of(alloc, node)?;
+    let node = diag_node(alloc, &diag)?;
+    Ok(encoding(alloc, &node)?)
+}
+
+// Whether what an element says is read back from its encoding.
+fn is_read_back<F: Fn(Global, &Node) -> Result<String, Unread>>(
+    alloc: Global,
+    node: &Node,
+    says: &F,
+) -> Result<bool, Unread>
+    requires { F.IsAlwaysCallable says.now }
+{
+    let digits = says(alloc, node)?;
+    let again = element(alloc, digits.as_str())?;
+    Ok(tells(says(alloc, &again), digits.as_str()))
+}
+
+// Whether an element is an APDU that is read back, or is refused as one by name.
+fn is_apdu_or_none(alloc: Global, node: &Node) -> Result<bool, Unread> {
+    match apdu_refusal(alloc, node) {
+        None => is_read_back(alloc, node, &apdu_encoding),
+        Some(ApduError::Memory) => Err(Unread),
+        Some(_) => Ok(true),
+    }
+}
+
+fn is_query_or_none(alloc: Global, node: &Node) -> Result<bool, Unread> {
+    Ok(!is_query(alloc, node)? || is_read_back(alloc, node, &query_encoding)?)
+}
+
+fn is_record_or_none(alloc: Global, node: &Node) -> Result<bool, Unread> {
+    Ok(!is_record(alloc, node)? || is_read_back(alloc, node, &record_encoding)?)
+}
+
+fn is_diag_or_none(alloc: Global, node: &Node) -> Result<bool, Unread> {
+    Ok(!is_diag(alloc, node)? || is_read_back(alloc, node, &diag_encoding)?)
+}
+
+// Whether an element is read back, and so is all that it can be taken for.
+fn is_told(alloc: Global, node: &Node) -> bool {
+    held(is_read_back(alloc, node, &own_encoding))
+        && held(is_apdu_or_none(alloc, node))
+        && held(is_query_or_none(alloc, node))
+        && held(is_record_or_none(alloc, node))
+        && held(is_diag_or_none(alloc, node))
+}
+
+// The same of an element and of the first one within it, as a query stands in an element around it.
+fn are_told(alloc: Global, node: &Node) -> bool {
+    is_told(alloc, node)
+        && match inner(node) {
+            Some(inner) => is_told(alloc, inner),
+            None => true,
+        }
+}
+
+fn is_cut_off(framer: &Framer, count: usize) -> bool {
+    framer.finish()
+        == Err(FrameError::Fault {
+            kind: FaultKind::Truncated,
+            at: count,
+        })
+}
+
+// Whether octets are cut off, or begin with a message that is told, or show a fault at one of them or
+// behind them, where a header is due that passes the end.
+fn is_answered(alloc: Global, octets: &[u8]) -> Result<bool, Unread> {
+    let mut framer = Framer::new(alloc, LIMIT);
+    framer.feed(octets)?;
+    match framer.next() {
+        Ok(None) => Ok(is_cut_off(&framer, octets.len())),
+        Ok(Some(node)) => Ok(are_told(alloc, &node)),
+        Err(FrameError::Fault { kind, at }) => Ok(
+            kind != FaultKind::Truncated && at <= octets.len(),
+        ),
+        Err(FrameError::Memory) => Err(Unread),
+    }
+}
+
+fn flip(octets: &mut [u8], at: usize, mask: u8) {
+    if let Some(octet) = octets.get_mut(at) {
+        *octet = *octet ^ mask;
+    }
+}
+
+// Of an octet the lowest bits, the bit that tells forms of elements apart, the highest bits, and all bits are changed.
+fn is_answered_changed(alloc: Global, octets: &mut [u8], at: usize) -> Result<bool, Unread> {
+    for mask in [0x01, 0x02, 0x20, 0x40, 0x80, 0xff_u8] {
+        flip(octets, at, mask);
+        if !held(is_answered(alloc, octets)) {
+            return Ok(false);
+        }
+        flip(octets, at, mask);
+    }
+    Ok(true)
+}
+
+fn is_answered_changed_anywhere(alloc: Global, digits: &str) -> Result<bool, Unread> {
+    let mut octets = octets(alloc, digits)?;
+    for at in 0..octets.len() {
+        if !held(is_answered_changed(alloc, octets.as_mut_slice(), at)) {
+            return Ok(false);
+        }
+    }
+    Ok(true)
+}
+
+#[test]
+fn each_changed_octet_of_an_encoding_is_answered(rt: HostRuntime) -> Result<(), Fail> {
+    let rows = encodings(rt.alloc())?;
+    each_row(rt.alloc(), rows.as_str(), &is_answered_changed_anywhere)
 }
 
 // How many strings of octets are the front of a message, are an APDU, are another message, and show a fault; and the sum of the
@@ -76,16 +215,10 @@ impl Tally {
 
     // Each other value of one octet.
     fn put_others(&mut self, alloc: Global, octets: &mut [u8], at: usize) -> Result<(), Unread> {
-        for change in 1..=255_u8 {
-            let Some(octet) = octets.get_mut(at) else {
-                return Ok(());
-            };
-            let kept = *octet;
-            *octet = kept ^ change;
+        for mask in 1..=255_u8 {
+            flip(octets, at, mask);
             self.put(alloc, octets)?;
-            if let Some(octet) = octets.get_mut(at) {
-                *octet = kept;
-            }
+            flip(octets, at, mask);
         }
         Ok(())
     }

@@ -7,7 +7,7 @@ use std::process::Abort;
 use std::test::Fail;
 
 // Elements and their refusals; a line with `#` says what is wrong with those below it.
-const REFUSED: &str = "\
+pub(crate) const REFUSED: &str = "\
 # Another tag, or primitive.
 3000 not an APDU
 9900 not an APDU

@@ -10,7 +10,8 @@ use zber::{Body, Node, Tag};
 use zquery::Query;
 
 // Texts, what their queries are printed as, and the element `[21]` around the query.
-const READ: &str = r#"dune => "dune" => b51aa11806072a8648ce130301a00dbf660abf2c009f2d0464756e65
+pub(crate) const READ: &str =
+    r#"dune => "dune" => b51aa11806072a8648ce130301a00dbf660abf2c009f2d0464756e65
 @attr 1=4 dune => @attr 1=4 "dune" => b524a12206072a8648ce130301a017bf6614bf2c0a30089f7801019f7901049f2d0464756e65
 @or a b => @or "a" "b" => b52aa12806072a8648ce130301a11da00abf6607bf2c009f2d0161a00abf6607bf2c009f2d0162bf2e028100
 @not a b => @not "a" "b" => b52aa12806072a8648ce130301a11da00abf6607bf2c009f2d0161a00abf6607bf2c009f2d0162bf2e028200
@@ -59,7 +60,7 @@ fn wrapped(alloc: Global, query: &Query) -> Result<Node, Unread> {
     Ok(Node::cons(Tag::context(21), nodes))
 }
 
-fn inner(node: &Node) -> Option<&Node> {
+pub(crate) fn inner(node: &Node) -> Option<&Node> {
     match &node.body {
         Body::Cons(nodes) => nodes.first(),
         Body::Prim(_) => None,

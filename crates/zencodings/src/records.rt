@@ -12,7 +12,7 @@ use zapdu::{BuildError, Record, RecordBody};
 use zber::{Node, Tag};
 
 // Elements that are no record, or no diagnostic; a line with `#` says what is wrong with those below it.
-const OTHERS: &str = "\
+pub(crate) const OTHERS: &str = "\
 # Records: primitive; nothing; a name alone, two names, one of other parts; the record before its name; two records.
 record 1000
 record 3000
@@ -96,7 +96,7 @@ fn other_elements_are_no_records_or_diagnostics(rt: HostRuntime) -> Result<(), F
 }
 
 // Whether octets are quoted or in hexadecimal, elements, and their records' texts.
-const PRINTED: &str =
+pub(crate) const PRINTED: &str =
     r#"# Octets with an object identifier; each octet that the quotes change, and its neighbours.
 text 302180071f207e7f80225ca116a114281206072a8648ce13050a81071f207e7f80225c => rec 1.2.840.10003.5.10 "\x1f ~\x7f\x80\"\\" "\x1f ~\x7f\x80\"\\"
 hex 302180071f207e7f80225ca116a114281206072a8648ce13050a81071f207e7f80225c => rec 1.2.840.10003.5.10 "\x1f ~\x7f\x80\"\\" 1f207e7f80225c
@@ -144,7 +144,7 @@ fn records_of_each_form_are_printed(rt: HostRuntime) -> Result<(), Fail> {
 
 // Tags of a fragment and levels of elements within it, and its record's canonical encoding, which may have any number of
 // levels, or nothing, where the tag is none of a fragment.
-const MADE: &str = "\
+pub(crate) const MADE: &str = "\
 3 0=3006a104a3028000
 4 1=3008a106a40430028000
 5 61=308180a17ea57c307a30783076307430723070306e306c306a30683066306430623060305e305c305a30583056305430523050304e304c304a30483046304430423040303e303c303a30383036303430323030302e302c302a30283026302430223020301e301c301a30183016301430123010300e300c300a30083006300430028000

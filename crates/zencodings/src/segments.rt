@@ -14,7 +14,7 @@ use std::test::Fail;
 use zber::{Body, Node, Oid, Tag, ValueError};
 
 // Elements, and the octets of the strings that they are, or why they are none; a line with `#` says what those below it have.
-const STRINGS: &str = "\
+pub(crate) const STRINGS: &str = "\
 # The primitive form.
 8100 -
 81026869 6869
@@ -59,14 +59,14 @@ fn strings_are_the_octets_of_their_segments(rt: HostRuntime) -> Result<(), Fail>
     each_row(rt.alloc(), STRINGS, &is_string)
 }
 
-fn apdu_encoding(alloc: Global, node: &Node) -> Result<String, Unread> {
+pub(crate) fn apdu_encoding(alloc: Global, node: &Node) -> Result<String, Unread> {
     let apdu = apdu_of(alloc, node)?;
     let node = apdu_node(alloc, &apdu)?;
     Ok(encoding(alloc, &node)?)
 }
 
 // APDUs with strings in constructed form, and the canonical encodings of what they say.
-const SPELLED: &str = "\
+pub(crate) const SPELLED: &str = "\
 b92a8204000000029801019901029b0100bc193017a115a113281106072a8648ce13050aa106040168040169 b9268204000000029801019901029b0100bc153013a111a10f280d06072a8648ce13050a81026869
 bf300b9f81530100a30404026f6b bf30099f8153010083026f6b
 bf30079f81530100a300 bf30079f815301008300
@@ -245,14 +245,14 @@ fn each_string_of_an_apdu_has_either_form(rt: HostRuntime) -> Result<(), Fail> {
     Ok(())
 }
 
-fn query_encoding(alloc: Global, node: &Node) -> Result<String, Unread> {
+pub(crate) fn query_encoding(alloc: Global, node: &Node) -> Result<String, Unread> {
     let query = query_of(alloc, node)?;
     let node = query_node(alloc, &query)?;
     Ok(encoding(alloc, &node)?)
 }
 
 // Queries and the places of their strings: a general term, a string, a result set, one with attributes, several terms.
-const QUERIES: &str = "\
+pub(crate) const QUERIES: &str = "\
 a12206072a8648ce130301a017bf6614bf2c0a30089f7801019f7901049f2d0464756e65 8
 a11906072a8648ce130301a00ebf660bbf2c009f81580464756e65 5
 a11006072a8648ce130301a0059f1f027331 3
@@ -309,7 +309,7 @@ fn streamed(alloc: Global, node: &Node) -> Result<Node, Unread> {
     message(alloc, out.as_slice())
 }
 
-fn record_encoding(alloc: Global, node: &Node) -> Result<String, Unread> {
+pub(crate) fn record_encoding(alloc: Global, node: &Node) -> Result<String, Unread> {
     let record = record_of(alloc, node)?;
     let node = record_node(alloc, &record)?;
     Ok(encoding(alloc, &node)?)

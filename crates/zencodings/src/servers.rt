@@ -7,7 +7,7 @@ use std::process::Abort;
 use std::test::Fail;
 
 // What is sent, its canonical encoding, and its fields; a line with `#` says what the one below it is.
-const SENT: &str =
+pub(crate) const SENT: &str =
     r#"# One record; lengths are indefinite or not the shortest, and a second message begins behind it.
 b9808204000000029801019901029b0100bc803015a113a1112882000d06072a8648ce13050a8102686900000000b926 b9268204000000029801019901029b0100bc153013a111a10f280d06072a8648ce13050a81026869 presentResponse #00000002 1 2 0 list record - external 1.2.840.10003.5.10 - - "hi" -
 # An Init is accepted: TRUE is 01, the version has 8 bits and the length leading zero octets.

@@ -13,7 +13,7 @@ use zber::{Node, Oid, Tag};
 use zquery::{BuildError, Query, Rpn};
 
 // Elements of queries that have no text; a line with `#` says what those below it have.
-const KEPT: &str = "\
+pub(crate) const KEPT: &str = "\
 # Complex values: a string; a string and a number with a semantic action, in a set of their own; of a result set.
 a12806072a8648ce130301a01dbf661abf2c1330119f780101bf816009a10781057469746c659f2d0161
 a13e06072a8648ce130301a033bf6630bf2c2930089f7801019f790104301d810288379f780102bf816011a10a81057469746c65820104a2030201019f2d0161
@@ -47,7 +47,7 @@ a11606072a8648ce130301a00bbf8156079f1f0178bf2c00
 ";
 
 // Elements that are no type-1 query.
-const OTHERS: &str = "\
+pub(crate) const OTHERS: &str = "\
 # Another tag; no element; a primitive one.
 3000
 a100
@@ -170,7 +170,7 @@ fn other_elements_are_no_queries(rt: HostRuntime) -> Result<(), Fail> {
 }
 
 // Lengths that are indefinite, or not the shortest.
-const LONG: &str =
+pub(crate) const LONG: &str =
     "b580a1800681072a8648ce130301a080bf6680bf2c8030809f7801019f79020004000000009f2d0464756e650000000000000000";
 
 fn within(alloc: Global, digits: &str) -> Result<Box<Query>, Unread> {
