@@ -1,5 +1,5 @@
 -- Places in order with the same members are the same list.
-use Rattle.std.proofs.Common.{◌≡◌, refl, sym, ◌∙◌, ap, subst, ◌⊎◌, inl, inr, ℕ, zero, suc, ◌<◌, List, [], ◌∷◌, ◌++◌, length, Bool, ◌&&◌, nat_eq, arith}
+use Rattle.std.proofs.Common.{◌≡◌, refl, sym, ◌∙◌, ap, subst, inl, inr, ℕ, zero, suc, ◌<◌, List, [], ◌∷◌, length, Bool, ◌&&◌, nat_eq, arith}
 use Rattle.std.proofs.lemmas.Cmp.{on_total, then_total, nat_cmp_total}
 use Rattle.std.proofs.lemmas.Map.Lookups.{exact_pairs, exact_unsigned}
 use Rattle.std.specs.declared.cmp.Ordering.{Ordering}
@@ -9,6 +9,7 @@ use Rattle.std.specs.List.{AllByRecursion, Contains}
 use Rattle.std.specs.List.Sorted.{IsStrictlySortedBy}
 use Rattle.std.specs.Ordering.{nat_cmp, ordering_then, is_eq, eq_by_cmp, ordering_reverse}
 use Rattle.std.specs.Prelude.{slice_index_or}
+use Rattle.zplan.specs.Positions.{IsIn}
 use Rattle.ztarget.specs.declared.index.Place.{Place}
 use Rattle.ztarget.specs.Phrasing.{place_cmp}
 
@@ -37,38 +38,20 @@ place_ties p q =
     ∙ ap (λ b. is_eq (nat_cmp p.entry q.entry) && b) within
     ∙ eq_then (nat_cmp p.entry q.entry) (ordering_then (nat_cmp p.field q.field) (nat_cmp p.word q.word))
 
-abbrev pub Among : {X : Type 0} → X → List X → Type 0
-Among x [] = ⊥
-Among x (y ∷ ys) = (x ≡ y) ⊎ Among x ys
-
-pub among_left : {X : Type 0} (x : X) (ys zs : List X) → Among x ys → Among x (ys ++ zs)
-among_left x [] zs h = absurd h
-among_left x (y ∷ ys) zs (inl e) = inl e
-among_left x (y ∷ ys) zs (inr h) = inr (among_left x ys zs h)
-
-pub among_right : {X : Type 0} (x : X) (ys zs : List X) → Among x zs → Among x (ys ++ zs)
-among_right x [] zs h = h
-among_right x (y ∷ ys) zs h = inr (among_right x ys zs h)
-
-pub among_either : {X : Type 0} (x : X) (ys zs : List X) → Among x (ys ++ zs) → Among x ys ⊎ Among x zs
-among_either x [] zs h = inr h
-among_either x (y ∷ ys) zs (inl e) = inl (inl e)
-among_either x (y ∷ ys) zs (inr h) = elim (among_either x ys zs h) as (λ _. Among x (y ∷ ys) ⊎ Among x zs) [ inl k ↦ inl (inr k) | inr k ↦ inr k ]
-
-from_index : {X : Type 0} (x : X) (ys : List X) (k : ℕ) → k < length ys → slice_index_or ys k x ≡ x → Among x ys
+from_index : {X : Type 0} (x : X) (ys : List X) (k : ℕ) → k < length ys → slice_index_or ys k x ≡ x → IsIn x ys
 from_index x [] k lt is = absurd (omega (arith, lt))
 from_index x (y ∷ ys) zero lt is = inl (sym is)
 from_index x (y ∷ ys) (suc k) lt is = inr (from_index x ys k (omega (arith, lt)) is)
 
-pub among_from : {X : Type 0} (x : X) (ys : List X) → Contains ys x → Among x ys
+pub among_from : {X : Type 0} (x : X) (ys : List X) → Contains ys x → IsIn x ys
 among_from x ys c = from_index x ys c.0 c.1 c.2
 
-pub contains_from : {X : Type 0} (x : X) (ys : List X) → Among x ys → Contains ys x
+pub contains_from : {X : Type 0} (x : X) (ys : List X) → IsIn x ys → Contains ys x
 contains_from x [] h = absurd h
 contains_from x (y ∷ ys) (inl e) = (0, omega arith, sym e)
 contains_from x (y ∷ ys) (inr h) = let c = contains_from x ys h in (suc c.0, omega (arith, c.1), c.2)
 
-all_among : (P : Place → Type 0) (p : Place) (ps : List Place) → AllByRecursion P ps → Among p ps → P p
+all_among : (P : Place → Type 0) (p : Place) (ps : List Place) → AllByRecursion P ps → IsIn p ps → P p
 all_among P p [] all h = absurd h
 all_among P p (q ∷ qs) all (inl e) = subst P (sym e) all.0
 all_among P p (q ∷ qs) all (inr h) = all_among P p qs all.1 h
@@ -84,7 +67,7 @@ crossed : (p q : Place) → place_cmp p q ≡ Less → place_cmp q p ≡ Less �
 crossed p q h k = itself p (place_total.trans p q p h k)
 
 pub same_members : (ps qs : List Place) → IsStrictlySortedBy place_cmp ps → IsStrictlySortedBy place_cmp qs
-    → ((x : Place) → Among x ps → Among x qs) → ((x : Place) → Among x qs → Among x ps) → ps ≡ qs
+    → ((x : Place) → IsIn x ps → IsIn x qs) → ((x : Place) → IsIn x qs → IsIn x ps) → ps ≡ qs
 unfolding IsStrictlySortedBy
 same_members [] [] is is' to from = refl
 same_members [] (q ∷ qs) is is' to from = absurd (from q (inl refl))
@@ -98,13 +81,13 @@ same_members (p ∷ ps) (q ∷ qs) is is' to from =
         | inr k ↦ absurd (crossed p q (all_among (λ y. place_cmp p y ≡ Less) q ps is.0 k) (all_among (λ y. place_cmp q y ≡ Less) p qs is'.0 h))
       ]
     ] in
-    let forth : (x : Place) → Among x ps → Among x qs =
-    λ x h. elim (to x (inr h)) as (λ _. Among x qs) [
+    let forth : (x : Place) → IsIn x ps → IsIn x qs =
+    λ x h. elim (to x (inr h)) as (λ _. IsIn x qs) [
       | inl e ↦ absurd (itself p (subst (λ y. place_cmp p y ≡ Less) (e ∙ sym first) (all_among (λ y. place_cmp p y ≡ Less) x ps is.0 h)))
       | inr k ↦ k
     ] in
-    let back : (x : Place) → Among x qs → Among x ps =
-    λ x h. elim (from x (inr h)) as (λ _. Among x ps) [
+    let back : (x : Place) → IsIn x qs → IsIn x ps =
+    λ x h. elim (from x (inr h)) as (λ _. IsIn x ps) [
       | inl e ↦ absurd (itself q (subst (λ y. place_cmp q y ≡ Less) (e ∙ first) (all_among (λ y. place_cmp q y ≡ Less) x qs is'.0 h)))
       | inr k ↦ k
     ] in

@@ -22,6 +22,8 @@ use Rattle.std.specs.List.Sorted.{IsPermutation, IsSorted, IsStrictlySortedBy}
 use Rattle.std.specs.Map.{lookup, keys_of}
 use Rattle.std.specs.Ordering.{nat_cmp, ordering_then, is_le, eq_by_cmp}
 use Rattle.std.specs.Str.{bytes_eq}
+use Rattle.zplan.specs.Positions.{IsIn}
+use Rattle.zplan.proofs.Cuts.{in_left, in_right, in_either}
 use Rattle.ztarget.specs.declared.database.Entry.{Entry}
 use Rattle.ztarget.specs.declared.database.Field.{Field}
 use Rattle.ztarget.specs.declared.index.Place.{Place}
@@ -30,7 +32,7 @@ use Rattle.ztarget.specs.Matching.{stands_first}
 use Rattle.ztarget.specs.Phrasing.{word_begins, field_begins, entry_begins, phrase_places, place_cmp, is_begun_by}
 use Rattle.ztarget.specs.Words.{words}
 use Rattle.ztarget.proofs.Indexes.{picked_append}
-use Rattle.ztarget.proofs.Members.{Among, among_left, among_right, among_either, among_from, contains_from, same_members, place_total, place_exact}
+use Rattle.ztarget.proofs.Members.{among_from, contains_from, same_members, place_total, place_exact}
 use Rattle.ztarget.proofs.Walks.{equal, Behind, word_less, behind_less, all_words, all_fields, all_entries, map_all}
 
 -- the places of the words that pass are those at which a word passes
@@ -155,17 +157,17 @@ module _ (w : List ℕ) where
       ] in
       either (is_le (slice_cmp nat_cmp w e.0)) refl
 
-picked_before : (p : List ℕ → Bool) (x : Place) (o : List ℕ × Place) (os : List (List ℕ × Place)) → Among x (picked p os) → Among x (picked p (o ∷ os))
-picked_before p x o os h = elim (p o.0) as (λ b. Among x (if b then o.1 ∷ picked p os else picked p os)) [ true ↦ inr h | false ↦ h ]
+picked_before : (p : List ℕ → Bool) (x : Place) (o : List ℕ × Place) (os : List (List ℕ × Place)) → IsIn x (picked p os) → IsIn x (picked p (o ∷ os))
+picked_before p x o os h = elim (p o.0) as (λ b. IsIn x (if b then o.1 ∷ picked p os else picked p os)) [ true ↦ inr h | false ↦ h ]
 
 -- more words pass
-picked_more : (p r : List ℕ → Bool) (x : Place) (os : List (List ℕ × Place)) → ((v : List ℕ) → p v ≡ true → r v ≡ true) → Among x (picked p os) → Among x (picked r os)
+picked_more : (p r : List ℕ → Bool) (x : Place) (os : List (List ℕ × Place)) → ((v : List ℕ) → p v ≡ true → r v ≡ true) → IsIn x (picked p os) → IsIn x (picked r os)
 picked_more p r x [] more h = h
 picked_more p r x (o ∷ os) more h =
-    let either : (b : Bool) → p o.0 ≡ b → Among x (if b then o.1 ∷ picked p os else picked p os) → Among x (picked r (o ∷ os)) =
-    λ b. elim b as (λ b. p o.0 ≡ b → Among x (if b then o.1 ∷ picked p os else picked p os) → Among x (picked r (o ∷ os))) [
-      | true ↦ (λ is h. elim h as (λ _. Among x (picked r (o ∷ os))) [
-        | inl e ↦ subst (λ b. Among x (if b then o.1 ∷ picked r os else picked r os)) (sym (more o.0 is)) (inl e)
+    let either : (b : Bool) → p o.0 ≡ b → IsIn x (if b then o.1 ∷ picked p os else picked p os) → IsIn x (picked r (o ∷ os)) =
+    λ b. elim b as (λ b. p o.0 ≡ b → IsIn x (if b then o.1 ∷ picked p os else picked p os) → IsIn x (picked r (o ∷ os))) [
+      | true ↦ (λ is h. elim h as (λ _. IsIn x (picked r (o ∷ os))) [
+        | inl e ↦ subst (λ b. IsIn x (if b then o.1 ∷ picked r os else picked r os)) (sym (more o.0 is)) (inl e)
         | inr k ↦ picked_before r x o os (picked_more p r x os more k)
       ])
       | false ↦ (λ is h. picked_before r x o os (picked_more p r x os more h))
@@ -176,15 +178,15 @@ same_octets : (v : List ℕ) → bytes_eq v v ≡ true
 same_octets v = (bytes_eq-Decides v v).1 refl
 
 -- a place of words that pass is one of a word that passes
-picked_word : (p : List ℕ → Bool) (x : Place) (os : List (List ℕ × Place)) → Among x (picked p os) → (v : List ℕ) × (p v ≡ true) × Among x (picked (bytes_eq v) os)
+picked_word : (p : List ℕ → Bool) (x : Place) (os : List (List ℕ × Place)) → IsIn x (picked p os) → (v : List ℕ) × (p v ≡ true) × IsIn x (picked (bytes_eq v) os)
 picked_word p x [] h = absurd h
 picked_word p x (o ∷ os) h =
-    let further : Among x (picked p os) → (v : List ℕ) × (p v ≡ true) × Among x (picked (bytes_eq v) (o ∷ os)) =
+    let further : IsIn x (picked p os) → (v : List ℕ) × (p v ≡ true) × IsIn x (picked (bytes_eq v) (o ∷ os)) =
     λ k. (let found = picked_word p x os k in (found.0, found.1, picked_before (bytes_eq found.0) x o os found.2)) in
-    let either : (b : Bool) → p o.0 ≡ b → Among x (if b then o.1 ∷ picked p os else picked p os) → (v : List ℕ) × (p v ≡ true) × Among x (picked (bytes_eq v) (o ∷ os)) =
-    λ b. elim b as (λ b. p o.0 ≡ b → Among x (if b then o.1 ∷ picked p os else picked p os) → (v : List ℕ) × (p v ≡ true) × Among x (picked (bytes_eq v) (o ∷ os))) [
-      | true ↦ (λ is h. elim h as (λ _. (v : List ℕ) × (p v ≡ true) × Among x (picked (bytes_eq v) (o ∷ os))) [
-        | inl e ↦ (o.0, is, subst (λ b. Among x (if b then o.1 ∷ picked (bytes_eq o.0) os else picked (bytes_eq o.0) os)) (sym (same_octets o.0)) (inl e))
+    let either : (b : Bool) → p o.0 ≡ b → IsIn x (if b then o.1 ∷ picked p os else picked p os) → (v : List ℕ) × (p v ≡ true) × IsIn x (picked (bytes_eq v) (o ∷ os)) =
+    λ b. elim b as (λ b. p o.0 ≡ b → IsIn x (if b then o.1 ∷ picked p os else picked p os) → (v : List ℕ) × (p v ≡ true) × IsIn x (picked (bytes_eq v) (o ∷ os))) [
+      | true ↦ (λ is h. elim h as (λ _. (v : List ℕ) × (p v ≡ true) × IsIn x (picked (bytes_eq v) (o ∷ os))) [
+        | inl e ↦ (o.0, is, subst (λ b. IsIn x (if b then o.1 ∷ picked (bytes_eq o.0) os else picked (bytes_eq o.0) os)) (sym (same_octets o.0)) (inl e))
         | inr k ↦ further k
       ])
       | false ↦ (λ is h. further h)
@@ -192,15 +194,15 @@ picked_word p x (o ∷ os) h =
     either (p o.0) refl h
 
 module _ (w : List ℕ) where
-  told_by : (x : Place) (es : List (List ℕ × List Place)) → Among x (places_of (begun w es)) → (e : List ℕ × List Place) × Among e es × (is_begun_by w e.0 ≡ true) × Among x e.1
+  told_by : (x : Place) (es : List (List ℕ × List Place)) → IsIn x (places_of (begun w es)) → (e : List ℕ × List Place) × IsIn e es × (is_begun_by w e.0 ≡ true) × IsIn x e.1
   told_by x [] h = absurd h
   told_by x (e ∷ es) h =
-      let further : Among x (places_of (begun w es)) → (f : List ℕ × List Place) × Among f (e ∷ es) × (is_begun_by w f.0 ≡ true) × Among x f.1 =
+      let further : IsIn x (places_of (begun w es)) → (f : List ℕ × List Place) × IsIn f (e ∷ es) × (is_begun_by w f.0 ≡ true) × IsIn x f.1 =
       λ k. (let found = told_by x es k in (found.0, inr found.1, found.2, found.3)) in
       let later = begun w es in
-      let either : (b : Bool) → is_begun_by w e.0 ≡ b → Among x (places_of (cond b (e ∷ later) later)) → (f : List ℕ × List Place) × Among f (e ∷ es) × (is_begun_by w f.0 ≡ true) × Among x f.1 =
-      λ b. elim b as (λ b. is_begun_by w e.0 ≡ b → Among x (places_of (cond b (e ∷ later) later)) → (f : List ℕ × List Place) × Among f (e ∷ es) × (is_begun_by w f.0 ≡ true) × Among x f.1) [
-        | true ↦ (λ is h. elim (among_either x e.1 (places_of later) h) as (λ _. (f : List ℕ × List Place) × Among f (e ∷ es) × (is_begun_by w f.0 ≡ true) × Among x f.1) [
+      let either : (b : Bool) → is_begun_by w e.0 ≡ b → IsIn x (places_of (cond b (e ∷ later) later)) → (f : List ℕ × List Place) × IsIn f (e ∷ es) × (is_begun_by w f.0 ≡ true) × IsIn x f.1 =
+      λ b. elim b as (λ b. is_begun_by w e.0 ≡ b → IsIn x (places_of (cond b (e ∷ later) later)) → (f : List ℕ × List Place) × IsIn f (e ∷ es) × (is_begun_by w f.0 ≡ true) × IsIn x f.1) [
+        | true ↦ (λ is h. elim (in_either x e.1 (places_of later) h) as (λ _. (f : List ℕ × List Place) × IsIn f (e ∷ es) × (is_begun_by w f.0 ≡ true) × IsIn x f.1) [
           | inl k ↦ (e, inl refl, is, k)
           | inr k ↦ further k
         ])
@@ -208,46 +210,46 @@ module _ (w : List ℕ) where
       ] in
       either (is_begun_by w e.0) refl h
 
-  stood_by : (x : Place) (v : List ℕ) (es : List (List ℕ × List Place)) → is_begun_by w v ≡ true → Among x (standing es v) → Among x (places_of (begun w es))
+  stood_by : (x : Place) (v : List ℕ) (es : List (List ℕ × List Place)) → is_begun_by w v ≡ true → IsIn x (standing es v) → IsIn x (places_of (begun w es))
   stood_by x v [] is h = absurd h
   stood_by x v (e ∷ es) is h =
       let later = begun w es in
-      let either : (b : Bool) → is_at (slice_cmp nat_cmp v) e.0 ≡ b → Among x (unwrap_or (cond b (Some e.1) (lookup (is_at (slice_cmp nat_cmp v)) es)) []) → Among x (places_of (cond (is_begun_by w e.0) (e ∷ later) later)) =
-      λ b. elim b as (λ b. is_at (slice_cmp nat_cmp v) e.0 ≡ b → Among x (unwrap_or (cond b (Some e.1) (lookup (is_at (slice_cmp nat_cmp v)) es)) []) → Among x (places_of (cond (is_begun_by w e.0) (e ∷ later) later))) [
+      let either : (b : Bool) → is_at (slice_cmp nat_cmp v) e.0 ≡ b → IsIn x (unwrap_or (cond b (Some e.1) (lookup (is_at (slice_cmp nat_cmp v)) es)) []) → IsIn x (places_of (cond (is_begun_by w e.0) (e ∷ later) later)) =
+      λ b. elim b as (λ b. is_at (slice_cmp nat_cmp v) e.0 ≡ b → IsIn x (unwrap_or (cond b (Some e.1) (lookup (is_at (slice_cmp nat_cmp v)) es)) []) → IsIn x (places_of (cond (is_begun_by w e.0) (e ∷ later) later))) [
         | true ↦ (λ at h.
             let same : v ≡ e.0 = exact_bytes v e.0 ((Equal-is (slice_cmp nat_cmp v e.0)).0 at) in
             let here : is_begun_by w e.0 ≡ true = ap (is_begun_by w) (sym same) ∙ is in
-            subst (λ b. Among x (places_of (cond b (e ∷ later) later))) (sym here) (among_left x e.1 (places_of later) h))
+            subst (λ b. IsIn x (places_of (cond b (e ∷ later) later))) (sym here) (in_left x e.1 (places_of later) h))
         | false ↦ (λ at h.
             let found = stood_by x v es is h in
-            elim (is_begun_by w e.0) as (λ b. Among x (places_of (cond b (e ∷ later) later))) [ true ↦ among_right x e.1 (places_of later) found | false ↦ found ])
+            elim (is_begun_by w e.0) as (λ b. IsIn x (places_of (cond b (e ∷ later) later))) [ true ↦ in_right x e.1 (places_of later) found | false ↦ found ])
       ] in
       either (is_at (slice_cmp nat_cmp v) e.0) refl h
 
 module _ (entries : List Entry) (index : List (List ℕ × List Place)) (w : List ℕ) (sorted : IsStrictlySortedBy (slice_cmp nat_cmp) (keys_of index)) (is : IsIndexOf entries index) where
-  gathered_begins : (x : Place) → Among x (places_of (begun w index)) → Among x (picked (is_begun_by w) (entry_places 0 entries))
+  gathered_begins : (x : Place) → IsIn x (places_of (begun w index)) → IsIn x (picked (is_begun_by w) (entry_places 0 entries))
   gathered_begins x h =
       let told = told_by w x index h in
       let v = told.0.0 in
       let here = lookup-from_Contains (eq_by_cmp_equiv nat_list_cmp_total) v told.0.1 index (IsDistinct-from_sorted (slice_cmp nat_cmp) (keys_of index) sorted) (contains_from told.0 index told.1) in
       let stands : told.0.1 ≡ picked (bytes_eq v) (entry_places 0 entries) = sym (ap (λ o. unwrap_or o []) here) ∙ is v in
-      picked_more (bytes_eq v) (is_begun_by w) x (entry_places 0 entries) (λ u same. ap (is_begun_by w) (sym ((bytes_eq-Decides v u).0 same)) ∙ told.2) (subst (Among x) stands told.3)
+      picked_more (bytes_eq v) (is_begun_by w) x (entry_places 0 entries) (λ u same. ap (is_begun_by w) (sym ((bytes_eq-Decides v u).0 same)) ∙ told.2) (subst (IsIn x) stands told.3)
 
-  begins_gathered : (x : Place) → Among x (picked (is_begun_by w) (entry_places 0 entries)) → Among x (places_of (begun w index))
+  begins_gathered : (x : Place) → IsIn x (picked (is_begun_by w) (entry_places 0 entries)) → IsIn x (places_of (begun w index))
   begins_gathered x h =
       let found = picked_word (is_begun_by w) x (entry_places 0 entries) h in
-      stood_by w x found.0 index found.1 (subst (Among x) (sym (is found.0)) found.2)
+      stood_by w x found.0 index found.1 (subst (IsIn x) (sym (is found.0)) found.2)
 
   -- what was gathered, in order and each once, is where a word begins with this one
   pub truncated_found : (found : List Place) → IsStrictlySortedBy place_cmp found
-      → ((x : Place) → Among x found → Among x (places_of (begun w index)))
-      → ((x : Place) → Among x (places_of (begun w index)) → Among x found)
+      → ((x : Place) → IsIn x found → IsIn x (places_of (begun w index)))
+      → ((x : Place) → IsIn x (places_of (begun w index)) → IsIn x found)
       → found ≡ entry_begins (stands_first true (w ∷ [])) 0 entries
   truncated_found found in_order to from =
       let begins = picked_entries (is_begun_by w) (stands_first true (w ∷ [])) (λ v vs. elim (is_begun_by w v) as (λ b. b ≡ (b && true)) [ true ↦ refl | false ↦ refl ]) 0 entries in
       same_members found (entry_begins (stands_first true (w ∷ [])) 0 entries) in_order (sorted_begins (stands_first true (w ∷ [])) 0 entries)
-      (λ x h. subst (Among x) begins (gathered_begins x (to x h)))
-      (λ x h. from x (begins_gathered x (subst (Among x) (sym begins) h)))
+      (λ x h. subst (IsIn x) begins (gathered_begins x (to x h)))
+      (λ x h. from x (begins_gathered x (subst (IsIn x) (sym begins) h)))
 
 -- the same after a sort, and with each place kept once
 module _ (entries : List Entry) (index : List (List ℕ × List Place)) (w : List ℕ) (in_order : IsStrictlySortedBy (slice_cmp nat_cmp) (keys_of index)) (is : IsIndexOf entries index) where
