@@ -114,7 +114,8 @@ module _ (offers : TargetSettings) (named : Bool) (op : ℕ) (r : Range) (rs : L
       ≡ present_response (present_value named op r rs s) (length found)
       (kept_of offers s.syntax found (positions (r ∷ rs)))
   presents found ranges past =
-      ap (present_unless (given offers).size (present_value named op r rs s) found) (no_fault (length found) ranges past)
+      ap (present_unless (given offers).size (present_value named op r rs s) found)
+      (no_fault (length found) ranges past)
       ∙ ap (λ l. present_response (present_value named op r rs s) (length found) (kept_of offers s.syntax found l))
       (ap asked.positions (same_ranges named op r rs s) ∙ same_positions (r ∷ rs))
 

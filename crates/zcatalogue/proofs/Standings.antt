@@ -371,7 +371,8 @@ module _ (databases : List Database) (offers : TargetSettings) (settings : Setti
           → StandsIn (past settings log) → LeavesSo (past settings log) call v
       made log opened Init v admits request steering s =
           let p = past settings log in
-          let v_is : v ≡ apdus.InitRequest (init_value settings) = request ∙ ap init_request (past_settings settings log) in
+          let v_is : v ≡ apdus.InitRequest (init_value settings) =
+          request ∙ ap init_request (past_settings settings log) in
           let free_call = free (standing p) Init admits in
           let fresh = fresh_from p.fault p.closed (list_any is_close_call p.admitted)
           (list_any is_init_call p.admitted) (opening p)
