@@ -30,6 +30,7 @@ pub built : (q : RpnQuery) (r : Result Element BuildError) → TextSpellable →
 built q r law known is = memory_or_no_element q r (law known.0 q known.1.0) is
 
 -- the element is the one that is made
-pub spelled : (q : RpnQuery) (r : Result Element BuildError) → Makes (query_spelt q) r → IfOk r (λ n. query_spelt q ≡ Some n)
+pub spelled : (q : RpnQuery) (r : Result Element BuildError) → Makes (query_spelt q) r
+    → IfOk r (λ n. query_spelt q ≡ Some n)
 spelled q (Ok n) is = is
 spelled q (Err e) is = tt

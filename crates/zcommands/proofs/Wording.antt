@@ -17,8 +17,8 @@ are_for words name found (Ok None) stands is = tt
 are_for words name found (Err e) stands is = tt
 
 -- what is done for what they ask for; `Kept` says that the input is left as it is
-pub does_asked : (octets : List ℕ → Option (List ℕ)) (words : List (List ℕ)) (asked : Result Words Error) (Kept : Type 0)
-    (input rest output printed errors told : Device) (status : Status)
+pub does_asked : (octets : List ℕ → Option (List ℕ)) (words : List (List ℕ)) (asked : Result Words Error)
+    (Kept : Type 0) (input rest output printed errors told : Device) (status : Status)
     → IfOk asked (AreFor words)
     → MatchResult asked (λ w. Does octets w input rest output printed errors told status)
     (λ e. Kept × TellsWords e output printed errors told status)
