@@ -1,4 +1,4 @@
-# make quick: prints the records of an example by a build that nothing was proved of, in about a minute.
+# make quick: prints the records of an example by a build that nothing was proved of, in about two minutes.
 # make show: proves and builds zmeta, and prints them. make demo: serves two catalogues on this machine, and asks both.
 # make test: passes the tests. make interop: asks the servers of others, and lets their clients ask, where they are there.
 # make hostile: sends it what strangers may send, a million times; nothing of the tests.
