@@ -17,8 +17,8 @@ use std::marker::Model;
 use zber::{Node, Tag};
 
 /// The elements of a production that are not yet read, and are given away to its value. Where the next one misfits, as
-/// many are left as before, the first of which stands for it, and need not be equal to it. Where no memory is found, the
-/// next one is lost, and those behind it are left.
+/// many are left as before, the first of which stands for it, and need not be equal to it. Where no memory is found,
+/// the next one is lost, and those behind it are left.
 #[derive(Drop)]
 pub struct OwnParts {
     left: VecDeque<Node>,

@@ -20,8 +20,8 @@ pub trait Taken: Sized + Drop {
     /// Its table.
     ghost table: { Elements Self };
 
-    /// The value of all elements that are left. Where one misfits, as many are left as from that one on; where no memory
-    /// is found, nothing is promised of those that are.
+    /// The value of all elements that are left. Where one misfits, as many are left as from that one on; where no
+    /// memory is found, nothing is promised of those that are.
     fn take(alloc: Global, parts: &mut OwnParts) -> Result<Self, PartError>
         ensures finds { FindsAway (table.at parts.old) result parts.new }
         ensures none { IfOk result (λ _. parts.new ≡ []) };
