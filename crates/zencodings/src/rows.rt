@@ -9,8 +9,8 @@ use zber::{Framer, Node};
 /// The longest message that is read.
 pub(crate) const LIMIT: u32 = 2_097_152;
 
-/// Fails with the first row of a table that does not hold, or of which that cannot be told; a row that begins with `#` says
-/// what those below it are.
+/// Fails with the first row of a table that does not hold, or of which that cannot be told; a row that begins with `#`
+/// says what those below it are.
 pub fn each_row<F: Fn(Global, &str) -> Result<bool, Unread>>(
     alloc: Global,
     rows: &str,
