@@ -2,6 +2,7 @@
 # make show: proves and builds zmeta, and prints them. make demo: serves two catalogues on this machine, and asks both.
 # make test: passes the tests. make interop: asks the servers of others, and lets their clients ask, where they are there.
 # make hostile: sends it what strangers may send, a million times; nothing of the tests.
+# make wrong-bodies: tries the wrong bodies that the tests leave out, in some hours.
 # make install: puts what make show built, its man page and its completions below PREFIX, and DESTDIR before that.
 # make uninstall: takes them away again.
 
@@ -15,7 +16,7 @@ bash = $(DESTDIR)$(PREFIX)/share/bash-completion/completions
 zsh = $(DESTDIR)$(PREFIX)/share/zsh/site-functions
 fish = $(DESTDIR)$(PREFIX)/share/fish/vendor_completions.d
 
-.PHONY: quick show demo test interop hostile install uninstall
+.PHONY: quick show demo test interop hostile wrong-bodies install uninstall
 
 quick:
 	cd crates/zmeta && rt try -- show < ../../examples/present-response.hex
@@ -31,6 +32,9 @@ interop:
 
 hostile:
 	scripts/hostile
+
+wrong-bodies:
+	scripts/wrong-bodies
 
 # Three checks at a time: each takes 6 GB at most, of 24. Left to itself rt ci reserves more, and has processors stand idle.
 test:
