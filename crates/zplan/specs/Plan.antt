@@ -111,7 +111,7 @@ module _ (wanted : List ℕ) (step : ℕ) where
   IsDriven (Receives a r ∷ events) = IsIn a (asked_in events) × (replies_in events a ≡ None) × IsDriven events
   IsDriven (Closes ∷ events) = IsAnsweredWhole events × IsDriven events
 
-  -- Close was sent
+  -- all that is asked was answered
   pub record IsComplete (events : List Event) : Type 0 where
     pub driven : IsDriven events
     pub all : IsAnsweredWhole events
