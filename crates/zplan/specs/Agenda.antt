@@ -6,8 +6,9 @@ use Rattle.zplan.specs.Ranges.{positions, span_of, IsApart, CanBeAsked}
 use Rattle.zplan.specs.Plan.{Present, Event, asked_in, replies_in, IsDue}
 use Rattle.zplan.specs.Cutting.{deal}
 
--- The lists whose Presents are due, by least first position; those whose Presents were sent and are not answered;
--- whether the first that is due was cut off, so that its Present can be sent; and whether version 3 is in force.
+-- The lists whose Presents are due, by least first position; those whose Presents were sent and are not answered,
+-- likewise; whether the first that is due was cut off, so that its Present can be sent; and whether version 3 is in
+-- force.
 pub record Agenda : Type 0 where
   pub due : List (List ℕ)
   pub waiting : List (List ℕ)
@@ -28,7 +29,7 @@ abbrev pub whole_agenda : Bool → ℕ → List ℕ → Agenda
 whole_agenda three step wanted =
     record { due = deal three (step - 1) (step - 1) wanted; waiting = []; ready = false; three = three }
 
--- The agenda has exactly the Presents that are due, each once and by least first position, and those that wait.
+-- The agenda has exactly the Presents that are due, and those that wait, each once and by least first position.
 pub record IsAgenda (wanted : List ℕ) (step : ℕ) (events : List Event) (a : Agenda) : Type 0 where
   pub only : (l : List ℕ) → IsIn l a.due → IsDue wanted step events (Present l)
   pub all : (l : List ℕ) → IsDue wanted step events (Present l) → IsIn l a.due
@@ -37,6 +38,7 @@ pub record IsAgenda (wanted : List ℕ) (step : ℕ) (events : List Event) (a : 
   pub unanswered : (l : List ℕ) → IsIn l a.waiting → replies_in events (Present l) ≡ None
   pub waits : (l : List ℕ) → IsIn (Present l) (asked_in events) → replies_in events (Present l) ≡ None
       → IsIn l a.waiting
+  pub in_order : Ascends (map first_of a.waiting)
 
 -- the same lists are due, and the same wait
 pub record SameAgenda (old new : Agenda) : Type 0 where

@@ -1,7 +1,8 @@
 //! Laws of the definitions, each the contract of a function that does nothing.
 ghost use Rattle.zplan.specs.Laws.{CompleteLaws, OrderLaw, NumberLaw, RunLaw, ReplyLaws, ShownLaws, BoundLaws, AgendaLaws, NextLaws, RowLaws};
 
-/// In a complete history, in which each operation that is asked was answered, no other was.
+/// In a complete history, in which Close was sent, or Init was answered so that nothing else is asked, the operations
+/// that were answered are exactly those that are asked.
 pub fn complete_laws()
     ensures { CompleteLaws }
 {}

@@ -64,9 +64,10 @@ impl Schedule {
         })
     }
 
-    /// The list that is due with the least first position, as ranges, or none. The same is given again until `sent`
-    /// says that its Present was sent, or `answered` makes a list due that begins before it. Where none is due, nothing
-    /// can be sent. Refused only for want of memory: nothing has then changed.
+    /// The list that is due with the least first position, or none; as few ranges as it can be asked in, with a gap
+    /// between any two. The same is given again until `sent` says that its Present was sent, or `answered` makes a list
+    /// due that begins before it. Where none is due, nothing can be sent. Refused only for want of memory: nothing has
+    /// then changed.
     pub fn next(&mut self, alloc: Global) -> Result<Option<Vec<Range>>, AllocError>
         ensures same { SameAgenda self.old self.new }
         ensures ok { IfOk result (λ o. IsFirstOf self.new o) }
