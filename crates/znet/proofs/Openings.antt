@@ -34,7 +34,8 @@ opens_begun hearing E c n old mid new sink held lt drove p = record {
       let calls = d.progress.calls in
       record {
         more = (c, Gives (waiting_at mid.pool c)) ∷ made c calls;
-        opening = begun calls (waiting_at mid.pool c) d.rests
+        opening = begun calls (waiting_at mid.pool c)
+            (λ question p asks heard. (d.rests question p asks heard, d.tried p heard))
             (spoken_all hearing q s c (made c calls ++ h) mid lt d.progress.after);
         after = p.0 q s (made c calls ++ h) d.progress.after;
       };
@@ -49,7 +50,8 @@ opens_unsent hearing E c n old mid new sink held lt drove p = record {
       let calls = d.progress.calls in
       record {
         more = (c, Stops reasons.Write) ∷ (c, Gives (waiting_at mid.pool c)) ∷ made c calls;
-        opening = unsent calls (waiting_at mid.pool c) d.rests
+        opening = unsent calls (waiting_at mid.pool c)
+            (λ question p asks heard. (d.rests question p asks heard, d.tried p heard))
             (spoken_all hearing q s c (made c calls ++ h) mid lt d.progress.after);
         after = p.0 q s (made c calls ++ h) d.progress.after;
       };

@@ -65,7 +65,8 @@ module _ (hearing : OneHearing) (E : Type 0) (c n : ℕ) (old mid new : MetaLink
           more = (c, Gives octets) ∷ (made c calls ++ t.more);
           read = t.read;
           written = t.written ++ octets;
-          follows = speaks calls octets t.follows d.rests all;
+          follows = speaks calls octets t.follows
+              (λ question p asks heard. (d.rests question p asks heard, d.tried p heard)) all;
           after = spoken q s h t.more calls octets
               (befell q s (made c calls ++ (t.more ++ h)) d.progress.after);
           stands = tt;
@@ -89,7 +90,8 @@ module _ (hearing : OneHearing) (E : Type 0) (c n : ℕ) (old mid new : MetaLink
           read = t.read;
           written = t.written;
           octets = octets;
-          follows = speaks calls octets t.follows d.rests all;
+          follows = speaks calls octets t.follows
+              (λ question p asks heard. (d.rests question p asks heard, d.tried p heard)) all;
           after = subst (λ z. MetaAfter q s ((c, Stops reasons.Write) ∷ (c, Gives octets) ∷ z) new)
               (sym (append_assoc (made c calls) t.more h))
               (broke q s (made c calls ++ (t.more ++ h)) d.progress.after);

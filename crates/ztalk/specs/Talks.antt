@@ -17,7 +17,7 @@ use Rattle.zoom.specs.Heard.{Heard, HasHeard, Feeds, Takes, Ends, Gives, Stops, 
 use Rattle.zoom.specs.History.{History, only}
 use Rattle.zoom.specs.Links.{stop_at, OthersStay}
 use Rattle.zoom.specs.Steering.{errand_of}
-use Rattle.zoom.specs.Metas.{MetaLinks, MetaAfter, MetaAfterUpTo, NoneIsNext, made, settings_of}
+use Rattle.zoom.specs.Metas.{MetaLinks, MetaAfter, MetaAfterUpTo, NoneIsNext, WasTried, made, settings_of}
 use Rattle.ztalk.specs.Devices.{DeviceState, AppendsFront, HasFailed, HasNoFailure}
 use Rattle.ztalk.specs.declared.conversation.TalkError.{TalkError}
 use Rattle.ztalk.specs.declared.conversation.TalkError.TheVariants as errors
@@ -31,11 +31,11 @@ pub data Stage : Type 0 where
   Over : Stage
   Ended : Stage
 
--- no call of the connection is next
+-- no call of the connection is next, and no search was passed over
 abbrev pub IsIdle : List Question → MetaSettings → ℕ → History → Type 0
 IsIdle questions s c h =
     (question : Question) (p : Heard) → slice_get questions c ≡ Some question → HasHeard (settings_of s) (only c h) p
-    → NoneIsNext (errand_of s question) p
+    → NoneIsNext (errand_of s question) p × WasTried p
 
 -- all that was sent on the connection was handed out, unless a write had failed before
 abbrev pub HasSpoken : MetaSettings → ℕ → History → Type 0
