@@ -136,14 +136,12 @@ module _ (orderly : (s : Settings) (l : Log) → IsOrderly (past s l))
             let theirs = heard_at (settings_of t) h b.pool.heard other.pool.connections c b.pool.stands
             (subst (λ n. c < n) (sym b.size) lt) in
             let k = knows questions s g one c q.0 (a.pool.heard c) a q.1 mine in
-            let l = knows questions t h other c q.0 (b.pool.heard c) b q.1 theirs in
-            (
+            let l = knows questions t h other c q.0 (b.pool.heard c) b q.1 theirs in (
               answers_too q.0 s t (a.pool.heard c) (b.pool.heard c) k.0 l.0 k.1 l.1 step (first c lt) (second c lt) (equal c),
               says_too q.0 s t (a.pool.heard c) (b.pool.heard c) k.0 l.0 k.1 l.1 step (first c lt) (second c lt) (equal c) c,
             )
         by (inr le) =
-            let silent = (a.pool.stands.others c (subst (λ n. n ≤ c) (sym a.size) le)).1 in
-            (
+            let silent = (a.pool.stands.others c (subst (λ n. n ≤ c) (sym a.size) le)).1 in (
               λ x i. absurd (none_in_nil x (subst (λ p. Contains (accepted p) x) silent i)),
               λ f i. absurd (none_in_nil f (subst (λ p. Contains (facts_at c p) f) silent i)),
             )

@@ -43,65 +43,65 @@ spoken_all hearing q s c h meta lt a p heard kept =
 module _ (hearing : OneHearing) (E : Type 0) (c n : ℕ) (old mid new : MetaLinks) (lt : c < length mid.pool.connections)
     (drove : DrivesTo {E = E} c (Ok n) old mid)
   where
-  -- the history with the calls and what was handed out
-  spoken : (q : List Question) (s : MetaSettings) (h more : History) (calls : List Call) (octets : List ℕ)
-      → MetaAfter q s ((c, Gives octets) ∷ (made c calls ++ (more ++ h))) new
-      → MetaAfter q s ((c, Gives octets) ∷ (made c calls ++ more) ++ h) new
-  spoken q s h more calls octets a =
-      subst (λ z. MetaAfter q s ((c, Gives octets) ∷ z) new) (sym (append_assoc (made c calls) more h)) a
+    -- the history with the calls and what was handed out
+    spoken : (q : List Question) (s : MetaSettings) (h more : History) (calls : List Call) (octets : List ℕ)
+        → MetaAfter q s ((c, Gives octets) ∷ (made c calls ++ (more ++ h))) new
+        → MetaAfter q s ((c, Gives octets) ∷ (made c calls ++ more) ++ h) new
+    spoken q s h more calls octets a =
+        subst (λ z. MetaAfter q s ((c, Gives octets) ∷ z) new) (sym (append_assoc (made c calls) more h)) a
 
-  abbrev octets : List ℕ
-  octets = waiting_at mid.pool c
+    abbrev octets : List ℕ
+    octets = waiting_at mid.pool c
 
-  pub speaks_on : (sink held : DeviceState) → MetaBefell c (Gives octets) mid new
-      → Appends sink.octets held.octets octets → held.failures ≡ sink.failures
-      → (left : DeviceState) → GoesOn c Due Listening same old new left left sink held
-  speaks_on sink held befell went sound left = record {
-    on = λ q s h reads source first t.
-        let d : Drives q s c (t.more ++ h) n mid = drove q s (t.more ++ h) t.after in
-        let calls = d.progress.calls in
-        let all = spoken_all hearing q s c (made c calls ++ (t.more ++ h)) mid lt d.progress.after in
-        record {
-          more = (c, Gives octets) ∷ (made c calls ++ t.more);
-          read = t.read;
-          written = t.written ++ octets;
-          follows = speaks calls octets t.follows
-              (λ question p asks heard. (d.rests question p asks heard, d.tried p heard)) all;
-          after = spoken q s h t.more calls octets
-              (befell q s (made c calls ++ (t.more ++ h)) d.progress.after);
-          stands = tt;
-          came = t.came;
-          went = Appends-trans first.octets sink.octets held.octets t.written octets t.went went;
-        };
-    reader = refl;
-    writer = sound;
-  }
+    pub speaks_on : (sink held : DeviceState) → MetaBefell c (Gives octets) mid new
+        → Appends sink.octets held.octets octets → held.failures ≡ sink.failures
+        → (left : DeviceState) → GoesOn c Due Listening same old new left left sink held
+    speaks_on sink held befell went sound left = record {
+      on = λ q s h reads source first t.
+          let d : Drives q s c (t.more ++ h) n mid = drove q s (t.more ++ h) t.after in
+          let calls = d.progress.calls in
+          let all = spoken_all hearing q s c (made c calls ++ (t.more ++ h)) mid lt d.progress.after in
+          record {
+            more = (c, Gives octets) ∷ (made c calls ++ t.more);
+            read = t.read;
+            written = t.written ++ octets;
+            follows = speaks calls octets t.follows
+                (λ question p asks heard. (d.rests question p asks heard, d.tried p heard)) all;
+            after = spoken q s h t.more calls octets
+                (befell q s (made c calls ++ (t.more ++ h)) d.progress.after);
+            stands = tt;
+            came = t.came;
+            went = Appends-trans first.octets sink.octets held.octets t.written octets t.went went;
+          };
+      reader = refl;
+      writer = sound;
+    }
 
-  pub speaks_broken : (sink held : DeviceState) → MetaBroke c octets mid new
-      → AppendsFront sink.octets held.octets octets → HasFailed sink.failures held.failures
-      → BreaksOff c Due old new sink held
-  speaks_broken sink held broke front failed = record {
-    on = λ q s h reads source left first t.
-        let d : Drives q s c (t.more ++ h) n mid = drove q s (t.more ++ h) t.after in
-        let calls = d.progress.calls in
-        let all = spoken_all hearing q s c (made c calls ++ (t.more ++ h)) mid lt d.progress.after in
-        record {
-          more = made c calls ++ t.more;
-          read = t.read;
-          written = t.written;
-          octets = octets;
-          follows = speaks calls octets t.follows
-              (λ question p asks heard. (d.rests question p asks heard, d.tried p heard)) all;
-          after = subst (λ z. MetaAfter q s ((c, Stops reasons.Write) ∷ (c, Gives octets) ∷ z) new)
-              (sym (append_assoc (made c calls) t.more h))
-              (broke q s (made c calls ++ (t.more ++ h)) d.progress.after);
-          came = t.came;
-          before = sink;
-          went = t.went;
-          front = front;
-        };
-    failed = failed;
-  }
+    pub speaks_broken : (sink held : DeviceState) → MetaBroke c octets mid new
+        → AppendsFront sink.octets held.octets octets → HasFailed sink.failures held.failures
+        → BreaksOff c Due old new sink held
+    speaks_broken sink held broke front failed = record {
+      on = λ q s h reads source left first t.
+          let d : Drives q s c (t.more ++ h) n mid = drove q s (t.more ++ h) t.after in
+          let calls = d.progress.calls in
+          let all = spoken_all hearing q s c (made c calls ++ (t.more ++ h)) mid lt d.progress.after in
+          record {
+            more = made c calls ++ t.more;
+            read = t.read;
+            written = t.written;
+            octets = octets;
+            follows = speaks calls octets t.follows
+                (λ question p asks heard. (d.rests question p asks heard, d.tried p heard)) all;
+            after = subst (λ z. MetaAfter q s ((c, Stops reasons.Write) ∷ (c, Gives octets) ∷ z) new)
+                (sym (append_assoc (made c calls) t.more h))
+                (broke q s (made c calls ++ (t.more ++ h)) d.progress.after);
+            came = t.came;
+            before = sink;
+            went = t.went;
+            front = front;
+          };
+      failed = failed;
+    }
 
 -- ---- memory is wanting
 
