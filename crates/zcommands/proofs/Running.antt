@@ -27,7 +27,7 @@ not_put r saved output printed errors told g f answer is of h = rw (is, of) (unp
 unsaved : (r : Finished) (saved : Option (List ℕ)) (output printed errors told : Device) (f : Fault)
     → Prints r output printed errors told → IsOfSaving saved f → Finishes r saved output printed errors told (Err f)
 unsaved r saved output printed errors told (Write path) h s = inl (h, s)
-unsaved r saved output printed errors told Memory h s = inr h
+unsaved r saved output printed errors told Memory h s = inr (h, s)
 unsaved r saved output printed errors told f h s = absurd s
 
 -- it was written, and not saved
@@ -41,10 +41,10 @@ not_saved r saved output printed errors told g f answer is of h s =
 
 finished : (says : Result Finished Fault → Type 0) (r : Finished) (saved : Option (List ℕ))
     (output printed errors told : Device) (answer : Result Status Fault)
-    → says (Ok r) → Finishes r saved output printed errors told answer → Concludes says output printed errors told answer
-finished says r saved output printed errors told (Ok status) h f = (r, h, f.0, f.1)
-finished says r saved output printed errors told (Err (Write path)) h (inl f) = (r, h, inl f.0)
-finished says r saved output printed errors told (Err (Write path)) h (inr f) = (r, h, inr (f.1, f.2))
+    → says (Ok r) → Finishes r saved output printed errors told answer
+    → Concludes says saved output printed errors told answer
+finished says r saved output printed errors told (Ok status) h f = (r, h, f)
+finished says r saved output printed errors told (Err (Write path)) h f = (r, h, f)
 finished says r saved output printed errors told (Err Memory) h (inl f) = inl f
 finished says r saved output printed errors told (Err Memory) h (inr f) = inr (r, h, f)
 finished says r saved output printed errors told (Err f) h g = absurd g
@@ -52,7 +52,7 @@ finished says r saved output printed errors told (Err f) h g = absurd g
 pub concludes : (says : List ℕ → Result Finished Fault → Type 0)
     (file : Option (List ℕ)) (r : Finished) (saved : Option (List ℕ)) (output printed errors told : Device) (answer : Result Status Fault)
     → IfSome file (λ octets. says octets (Ok r)) → Finishes r saved output printed errors told answer
-    → IfSome file (λ octets. Concludes (says octets) output printed errors told answer)
+    → IfSome file (λ octets. Concludes (says octets) saved output printed errors told answer)
 concludes says None r saved output printed errors told answer h f = tt
 concludes says (Some octets) r saved output printed errors told answer h f =
     finished (says octets) r saved output printed errors told answer h f

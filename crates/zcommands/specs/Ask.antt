@@ -82,9 +82,10 @@ IsOfAsking path _ = ⊥
 -- ---- the command
 
 -- what an answer of `ask` says of the world file, and of what was written and told
-abbrev pub AsksHosts : Manner → Mode → List ℕ → Device → Device → Device → Device → Result Status Fault → Type 0
-AsksHosts manner mode file output printed errors told answer =
-    Concludes (AsksFile manner mode file) output printed errors told answer
+abbrev pub AsksHosts : Manner → Mode → List ℕ → Option (List ℕ)
+    → Device → Device → Device → Device → Result Status Fault → Type 0
+AsksHosts manner mode file saved output printed errors told answer =
+    Concludes (AsksFile manner mode file) saved output printed errors told answer
 
 -- what `ask` does with the world file at a path: what it writes and tells, and its status
 abbrev pub DoesAsk : Manner → Mode → Command

@@ -123,11 +123,15 @@ MakesSaved path r (Err (Write told)) = told.now ≡ path
 MakesSaved path r (Err Memory) = Unit {0}
 MakesSaved path r (Err _) = ⊥
 
--- saving can fail for memory, and where the file at the path cannot be written
+-- what is known is to be saved at some path
+abbrev pub IsToBeSaved : Option (List ℕ) → Type 0
+IsToBeSaved saved = (path : List ℕ) × (saved ≡ Some path)
+
+-- where it is to be saved, that can fail for memory, and where the file at the path cannot be written
 abbrev pub IsOfSaving : Option (List ℕ) → Fault → Type 0
-IsOfSaving path (Write told) = path ≡ Some told.now
-IsOfSaving path Memory = Unit {0}
-IsOfSaving path _ = ⊥
+IsOfSaving saved (Write told) = saved ≡ Some told.now
+IsOfSaving saved Memory = IsToBeSaved saved
+IsOfSaving saved _ = ⊥
 
 -- ---- all of it
 
@@ -140,7 +144,7 @@ Finishes r saved output printed errors told (Err (Write path)) =
     (Prints r output printed errors told × (saved ≡ Some path.now))
     ⊎ ((path.now ≡ output.path) × Stops output printed r.list.items × (told ≡ errors))
 Finishes r saved output printed errors told (Err Memory) =
-    (Stays output printed × (told ≡ errors)) ⊎ Prints r output printed errors told
+    (Stays output printed × (told ≡ errors)) ⊎ (Prints r output printed errors told × IsToBeSaved saved)
 Finishes r saved output printed errors told (Err _) = ⊥
 
 -- ---- a command that asks
@@ -152,18 +156,19 @@ IsOfWorld path (Line number) = Unit {0}
 IsOfWorld path Memory = Unit {0}
 IsOfWorld path _ = ⊥
 
--- What an answer of a command that asks says of what was written and told, by what it says of the world file: in the
--- end such connections are finished; or it is at fault before anything is written.
-abbrev pub Concludes
-    : (Result Finished Fault → Type 0) → Device → Device → Device → Device → Result Status Fault → Type 0
-Concludes says output printed errors told (Ok status) =
-    (r : Finished) × says (Ok r) × Prints r output printed errors told × IsFinishedStatus r status
-Concludes says output printed errors told (Err (Write path)) =
-    (r : Finished) × says (Ok r)
-    × (Prints r output printed errors told ⊎ (Stops output printed r.list.items × (told ≡ errors)))
-Concludes says output printed errors told (Err Memory) =
-    (Stays output printed × (told ≡ errors)) ⊎ ((r : Finished) × says (Ok r) × Prints r output printed errors told)
-Concludes says output printed errors told (Err f) = says (Err f) × Stays output printed × (told ≡ errors)
+-- What an answer of a command that asks says of what was written and told, by what it says of the world file, and of
+-- where is to be saved: in the end such connections are finished, or not all of that was done; or it is at fault before
+-- anything is written.
+abbrev pub Concludes : (Result Finished Fault → Type 0) → Option (List ℕ)
+    → Device → Device → Device → Device → Result Status Fault → Type 0
+Concludes says saved output printed errors told (Ok status) =
+    (r : Finished) × says (Ok r) × Finishes r saved output printed errors told (Ok status)
+Concludes says saved output printed errors told (Err (Write path)) =
+    (r : Finished) × says (Ok r) × Finishes r saved output printed errors told (Err (Write path))
+Concludes says saved output printed errors told (Err Memory) =
+    (Stays output printed × (told ≡ errors))
+    ⊎ ((r : Finished) × says (Ok r) × Prints r output printed errors told × IsToBeSaved saved)
+Concludes says saved output printed errors told (Err f) = says (Err f) × Stays output printed × (told ≡ errors)
 
 -- Which file or stream a fault is told of: the world file; or the stream of the list, of which a write failed; or the
 -- file in which is saved.
@@ -180,8 +185,8 @@ Command = List ℕ → Option (List ℕ) → Option (List ℕ) → Device → De
 
 -- it does what its answer says of the file, and tells the fault that stopped it
 abbrev pub DoesAnswer
-    : (List ℕ → Device → Device → Device → Device → Result Status Fault → Type 0) → Command
+    : (List ℕ → Option (List ℕ) → Device → Device → Device → Device → Result Status Fault → Type 0) → Command
 DoesAnswer says world saved file output printed errors told status = (answer : Result Status Fault)
     × (between : Device) × (status ≡ end_status answer)
-    × IfSome file (λ octets. says octets output printed errors between answer)
+    × IfSome file (λ octets. says octets saved output printed errors between answer)
     × IsOfPaths world saved printed answer × TellsAnswer between told answer

@@ -1,5 +1,5 @@
 -- What `loop` prints of a world file, what it tells, and how it ends.
-use Rattle.std.specs.Prelude.{ℕ, List, Result, Ok, Err}
+use Rattle.std.specs.Prelude.{ℕ, List, Option, Result, Ok, Err}
 use Rattle.zknow.specs.declared.fact.Mode.{Mode}
 use Rattle.zworld.specs.declared.fitness.Arrangement.{Arrangement}
 use Rattle.zcommands.specs.Devices.{Device}
@@ -29,9 +29,10 @@ LoopsFile mode file (Err Memory) = Unit {0}
 LoopsFile mode file (Err _) = ⊥
 
 -- what an answer of `loop` says of the world file, and of what was written and told
-abbrev pub Loops : Mode → List ℕ → Device → Device → Device → Device → Result Status Fault → Type 0
-Loops mode file output printed errors told answer =
-    Concludes (LoopsFile mode file) output printed errors told answer
+abbrev pub Loops : Mode → List ℕ → Option (List ℕ)
+    → Device → Device → Device → Device → Result Status Fault → Type 0
+Loops mode file saved output printed errors told answer =
+    Concludes (LoopsFile mode file) saved output printed errors told answer
 
 -- what `loop` does with the world file at a path: what it writes and tells, and its status
 abbrev pub DoesLoop : Mode → Command

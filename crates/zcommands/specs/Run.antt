@@ -1,5 +1,5 @@
 -- What `run` prints of a world file, what it tells, and how it ends.
-use Rattle.std.specs.Prelude.{◌⊎◌, ℕ, List, [], Result, Ok, Err}
+use Rattle.std.specs.Prelude.{◌⊎◌, ℕ, List, [], Option, Result, Ok, Err}
 use Rattle.zknow.specs.declared.fact.Mode.{Mode}
 use Rattle.zworld.specs.declared.world.World.{World}
 use Rattle.zworld.specs.declared.fitness.Arrangement.{Arrangement}
@@ -64,9 +64,10 @@ RunsFile mode file (Err _) = ⊥
 -- ---- the command
 
 -- what an answer of `run` says of the world file, and of what was written and told
-abbrev pub Runs : Mode → List ℕ → Device → Device → Device → Device → Result Status Fault → Type 0
-Runs mode file output printed errors told answer =
-    Concludes (RunsFile mode file) output printed errors told answer
+abbrev pub Runs : Mode → List ℕ → Option (List ℕ)
+    → Device → Device → Device → Device → Result Status Fault → Type 0
+Runs mode file saved output printed errors told answer =
+    Concludes (RunsFile mode file) saved output printed errors told answer
 
 -- what `run` does with the world file at a path: what it writes and tells, and its status
 abbrev pub DoesRun : Mode → Command

@@ -60,4 +60,4 @@ ShowsText digits old new answer = ShowsDigits digits old new answer
 abbrev pub DoesShow : Device → Device → Device → Device → Device → Device → Status → Type 0
 DoesShow input rest output printed errors told status = (answer : Result (Unit {0}) Fault)
     × (status ≡ answer_status answer) × IfSome input.known (λ digits. ShowsText digits output printed answer)
-    × IsOfStream rest printed answer × TellsAnswer errors told answer
+    × (rest.path ≡ input.path) × IsOfStream rest printed answer × TellsAnswer errors told answer

@@ -69,7 +69,8 @@ fn ask_paths<'a, 'o: 'a, S: Folder + Net + Clock, W: Write, E: Write, P: Write +
     errors: &mut Output<'_, E>,
 ) -> Result<Status, Fault<'a>>
     ensures asks { IfSome (S.octets system.now paths.entry.world.now)
-        (λ octets. AsksHosts (manner choice.entry) mode octets (held W.contents output.old) (held W.contents output.new)
+        (λ octets. AsksHosts (manner choice.entry) mode octets (option_map (λ path. path.now) paths.entry.saved)
+        (held W.contents output.old) (held W.contents output.new)
         (held E.contents errors.old) (held E.contents errors.new) result) }
     ensures paths { IsOfPaths paths.entry.world.now (option_map (λ path. path.now) paths.entry.saved)
         (held W.contents output.new) result }

@@ -84,10 +84,10 @@ struct Word {
     is_needed: bool,
 }
 
-/// A file of what one search brought.
+/// A file that was saved.
 const SAVED: Word = Word {
     id: "A",
-    help: "A file of what one search brought",
+    help: "A file that --save made",
     has_hyphen: false,
     is_count: false,
     is_many: false,
@@ -114,7 +114,8 @@ Statuses:
   1  a catalogue failed, closed its connection, refused a search or could not be asked;
      the list has what the others brought
   2  the words are wrong
-  3  a file or a message was refused, or a file, a stream or a socket failed
+  3  a file, a message, a query or an option's value was refused, or a file, a stream or
+     the socket that listens failed
   4  memory ran out";
 
 const SHOW: Form = Form {
@@ -168,7 +169,7 @@ prints lines as
         SAVED,
         Word {
             id: "B",
-            help: "Files of what other searches brought",
+            help: "More such files",
             has_hyphen: false,
             is_count: false,
             is_many: true,
@@ -185,7 +186,8 @@ const RECORDS: Form = Form {
 Writes the octets of the records, one after the other in the order of the list of 'zmeta join',
 as cataloguing tools read them. Where several records are known for one place, all of these are
 left out, or none with --conflicts. What is left out is told on standard error: such places,
-diagnostics that stand for records, and records that have no octets of their own.
+whatever stands there, and of the others diagnostics that stand for records, and records that
+have no octets of their own. Records of another syntax than the one asked for are not told.
 
 Example, the MARC 21 records that a search brought:
   zmeta ask --save books.saved catalogues
@@ -194,7 +196,7 @@ Example, the MARC 21 records that a search brought:
         SAVED,
         Word {
             id: "B",
-            help: "Files of what other searches brought",
+            help: "More such files",
             has_hyphen: false,
             is_count: false,
             is_many: true,

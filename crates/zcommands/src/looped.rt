@@ -51,7 +51,8 @@ fn loop_paths<'a, 'o: 'a, S: Folder + Net, W: Write, E: Write>(
     errors: &mut Output<'_, E>,
 ) -> Result<Status, Fault<'a>>
     ensures loops { IfSome (S.octets system.now paths.entry.world.now)
-        (λ octets. Loops mode octets (held W.contents output.old) (held W.contents output.new)
+        (λ octets. Loops mode octets (option_map (λ path. path.now) paths.entry.saved)
+        (held W.contents output.old) (held W.contents output.new)
         (held E.contents errors.old) (held E.contents errors.new) result) }
     ensures paths { IsOfPaths paths.entry.world.now (option_map (λ path. path.now) paths.entry.saved)
         (held W.contents output.new) result }

@@ -53,7 +53,8 @@ fn run_paths<'a, 'o: 'a, F: Folder, W: Write, E: Write>(
     errors: &mut Output<'_, E>,
 ) -> Result<Status, Fault<'a>>
     ensures runs { IfSome (F.octets files.now paths.entry.world.now)
-        (λ octets. Runs mode octets (held W.contents output.old) (held W.contents output.new)
+        (λ octets. Runs mode octets (option_map (λ path. path.now) paths.entry.saved)
+        (held W.contents output.old) (held W.contents output.new)
         (held E.contents errors.old) (held E.contents errors.new) result) }
     ensures paths { IsOfPaths paths.entry.world.now (option_map (λ path. path.now) paths.entry.saved)
         (held W.contents output.new) result }

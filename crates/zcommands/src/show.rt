@@ -53,6 +53,7 @@ fn show_text<'a, R: Read, W: Write>(
 ) -> Result<(), Fault<'a>>
     ensures shown { IfSome (R.remaining input.old.reader)
         (λ text. ShowsText text (held W.contents output.old) (held W.contents output.new) result) }
+    ensures path { input.new.path ≡ input.old.path }
     ensures failed { IsOfStream (left R.remaining input.new) (held W.contents output.new) result }
 {
     let text = input.read_all(alloc)?;

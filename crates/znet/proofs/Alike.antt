@@ -8,7 +8,7 @@ use Rattle.zoom.specs.History.{History, only}
 use Rattle.zoom.specs.Metas.{made, settings_of}
 use Rattle.zoom.proofs.Pools.{only_other}
 use Rattle.ztalk.specs.Talks.{IsStoppedAt, IsCutOff}
-use Rattle.ztalk.proofs.Apart.{behind, none_before, none_both, others_made, others_follow, heard_alike, idle_alike, over_alike, follows_alike}
+use Rattle.ztalk.proofs.Apart.{behind, one_more, none_before, none_both, others_made, others_follow, heard_alike, idle_alike, spoken_alike, over_alike, follows_alike}
 use Rattle.ztalk.proofs.Joining.{stopped_over}
 use Rattle.znet.specs.Asking.{has, Opening, unreached, begun, unsent, Talking, ends_itself, is_stopped as was_stopped, TalksIf, IsTalkedOut, IsTalkedOutIf}
 use Rattle.znet.specs.AskingSteps.{IsOpened, IsOpenedIf}
@@ -55,10 +55,16 @@ none_left (x ∷ xs) is = absurd cc
 pub opening_alike : {q : List Question} {s : MetaSettings} {c : ℕ} {h more : History} {reached : Bool} (k : History)
     → only c h ≡ only c k → Opening q s c h more reached → Opening q s c k more reached
 opening_alike k e unreached = unreached
-opening_alike {q = q} {s = s} {c = c} {h = h} k e (begun calls octets idle) =
-    begun calls octets (idle_alike q s c (made c calls ++ h) (made c calls ++ k) (behind c (made c calls) h k e) idle)
-opening_alike {q = q} {s = s} {c = c} {h = h} k e (unsent calls octets idle) =
-    unsent calls octets (idle_alike q s c (made c calls ++ h) (made c calls ++ k) (behind c (made c calls) h k e) idle)
+opening_alike {q = q} {s = s} {c = c} {h = h} k e (begun calls octets idle all) =
+    let same = behind c (made c calls) h k e in
+    begun calls octets (idle_alike q s c (made c calls ++ h) (made c calls ++ k) same idle)
+    (spoken_alike s c ((c, Gives octets) ∷ (made c calls ++ h)) ((c, Gives octets) ∷ (made c calls ++ k))
+    (one_more c (Gives octets) (made c calls ++ h) (made c calls ++ k) same) all)
+opening_alike {q = q} {s = s} {c = c} {h = h} k e (unsent calls octets idle all) =
+    let same = behind c (made c calls) h k e in
+    unsent calls octets (idle_alike q s c (made c calls ++ h) (made c calls ++ k) same idle)
+    (spoken_alike s c ((c, Gives octets) ∷ (made c calls ++ h)) ((c, Gives octets) ∷ (made c calls ++ k))
+    (one_more c (Gives octets) (made c calls ++ h) (made c calls ++ k) same) all)
 
 cut_alike : (s : MetaSettings) (c : ℕ) (h k : History) → only c h ≡ only c k → IsCutOff s c h → IsCutOff s c k
 cut_alike s c h k e cut p heard = cut p (heard_alike (settings_of s) c h k p e heard)
@@ -81,9 +87,9 @@ talks_alike q s at_once c h k more false e t = t
 pub others_opening : {q : List Question} {s : MetaSettings} {c : ℕ} {h more : History} {reached : Bool} (i : ℕ)
     → Opening q s c h more reached → (c == i) ≡ false → only i more ≡ []
 others_opening {c = c} i unreached far = only_other c i (Stops reasons.Connect) [] far
-others_opening {c = c} i (begun calls octets idle) far =
+others_opening {c = c} i (begun calls octets idle all) far =
     only_other c i (Gives octets) (made c calls) far ∙ others_made c i calls far
-others_opening {c = c} i (unsent calls octets idle) far =
+others_opening {c = c} i (unsent calls octets idle all) far =
     only_other c i (Stops reasons.Write) ((c, Gives octets) ∷ made c calls) far
     ∙ only_other c i (Gives octets) (made c calls) far ∙ others_made c i calls far
 
@@ -104,8 +110,8 @@ others_talk q s at_once c h more false i t far = ap (only i) t
 unreached_over : {q : List Question} {s : MetaSettings} {c : ℕ} {h more : History} {reached : Bool}
     → Opening q s c h more reached → reached ≡ false → IsStoppedAt s c (more ++ h)
 unreached_over {s = s} {c = c} {h = h} unreached e = stopped_over s c reasons.Connect h
-unreached_over (begun calls octets idle) e = absurd cc
-unreached_over {s = s} {c = c} {h = h} (unsent calls octets idle) e =
+unreached_over (begun calls octets idle all) e = absurd cc
+unreached_over {s = s} {c = c} {h = h} (unsent calls octets idle all) e =
     stopped_over s c reasons.Write ((c, Gives octets) ∷ made c calls ++ h)
 
 -- ---- within a history

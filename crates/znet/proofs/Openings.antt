@@ -6,12 +6,14 @@ use Rattle.zoom.specs.declared.question.MetaSettings.{MetaSettings}
 use Rattle.zoom.specs.declared.state.Reason.TheVariants as reasons
 use Rattle.zoom.specs.Heard.{Gives, Stops}
 use Rattle.zoom.specs.History.{History, only}
+use Rattle.zoom.specs.Laws.{OneHearing}
 use Rattle.zoom.specs.Links.{waiting_at}
 use Rattle.zoom.specs.Metas.{MetaLinks, MetaBefell, DrivesTo, Drives, made}
 use Rattle.ztalk.specs.declared.outgoing.PushError.TheVariants as pushes
 use Rattle.ztalk.specs.Devices.{DeviceState}
 use Rattle.ztalk.specs.Pushes.{Pushes}
 use Rattle.ztalk.proofs.Apart.{behind, none_both}
+use Rattle.ztalk.proofs.Speaking.{spoken_all}
 use Rattle.znet.specs.Asking.{has, unreached, begun, unsent}
 use Rattle.znet.specs.AskingSteps.{Opened, Opens, OpensIf, IsOpened, IsOpenedIf, AllOpened, OpensAll}
 use Rattle.znet.proofs.Alike.{has_middle, has_front, opening_alike, others_opening, opened_since}
@@ -23,28 +25,34 @@ opens_unreached c old new b = record {
   on = λ q s h a. record { more = (c, Stops reasons.Connect) ∷ []; opening = unreached; after = b q s h a };
 }
 
-pub opens_begun : (E : Type 0) (c n : ℕ) (old mid new : MetaLinks) (sink held : DeviceState)
-    → DrivesTo {E = E} c (Ok n) old mid → Pushes c (Ok tt) mid new sink held → Opens c true old new
-opens_begun E c n old mid new sink held drove p = record {
+pub opens_begun : OneHearing → (E : Type 0) (c n : ℕ) (old mid new : MetaLinks) (sink held : DeviceState)
+    → c < length mid.pool.connections → DrivesTo {E = E} c (Ok n) old mid → Pushes c (Ok tt) mid new sink held
+    → Opens c true old new
+opens_begun hearing E c n old mid new sink held lt drove p = record {
   on = λ q s h a.
       let d : Drives q s c h n mid = drove q s h a in
       let calls = d.progress.calls in
       record {
         more = (c, Gives (waiting_at mid.pool c)) ∷ made c calls;
-        opening = begun calls (waiting_at mid.pool c) d.rests;
+        opening = begun calls (waiting_at mid.pool c)
+            (λ question p asks heard. (d.rests question p asks heard, d.tried p heard))
+            (spoken_all hearing q s c (made c calls ++ h) mid lt d.progress.after);
         after = p.0 q s (made c calls ++ h) d.progress.after;
       };
 }
 
-pub opens_unsent : (E : Type 0) (c n : ℕ) (old mid new : MetaLinks) (sink held : DeviceState)
-    → DrivesTo {E = E} c (Ok n) old mid → Pushes c (Err pushes.Write) mid new sink held → Opens c false old new
-opens_unsent E c n old mid new sink held drove p = record {
+pub opens_unsent : OneHearing → (E : Type 0) (c n : ℕ) (old mid new : MetaLinks) (sink held : DeviceState)
+    → c < length mid.pool.connections → DrivesTo {E = E} c (Ok n) old mid
+    → Pushes c (Err pushes.Write) mid new sink held → Opens c false old new
+opens_unsent hearing E c n old mid new sink held lt drove p = record {
   on = λ q s h a.
       let d : Drives q s c h n mid = drove q s h a in
       let calls = d.progress.calls in
       record {
         more = (c, Stops reasons.Write) ∷ (c, Gives (waiting_at mid.pool c)) ∷ made c calls;
-        opening = unsent calls (waiting_at mid.pool c) d.rests;
+        opening = unsent calls (waiting_at mid.pool c)
+            (λ question p asks heard. (d.rests question p asks heard, d.tried p heard))
+            (spoken_all hearing q s c (made c calls ++ h) mid lt d.progress.after);
         after = p.0 q s (made c calls ++ h) d.progress.after;
       };
 }

@@ -11,7 +11,7 @@ use Rattle.zoom.specs.Heard.{Gives, Stops}
 use Rattle.zoom.specs.History.{History, only}
 use Rattle.zoom.specs.Metas.{MetaLinks, MetaAfter, made}
 use Rattle.ztalk.specs.Among.{ends_at}
-use Rattle.ztalk.specs.Talks.{Stage, Listening, Waiting, Ended, Follows, IsIdle, IsStoppedAt, IsCutOff}
+use Rattle.ztalk.specs.Talks.{Stage, Listening, Waiting, Ended, Follows, IsIdle, HasSpoken, IsStoppedAt, IsCutOff}
 
 -- whether there is something of a connection
 abbrev pub has : {A : Type 0} → List (Option A) → ℕ → Bool
@@ -20,13 +20,15 @@ has xs c = is_some (ends_at xs c)
 -- ---- the deeds of one connection
 
 -- The way to the host of a connection is opened: there is none, for which it is stopped; or the calls that are due are
--- made, and what waits is written, or that fails, for which it is stopped. Its deeds, the newest first, behind a
--- history; and whether the host can be talked with.
+-- made, and all that waits is handed out and written, or that fails, for which it is stopped. Its deeds, the newest
+-- first, behind a history; and whether the host can be talked with.
 pub data Opening (questions : List Question) (s : MetaSettings) (c : ℕ) (h : History) : History → Bool → Type 0 where
   unreached : Opening questions s c h ((c, Stops reasons.Connect) ∷ []) false
   begun : (calls : List Call) (octets : List ℕ) → IsIdle questions s c (made c calls ++ h)
+      → HasSpoken s c ((c, Gives octets) ∷ (made c calls ++ h))
       → Opening questions s c h ((c, Gives octets) ∷ made c calls) true
   unsent : (calls : List Call) (octets : List ℕ) → IsIdle questions s c (made c calls ++ h)
+      → HasSpoken s c ((c, Gives octets) ∷ (made c calls ++ h))
       → Opening questions s c h ((c, Stops reasons.Write) ∷ (c, Gives octets) ∷ made c calls) false
 
 -- after how many reads a talk may be stopped for `Turns`: one alone; one that goes on among others at once, whose source

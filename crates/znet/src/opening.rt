@@ -8,6 +8,7 @@ use bytes::Bytes;
 use std::alloc::{AllocError, Global};
 use std::net::Net;
 use std::time::Clock;
+use zoom::laws::one_hearing;
 use zoom::{Meta, Reason};
 use ztalk::{PushError, Sink, push};
 
@@ -79,6 +80,7 @@ fn begin<W: Sink>(alloc: Global, meta: &mut Meta, c: u32, sink: &mut W) -> Resul
     ensures opens { IfOk result (λ reached. Opens c reached meta.old meta.new) }
     ensures size { length meta.new.pool.connections ≡ length meta.old.pool.connections }
 {
+    one_hearing();
     meta.drive(c)?;
     match push(alloc, meta, c, sink) {
         Ok(()) => Ok(true),

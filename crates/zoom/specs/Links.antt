@@ -1,5 +1,5 @@
 -- What contracts see of a connection, and of a pool.
-use Rattle.std.specs.Prelude.{ℕ, Bool, List, [], Option, Some, None, slice_get}
+use Rattle.std.specs.Prelude.{◌≡◌, ℕ, ◌==◌, Bool, false, List, [], Option, Some, None, slice_get}
 use Rattle.zber.specs.Elements.{Element}
 use Rattle.zber.specs.Stream.{Stream}
 use Rattle.zknow.specs.declared.fact.Fact.{Fact}
@@ -37,3 +37,7 @@ stop_in (Some link) = link.stop
 -- what stopped a connection
 abbrev pub stop_at : Links → ℕ → Option State
 stop_at pool c = stop_in (slice_get pool.connections c)
+
+-- the other connections are as they were
+abbrev pub OthersStay : ℕ → Links → Links → Type 0
+OthersStay c old new = (i : ℕ) → (c == i) ≡ false → slice_get new.connections i ≡ slice_get old.connections i

@@ -4,7 +4,7 @@ ghost use Rattle.zoom.specs.declared.state.State.TheVariants as states;
 ghost use Rattle.zoom.specs.CallsOf.{call_of};
 ghost use Rattle.zoom.specs.Heard.{Feeds, Ends, Gives, Stops, IsDone};
 ghost use Rattle.zoom.specs.Learned.{Grows};
-ghost use Rattle.zoom.specs.Links.{waiting_at, stop_at};
+ghost use Rattle.zoom.specs.Links.{waiting_at, stop_at, OthersStay};
 ghost use Rattle.zoom.specs.Befalling.{IsStateAt, IsTakeAnswer, HasGivenAll};
 ghost use Rattle.zoom.specs.Steering.{AreFit};
 ghost use Rattle.zoom.specs.Metas.{AreAskable, MetaAfter, MetaBefell, MetaTook, MetaKeeps, DrivesTo, AdvancesTo, IssuesTo, LearnsTold, TellsUpTo, StandFor, is_skipped, is_complete, IsFinishedUpTo};
@@ -211,6 +211,8 @@ impl Meta {
         requires { c < length self.old.pool.connections }
         ensures after { MetaBefell c (Stops reason) self.old self.new }
         ensures stopped { stop_at self.new.pool c ≡ Some (states.Failed reason) }
+        ensures others { OthersStay c self.old.pool self.new.pool }
+        ensures drivers { self.new.drivers ≡ self.old.drivers }
         ensures known { self.new.pool.knowledge ≡ self.old.pool.knowledge }
         ensures size { length self.new.pool.connections ≡ length self.old.pool.connections }
     {

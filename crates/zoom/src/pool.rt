@@ -5,7 +5,7 @@ ghost use Rattle.zoom.specs.declared.state.State.TheVariants as states;
 ghost use Rattle.zoom.specs.CallsOf.{call_of};
 ghost use Rattle.zoom.specs.Heard.{Calls, Feeds, Ends, Gives, Stops, IsDone};
 ghost use Rattle.zoom.specs.Learned.{Grows};
-ghost use Rattle.zoom.specs.Links.{waiting_at, stop_at};
+ghost use Rattle.zoom.specs.Links.{waiting_at, stop_at, OthersStay};
 ghost use Rattle.zoom.specs.History.{After};
 ghost use Rattle.zoom.specs.Befalling.{Befell, IsStateAt, IsCallAnswer, IsTakeAnswer, IsToldAnswer, Took, Keeps, HasGivenAll, IsPoolFinished};
 
@@ -161,6 +161,7 @@ impl Pool {
         requires { c < length self.old.connections }
         ensures after { Befell c (Stops reason) self.old self.new }
         ensures stopped { stop_at self.new c ≡ Some (states.Failed reason) }
+        ensures others { OthersStay c self.old self.new }
         ensures known { self.new.knowledge ≡ self.old.knowledge }
         ensures size { length self.new.connections ≡ length self.old.connections }
     {

@@ -60,6 +60,7 @@ impl ResultSet {
         ensures after { IsCalled result
             → Befell self.c (Calls (Present op self.set (one_range start n))) pool.old pool.new }
         ensures err { OnErr result (pool.new ≡ pool.old) }
+        ensures known { pool.new.knowledge ≡ pool.old.knowledge }
         ensures size { length pool.new.connections ≡ length pool.old.connections }
     {
         let call = present_call(op, self.set, start, n);
@@ -78,6 +79,7 @@ impl ResultSet {
         ensures answer { IsCallAnswer self.c (Present op self.set ranges) pool.old result }
         ensures after { IsCalled result → Befell self.c (Calls (Present op self.set ranges)) pool.old pool.new }
         ensures err { OnErr result (pool.new ≡ pool.old) }
+        ensures known { pool.new.knowledge ≡ pool.old.knowledge }
         ensures size { length pool.new.connections ≡ length pool.old.connections }
     {
         let call = ranges_call(op, self.set, ranges);

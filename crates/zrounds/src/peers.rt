@@ -18,8 +18,11 @@ use ztarget::Target;
 /// A target in memory at the other end of a connection, with the octets that go to it and come from it.
 #[derive(Drop)]
 pub struct Peer {
+    /// The target, behind its octets.
     pub host: Host,
+    /// What the connection handed out and was not carried yet.
     pub to: Pipe,
+    /// What the host handed out and was not carried yet.
     pub from: Pipe,
 }
 

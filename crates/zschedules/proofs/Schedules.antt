@@ -26,7 +26,7 @@ use Rattle.zoom.proofs.Drivings.{contained, among, replied, driven}
 use Rattle.zoom.proofs.Metas.{heard_at}
 use Rattle.zoom.proofs.MetaLaws.{driver_of}
 use Rattle.zoom.proofs.Orders.{from_answer, of_answer}
-use Rattle.zschedules.specs.Schedules.{IsComplete, AnswersAsked, AskedLaw, HadEqualReplies, SameListLaw}
+use Rattle.zschedules.specs.Schedules.{IsComplete, AnswersAsked, AskedLaw, HadEqualReplies, AreAnsweredAlike, SameListLaw}
 use Rattle.zschedules.proofs.Answered.{is_replied, complete_whole}
 use Rattle.zschedules.proofs.Sets.{set_for, of_set, same_answer}
 use Rattle.zschedules.proofs.Same.{agree}
@@ -80,8 +80,8 @@ module _ (orderly : (s : Settings) (l : Log) → IsOrderly (past s l))
   module _ (q : Question) (s t : MetaSettings) (one other : Heard) (d e : DriverState)
       (k : IsDriver (errand_of s q) one.settings one.log d) (l : IsDriver (errand_of t q) other.settings other.log e)
       (step : s.step ≡ t.step) (this : IsComplete one) (that : IsComplete other) (equal : HadEqualReplies one other) where
-    says_too : (c : ℕ) (f : Fact) → Contains (facts_at c one) f → Contains (facts_at c other) f
-    says_too c f i =
+    answers_too : AreAnsweredAlike one other
+    answers_too x i =
         let ask = ask_of q in
         let wanted = positions q.wanted in
         let mine = events_of ask one.settings one.log in
@@ -91,29 +91,35 @@ module _ (orderly : (s : Settings) (l : Log) → IsOrderly (past s l))
         let other_driven = driven ask other.settings wanted s.step orderly other.log l_driven in
         let one_whole = complete_whole ask wanted s.step one.settings orderly one.log k.driven this in
         let other_whole = complete_whole ask wanted s.step other.settings orderly other.log l_driven that in
-        let x = from_answer c (accepted one) f i in
-        let x_in = among x.0 (accepted one) x.1 in
-        let r = is_replied ask one.settings one.log x.0 x_in in
+        let r = is_replied ask one.settings one.log x (among x (accepted one) i) in
         let there = order_free wanted s.step mine theirs (record { driven = one_driven; all = one_whole })
         (record { driven = other_driven; all = other_whole })
         (agree ask wanted s.step orderly accepts one.settings other.settings one.log other.log k.driven l_driven equal)
-        (operation_for x.0.asked.what) r.0 r.1 in
-        let y = replied ask other.settings other.log (operation_for x.0.asked.what) r.0 there in
+        (operation_for x.asked.what) r.0 r.1 in
+        let y = replied ask other.settings other.log (operation_for x.asked.what) r.0 there in
         let y_in = contained y.0 (accepted other) y.1 in
-        let same = same_answer c x.0 y.0 (set_right q s one d k x.0 x_in) (set_right q t other e l y.0 y.1) (sym y.2)
-        (equal x.0 y.0 x.1 y_in (sym y.2)) in
-        of_answer c (accepted other) y.0 f y_in (subst (λ z. Contains z f) same x.2)
+        (y.0, y_in, sym y.2, equal x y.0 i y_in (sym y.2))
+
+    says_too : (c : ℕ) (f : Fact) → Contains (facts_at c one) f → Contains (facts_at c other) f
+    says_too c f i =
+        let x = from_answer c (accepted one) f i in
+        let y = answers_too x.0 x.1 in
+        let same = same_answer c x.0 y.0 (set_right q s one d k x.0 (among x.0 (accepted one) x.1))
+        (set_right q t other e l y.0 (among y.0 (accepted other) y.1)) y.2 y.3 in
+        of_answer c (accepted other) y.0 f y.1 (subst (λ z. Contains z f) same x.2)
 
   turned : (one other : Heard) → HadEqualReplies one other → HadEqualReplies other one
   turned one other equal x y i j op = sym (equal y x j i (sym op))
 
   module _ (questions : List Question) (s t : MetaSettings) (g h : History) (one other : MetaLinks)
       (a : MetaAfter questions s g one) (b : MetaAfter questions t h other) where
-    known_too : s.step ≡ t.step → ((c : ℕ) → c < length questions → IsComplete (a.pool.heard c))
+    -- of each connection
+    both_at : s.step ≡ t.step → ((c : ℕ) → c < length questions → IsComplete (a.pool.heard c))
         → ((c : ℕ) → c < length questions → IsComplete (b.pool.heard c))
         → ((c : ℕ) → HadEqualReplies (a.pool.heard c) (b.pool.heard c))
-        → (f : Fact) → IsKnown a.pool.heard f → IsKnown b.pool.heard f
-    known_too step first second equal f known = (known.0, by (below known.0 (length questions)))
+        → (c : ℕ) → AreAnsweredAlike (a.pool.heard c) (b.pool.heard c)
+        × ((f : Fact) → Contains (facts_at c (a.pool.heard c)) f → Contains (facts_at c (b.pool.heard c)) f)
+    both_at step first second equal c = by (below c (length questions))
       where
         below : (c n : ℕ) → (c < n) ⊎ (n ≤ c)
         below c n = elim (nat_lt c n) as (λ w. nat_lt c n ≡ w → (c < n) ⊎ (n ≤ c)) [
@@ -121,27 +127,33 @@ module _ (orderly : (s : Settings) (l : Log) → IsOrderly (past s l))
           | false ↦ λ e. inr (grind (arith, nat_tests))
         ] refl
 
-        by : (known.0 < length questions) ⊎ (length questions ≤ known.0) → Contains (facts_at known.0 (b.pool.heard known.0)) f
+        by : (c < length questions) ⊎ (length questions ≤ c) → AreAnsweredAlike (a.pool.heard c) (b.pool.heard c)
+            × ((f : Fact) → Contains (facts_at c (a.pool.heard c)) f → Contains (facts_at c (b.pool.heard c)) f)
         by (inl lt) =
-            let q = question_at questions known.0 lt in
-            let mine = heard_at (settings_of s) g a.pool.heard one.pool.connections known.0 a.pool.stands
-            (subst (λ n. known.0 < n) (sym a.size) lt) in
-            let theirs = heard_at (settings_of t) h b.pool.heard other.pool.connections known.0 b.pool.stands
-            (subst (λ n. known.0 < n) (sym b.size) lt) in
-            let k = knows questions s g one known.0 q.0 (a.pool.heard known.0) a q.1 mine in
-            let l = knows questions t h other known.0 q.0 (b.pool.heard known.0) b q.1 theirs in
-            says_too q.0 s t (a.pool.heard known.0) (b.pool.heard known.0) k.0 l.0 k.1 l.1 step
-            (first known.0 lt) (second known.0 lt) (equal known.0) known.0 f known.1
+            let q = question_at questions c lt in
+            let mine = heard_at (settings_of s) g a.pool.heard one.pool.connections c a.pool.stands
+            (subst (λ n. c < n) (sym a.size) lt) in
+            let theirs = heard_at (settings_of t) h b.pool.heard other.pool.connections c b.pool.stands
+            (subst (λ n. c < n) (sym b.size) lt) in
+            let k = knows questions s g one c q.0 (a.pool.heard c) a q.1 mine in
+            let l = knows questions t h other c q.0 (b.pool.heard c) b q.1 theirs in (
+              answers_too q.0 s t (a.pool.heard c) (b.pool.heard c) k.0 l.0 k.1 l.1 step (first c lt) (second c lt) (equal c),
+              says_too q.0 s t (a.pool.heard c) (b.pool.heard c) k.0 l.0 k.1 l.1 step (first c lt) (second c lt) (equal c) c,
+            )
         by (inr le) =
-            let silent = (a.pool.stands.others known.0 (subst (λ n. n ≤ known.0) (sym a.size) le)).1 in
-            absurd (none_in_nil f (subst (λ p. Contains (facts_at known.0 p) f) silent known.1))
+            let silent = (a.pool.stands.others c (subst (λ n. n ≤ c) (sym a.size) le)).1 in (
+              λ x i. absurd (none_in_nil x (subst (λ p. Contains (accepted p) x) silent i)),
+              λ f i. absurd (none_in_nil f (subst (λ p. Contains (facts_at c p) f) silent i)),
+            )
 
   pub same_law : SameListLaw
   same_law questions s t g h one other a b alike =
       let turn = λ (c : ℕ). turned (a.pool.heard c) (b.pool.heard c) (alike.equal c) in
+      let there = both_at questions s t g h one other a b alike.step alike.first alike.second alike.equal in
+      let back = both_at questions t s h g other one b a (sym alike.step) alike.second alike.first turn in
       let known : one.pool.knowledge ≡ other.pool.knowledge =
       same_facts one.pool.knowledge other.pool.knowledge a.pool.lawful b.pool.lawful (λ f. (
-        λ i. (b.pool.known f).1 (known_too questions s t g h one other a b alike.step alike.first alike.second alike.equal f ((a.pool.known f).0 i)),
-        λ i. (a.pool.known f).1 (known_too questions t s h g other one b a (sym alike.step) alike.second alike.first turn f ((b.pool.known f).0 i)),
+        λ i. let k = (a.pool.known f).0 i in (b.pool.known f).1 (k.0, (there k.0).1 f k.1),
+        λ i. let k = (b.pool.known f).0 i in (a.pool.known f).1 (k.0, (back k.0).1 f k.1),
       )) in
-      record { known = known; printed = λ names mode. ap (listing names mode) known }
+      (λ c. (there c).0, λ c. (back c).0, record { known = known; printed = λ names mode. ap (listing names mode) known })

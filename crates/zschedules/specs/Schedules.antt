@@ -40,6 +40,13 @@ HadEqualReplies one other =
     (x y : Answer) → Contains (accepted one) x → Contains (accepted other) y
     → operation_for x.asked.what ≡ operation_for y.asked.what → plain x.reply ≡ plain y.reply
 
+-- each accepted answer of the one has one of the other, to the same operation, with the same reply, reference ids aside
+abbrev pub AreAnsweredAlike : Heard → Heard → Type 0
+AreAnsweredAlike one other =
+    (x : Answer) → Contains (accepted one) x
+    → (y : Answer) × Contains (accepted other) y
+    × (operation_for x.asked.what ≡ operation_for y.asked.what) × (plain x.reply ≡ plain y.reply)
+
 -- two runs of the same questions, by the same step, in each of which each connection is complete, and equal operations
 -- had equal replies
 pub record AreAlike
@@ -54,7 +61,9 @@ abbrev pub SameListLaw : Type 0
 SameListLaw =
     (questions : List Question) (s t : MetaSettings) (g h : History) (one other : MetaLinks)
     (a : MetaAfter questions s g one) (b : MetaAfter questions t h other)
-    → AreAlike questions s t a.pool.heard b.pool.heard → KnowSame one.pool other.pool
+    → AreAlike questions s t a.pool.heard b.pool.heard
+    → ((c : ℕ) → AreAnsweredAlike (a.pool.heard c) (b.pool.heard c))
+    × ((c : ℕ) → AreAnsweredAlike (b.pool.heard c) (a.pool.heard c)) × KnowSame one.pool other.pool
 
 pub record ScheduleLaws : Type 0 where
   pub asked : AskedLaw

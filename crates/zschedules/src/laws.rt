@@ -5,8 +5,8 @@ use zorigin::laws::{accepted_replies, orderly_logs};
 
 /// On a connection that was rejected, or that sent its Close, exactly what is asked was answered, for the replies that
 /// it had. And where two runs of the same questions with the same step were driven to their ends, and equal operations
-/// had equal replies, reference ids aside, they know the same and print the same list: whatever their windows, the
-/// order of their events, and the cutting of their streams.
+/// had equal replies, reference ids aside, the same operations were answered in both, and they know the same and print
+/// the same list: whatever their windows, the order of their events, and the cutting of their streams.
 pub fn schedule_laws()
     ensures { ScheduleLaws }
 {

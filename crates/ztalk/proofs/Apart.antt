@@ -6,13 +6,13 @@ use Rattle.zorigin.specs.declared.settings.Settings.{Settings}
 use Rattle.zoom.specs.declared.question.Question.{Question}
 use Rattle.zoom.specs.declared.question.MetaSettings.{MetaSettings}
 use Rattle.zoom.specs.declared.answer.Step.{Step}
-use Rattle.zoom.specs.Heard.{Deed, Calls, Feeds, Takes, Ends, Gives, Heard, HasHeard}
+use Rattle.zoom.specs.Heard.{Deed, Calls, Feeds, Takes, Ends, Gives, Heard, HasHeard, past_of, given, is_lost, sent}
 use Rattle.zoom.specs.Leaving.{Leaves}
 use Rattle.zoom.specs.Links.{Links}
 use Rattle.zoom.specs.History.{History, only, After}
 use Rattle.zoom.specs.Metas.{MetaLinks, MetaAfter, made, settings_of}
 use Rattle.zoom.proofs.Pools.{only_same, only_other, only_append}
-use Rattle.ztalk.specs.Talks.{Stage, Follows, begins, speaks, hears, lacks, stops, reads, ends, IsIdle, AnswersNext, IsStoppedAt}
+use Rattle.ztalk.specs.Talks.{Stage, Follows, begins, speaks, hears, lacks, stops, reads, ends, IsIdle, HasSpoken, AnswersNext, IsStoppedAt}
 
 -- ---- deeds of one connection
 
@@ -39,7 +39,7 @@ others_made c i (call ∷ calls) far = only_other c i (Calls call) (made c calls
 pub others_follow : {q : List Question} {s : MetaSettings} {c : ℕ} {h more : History} {read written : List ℕ} {n : ℕ}
     {stage : Stage} (i : ℕ) → Follows q s c h more read written n stage → (c == i) ≡ false → only i more ≡ []
 others_follow i begins far = refl
-others_follow {c = c} i (speaks {more = more} calls octets f idle) far =
+others_follow {c = c} i (speaks {more = more} calls octets f idle all) far =
     only_other c i (Gives octets) (made c calls ++ more) far
     ∙ none_both i (made c calls) more (others_made c i calls far) (others_follow i f far)
 others_follow {c = c} i (hears {more = more} step f next is) far = only_other c i Takes more far ∙ others_follow i f far
@@ -89,6 +89,10 @@ after_alike q s h k meta alike a = record {
 pub idle_alike : (q : List Question) (s : MetaSettings) (c : ℕ) (h k : History) → only c h ≡ only c k → IsIdle q s c h → IsIdle q s c k
 idle_alike q s c h k e idle question p asks heard = idle question p asks (heard_alike (settings_of s) c h k p e heard)
 
+pub spoken_alike : (s : MetaSettings) (c : ℕ) (h k : History) → only c h ≡ only c k → HasSpoken s c h → HasSpoken s c k
+spoken_alike s c h k e all p heard kept =
+    ap given (sym e) ∙ all p (heard_alike (settings_of s) c h k p e heard) (ap is_lost e ∙ kept)
+
 pub next_alike : (s : MetaSettings) (c : ℕ) (h k : History) (step : Step) → only c h ≡ only c k → AnswersNext s c h step
     → AnswersNext s c k step
 next_alike s c h k step e next p heard = next p (heard_alike (settings_of s) c h k p e heard)
@@ -101,10 +105,12 @@ pub follows_alike : {q : List Question} {s : MetaSettings} {c : ℕ} {h more : H
     {stage : Stage} (k : History) → only c h ≡ only c k → Follows q s c h more read written n stage
     → Follows q s c k more read written n stage
 follows_alike k e begins = begins
-follows_alike {q = q} {s = s} {c = c} {h = h} k e (speaks {more = more} calls octets f idle) =
+follows_alike {q = q} {s = s} {c = c} {h = h} k e (speaks {more = more} calls octets f idle all) =
+    let same = behind c (made c calls) (more ++ h) (more ++ k) (behind c more h k e) in
     speaks calls octets (follows_alike k e f)
-    (idle_alike q s c (made c calls ++ (more ++ h)) (made c calls ++ (more ++ k))
-    (behind c (made c calls) (more ++ h) (more ++ k) (behind c more h k e)) idle)
+    (idle_alike q s c (made c calls ++ (more ++ h)) (made c calls ++ (more ++ k)) same idle)
+    (spoken_alike s c ((c, Gives octets) ∷ (made c calls ++ (more ++ h))) ((c, Gives octets) ∷ (made c calls ++ (more ++ k)))
+    (one_more c (Gives octets) (made c calls ++ (more ++ h)) (made c calls ++ (more ++ k)) same) all)
 follows_alike {s = s} {c = c} {h = h} k e (hears {more = more} step f next is) =
     hears step (follows_alike k e f) (next_alike s c (more ++ h) (more ++ k) step (behind c more h k e) next) is
 follows_alike {s = s} {c = c} {h = h} k e (lacks {more = more} f next) =

@@ -10,7 +10,7 @@ use Rattle.zoom.specs.declared.state.State.{State}
 use Rattle.zoom.specs.declared.state.State.TheVariants as states
 use Rattle.zoom.specs.States.{is_stopped}
 use Rattle.zoom.specs.Heard.{Feeds, Takes, Ends, Stops, state_at}
-use Rattle.zoom.specs.Links.{stop_at}
+use Rattle.zoom.specs.Links.{stop_at, OthersStay}
 use Rattle.zoom.specs.Befalling.{IsStateAt}
 use Rattle.zoom.specs.Laws.{OneHearing, OneMeeting, UpToLaw}
 use Rattle.zoom.specs.History.{History, only, AfterUpTo}
@@ -96,7 +96,7 @@ ends_unsettled c n turns a b d l l2 k k2 k3 few one pushes.Write off broken = re
   stopped = broken;
 }
 ends_unsettled c n turns a b d l l2 k k2 k3 few one pushes.Memory off broken = record {
-  on = λ q s h x. record { meta = d; halted = off q s h n l l2 k (one.on q s h x); known = refl };
+  on = λ q s h x. record { meta = d; halted = off q s h n l l2 k (one.on q s h x); known = refl; others = λ i far. refl; drivers = refl };
   blamed = tt;
   stopped = tt;
 }
@@ -137,7 +137,7 @@ ends_unheard c n turns a b d l l2 l3 k k2 few one errors.Write h = absurd h
 ends_unheard c n turns a b d l l2 l3 k k2 few one errors.Ended h = absurd h
 ends_unheard c n turns a b d l l2 l3 k k2 few one errors.Turns h = absurd h
 ends_unheard c n turns a b d l l2 l3 k k2 few one errors.Memory h = record {
-  on = λ q s g x. record { meta = d; halted = h k2 q s g n l l2 k (one.on q s g x); known = refl };
+  on = λ q s g x. record { meta = d; halted = h k2 q s g n l l2 k (one.on q s g x); known = refl; others = λ i far. refl; drivers = refl };
   blamed = tt;
   stopped = tt;
 }
@@ -207,7 +207,7 @@ module _ (c n turns : ℕ) (a b : MetaLinks) (l l2 l3 k k2 : DeviceState) (few :
     finished d (Err errors.Write) f = absurd f
     finished d (Err errors.Turns) f = absurd f
     finished d (Err errors.Memory) f = record {
-      on = λ q s h x. record { meta = d; halted = f k2 q s h n l l2 k (one.on q s h x); known = refl };
+      on = λ q s h x. record { meta = d; halted = f k2 q s h n l l2 k (one.on q s h x); known = refl; others = λ i far. refl; drivers = refl };
       blamed = tt;
       stopped = tt;
     }
@@ -222,11 +222,17 @@ ends_finished c n turns a b d g l l2 l3 k k2 few one false h e f fin =
 -- memory was wanting, and the connection was stopped for that
 pub ends_starved : (c turns : ℕ) (a b d : MetaLinks) (l l2 k k2 : DeviceState)
     → Talks c turns (Err errors.Memory) a b l l2 k k2 → d.pool.knowledge ≡ b.pool.knowledge
-    → Talks c turns (Err errors.Memory) a d l l2 k k2
-ends_starved c turns a b d l l2 k k2 t same_known = record {
+    → OthersStay c b.pool d.pool → d.drivers ≡ b.drivers → Talks c turns (Err errors.Memory) a d l l2 k k2
+ends_starved c turns a b d l l2 k k2 t same_known stay same_drivers = record {
   on = λ q s h x.
       let starved = t.on q s h x in
-      record { meta = starved.meta; halted = starved.halted; known = same_known ∙ starved.known };
+      record {
+        meta = starved.meta;
+        halted = starved.halted;
+        known = same_known ∙ starved.known;
+        others = λ i far. stay i far ∙ starved.others i far;
+        drivers = same_drivers ∙ starved.drivers;
+      };
   blamed = tt;
   stopped = tt;
 }

@@ -142,7 +142,7 @@ pub ends_stopped : OneMeeting → {q : List Question} {s : MetaSettings} {c : �
     → IsStoppedAt s c ((c, Takes) ∷ (c, Ends) ∷ (more ++ h))
 ends_stopped meeting {s = s} {c = c} {h = h} (lacks {more = more} f next) is = dry_stopped meeting s c (more ++ h) next
 ends_stopped meeting begins is = absurd cc
-ends_stopped meeting (speaks calls octets f idle) is = absurd cc
+ends_stopped meeting (speaks calls octets f idle all) is = absurd cc
 ends_stopped meeting (hears step f next m) is = absurd cc
 ends_stopped meeting (stops f) is = absurd cc
 ends_stopped meeting (reads piece f some few) is = absurd cc

@@ -1,14 +1,14 @@
 -- What making the calls that are due, and writing what waits, does to a talk; and talks that go on.
-use Rattle.std.proofs.Common.{◌≡◌, ◌∙◌, sym, subst, ℕ, List, [], ◌∷◌, ◌++◌, Result, Ok, Err, refl, append_assoc}
+use Rattle.std.proofs.Common.{◌≡◌, ◌∙◌, sym, ap, subst, ℕ, ◌<◌, false, List, [], ◌∷◌, ◌++◌, length, slice_get, Some, Result, Ok, Err, refl, append_assoc}
 use Rattle.std.specs.Io.KnownBytes.{Appends}
 use Rattle.std.proofs.KnownBytes.{Appends-trans, Appends-nil, Consumes-nil}
 use Rattle.zorigin.specs.Standings.{Call}
 use Rattle.zoom.specs.declared.question.Question.{Question}
 use Rattle.zoom.specs.declared.question.MetaSettings.{MetaSettings}
 use Rattle.zoom.specs.declared.state.Reason.TheVariants as reasons
-use Rattle.zoom.specs.Heard.{Ends, Gives, Stops}
-use Rattle.zoom.specs.History.{History}
-use Rattle.zoom.specs.Laws.{UpToLaw}
+use Rattle.zoom.specs.Heard.{Heard, HasHeard, Ends, Gives, Stops, past_of, given, is_lost, sent}
+use Rattle.zoom.specs.History.{History, only, After}
+use Rattle.zoom.specs.Laws.{UpToLaw, OneHearing}
 use Rattle.zoom.specs.Metas.{MetaLinks, MetaAfter, MetaAfterUpTo, MetaBefell, MetaKeeps, DrivesTo, Drives, Progress, made, settings_of}
 use Rattle.ztalk.specs.Devices.{DeviceState, AppendsFront, HasFailed}
 use Rattle.ztalk.specs.declared.outgoing.PushError.{PushError}
@@ -16,68 +16,92 @@ use Rattle.ztalk.specs.declared.outgoing.PushError.TheVariants as pushes
 use Rattle.ztalk.specs.declared.turns.Turn.{Turn}
 use Rattle.ztalk.specs.declared.turns.Turn.TheVariants as turns
 use Rattle.ztalk.specs.Pushes.{MetaBroke, Pushes}
-use Rattle.ztalk.specs.Talks.{Stage, Due, Listening, Waiting, Over, Talk, GoesOn, HaltsFrom, begins, speaks, same}
-use Rattle.zoom.specs.Links.{waiting_at}
-use Rattle.zoom.proofs.Pools.{only_other}
+use Rattle.ztalk.specs.Talks.{Stage, Due, Listening, Waiting, Over, Talk, GoesOn, HaltsFrom, HasSpoken, begins, speaks, same}
+use Rattle.zoom.specs.Links.{Link, waiting_at, waiting_in}
+use Rattle.zoom.proofs.Metas.{slice_some}
+use Rattle.zoom.proofs.Pools.{only_same, only_other}
 use Rattle.ztalk.specs.Talking.{Settles}
 use Rattle.ztalk.specs.Turns.{BreaksOff, HaltsAlone, Speaks, Hears, TakesTurn}
 use Rattle.ztalk.proofs.Apart.{none_both, others_made, others_follow}
 
 -- ---- speaking
 
-module _ (E : Type 0) (c n : ℕ) (old mid new : MetaLinks) (drove : DrivesTo {E = E} c (Ok n) old mid) where
-  -- the history with the calls and what was handed out
-  spoken : (q : List Question) (s : MetaSettings) (h more : History) (calls : List Call) (octets : List ℕ)
-      → MetaAfter q s ((c, Gives octets) ∷ (made c calls ++ (more ++ h))) new
-      → MetaAfter q s ((c, Gives octets) ∷ (made c calls ++ more) ++ h) new
-  spoken q s h more calls octets a =
-      subst (λ z. MetaAfter q s ((c, Gives octets) ∷ z) new) (sym (append_assoc (made c calls) more h)) a
+-- handing out what waits hands out the last of what was sent
+pub spoken_all : OneHearing → (q : List Question) (s : MetaSettings) (c : ℕ) (h : History) (meta : MetaLinks)
+    → c < length meta.pool.connections → MetaAfter q s h meta → HasSpoken s c ((c, Gives (waiting_at meta.pool c)) ∷ h)
+spoken_all hearing q s c h meta lt a p heard kept =
+    let waiting : List ℕ = waiting_at meta.pool c in
+    let mine = only_same c (Gives waiting) h in
+    let then = subst (λ z. HasHeard (settings_of s) z p) mine heard in
+    let link = slice_some meta.pool.connections c lt in
+    let left = a.pool.stands.each c link.0 link.1 in
+    let lost : is_lost (only c h) ≡ false = ap is_lost (sym mine) ∙ kept in
+    let same : a.pool.heard c ≡ then.0 = hearing (settings_of s) (only c h) (a.pool.heard c) then.0 left.heard then.1 in
+    ap given mine ∙ ap (λ z. given (only c h) ++ z) (ap waiting_in link.1) ∙ left.waiting lost
+    ∙ ap (λ z. sent (past_of z)) (same ∙ sym then.2)
 
-  pub speaks_on : (octets : List ℕ) (sink held : DeviceState) → MetaBefell c (Gives octets) mid new
-      → Appends sink.octets held.octets octets → held.failures ≡ sink.failures
-      → (left : DeviceState) → GoesOn c Due Listening same old new left left sink held
-  speaks_on octets sink held befell went sound left = record {
-    on = λ q s h reads source first t.
-        let d : Drives q s c (t.more ++ h) n mid = drove q s (t.more ++ h) t.after in
-        let calls = d.progress.calls in
-        record {
-          more = (c, Gives octets) ∷ (made c calls ++ t.more);
-          read = t.read;
-          written = t.written ++ octets;
-          follows = speaks calls octets t.follows d.rests;
-          after = spoken q s h t.more calls octets
-              (befell q s (made c calls ++ (t.more ++ h)) d.progress.after);
-          stands = tt;
-          came = t.came;
-          went = Appends-trans first.octets sink.octets held.octets t.written octets t.went went;
-        };
-    reader = refl;
-    writer = sound;
-  }
+module _ (hearing : OneHearing) (E : Type 0) (c n : ℕ) (old mid new : MetaLinks) (lt : c < length mid.pool.connections)
+    (drove : DrivesTo {E = E} c (Ok n) old mid)
+  where
+    -- the history with the calls and what was handed out
+    spoken : (q : List Question) (s : MetaSettings) (h more : History) (calls : List Call) (octets : List ℕ)
+        → MetaAfter q s ((c, Gives octets) ∷ (made c calls ++ (more ++ h))) new
+        → MetaAfter q s ((c, Gives octets) ∷ (made c calls ++ more) ++ h) new
+    spoken q s h more calls octets a =
+        subst (λ z. MetaAfter q s ((c, Gives octets) ∷ z) new) (sym (append_assoc (made c calls) more h)) a
 
-  pub speaks_broken : (octets : List ℕ) (sink held : DeviceState) → MetaBroke c octets mid new
-      → AppendsFront sink.octets held.octets octets → HasFailed sink.failures held.failures
-      → BreaksOff c Due old new sink held
-  speaks_broken octets sink held broke front failed = record {
-    on = λ q s h reads source left first t.
-        let d : Drives q s c (t.more ++ h) n mid = drove q s (t.more ++ h) t.after in
-        let calls = d.progress.calls in
-        record {
-          more = made c calls ++ t.more;
-          read = t.read;
-          written = t.written;
-          octets = octets;
-          follows = speaks calls octets t.follows d.rests;
-          after = subst (λ z. MetaAfter q s ((c, Stops reasons.Write) ∷ (c, Gives octets) ∷ z) new)
-              (sym (append_assoc (made c calls) t.more h))
-              (broke q s (made c calls ++ (t.more ++ h)) d.progress.after);
-          came = t.came;
-          before = sink;
-          went = t.went;
-          front = front;
-        };
-    failed = failed;
-  }
+    abbrev octets : List ℕ
+    octets = waiting_at mid.pool c
+
+    pub speaks_on : (sink held : DeviceState) → MetaBefell c (Gives octets) mid new
+        → Appends sink.octets held.octets octets → held.failures ≡ sink.failures
+        → (left : DeviceState) → GoesOn c Due Listening same old new left left sink held
+    speaks_on sink held befell went sound left = record {
+      on = λ q s h reads source first t.
+          let d : Drives q s c (t.more ++ h) n mid = drove q s (t.more ++ h) t.after in
+          let calls = d.progress.calls in
+          let all = spoken_all hearing q s c (made c calls ++ (t.more ++ h)) mid lt d.progress.after in
+          record {
+            more = (c, Gives octets) ∷ (made c calls ++ t.more);
+            read = t.read;
+            written = t.written ++ octets;
+            follows = speaks calls octets t.follows
+                (λ question p asks heard. (d.rests question p asks heard, d.tried p heard)) all;
+            after = spoken q s h t.more calls octets
+                (befell q s (made c calls ++ (t.more ++ h)) d.progress.after);
+            stands = tt;
+            came = t.came;
+            went = Appends-trans first.octets sink.octets held.octets t.written octets t.went went;
+          };
+      reader = refl;
+      writer = sound;
+    }
+
+    pub speaks_broken : (sink held : DeviceState) → MetaBroke c octets mid new
+        → AppendsFront sink.octets held.octets octets → HasFailed sink.failures held.failures
+        → BreaksOff c Due old new sink held
+    speaks_broken sink held broke front failed = record {
+      on = λ q s h reads source left first t.
+          let d : Drives q s c (t.more ++ h) n mid = drove q s (t.more ++ h) t.after in
+          let calls = d.progress.calls in
+          let all = spoken_all hearing q s c (made c calls ++ (t.more ++ h)) mid lt d.progress.after in
+          record {
+            more = made c calls ++ t.more;
+            read = t.read;
+            written = t.written;
+            octets = octets;
+            follows = speaks calls octets t.follows
+                (λ question p asks heard. (d.rests question p asks heard, d.tried p heard)) all;
+            after = subst (λ z. MetaAfter q s ((c, Stops reasons.Write) ∷ (c, Gives octets) ∷ z) new)
+                (sym (append_assoc (made c calls) t.more h))
+                (broke q s (made c calls ++ (t.more ++ h)) d.progress.after);
+            came = t.came;
+            before = sink;
+            went = t.went;
+            front = front;
+          };
+      failed = failed;
+    }
 
 -- ---- memory is wanting
 
@@ -218,14 +242,15 @@ pub broke : (c : ℕ) (octets : List ℕ) (old mid new : MetaLinks) → MetaBefe
 broke c octets old mid new one two q s h a = two q s ((c, Gives octets) ∷ h) (one q s h a)
 
 -- calls were made, and what waited was written or not
-pub speaks_by : UpToLaw → (E : Type 0) (c n : ℕ) (old mid new : MetaLinks) (sink held : DeviceState)
-    (r : Result (Unit {0}) PushError)
+pub speaks_by : UpToLaw → OneHearing → (E : Type 0) (c n : ℕ) (old mid new : MetaLinks) (sink held : DeviceState)
+    (r : Result (Unit {0}) PushError) → c < length mid.pool.connections
     → DrivesTo {E = E} c (Ok n) old mid → Pushes c r mid new sink held → Speaks c r old new sink held
-speaks_by law E c n old mid new sink held (Ok u) d p =
-    speaks_on E c n old mid new d (waiting_at mid.pool c) sink held p.0 p.1 p.2
-speaks_by law E c n old mid new sink held (Err pushes.Write) d p =
-    speaks_broken E c n old mid new d (waiting_at mid.pool c) sink held p.0 p.1 p.2
-speaks_by law E c n old mid new sink held (Err pushes.Memory) d p = halts_unsaid law E c n old mid new d p.0 sink
+speaks_by law hearing E c n old mid new sink held (Ok u) lt d p =
+    speaks_on hearing E c n old mid new lt d sink held p.0 p.1 p.2
+speaks_by law hearing E c n old mid new sink held (Err pushes.Write) lt d p =
+    speaks_broken hearing E c n old mid new lt d sink held p.0 p.1 p.2
+speaks_by law hearing E c n old mid new sink held (Err pushes.Memory) lt d p =
+    halts_unsaid law E c n old mid new d p.0 sink
 
 -- and then a message was taken
 pub turned : (c : ℕ) (turn : Turn) (old mid new : MetaLinks) (sink held : DeviceState)

@@ -13,11 +13,11 @@ use Rattle.zoom.specs.declared.answer.Step.{Step}
 use Rattle.zoom.specs.declared.answer.Step.TheVariants as steps
 use Rattle.zoom.specs.States.{is_stopped}
 use Rattle.zoom.specs.Coming.{Met}
-use Rattle.zoom.specs.Heard.{Heard, HasHeard, Feeds, Takes, Ends, Gives, Stops, Meets, took_as, state_at}
+use Rattle.zoom.specs.Heard.{Heard, HasHeard, Feeds, Takes, Ends, Gives, Stops, Meets, took_as, state_at, past_of, given, is_lost, sent}
 use Rattle.zoom.specs.History.{History, only}
-use Rattle.zoom.specs.Links.{stop_at}
+use Rattle.zoom.specs.Links.{stop_at, OthersStay}
 use Rattle.zoom.specs.Steering.{errand_of}
-use Rattle.zoom.specs.Metas.{MetaLinks, MetaAfter, MetaAfterUpTo, NoneIsNext, made, settings_of}
+use Rattle.zoom.specs.Metas.{MetaLinks, MetaAfter, MetaAfterUpTo, NoneIsNext, WasTried, made, settings_of}
 use Rattle.ztalk.specs.Devices.{DeviceState, AppendsFront, HasFailed, HasNoFailure}
 use Rattle.ztalk.specs.declared.conversation.TalkError.{TalkError}
 use Rattle.ztalk.specs.declared.conversation.TalkError.TheVariants as errors
@@ -31,11 +31,17 @@ pub data Stage : Type 0 where
   Over : Stage
   Ended : Stage
 
--- no call of the connection is next
+-- no call of the connection is next, and no search was passed over
 abbrev pub IsIdle : List Question → MetaSettings → ℕ → History → Type 0
 IsIdle questions s c h =
     (question : Question) (p : Heard) → slice_get questions c ≡ Some question → HasHeard (settings_of s) (only c h) p
-    → NoneIsNext (errand_of s question) p
+    → NoneIsNext (errand_of s question) p × WasTried p
+
+-- all that was sent on the connection was handed out, unless a write had failed before
+abbrev pub HasSpoken : MetaSettings → ℕ → History → Type 0
+HasSpoken s c h =
+    (p : Heard) → HasHeard (settings_of s) (only c h) p → is_lost (only c h) ≡ false
+    → given (only c h) ≡ sent (past_of p)
 
 -- the next Take of the connection answers this
 abbrev pub AnswersNext : MetaSettings → ℕ → History → Step → Type 0
@@ -75,15 +81,15 @@ is_message steps.Answered = true
 is_message steps.Closed = true
 is_message _ = false
 
--- These deeds of the connection, the newest first, follow the history in this order: what is due is called and what
--- waits
--- is written, first and after each message; a piece is read only where no message was there; the input ends only there.
--- What was read, what was written, how many reads gave octets, and where it stands then.
+-- These deeds of the connection, the newest first, follow the history in this order: what is due is called and all that
+-- waits is handed out to be written, first and after each message; a piece is read only where no message was there; the
+-- input ends only there. What was read, what was written, how many reads gave octets, and where it stands then.
 pub data Follows (questions : List Question) (s : MetaSettings) (c : ℕ) (h : History)
     : History → List ℕ → List ℕ → ℕ → Stage → Type 0 where
   begins : Follows questions s c h [] [] [] 0 Due
   speaks : {more : History} {read written : List ℕ} {reads : ℕ} (calls : List Call) (octets : List ℕ)
       → Follows questions s c h more read written reads Due → IsIdle questions s c (made c calls ++ (more ++ h))
+      → HasSpoken s c ((c, Gives octets) ∷ (made c calls ++ (more ++ h)))
       → Follows questions s c h ((c, Gives octets) ∷ (made c calls ++ more)) read (written ++ octets) reads Listening
   hears : {more : History} {read written : List ℕ} {reads : ℕ} (step : Step)
       → Follows questions s c h more read written reads Listening
@@ -143,13 +149,16 @@ HaltsFrom c from old new held =
     (questions : List Question) (s : MetaSettings) (h : History) (reads : ℕ) (source left sink : DeviceState)
     → Talk questions s c h reads from old source left sink held → Halted questions s c h new
 
--- memory was wanting, and the host then stopped the connection: no more and no less is known for that
+-- memory was wanting, and the host then stopped the connection: no more and no less is known for that, and the others
+-- are as they were
 pub record OutOfMemory
     (questions : List Question) (s : MetaSettings) (c : ℕ) (h : History) (new : MetaLinks)
     : Type 0 where
   pub meta : MetaLinks
   pub halted : Halted questions s c h meta
   pub known : new.pool.knowledge ≡ meta.pool.knowledge
+  pub others : OthersStay c meta.pool new.pool
+  pub drivers : new.drivers ≡ meta.drivers
 
 -- ---- how it ends
 

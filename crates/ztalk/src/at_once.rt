@@ -18,9 +18,8 @@ use zoom::Meta;
 ///
 /// Each of them is Closed or Failed then: by its messages, by its calls or by the end of its input, or for the reason
 /// `Read`, `Write` or `Ended`, as `talk` says, or for `Turns`, where it was polled that many times. No more reads of it
-/// give octets than there are rounds, and none of its devices is called again after a call of one failed. One that
-/// fails costs its own connection alone. Nothing befalls a connection that has no ends. Before each round `watch` looks
-/// on.
+/// give octets than there are rounds, and of its devices at most one call fails. One that fails costs its own
+/// connection alone. Nothing befalls a connection that has no ends. Before each round `watch` looks on.
 ///
 /// An error only where no memory was found; of the connections nothing more is told then.
 pub fn talk_at_once<R: Polled, W: Sink, V: Watch>(

@@ -184,8 +184,8 @@ fn converse<R: Source, W: Sink>(
 /// 4,096 octets, at most so many times, and goes on. A reader that has none left ends the connection's input.
 ///
 /// `Ok` where the connection is Closed, or failed for its messages, or was stopped before. What was read is what it was
-/// fed, and all that it sent was written. Else the connection has failed for the reason that is answered. It never
-/// reads more often than that, nor calls a device again that failed.
+/// fed, and all that it sent was written. Else the connection has failed for the reason that is answered. `Memory`
+/// aside it reads no more often than that, and no second call of a device fails.
 ///
 /// Refusals: `Read` and `Write`, where that device failed, and the other did not; `Ended`, where the input ended behind
 /// a whole message and the connection was not Closing; `Turns`, where that many reads gave octets, and the connection

@@ -51,6 +51,7 @@ pub fn push<W: Sink>(alloc: Global, meta: &mut Meta, c: u32, sink: &mut W) -> Re
     ensures pushes { Pushes c result meta.old meta.new (W.state sink.old) (W.state sink.new) }
     ensures none { OnOk result (waiting_at meta.new.pool c ≡ []) }
     ensures stopped { IsBroken c result meta.new }
+    ensures known { meta.new.pool.knowledge ≡ meta.old.pool.knowledge }
     ensures size { length meta.new.pool.connections ≡ length meta.old.pool.connections }
 {
     let mut octets = Vec::new(alloc);

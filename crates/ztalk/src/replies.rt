@@ -97,8 +97,7 @@ fn answer_piece<R: Source, W: Sink>(
 ///
 /// Refusals: `Read` and `Write`, where that device failed, and the other did not; `Turns`, where that many reads gave
 /// octets, and the target goes on; `Memory`. After each of them the host stands where the octets fed and the replies
-/// released have left it, stopped where memory was wanting for one of them. No device is called again after a call of
-/// it failed.
+/// released have left it, stopped where memory was wanting for one of them. No second call of a device fails.
 pub fn answer<R: Source, W: Sink>(
     alloc: Global,
     host: &mut Host,

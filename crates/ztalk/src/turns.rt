@@ -58,6 +58,7 @@ fn speak<W: Sink>(alloc: Global, meta: &mut Meta, c: u32, sink: &mut W) -> Resul
     ensures size { length meta.new.pool.connections ≡ length meta.old.pool.connections }
 {
     up_to();
+    one_hearing();
     meta.drive(c)?;
     push(alloc, meta, c, sink)
 }

@@ -1,6 +1,8 @@
 // Connections that are driven for a question, from the octets that come to those that are sent.
-ghost use Rattle.std.specs.Prelude.{◌<◌, length, IfOk};
-ghost use Rattle.zoom.specs.Steering.{IsAskable};
+ghost use Rattle.std.specs.Prelude.{◌<◌, ◌≤◌, length, map, IfOk};
+ghost use Rattle.zplan.specs.Ranges.{AreWanted};
+ghost use Rattle.zorigin.specs.Ranges.{positions};
+ghost use Rattle.zoom.specs.Steering.{IsAskable, plan_range};
 
 use bytes::Bytes;
 use std::alloc::{AllocError, Global};
@@ -24,15 +26,38 @@ const DRIVEN: &str = "\
 - Nothing 1 b421820400000000830205e0840301c006850310000086031000009f6f057a6d657461 | b51c820400000000830205e08403010000850310000086031000008c01ff Opened 1 bf30059f81530100 | true true false
 # The target closes.
 - Nothing 1 b421820400000000830205e0840301c006850310000086031000009f6f057a6d657461 | bf30059f81530100 Closed 0 - | false false true
+# A set of seven, of which each answer has two at most: Presents at 1, 4 and 7, and what is left at 3 and 6.
+- Nothing 1 b421820400000000830205e0840301c006850310000086031000009f6f057a6d657461 | b51c820400000000830205e0840301c006850310000086031000008c01ff Opened 1 b6418204000000018d01008e01018f01009001ff910131b2049f690164b524a12206072a8648ce130301a017bf6614bf2c0a30089f7801019f7901049f2d0464756e65 | b7128204000000019701079801009901019601ff Answered 3 b8108204000000029f1f01319e01019d0103b8108204000000059f1f01319e01049d0103b8108204000000089f1f01319e01079d0101 | b9418204000000029801029901039b0102bc303016800164a111a10f280d06072a8648ce13050a810263313016800164a111a10f280d06072a8648ce13050a81026332 Answered 1 b8108204000000049f1f01319e01039d0101 | b9418204000000059801029901069b0102bc303016800164a111a10f280d06072a8648ce13050a810263343016800164a111a10f280d06072a8648ce13050a81026335 Answered 1 b8108204000000079f1f01319e01069d0101 | b9298204000000049801019901049b0100bc183016800164a111a10f280d06072a8648ce13050a81026333 Answered 0 - | b9298204000000079801019901079b0100bc183016800164a111a10f280d06072a8648ce13050a81026336 Answered 0 - | b9298204000000089801019901009b0100bc183016800164a111a10f280d06072a8648ce13050a81026337 Answered 1 bf30059f81530100 | bf30059f81530100 Closed 0 - | false true true
+# The same where each answer has one: nine requests, and Close.
+- Nothing 1 b421820400000000830205e0840301c006850310000086031000009f6f057a6d657461 | b51c820400000000830205e0840301c006850310000086031000008c01ff Opened 1 b6418204000000018d01008e01018f01009001ff910131b2049f690164b524a12206072a8648ce130301a017bf6614bf2c0a30089f7801019f7901049f2d0464756e65 | b7128204000000019701079801009901019601ff Answered 3 b8108204000000029f1f01319e01019d0103b8108204000000059f1f01319e01049d0103b8108204000000089f1f01319e01079d0101 | b9298204000000029801019901029b0102bc183016800164a111a10f280d06072a8648ce13050a81026331 Answered 1 b8108204000000039f1f01319e01029d0102 | b9298204000000059801019901059b0102bc183016800164a111a10f280d06072a8648ce13050a81026334 Answered 1 b8108204000000069f1f01319e01059d0102 | b9298204000000039801019901039b0102bc183016800164a111a10f280d06072a8648ce13050a81026332 Answered 1 b8108204000000049f1f01319e01039d0101 | b9298204000000069801019901069b0102bc183016800164a111a10f280d06072a8648ce13050a81026335 Answered 1 b8108204000000079f1f01319e01069d0101 | b9298204000000049801019901049b0100bc183016800164a111a10f280d06072a8648ce13050a81026333 Answered 0 - | b9298204000000079801019901079b0100bc183016800164a111a10f280d06072a8648ce13050a81026336 Answered 0 - | b9298204000000089801019901009b0100bc183016800164a111a10f280d06072a8648ce13050a81026337 Answered 1 bf30059f81530100 | bf30059f81530100 Closed 0 - | false true true
 ";
 
-// The first ten records of a database `d` that match.
-fn question(alloc: Global) -> Result<Question, Unread>
+// The same where positions 1, 2 and 5 to 7 are wanted.
+const PARTED: &str = "\
+# Positions 1, 2 and 5 to 7 of a set of seven: one Present of 1, 2 and 5, one of 6 and 7, and what is left of the first.
+- Nothing 1 b421820400000000830205e0840301c006850310000086031000009f6f057a6d657461 | b51c820400000000830205e0840301c006850310000086031000008c01ff Opened 1 b6418204000000018d01008e01018f01009001ff910131b2049f690164b524a12206072a8648ce130301a017bf6614bf2c0a30089f7801019f7901049f2d0464756e65 | b7128204000000019701079801009901019601ff Answered 2 b81c8204000000029f1f01319e01019d0102bf8154083006810105820101b8108204000000079f1f01319e01069d0102 | b9418204000000029801029901039b0102bc303016800164a111a10f280d06072a8648ce13050a810263313016800164a111a10f280d06072a8648ce13050a81026332 Answered 1 b8108204000000069f1f01319e01059d0101 | b9418204000000079801029901009b0100bc303016800164a111a10f280d06072a8648ce13050a810263363016800164a111a10f280d06072a8648ce13050a81026337 Answered 0 - | b9298204000000069801019901069b0100bc183016800164a111a10f280d06072a8648ce13050a81026335 Answered 1 bf30059f81530100 | bf30059f81530100 Closed 0 - | false true true
+# The same without version 3: a Present for each run of each list.
+- Nothing 1 b421820400000000830205e0840301c006850310000086031000009f6f057a6d657461 | b51c820400000000830206c0840301c006850310000086031000008c01ff Opened 1 b6418204000000018d01008e01018f01009001ff910131b2049f690164b524a12206072a8648ce130301a017bf6614bf2c0a30089f7801019f7901049f2d0464756e65 | b7128204000000019701079801009901019601ff Answered 3 b8108204000000029f1f01319e01019d0102b8108204000000069f1f01319e01059d0101b8108204000000079f1f01319e01069d0102 | b9418204000000029801029901039b0100bc303016800164a111a10f280d06072a8648ce13050a810263313016800164a111a10f280d06072a8648ce13050a81026332 Answered 0 - | b9298204000000069801019901069b0100bc183016800164a111a10f280d06072a8648ce13050a81026335 Answered 0 - | b9418204000000079801029901009b0100bc303016800164a111a10f280d06072a8648ce13050a810263363016800164a111a10f280d06072a8648ce13050a81026337 Answered 1 bf30059f81530100 | bf30059f81530100 Closed 0 - | false true true
+";
+
+// Positions 1, 2 and 5 to 7, or the first ten.
+fn wanted(alloc: Global, is_parted: bool) -> Result<Vec<Range>, AllocError>
+    ensures wanted { IfOk result (λ v. AreWanted (map plan_range v.items)) }
+    ensures few { IfOk result (λ v. length (positions v.items) ≤ 1000000) }
+{
+    if is_parted {
+        return Ok(vec![in alloc; Range { start: 1, n: 2 }, Range { start: 5, n: 3 }]?);
+    }
+    Ok(vec![in alloc; Range { start: 1, n: 10 }]?)
+}
+
+// These records of a database `d`, of those that match.
+fn question(alloc: Global, is_parted: bool) -> Result<Question, Unread>
     ensures { IfOk result IsAskable }
 {
     let databases = vec![in alloc; Bytes::from_static(b"d")]?;
     let query = parse(alloc, b"@attr 1=4 dune")?;
-    let wanted = vec![in alloc; Range { start: 1, n: 10 }]?;
+    let wanted = wanted(alloc, is_parted)?;
     Ok(Question {
         databases: Seq::from_vec(databases),
         query: Box::into_inner(query),
@@ -42,8 +67,8 @@ fn question(alloc: Global) -> Result<Question, Unread>
     })
 }
 
-fn asked(alloc: Global) -> Result<Box<Meta>, Unread> {
-    let question = question(alloc)?;
+fn asked(alloc: Global, is_parted: bool) -> Result<Box<Meta>, Unread> {
+    let question = question(alloc, is_parted)?;
     let questions = vec![in alloc; question]?;
     let settings = MetaSettings {
         name: Bytes::from_static(b"zmeta"),
@@ -117,17 +142,27 @@ fn part(alloc: Global, meta: &mut Meta, part: &str) -> Result<bool, Unread> {
     goes(alloc, meta, fed, due)
 }
 
-fn is_driven(alloc: Global, row: &str) -> Result<bool, Unread> {
-    let mut meta = asked(alloc)?;
+fn goes_through(alloc: Global, meta: &mut Meta, row: &str) -> Result<bool, Unread> {
     for text in row.split(" | ") {
-        if !held(part(alloc, &mut meta, text)) {
+        if !held(part(alloc, meta, text)) {
             return Ok(false);
         }
     }
     Ok(true)
 }
 
+fn is_driven(alloc: Global, row: &str) -> Result<bool, Unread> {
+    let mut meta = asked(alloc, false)?;
+    goes_through(alloc, &mut meta, row)
+}
+
+fn is_driven_in_parts(alloc: Global, row: &str) -> Result<bool, Unread> {
+    let mut meta = asked(alloc, true)?;
+    goes_through(alloc, &mut meta, row)
+}
+
 #[test]
 fn a_connection_is_driven_as_told(rt: HostRuntime) -> Result<(), Fail> {
-    each_row(rt.alloc(), DRIVEN, &is_driven)
+    each_row(rt.alloc(), DRIVEN, &is_driven)?;
+    each_row(rt.alloc(), PARTED, &is_driven_in_parts)
 }

@@ -1,4 +1,4 @@
-use Rattle.std.proofs.Common.{subst, Err}
+use Rattle.std.proofs.Common.{◌<◌, sym, subst, Err}
 use Rattle.std.specs.declared.alloc.AllocError.{AllocError}
 use Rattle.ztalk.specs.Pushes.{Pushes}
 use Rattle.znet.proofs.Openings.{opens_begun, opens_unsent}
@@ -6,14 +6,16 @@ use Rattle.znet.proofs.opening.begin.Goals as goal
 
 pub returns-in-Ok-clause-opens : goal.returns-in-Ok-clause-opens
 returns-in-Ok-clause-opens g c =
-    opens_begun AllocError c.args.c c.in_ok-drive.field-0 c.args.meta.now c.drive.new.self c.push.new.meta
-    (g.W.Sink.state c.args.sink.now) (g.W.Sink.state c.push.new.sink) c.in_ok-drive.ensures.after c.in-Ok.ensures.pushes
+    opens_begun c.one_hearing.ensures AllocError c.args.c c.in_ok-drive.field-0 c.args.meta.now c.drive.new.self
+    c.push.new.meta (g.W.Sink.state c.args.sink.now) (g.W.Sink.state c.push.new.sink)
+    (subst (λ n. c.args.c < n) (sym c.drive.ensures.size) c.requires) c.in_ok-drive.ensures.after c.in-Ok.ensures.pushes
 
 pub returns-in-Write-clause-opens : goal.returns-in-Write-clause-opens
 returns-in-Write-clause-opens g c =
     let held = g.W.Sink.state c.push.new.sink in
     let sink = g.W.Sink.state c.args.sink.now in
-    opens_unsent AllocError c.args.c c.in_ok-drive.field-0 c.args.meta.now c.drive.new.self c.push.new.meta sink held
+    opens_unsent c.one_hearing.ensures AllocError c.args.c c.in_ok-drive.field-0 c.args.meta.now c.drive.new.self
+    c.push.new.meta sink held (subst (λ n. c.args.c < n) (sym c.drive.ensures.size) c.requires)
     c.in_ok-drive.ensures.after
     (subst (λ z. Pushes c.args.c (Err z) c.drive.new.self c.push.new.meta sink held) c.in-Write.is
     c.in-Err.ensures.pushes)

@@ -10,7 +10,7 @@ returns-in-Memory-clause-talks g c =
     (λ z. Talks c.args.c c.args.turns (Err z) c.args.meta.now c.converse.new.meta (g.R.Source.state c.args.source.now)
     (g.R.Source.state c.converse.new.source) (g.W.Sink.state c.args.sink.now) (g.W.Sink.state c.converse.new.sink))
     c.in-Memory.is c.in-Err.ensures.talks)
-    c.stop.ensures.known
+    c.stop.ensures.known c.stop.ensures.others c.stop.ensures.drivers
 
 pub returns-in_default : goal.returns-in_default
 returns-in_default g c = record {

@@ -1,4 +1,4 @@
-use Rattle.std.proofs.Common.{◌∙◌, ap, subst, sym, Err}
+use Rattle.std.proofs.Common.{◌∙◌, ap, subst, sym, ◌<◌, Err}
 use Rattle.std.proofs.lemmas.Result.{err_from_is_err_and}
 use Rattle.std.specs.declared.alloc.AllocError.{AllocError}
 use Rattle.ztalk.specs.Turns.{Speaks}
@@ -15,5 +15,6 @@ returns-in_err-drive-clause-speaks g c =
 
 pub returns-clause-speaks : goal.returns-clause-speaks
 returns-clause-speaks g c =
-    speaks_by c.up_to.ensures AllocError c.args.c c.in_ok-drive.field-0 c.args.meta.now c.drive.new.self c.push.new.meta
-    _ _ c.push.result c.in_ok-drive.ensures.after c.push.ensures.pushes
+    speaks_by c.up_to.ensures c.one_hearing.ensures AllocError c.args.c c.in_ok-drive.field-0 c.args.meta.now c.drive.new.self
+    c.push.new.meta _ _ c.push.result (subst (λ n. c.args.c < n) (sym c.drive.ensures.size) c.requires)
+    c.in_ok-drive.ensures.after c.push.ensures.pushes

@@ -1,6 +1,7 @@
 use Rattle.std.proofs.Common.{refl, ◌∙◌, slice_set}
 use Rattle.zoom.specs.Heard.{Stops, stop_by}
 use Rattle.zoom.specs.Links.{Links}
+use Rattle.zoom.proofs.Metas.{get_other}
 use Rattle.zoom.proofs.Pools.{gained, stops_put}
 use Rattle.zoom.proofs.pool.Pool.stop.Goals as goal
 
@@ -18,3 +19,7 @@ returns-clause-stopped c =
       knowledge = c.self.inside.knowledge;
     } in
     stops_put old new c.args.c c.stop.new.self (rw (← c.self.view_is) at c.requires) refl ∙ c.stop.ensures.stop
+
+pub returns-clause-others : goal.returns-clause-others
+returns-clause-others c = rw (← c.self.view_is) (λ i far.
+    get_other c.self.inside.connections.items c.args.c i c.stop.new.self far)
