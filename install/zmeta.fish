@@ -72,12 +72,12 @@ complete -c zmeta -n '__zmeta_in ask' -l only -x \
 complete -c zmeta -n '__zmeta_in ask run loop join; and __zmeta_lacks --hex' -l hex \
     -d 'Prints the octets of records in hexadecimal'
 complete -c zmeta -n '__zmeta_in ask run loop; and __zmeta_lacks --save' -l save -r -F \
-    -d 'Saves what was brought in the file OUT'
+    -d 'Saves what was brought, in the file OUT'
 complete -c zmeta -n '__zmeta_in records; and __zmeta_lacks --syntax' -l syntax -x \
     -a '1.2.840.10003.5.10 1.2.840.10003.5.1 1.2.840.10003.5.109.10' \
     -d 'Writes just the records of this record syntax'
 complete -c zmeta -n '__zmeta_in records; and __zmeta_lacks --conflicts' -l conflicts \
-    -d 'Writes all records of a place that has several, and not none of them'
+    -d 'Writes all records of a place for which several are known'
 
 complete -c zmeta -n '__zmeta_at 1 ask run loop join records' -F
 complete -c zmeta -n '__zmeta_in join records; and not __zmeta_at 1 join records' -F
