@@ -1,7 +1,6 @@
 -- How a call that is admitted, and an APDU that is taken, change where a connection stands (Z39.50-2003, 3.2 and 3.4).
--- These
--- definitions serve private functions: public clauses speak of logs (Log.antt, which takes from here what one call or
--- reply says).
+-- Public clauses take from here `FailsFor` alone, and else speak of logs (Log.antt, which takes from here what one call
+-- or reply says).
 use Rattle.std.specs.Prelude.{◌≡◌, ◌≢◌, ℕ, nat_eq, ◌==◌, Bool, true, false, slice_index_or, if◌then◌else◌, List, Option, Some, None, Result, Ok, Err}
 use Rattle.std.specs.Map.{set_value}
 use Rattle.indexmap.specs.IndexMap.{insert_entry, shift_remove_entry}

@@ -199,7 +199,8 @@ fn present_facts(
 /// each diagnostic that stands for no record, of a search at place 0, of a Present at the first position that was asked
 /// for.
 ///
-/// An error only where no memory was found.
+/// The answer is one that `take` or `peek` gave, or fits what was asked for likewise, with ranges that can be asked for
+/// (Z39.50-2003, 3.2.1.1, 3.2.2.1 and 3.2.3.1). An error only where no memory was found.
 pub fn facts_of(alloc: Global, target: u32, answer: &Answer) -> Result<Vec<Fact>, AllocError>
     requires { IsShowable answer.now }
     ensures { IfOk result (λ facts. facts.items ≡ facts_of target answer.now) }

@@ -43,8 +43,9 @@ pub fn known_facts()
 {}
 
 /// An Init can be sent where the origin's name has at most 2,000,000 octets. Where a search can be sent, and asks for a
-/// syntax of at most 1,000 arcs or for none, so can each Present of at most 1,000 ranges in that syntax and with the
-/// search's element set, whatever the numbers of its set and of its operation. A Close can always be sent.
+/// syntax of at most 1,000 arcs or for none, so can each Present of at most 1,000 ranges that can be asked for, in that
+/// syntax and with the search's element set, whatever the numbers of its set and of its operation. A Close can always
+/// be sent.
 pub fn sendable_requests()
     ensures { SendableLaws }
 {}

@@ -252,7 +252,8 @@ impl Origin {
     /// Takes an APDU that came from the target: a reply is accepted where its reference id names an outstanding
     /// operation, or is absent where concurrent operations are not in force and one is outstanding, and where it fits
     /// what that operation asked for (Z39.50-2003, 3.4). The answer's reply is a copy of the APDU, and `facts_of` takes
-    /// the answer.
+    /// the answer. A Close is taken wherever replies are, whatever it holds; the origin is then Closed, and sends none
+    /// in answer.
     ///
     /// `Refused` says when it is refused, in its order. The origin has then failed for that reason, and is else as it
     /// was; after `WrongState` and `Memory` it is wholly as it was.

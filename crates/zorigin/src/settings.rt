@@ -7,7 +7,7 @@ use zquery::Query;
 /// What holds for one connection.
 #[derive(Drop)]
 pub struct Settings {
-    /// implementationName: what the origin calls itself.
+    /// implementationName: what the origin calls itself. With at most 2,000,000 octets the Init can always be sent.
     pub name: Bytes,
 }
 

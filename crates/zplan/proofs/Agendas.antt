@@ -103,6 +103,21 @@ first_among m [] i = absurd i
 first_among m (x ∷ ls) (inl e) = inl (ap first_of e)
 first_among m (x ∷ ls) (inr i) = inr (first_among m ls i)
 
+from_others : (low p : ℕ) (ls : List (List ℕ)) → IsFrom low (map first_of ls) → IsFrom low (map first_of (without p ls))
+from_others low p [] h = tt
+from_others low p (l ∷ ls) h =
+    let later = from_others low p ls h.1 in
+    elim (first_of l == p) as (λ t. IsFrom low (map first_of (cond (not t) (l ∷ without p ls) (without p ls)))) [ true ↦ later | false ↦ (h.0, later) ]
+
+ascends_others : (p : ℕ) (ls : List (List ℕ)) → Ascends (map first_of ls) → Ascends (map first_of (without p ls))
+ascends_others p [] h = tt
+ascends_others p (l ∷ ls) h =
+    let later = ascends_others p ls h.1 in
+    elim (first_of l == p) as (λ t. Ascends (map first_of (cond (not t) (l ∷ without p ls) (without p ls)))) [
+      | true ↦ later
+      | false ↦ (from_others (first_of l + 1) p ls h.0, later)
+    ]
+
 module _ (wanted : List ℕ) (last : ℕ) (w : IsWanted wanted) where
   -- What is due after a reply: what was due, and what the reply makes due.
   due_after : (events : List Event) → IsDriven wanted (suc last) events → (a : Operation) (r : Reply) → IsIn a (asked_in events) → replies_in events a ≡ None
@@ -132,6 +147,7 @@ module _ (wanted : List ℕ) (last : ℕ) (w : IsWanted wanted) where
         asked = λ l i. absurd i;
         unanswered = λ l i. absurd i;
         waits = λ l i e. absurd (nothing l (sent_asked wanted (suc last) events d (Present l) i));
+        in_order = tt;
       }
 
   new_count : (three : Bool) (replies : Replies) (l : List ℕ) (count : ℕ) → replies Init ≡ Some (Opens true three)
@@ -159,6 +175,7 @@ module _ (wanted : List ℕ) (last : ℕ) (w : IsWanted wanted) where
         asked = λ l i. absurd i;
         unanswered = λ l i. absurd i;
         waits = λ l i e. absurd (nothing l (sent_asked wanted (suc last) events d (Present l) i));
+        in_order = tt;
       }
 
   -- what was not asked has no reply
@@ -193,6 +210,10 @@ module _ (wanted : List ℕ) (last : ℕ) (w : IsWanted wanted) where
           | inr j ↦ h.unanswered m j
         ];
         waits = λ m i e. subst (IsIn m) (sym s.waiting) (put_in m l a.waiting (elim i [ inl f ↦ inl (ap list_in f) | inr j ↦ inr (h.waits m j e) ]));
+        in_order = subst (λ z. Ascends (map first_of z)) (sym s.waiting) (ascends_put l a.waiting h.in_order (λ m i f.
+            let j = h.asked m i in
+            let e : Present m ≡ Present l = number_one wanted last (replies_in events) w (Present m) (Present l) (sent_asked wanted (suc last) events d (Present m) j) first.0 (ap (λ z. z + 1) f) in
+            first.1 (subst (λ z. IsIn z (asked_in events)) e j)));
       }
 
   new_left : (replies : Replies) (l m : List ℕ) (k : ℕ) → IsNew wanted (suc last) replies (Present l) (Shows k) (Present m) → (0 < k) × (k < length l) × (m ≡ drop k l)
@@ -274,6 +295,7 @@ module _ (wanted : List ℕ) (last : ℕ) (w : IsWanted wanted) where
             let n : (first_of m ≡ first_of l) → ⊥ = λ f.
             r.1 (ap list_in (number_one wanted last (replies_in events) w (Present m) (Present l) (sent_asked wanted (suc last) events d (Present m) j) was (ap (λ z. z + 1) f))) in
             subst (IsIn m) (sym s.waiting) (in_without p m a.waiting (h.waits m j r.0) (ap (λ z. first_of m == z) (sym s.begins) ∙ differs (first_of m) (first_of l) n));
+        in_order = subst (λ z. Ascends (map first_of z)) (sym s.waiting) (ascends_others p a.waiting h.in_order);
       }
     where
       differs : (x y : ℕ) → (x ≡ y → ⊥) → (x == y) ≡ false
@@ -288,6 +310,7 @@ module _ (wanted : List ℕ) (last : ℕ) (w : IsWanted wanted) where
     asked = λ l i. h.asked l (subst (IsIn l) s.waiting i);
     unanswered = λ l i. h.unanswered l (subst (IsIn l) s.waiting i);
     waits = λ l i e. subst (IsIn l) (sym s.waiting) (h.waits l i e);
+    in_order = subst (λ z. Ascends (map first_of z)) (sym s.waiting) h.in_order;
   }
 
   -- what stands first is due, and nothing that is due begins before it

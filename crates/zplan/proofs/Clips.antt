@@ -8,7 +8,7 @@ use Rattle.zplan.specs.Positions.{up_to}
 use Rattle.zplan.specs.Ranges.{natural, span_of, places, clip, IsApart, IsBounded}
 use Rattle.zplan.specs.declared.range.Range.{Range}
 
-apart_less : (low more : ℕ) (rs : List Span) → low ≤ more → IsApart more rs → IsApart low rs
+pub apart_less : (low more : ℕ) (rs : List Span) → low ≤ more → IsApart more rs → IsApart low rs
 apart_less low more [] le h = tt
 apart_less low more (r ∷ rs) le h = (omega (arith, h.0), h.1, h.2)
 

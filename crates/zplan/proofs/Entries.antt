@@ -91,6 +91,19 @@ has_append (y ∷ xs) x h =
     let later = has_append xs x h in
     elim y.sent as (λ b. (not b || has_due (xs ++ x ∷ [])) ≡ true) [ true ↦ later | false ↦ refl ]
 
+-- one that waits takes nothing with it that is due
+pub still_has : (xs ys : List Entry) (x : Entry) → x.sent ≡ true → has_due (xs ++ x ∷ ys) ≡ true → has_due (xs ++ ys) ≡ true
+still_has [] ys x t h = sym (ap (λ b. not b || has_due ys) t) ∙ h
+still_has (y ∷ xs) ys x t h =
+    let later = still_has xs ys x t in
+    elim y.sent as (λ b. (not b || has_due (xs ++ x ∷ ys)) ≡ true → (not b || has_due (xs ++ ys)) ≡ true) [ true ↦ later | false ↦ λ _. refl ] h
+
+pub has_one : (xs ys : List Entry) (x : Entry) → x.sent ≡ false → has_due (xs ++ x ∷ ys) ≡ true
+has_one [] ys x f = ap (λ b. not b || has_due ys) f
+has_one (y ∷ xs) ys x f =
+    let later = has_one xs ys x f in
+    elim y.sent as (λ b. (not b || has_due (xs ++ x ∷ ys)) ≡ true) [ true ↦ later | false ↦ refl ]
+
 pub all_listed : (three : Bool) (xs ys : List Entry) → AllListed three (xs ++ ys) → AllListed three xs × AllListed three ys
 all_listed three [] ys h = (tt, h)
 all_listed three (x ∷ xs) ys h = let r = all_listed three xs ys h.1 in ((h.0, r.0), r.1)

@@ -1,15 +1,16 @@
 -- Runs and lists out of parts.
-use Rattle.std.proofs.Common.{◌≡◌, ◌⊎◌, inl, inr, ℕ, suc, ◌+◌, ◌-◌, ◌^◌, ◌<◌, ◌≤◌, true, false, List, [], ◌∷◌, ◌++◌, length, sym, ap, ◌∙◌, arith, append_assoc, length-append, append-nil}
+use Rattle.std.proofs.Common.{◌≡◌, ◌⊎◌, inl, inr, ℕ, suc, ◌+◌, ◌-◌, ◌^◌, ◌<◌, ◌≤◌, true, false, List, [], ◌∷◌, ◌++◌, length, refl, sym, ap, subst, ◌∙◌, arith, append_assoc, length-append, append-nil}
 use Rattle.std.proofs.lemmas.Grind.{flat_map-append}
 use Rattle.std.proofs.lemmas.List.FromFn.{length-range_with_len}
 use Rattle.std.specs.List.{range_with_len}
 use Rattle.zplan.specs.declared.span.Span.{Span}
 use Rattle.zplan.specs.declared.part.Place.{Place}
 use Rattle.zplan.specs.declared.part.Part.{Part}
-use Rattle.zplan.specs.Positions.{follows}
-use Rattle.zplan.specs.Ranges.{places, places_of, AllHave, IsBounded}
+use Rattle.zplan.specs.Positions.{follows, IsFrom}
+use Rattle.zplan.specs.Ranges.{places, places_of, IsApart, AllHave, IsBounded}
 use Rattle.zplan.specs.Cutting.{deal, left_at, IsPlace, IsPart, IsRun, IsList}
 use Rattle.zplan.proofs.Fronts.{deal_run, deal_list}
+use Rattle.zplan.proofs.Parts.{follows_far, left_from, begins_from}
 
 pub run_of : (ranges : List Span) (place : Place) (room step left : ℕ) (p : Part) → IsPart ranges place room p → 0 < step
     → ((p.range.n ≡ room) × (left ≡ step)) ⊎ ((p.range.n < room) × (left ≡ room - p.range.n))
@@ -21,7 +22,7 @@ run_of ranges place room step left p h pos c =
     let e : p.range.n ≡ suc m = omega arith in
     let cases : ((m ≡ room - 1) × (left - 1 ≡ step - 1)) ⊎ ((left - 1 + suc m ≡ room - 1) × (follows (p.range.start + m) rest ≡ false)) = elim c [
       | inl g ↦ inl (omega (arith, g.0), omega (arith, g.1))
-      | inr g ↦ elim h.ends [ inl f ↦ absurd (omega (arith, g.0, f)) | inr f ↦ inr (omega (arith, g.0, g.1), f) ]
+      | inr g ↦ elim h.ends [ inl f ↦ absurd (omega (arith, g.0, f)) | inr f ↦ inr (omega (arith, g.0, g.1), follows_far (p.range.start + m) (p.range.start + p.range.n + 1) rest f (omega (arith, e))) ]
     ] in
     record {
       comes = h.comes;
@@ -35,11 +36,18 @@ run_of ranges place room step left p h pos c =
       bounded = h.bounded;
     }
 
+-- where another range may begin after these, so that a gap is between
+abbrev pub low_after : ℕ → List Span → ℕ
+low_after low [] = low
+low_after low (s ∷ ss) = low_after (s.start + s.n + 1) ss
+
 -- what a loop has gathered
 pub record IsGathering (ranges : List Span) (from : Place) (step : ℕ) (list : List Span) (place : Place) (room : ℕ) : Type 0 where
   pub comes : left_at ranges from ≡ places list ++ left_at ranges place
   pub some : length list ≤ length (places list)
   pub have : AllHave list
+  pub gaps : IsApart 1 list
+  pub goes_on : (room ≡ 0) ⊎ IsFrom (low_after 1 list) (left_at ranges place)
   pub size : length (places list) + room ≡ step
   pub bounded : IsBounded list
   pub stays : IsPlace ranges place
@@ -55,6 +63,26 @@ pub bounded_more : (list : List Span) (r : Span) → IsBounded list → r.start 
 bounded_more [] r h b = (b, tt)
 bounded_more (x ∷ list) r h b = (h.0, bounded_more list r h.1 b)
 
+apart_more : (low : ℕ) (list : List Span) (r : Span) → IsApart low list → low_after low list ≤ r.start → 0 < r.n → IsApart low (list ++ r ∷ [])
+apart_more low [] r h le pos = (le, pos, tt)
+apart_more low (x ∷ list) r h le pos = (h.0, h.1, apart_more (x.start + x.n + 1) list r h.2 le pos)
+
+after_more : (low : ℕ) (list : List Span) (r : Span) → low_after low (list ++ r ∷ []) ≡ r.start + r.n + 1
+after_more low [] r = refl
+after_more low (x ∷ list) r = after_more (x.start + x.n + 1) list r
+
+pub gather_none : (ranges : List Span) (from : Place) (step : ℕ) (list : List Span) → IsApart 1 ranges → IsPlace ranges from → list ≡ [] → IsGathering ranges from step list from step
+gather_none ranges from step list w p e = subst (λ l. IsGathering ranges from step l from step) (sym e) (record {
+  comes = refl;
+  some = omega arith;
+  have = tt;
+  gaps = tt;
+  goes_on = inr (left_from ranges from w);
+  size = omega arith;
+  bounded = tt;
+  stays = p;
+})
+
 pub gather_more : (ranges : List Span) (from : Place) (step : ℕ) (list : List Span) (place : Place) (room : ℕ) (p : Part) → IsGathering ranges from step list place room → IsPart ranges place room p
     → IsGathering ranges from step (list ++ p.range ∷ []) p.next (room - p.range.n)
 gather_more ranges from step list place room p g h =
@@ -66,6 +94,14 @@ gather_more ranges from step list place room p g h =
     record {
       some = omega (arith, n, k, o, t);
       have = have_more list p.range g.have h.some;
+      gaps = apart_more 1 list p.range g.gaps (elim g.goes_on [
+        | inl z ↦ absurd (omega (arith, z, f, t))
+        | inr l ↦ begins_from (low_after 1 list) p.range.start p.range.n (left_at ranges p.next) h.some (subst (IsFrom (low_after 1 list)) h.comes l)
+      ]) h.some;
+      goes_on = elim h.ends [
+        | inl e ↦ inl (omega (arith, e))
+        | inr l ↦ inr (subst (λ low. IsFrom low (left_at ranges p.next)) (sym (after_more 1 list p.range)) l)
+      ];
       bounded = bounded_more list p.range g.bounded h.bounded;
       comes = g.comes ∙ ap (λ l. places list ++ l) h.comes ∙ sym (append_assoc (places list) (places_of p.range) (left_at ranges p.next)) ∙ ap (λ l. l ++ left_at ranges p.next) (sym more);
       size = omega (arith, n, s, f);

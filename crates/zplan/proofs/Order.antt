@@ -2,7 +2,7 @@
 use Rattle.std.proofs.Common.{◌≡◌, ◌⊎◌, inl, inr, ℕ, Bool, true, false, cond, List, [], ◌∷◌, None, Some, refl, sym, ap, subst, ◌∙◌, true≢false, arith}
 use Rattle.std.proofs.lemmas.Bool.Decides.{nat_tests}
 use Rattle.zplan.specs.Positions.{IsIn}
-use Rattle.zplan.specs.Plan.{Operation, Init, Search, Present, Reply, Opens, Finds, Shows, eq_list, same, Replies, IsAsked, first, search, cut, rest, IsNew, new_search, new_cut, new_rest, Event, Sends, Receives, Closes, replies_in, asked_in, IsDriven, IsComplete, Agree}
+use Rattle.zplan.specs.Plan.{Operation, Init, Search, Present, Reply, Opens, Finds, Shows, eq_list, same, Replies, IsAsked, first, search, cut, rest, IsNew, new_search, new_cut, new_rest, Event, Sends, Receives, Closes, replies_in, asked_in, HasClosed, WasRefused, IsAnsweredWhole, IsDriven, IsComplete, Agree}
 
 list_is : (l m : List ℕ) → eq_list l m ≡ true → l ≡ m
 list_is [] [] h = refl
@@ -77,9 +77,34 @@ module _ (wanted : List ℕ) (step : ℕ) where
   pub complete_asked : (events : List Event) → IsComplete wanted step events → (a : Operation) (r : Reply) → replies_in events a ≡ Some r → IsAsked wanted step (replies_in events) a
   complete_asked events c a r h = sent_asked events c.driven a (answered_sent events c.driven a r h)
 
+  -- once Close was sent, nothing is due and nothing is outstanding
+  closed_whole : (events : List Event) → IsDriven wanted step events → HasClosed events → IsAnsweredWhole wanted step events
+  closed_whole [] d c a i = absurd c
+  closed_whole (Sends b ∷ events) d c a i =
+      let s = closed_whole events d.1 c b d.0.0 in absurd (d.0.1 (answered_sent events d.1 b s.0 s.1))
+  closed_whole (Receives b r ∷ events) d c a i =
+      let s = closed_whole events d.2 c b (sent_asked events d.2 b d.0) in absurd (let z : None ≡ Some s.0 = sym d.1 ∙ s.1 in cc)
+  closed_whole (Closes ∷ events) d c a i = d.0 a i
+
+  -- where the search can't be sent, Init alone is asked
+  none_asked : (replies : Replies) → WasRefused replies → (l : List ℕ) → IsAsked wanted step replies (Present l) → ⊥
+  none_asked replies c l (cut t count i m a o h lt x) = absurd (let z : Some (Opens false c.0) ≡ Some (Opens true t) = sym c.1 ∙ o in cc)
+  none_asked replies c l (rest m k a h lo hi) = none_asked replies c m a
+
+  refused_whole : (replies : Replies) → WasRefused replies → (a : Operation) → IsAsked wanted step replies a → (r : Reply) × (replies a ≡ Some r)
+  refused_whole replies c Init i = (Opens false c.0, c.1)
+  refused_whole replies c Search (search t i h) = absurd (let z : Some (Opens false c.0) ≡ Some (Opens true t) = sym c.1 ∙ h in cc)
+  refused_whole replies c (Present l) i = absurd (none_asked replies c l i)
+
+  pub complete_whole : (events : List Event) → IsComplete wanted step events → IsAnsweredWhole wanted step events
+  complete_whole events c = elim c.ended [
+    | inl h ↦ closed_whole events c.driven h
+    | inr h ↦ refused_whole (replies_in events) h
+  ]
+
   -- the reply of the other history
   there : (one other : List Event) → IsComplete wanted step other → Agree (replies_in one) (replies_in other) → (a : Operation) (r : Reply) → IsAsked wanted step (replies_in other) a → replies_in one a ≡ Some r → replies_in other a ≡ Some r
-  there one other c agree a r i h = let s = c.all a i in s.1 ∙ ap (λ x. Some x) (sym (agree a r s.0 h s.1))
+  there one other c agree a r i h = let s = complete_whole other c a i in s.1 ∙ ap (λ x. Some x) (sym (agree a r s.0 h s.1))
 
   pub asked_there : (one other : List Event) → IsComplete wanted step other → Agree (replies_in one) (replies_in other) → (a : Operation) → IsAsked wanted step (replies_in one) a → IsAsked wanted step (replies_in other) a
   asked_there one other c g Init first = first

@@ -7,8 +7,8 @@ use Rattle.zplan.specs.declared.span.Span.{Span}
 use Rattle.zplan.specs.declared.part.Place.{Place}
 use Rattle.zplan.specs.Positions.{follows, IsFrom}
 use Rattle.zplan.specs.Ranges.{places, IsApart, IsBounded}
-use Rattle.zplan.specs.Cutting.{IsUsed, IsPlace, IsPart}
-use Rattle.zplan.proofs.Cuts.{places_ascend}
+use Rattle.zplan.specs.Cutting.{left_at, IsUsed, IsPlace, IsPart}
+use Rattle.zplan.proofs.Cuts.{places_ascend, from_less}
 
 pub drop_range : (a b s : ℕ) (ps : List ℕ) → drop a (range_with_len s (a + b) ++ ps) ≡ range_with_len (s + a) b ++ ps
 drop_range zero b s ps =
@@ -24,7 +24,7 @@ range_split (suc a) b s =
     let e : suc a + b ≡ suc (a + b) = omega arith in let f : s + 1 + a ≡ s + suc a = omega arith in
     ap (range_with_len s) e ∙ ap (λ l. s ∷ l) (range_split a b (s + 1) ∙ ap (λ t. range_with_len (s + 1) a ++ range_with_len t b) f)
 
-follows_far : (p low : ℕ) (ps : List ℕ) → IsFrom low ps → p + 1 < low → follows p ps ≡ false
+pub follows_far : (p low : ℕ) (ps : List ℕ) → IsFrom low ps → p + 1 < low → follows p ps ≡ false
 follows_far p low [] h lt = refl
 follows_far p low (q ∷ qs) h lt = let n : p + 1 < q = omega (arith, h.0) in grind (arith, nat_tests)
 
@@ -32,6 +32,25 @@ apart_drop : (at low : ℕ) (rs : List Span) → IsApart low rs → (more : ℕ)
 apart_drop zero low rs h = (low, h)
 apart_drop (suc at) low [] h = (low, tt)
 apart_drop (suc at) low (r ∷ rs) h = apart_drop at (r.start + r.n + 1) rs h.2
+
+from_drop : (low k : ℕ) (ps : List ℕ) → IsFrom low ps → IsFrom low (drop k ps)
+from_drop low zero ps h = h
+from_drop low (suc k) [] h = tt
+from_drop low (suc k) (p ∷ ps) h = from_drop low k ps h.1
+
+from_at : (at low : ℕ) (rs : List Span) → IsApart low rs → IsFrom low (places (drop at rs))
+from_at zero low rs h = (places_ascend low rs h).0
+from_at (suc at) low [] h = tt
+from_at (suc at) low (r ∷ rs) h = from_less low (r.start + r.n + 1) (places (drop at rs)) (omega (arith, h.0)) (from_at at (r.start + r.n + 1) rs h.2)
+
+-- what stands at a place and after it begins where the ranges may begin
+pub left_from : (ranges : List Span) (place : Place) → IsApart 1 ranges → IsFrom 1 (left_at ranges place)
+left_from ranges place w = from_drop 1 place.used (places (drop place.at ranges)) (from_at place.at 1 ranges w)
+
+-- the first of them is where the next range begins
+pub begins_from : (low s n : ℕ) (ps : List ℕ) → 0 < n → IsFrom low (range_with_len s n ++ ps) → low ≤ s
+begins_from low s zero ps pos h = absurd (omega arith)
+begins_from low s (suc n) ps pos h = h.0
 
 pub bounded_drop : (at : ℕ) (rs : List Span) → IsBounded rs → IsBounded (drop at rs)
 bounded_drop zero rs h = h
@@ -69,7 +88,7 @@ part_whole ranges place room r h fits = record {
   comes = ap (λ l. drop place.used (places l)) h.stands ∙ taken place.used r (drop (place.at + 1) ranges) h.used;
   some = let u = h.used in omega arith;
   fits = fits;
-  ends = inr (follows_far (r.start + place.used + (r.n - place.used - 1)) (r.start + r.n + 1) (places (drop (place.at + 1) ranges)) h.far (let u = h.used in omega arith));
+  ends = inr (subst (λ low. IsFrom low (places (drop (place.at + 1) ranges))) (let u = h.used in let e : r.start + r.n + 1 ≡ r.start + place.used + (r.n - place.used) + 1 = omega arith in e) h.far);
   stays = h.unused;
   bounded = let u = h.used in let b = h.bound in omega (arith, u, b);
 }

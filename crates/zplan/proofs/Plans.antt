@@ -17,7 +17,7 @@ use Rattle.zplan.proofs.Ends.{from_in, ascends_left, ascends_right, ascends_apar
 use Rattle.zplan.proofs.Parts.{used_none}
 use Rattle.zplan.proofs.Clips.{clip_apart, clip_bounded, clip_positions}
 use Rattle.zplan.proofs.Among.{AllBefore, AllAfter, put_between, without_between, before_some, after_some, after_append, first_there, concat_append, wanted_without, wanted_drop}
-use Rattle.zplan.proofs.Entries.{AllSent, split_at, set_at, lists_append, due_append, waiting_append, due_one, due_none, waiting_one, waiting_none, sent_none, none_due, has_append, all_listed, listed_all, due_split, waiting_split, begun_some, some_listed, due_among, waiting_among}
+use Rattle.zplan.proofs.Entries.{AllSent, split_at, set_at, lists_append, due_append, waiting_append, due_one, due_none, waiting_one, waiting_none, sent_none, none_due, has_append, still_has, has_one, all_listed, listed_all, due_split, waiting_split, begun_some, some_listed, due_among, waiting_among}
 
 -- ---- the same positions, as ranges of a caller and as they are kept
 
@@ -245,6 +245,7 @@ first_at es u at x is h d ranges e =
       ready = has_at es at d;
       single = λ two. ap length e ∙ length_ranges x.list.items ∙ (all_listed u.three xs (x ∷ ys) g.listed).1.0.single two;
       asked = subst CanBeAsked (sym e) (can_be_asked u.three x.list.items (all_listed u.three xs (x ∷ ys) g.listed).1.0 (list_wanted xs ys x u g));
+      gaps = subst (IsApart 1) (sym (ap (map span_of) e ∙ spans_ranges x.list.items)) (all_listed u.three xs (x ∷ ys) g.listed).1.0.gaps;
     }
 
 -- ---- a list is cut off
@@ -288,6 +289,7 @@ module _ (es : List Entry) (u : Uncut) (cut : Cut) (e : Entry) (is : e.list.item
         ready = has_append es e due;
         single = λ two. ap length f ∙ length_ranges cut.list.items ∙ c.listed.single two;
         asked = subst CanBeAsked (sym f) (can_be_asked u.three cut.list.items c.listed w);
+        gaps = subst (IsApart 1) (sym (ap (map span_of) f ∙ spans_ranges cut.list.items)) c.listed.gaps;
       }
 
 pub none_first : (es : List Entry) (u : Uncut) → has_due es ≡ false → uncut_lists u ≡ [] → due_of es ++ uncut_lists u ≡ []
@@ -344,6 +346,7 @@ module _ (es : List Entry) (u : Uncut) (first at : ℕ) (x : Entry) (is : x ≡ 
     begins = parts.1;
     three = refl;
     waiting = ap waiting_of e ∙ waiting_append (take at es) (drop (suc at) es) ∙ sym gone;
+    ready = λ was. ap has_due e ∙ still_has (take at es) (drop (suc at) es) x parts.0 (sym (ap has_due (split_at es at x lt is)) ∙ was);
     due = ap (λ z. due_of z ++ uncut_lists u) e ∙ due_left_is (take at es) (drop (suc at) es) u ∙ sym were_due
         ∙ sym (ap (λ b. cond b (put_list (drop k (places x.list.items)) (due_of es ++ uncut_lists u)) (due_of es ++ uncut_lists u)) none);
   }
@@ -371,6 +374,7 @@ module _ (es : List Entry) (u : Uncut) (first at : ℕ) (x : Entry) (is : x ≡ 
           waited = among;
           begins = parts.1;
           three = refl;
+          ready = λ _. ap has_due (set_at es at y lt) ∙ has_one (take at es) (drop (suc at) es) y due;
           waiting = ap waiting_of (set_at es at y lt) ∙ waiting_append (take at es) (y ∷ drop (suc at) es) ∙ ap (λ z. waiting_of (take at es) ++ z) (waiting_none y (drop (suc at) es) due) ∙ sym gone;
           due = ap (λ z. due_of z ++ uncut_lists u) (set_at es at y lt) ∙ due_around_is (take at es) (drop (suc at) es) y u due
               ∙ sym (put_between (places y.list.items) (due_of (take at es)) (due_of (drop (suc at) es) ++ uncut_lists u) a.0 a.1)

@@ -4,13 +4,15 @@ use Rattle.std.specs.List.{range_with_len, remove}
 use Rattle.std.specs.Prelude.{slice_index_or, slice_set}
 use Rattle.std.proofs.lemmas.List.FromFn.{length-range_with_len}
 use Rattle.zplan.specs.declared.span.Span.{Span}
-use Rattle.zplan.specs.Ranges.{places, AllHave, IsBounded}
+use Rattle.zplan.specs.Ranges.{places, AllHave, IsApart, IsBounded}
 use Rattle.zplan.proofs.Parts.{taken}
+use Rattle.zplan.proofs.Clips.{apart_less}
 
 -- what a loop has still to drop
 pub record IsTrimming (old : List Span) (k : ℕ) (list : List Span) (skip : ℕ) : Type 0 where
   pub left : drop skip (places list) ≡ drop k (places old)
   pub have : AllHave list
+  pub gaps : IsApart 1 list
   pub bounded : IsBounded list
   pub fewer : length list ≤ length old
 
@@ -27,6 +29,7 @@ trim_past old k r rs skip h le =
     record {
       left = sym (drop_past r.n skip r.start (places rs) le) ∙ h.left;
       have = h.have.1;
+      gaps = apart_less 1 (r.start + r.n + 1) rs (omega arith) h.gaps.2;
       bounded = h.bounded.1;
       fewer = omega (arith, f);
     }
@@ -40,6 +43,11 @@ trim_cut old k r rs skip h lt =
     record {
       left = sym (taken skip r rs lt) ∙ h.left;
       have = ((let z : 0 < r.n - skip = omega arith in z), h.have.1);
+      gaps = (
+        let a = h.gaps.0 in let z : 1 ≤ r.start + skip = omega (arith, a) in z,
+        let z : 0 < r.n - skip = omega arith in z,
+        apart_less (r.start + skip + (r.n - skip) + 1) (r.start + r.n + 1) rs (omega arith) h.gaps.2,
+      );
       bounded = ((let z : r.start + skip + (r.n - skip) ≤ 2 ^ 31 = omega (arith, b) in z), h.bounded.1);
       fewer = omega (arith, f);
     }

@@ -1,13 +1,15 @@
 -- The next list of what is still to be cut.
-use Rattle.std.proofs.Common.{◌≡◌, ◌-◌, ◌<◌, true, false, [], ◌∷◌, ◌++◌, length, refl, sym, ap, subst, ◌∙◌, append-nil, true≢false}
+use Rattle.std.proofs.Common.{◌≡◌, ◌-◌, ◌<◌, ◌≤◌, true, false, [], ◌∷◌, ◌++◌, length, refl, sym, ap, subst, ◌∙◌, append-nil, true≢false}
 use Rattle.zplan.specs.declared.part.Run.{Run}
 use Rattle.zplan.specs.declared.uncut.Uncut.{Uncut}
 use Rattle.zplan.specs.declared.uncut.Cut.{Cut}
+use Rattle.zplan.specs.Positions.{IsFrom}
 use Rattle.zplan.specs.Ranges.{places, places_of}
 use Rattle.zplan.specs.Cutting.{deal, left_at, IsPlace, IsList, IsRun}
 use Rattle.zplan.specs.Schedules.{IsUncut, IsCut, IsListed}
 use Rattle.zplan.proofs.Entries.{begun_have}
 use Rattle.zplan.proofs.Lists.{list_first}
+use Rattle.zplan.proofs.Parts.{left_from, begins_from}
 
 pub list_cut : (u : Uncut) (cut : Cut) → IsUncut u → u.three ≡ true → 0 < length cut.list.items → cut.room ≡ u.room
     → IsList u.ranges.items u.place u.step cut.list.items cut.place → IsCut u cut
@@ -20,6 +22,7 @@ list_cut u cut h three some room l =
     record {
       listed = record {
         begun = begun_have cut.list.items some l.have;
+        gaps = l.gaps;
         bounded = l.bounded;
         single = λ two. absurd (true≢false (sym three ∙ two));
       };
@@ -40,8 +43,9 @@ pub run_cut : (u : Uncut) (cut : Cut) (run : Run) → IsUncut u → u.three ≡ 
 run_cut u cut run h two r items place room =
     let one : places cut.list.items ≡ places_of run.range = ap places items ∙ append-nil (places_of run.range) in
     let b = r.some in
+    let low : 1 ≤ run.range.start = begins_from 1 run.range.start run.range.n (left_at u.ranges.items run.next) b (subst (IsFrom 1) r.comes (left_from u.ranges.items u.place h.wanted)) in
     record {
-      listed = subst (IsListed u.three) (sym items) (record { begun = (b, tt); bounded = (r.bounded, tt); single = λ _. refl });
+      listed = subst (IsListed u.three) (sym items) (record { begun = (b, tt); gaps = (low, b, tt); bounded = (r.bounded, tt); single = λ _. refl });
       first = ap (λ t. deal t (u.step - 1) (u.room - 1) (left_at u.ranges.items u.place)) two ∙ r.first
           ∙ ap (λ l. l ∷ deal false (u.step - 1) (run.room - 1) (left_at u.ranges.items run.next)) (sym one)
           ∙ ap (λ t. places cut.list.items ∷ deal t (u.step - 1) (run.room - 1) (left_at u.ranges.items run.next)) (sym two)

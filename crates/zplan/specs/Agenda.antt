@@ -2,12 +2,13 @@
 use Rattle.std.specs.Prelude.{◌≡◌, ℕ, ◌-◌, ◌&&◌, not, ◌==◌, nat_lt, Bool, true, false, if◌then◌else◌, List, [], ◌∷◌, map, filter, drop, length, Option, None, Some, Vec}
 use Rattle.zplan.specs.declared.range.Range.{Range}
 use Rattle.zplan.specs.Positions.{first_of, IsIn, Ascends}
-use Rattle.zplan.specs.Ranges.{positions, CanBeAsked}
+use Rattle.zplan.specs.Ranges.{positions, span_of, IsApart, CanBeAsked}
 use Rattle.zplan.specs.Plan.{Present, Event, asked_in, replies_in, IsDue}
 use Rattle.zplan.specs.Cutting.{deal}
 
 -- The lists whose Presents are due, by least first position; those whose Presents were sent and are not answered,
--- likewise; whether the first that is due was handed out; and whether version 3 is in force.
+-- likewise; whether the first that is due was cut off, so that its Present can be sent; and whether version 3 is in
+-- force.
 pub record Agenda : Type 0 where
   pub due : List (List ℕ)
   pub waiting : List (List ℕ)
@@ -37,6 +38,7 @@ pub record IsAgenda (wanted : List ℕ) (step : ℕ) (events : List Event) (a : 
   pub unanswered : (l : List ℕ) → IsIn l a.waiting → replies_in events (Present l) ≡ None
   pub waits : (l : List ℕ) → IsIn (Present l) (asked_in events) → replies_in events (Present l) ≡ None
       → IsIn l a.waiting
+  pub in_order : Ascends (map first_of a.waiting)
 
 -- the same lists are due, and the same wait
 pub record SameAgenda (old new : Agenda) : Type 0 where
@@ -50,6 +52,8 @@ pub record IsFirst (a : Agenda) (list : List Range) : Type 0 where
   pub due : a.due ≡ positions list ∷ others
   pub ready : a.ready ≡ true
   pub asked : CanBeAsked list
+  -- with a gap between them: no run is asked for in parts
+  pub gaps : IsApart 1 (map span_of list)
   -- one range, where version 3 is not in force
   pub single : a.three ≡ false → length list ≡ 1
 
@@ -79,4 +83,6 @@ pub record IsAnswered (p k : ℕ) (old new : Agenda) : Type 0 where
   pub begins : first_of list ≡ p
   pub waiting : new.waiting ≡ without p old.waiting
   pub due : new.due ≡ with_rest list k old.due
+  -- what could be sent still can
+  pub ready : old.ready ≡ true → new.ready ≡ true
   pub three : new.three ≡ old.three

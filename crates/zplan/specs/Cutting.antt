@@ -4,8 +4,8 @@ use Rattle.zplan.specs.declared.span.Span.{Span}
 use Rattle.zplan.specs.declared.part.Place.{Place}
 use Rattle.zplan.specs.declared.part.Part.{Part}
 use Rattle.zplan.specs.declared.part.Run.{Run}
-use Rattle.zplan.specs.Positions.{put, follows}
-use Rattle.zplan.specs.Ranges.{places, places_of, AllHave, IsBounded}
+use Rattle.zplan.specs.Positions.{put, follows, IsFrom}
+use Rattle.zplan.specs.Ranges.{places, places_of, IsApart, AllHave, IsBounded}
 
 -- The lists that positions are cut into, all at once: a list has at most last + 1 positions, and m may still join the
 -- first one.
@@ -28,7 +28,7 @@ IsPlace ranges place = IsUsed place.used (drop place.at ranges)
 
 -- a gap comes after the part
 abbrev pub EndsIn : List Span → Part → Type 0
-EndsIn ranges part = follows (part.range.start + (part.range.n - 1)) (left_at ranges part.next) ≡ false
+EndsIn ranges part = IsFrom (part.range.start + part.range.n + 1) (left_at ranges part.next)
 
 -- A part is what comes next; it is as long as it may be, or a gap comes after it.
 pub record IsPart (ranges : List Span) (place : Place) (room : ℕ) (part : Part) : Type 0 where
@@ -39,11 +39,12 @@ pub record IsPart (ranges : List Span) (place : Place) (room : ℕ) (part : Part
   pub stays : IsPlace ranges part.next
   pub bounded : part.range.start + part.range.n ≤ 2 ^ 31
 
--- with version 3: as many positions as a list has, over several ranges
+-- with version 3: as many positions as a list has, over several ranges, with a gap between them
 pub record IsList (ranges : List Span) (place : Place) (step : ℕ) (list : List Span) (next : Place) : Type 0 where
   pub comes : left_at ranges place ≡ places list ++ left_at ranges next
   pub some : length list ≤ length (places list)
   pub have : AllHave list
+  pub gaps : IsApart 1 list
   pub size : (length (places list) ≡ step) ⊎ ((length (places list) ≤ step) × (left_at ranges next ≡ []))
   pub stays : IsPlace ranges next
   pub bounded : IsBounded list

@@ -1,5 +1,5 @@
 -- What is asked of one target, and what befalls a connection to it (Z39.50-2003, 3.2.1.1, 3.2.2.1 and 3.2.3.1).
-use Rattle.std.specs.Prelude.{◌≡◌, ℕ, ◌+◌, ◌-◌, ◌*◌, ◌<◌, ◌≤◌, Bool, true, false, ◌&&◌, ◌==◌, if◌then◌else◌, List, [], ◌∷◌, length, take, drop, Option, None, Some}
+use Rattle.std.specs.Prelude.{◌≡◌, ◌⊎◌, ℕ, ◌+◌, ◌-◌, ◌*◌, ◌<◌, ◌≤◌, Bool, true, false, ◌&&◌, ◌==◌, if◌then◌else◌, List, [], ◌∷◌, length, take, drop, Option, None, Some}
 use Rattle.std.specs.List.{range_with_len}
 use Rattle.zplan.specs.Positions.{up_to, cut_of, presents, first_of, IsIn}
 
@@ -93,6 +93,17 @@ found (Some (Shows k)) = 0
 abbrev pub count_in : Replies → ℕ
 count_in replies = found (replies Search)
 
+-- Close was sent
+abbrev pub HasClosed : List Event → Type 0
+HasClosed [] = ⊥
+HasClosed (Sends a ∷ events) = HasClosed events
+HasClosed (Receives a r ∷ events) = HasClosed events
+HasClosed (Closes ∷ events) = Unit {0}
+
+-- Init was answered so that nothing else is asked
+abbrev pub WasRefused : Replies → Type 0
+WasRefused replies = (three : Bool) × (replies Init ≡ Some (Opens false three))
+
 module _ (wanted : List ℕ) (step : ℕ) where
   -- due: in Asked, and not asked yet
   abbrev pub IsDue : List Event → Operation → Type 0
@@ -111,10 +122,10 @@ module _ (wanted : List ℕ) (step : ℕ) where
   IsDriven (Receives a r ∷ events) = IsIn a (asked_in events) × (replies_in events a ≡ None) × IsDriven events
   IsDriven (Closes ∷ events) = IsAnsweredWhole events × IsDriven events
 
-  -- Close was sent
+  -- Close was sent, or Init was answered so that nothing else is asked
   pub record IsComplete (events : List Event) : Type 0 where
     pub driven : IsDriven events
-    pub all : IsAnsweredWhole events
+    pub ended : HasClosed events ⊎ WasRefused (replies_in events)
 
   -- what a reply makes due
   pub data IsNew (replies : Replies) : Operation → Reply → Operation → Type 0 where

@@ -53,6 +53,7 @@ IsSingle three list = three ≡ false → length list ≡ 1
 -- a list that can be asked
 pub record IsListed (three : Bool) (list : List Span) : Type 0 where
   pub begun : IsBegun list
+  pub gaps : IsApart 1 list
   pub bounded : IsBounded list
   pub single : IsSingle three list
 

@@ -1,7 +1,8 @@
 //! Laws of the definitions, each the contract of a function that does nothing.
 ghost use Rattle.zplan.specs.Laws.{CompleteLaws, OrderLaw, NumberLaw, RunLaw, ReplyLaws, ShownLaws, BoundLaws, AgendaLaws, NextLaws, RowLaws};
 
-/// In a complete history the operations that were answered are exactly those that are asked.
+/// In a complete history, in which Close was sent, or Init was answered so that nothing else is asked, the operations
+/// that were answered are exactly those that are asked.
 pub fn complete_laws()
     ensures { CompleteLaws }
 {}
@@ -26,8 +27,8 @@ pub fn reply_laws()
     ensures { ReplyLaws }
 {}
 
-/// Where each list that is asked is answered with one record at least, exactly the wanted positions up to the count are
-/// shown.
+/// Where each list that is asked is answered with one record at least, and no more than it has positions, exactly the
+/// wanted positions up to the count are shown.
 pub fn shown_laws()
     ensures { ShownLaws }
 {}
@@ -43,7 +44,8 @@ pub fn agenda_laws()
     ensures { AgendaLaws }
 {}
 
-/// What stands first in it is what the driver asks next; with nothing due and nothing outstanding it closes.
+/// What stands first in it is what the driver asks next; with nothing due and nothing outstanding, once Init and the
+/// search were sent, it closes.
 pub fn next_laws()
     ensures { NextLaws }
 {}

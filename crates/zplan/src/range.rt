@@ -3,8 +3,8 @@
 /// Positions of a result set that follow one another (Z39.50-2003, 3.2.3.1).
 #[derive(Clone, Copy, Debug, PartialEq, Eq)]
 pub struct Range {
-    /// The first position, from 1 on.
+    /// The first position, from 1 to 2,147,483,647.
     pub start: i64,
-    /// How many, from 1 on.
+    /// How many, from 1 on; none of them is past 2,147,483,647.
     pub n: i64,
 }

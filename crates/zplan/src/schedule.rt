@@ -64,9 +64,10 @@ impl Schedule {
         })
     }
 
-    /// The list that is due with the least first position, as ranges, or none. It stays due until `sent` says that its
-    /// Present was sent: until then the same list is given again. Where none is due, nothing can be sent. Refused only
-    /// for want of memory: nothing has then changed.
+    /// The list that is due with the least first position, or none; as few ranges as it can be asked in, with a gap
+    /// between any two. The same is given again until `sent` says that its Present was sent, or `answered` makes a list
+    /// due that begins before it. Where none is due, nothing can be sent. Refused only for want of memory: nothing has
+    /// then changed.
     pub fn next(&mut self, alloc: Global) -> Result<Option<Vec<Range>>, AllocError>
         ensures same { SameAgenda self.old self.new }
         ensures ok { IfOk result (λ o. IsFirstOf self.new o) }
@@ -101,7 +102,9 @@ impl Schedule {
         }
     }
 
-    /// The Present of the list that `next` gave was sent: the list waits for its answer. It takes no memory.
+    /// The Present of the list that is due with the least first position was sent: that list waits for its answer. It
+    /// is the one that `next` gave, unless `answered` was called since then: call `next` anew behind `answered`. It
+    /// requires that the list can be sent, which `is_ready` tells. It takes no memory.
     pub fn sent(&mut self)
         requires { self.old.ready ≡ true }
         ensures { IsSent self.old self.new }
@@ -111,8 +114,10 @@ impl Schedule {
         }
     }
 
-    /// The list that waits and begins at `first` was answered with so many records, 0 where diagnostics came: what a
-    /// short answer left is due. It takes no memory.
+    /// The list that waits and begins at `first` was answered with so many records, 0 where diagnostics came; more than
+    /// the list has positions count as all. It waits no more; what is left of it where some of its records came and not
+    /// all is due, and nothing where none came. It requires that such a list waits, which `is_waiting` tells. It takes
+    /// no memory.
     pub fn answered(&mut self, first: u32, records: usize)
         requires { HasWaiting first self.old }
         ensures { IsAnswered first records self.old self.new }

@@ -1,15 +1,17 @@
 //! What an answer leaves of a list.
 ghost use Rattle.std.specs.Prelude.{◌≡◌, ◌≤◌, drop, length};
-ghost use Rattle.zplan.specs.Ranges.{AllHave, IsBounded, places};
+ghost use Rattle.zplan.specs.Ranges.{AllHave, IsApart, IsBounded, places};
 
 use crate::span::Span;
 
 /// Takes the first `k` positions from the list. It takes no memory.
 pub(crate) fn trim(list: &mut Vec<Span>, k: usize)
     requires have { AllHave list.old.items }
+    requires gaps { IsApart 1 list.old.items }
     requires bounded { IsBounded list.old.items }
     ensures left { places list.new.items ≡ drop k (places list.old.items) }
     ensures have { AllHave list.new.items }
+    ensures gaps { IsApart 1 list.new.items }
     ensures bounded { IsBounded list.new.items }
     ensures fewer { length list.new.items ≤ length list.old.items }
 {

@@ -1,6 +1,10 @@
 use Rattle.std.proofs.Common.{◌-◌, sym, subst}
-use Rattle.zplan.proofs.Lists.{IsGathering, gather_more}
+use Rattle.zplan.proofs.Lists.{IsGathering, gather_none, gather_more}
 use Rattle.zplan.proofs.part.next_list.Goals as goal
+
+pub loop-room-init : goal.loop-room-init
+loop-room-init c =
+    gather_none c.args.ranges.now c.args.from c.args.step c.new-list.result.items c.requires.wanted c.requires.place c.new-list.ensures.items
 
 pub loop-room-preserved : goal.loop-room-preserved
 loop-room-preserved c =
