@@ -6,10 +6,10 @@ use Rattle.std.proofs.lemmas.Bool.{or_cases}
 use Rattle.std.proofs.lemmas.Bool.Decides.{nat_tests}
 use Rattle.std.proofs.lemmas.Map.Keys.{IsDistinct-head, IsDistinct-tail}
 use Rattle.zplan.specs.Plan as plan
-use Rattle.zplan.specs.Plan.{Operation, Event, Receives, Reply, Opens, same, number, replies_in, IsAnsweredWhole}
+use Rattle.zplan.specs.Plan.{Operation, Event, Receives, Reply, Opens, same, number, replies_in, WasRefused, IsAnsweredWhole, IsComplete}
 use Rattle.zplan.specs.Positions.{IsIn}
 use Rattle.zplan.proofs.Cuts.{in_either}
-use Rattle.zplan.proofs.Order.{same_self}
+use Rattle.zplan.proofs.Order.{same_self, complete_whole as whole_of}
 use Rattle.zapdu.specs.declared.apdu.Apdu.{Apdu}
 use Rattle.zapdu.specs.declared.apdu.Apdu.TheVariants as apdus
 use Rattle.zorigin.specs.declared.settings.Settings.{Settings}
@@ -27,10 +27,9 @@ use Rattle.zorigin.specs.Log.{Log, Made, Got, Past, past, standing, state_of, op
 use Rattle.zorigin.specs.Laws.{IsOrderly, answered_op}
 use Rattle.zoom.specs.Driving.{operation_for, reply_for, can_search, got_event, made_event, events_of, IsDrivenLog}
 use Rattle.zoom.specs.Steering.{is_rejected, is_rejection, complete_in}
-use Rattle.zoom.proofs.Drivings.{contained, among, replies_call, numbered}
-use Rattle.zschedules.proofs.Complete.{closed_whole}
+use Rattle.zoom.proofs.Drivings.{contained, among, replies_call, numbered, driven}
+use Rattle.zschedules.proofs.Complete.{closed_in}
 use Rattle.zschedules.proofs.Replies.{came}
-use Rattle.zschedules.proofs.Openings.{init_replied}
 use Rattle.zschedules.proofs.Same.{for_opens}
 
 -- ---- each accepted answer
@@ -128,35 +127,36 @@ find_in (z ∷ xs) x e =
 module _ (ask : Ask) (wanted : List ℕ) (step : ℕ) (settings : Settings)
     (orderly : (s : Settings) (l : Log) → IsOrderly (past s l)) where
   -- an association that was rejected opened nothing
-  opens_nothing : (p : Past) (x : Apdu) → is_rejection x ≡ true → (found three : Bool)
-      → reply_for ask p x ≡ Opens found three → found ≡ false
-  opens_nothing p (apdus.InitResponse v) refused found three e = by v.result refused e
+  opens_nothing : (p : Past) (x : Apdu) → is_rejection x ≡ true → (three : Bool) × (reply_for ask p x ≡ Opens false three)
+  opens_nothing p (apdus.InitResponse v) refused = by v.result refused
     where
-      by : (b : Bool) → not b ≡ true → Opens (b && can_search ask p) (force_in v).v3 ≡ Opens found three
-          → found ≡ false
-      by true k f = absurd cc
-      by false k f = cc
-  opens_nothing p (apdus.InitRequest v) refused found three e = absurd cc
-  opens_nothing p (apdus.SearchRequest v) refused found three e = absurd cc
-  opens_nothing p (apdus.SearchResponse v) refused found three e = absurd cc
-  opens_nothing p (apdus.PresentRequest v) refused found three e = absurd cc
-  opens_nothing p (apdus.PresentResponse v) refused found three e = absurd cc
-  opens_nothing p (apdus.Close v) refused found three e = absurd cc
+      by : (b : Bool) → not b ≡ true
+          → (three : Bool) × (Opens (b && can_search ask p) (force_in v).v3 ≡ Opens false three)
+      by true k = absurd cc
+      by false k = ((force_in v).v3, refl)
+  opens_nothing p (apdus.InitRequest v) refused = absurd cc
+  opens_nothing p (apdus.SearchRequest v) refused = absurd cc
+  opens_nothing p (apdus.SearchResponse v) refused = absurd cc
+  opens_nothing p (apdus.PresentRequest v) refused = absurd cc
+  opens_nothing p (apdus.PresentResponse v) refused = absurd cc
+  opens_nothing p (apdus.Close v) refused = absurd cc
 
-  rejected_whole : (log : Log) → IsDrivenLog ask wanted step settings log
-      → is_rejected (opening (past settings log)) ≡ true → IsAnsweredWhole wanted step (events_of ask settings log)
-  rejected_whole log d e = by (opening (past settings log)) refl e
+  rejected_in : (log : Log) → IsDrivenLog ask wanted step settings log
+      → is_rejected (opening (past settings log)) ≡ true → WasRefused (replies_in (events_of ask settings log))
+  rejected_in log d e = by (opening (past settings log)) refl e
     where
       p : Past
       p = past settings log
 
-      by : (o : Option Answer) → opening p ≡ o → is_rejected o ≡ true
-          → IsAnsweredWhole wanted step (events_of ask settings log)
+      by : (o : Option Answer) → opening p ≡ o → is_rejected o ≡ true → WasRefused (replies_in (events_of ask settings log))
       by None is refused = absurd cc
-      by (Some x) is refused = λ a wants. elim (init_replied wanted step (replies_in (events_of ask settings log)) a wants) [
-        | inl first ↦ subst (λ z. (r : Reply) × (replies_in (events_of ask settings log) z ≡ Some r)) (op ∙ sym first) known
-        | inr later ↦ absurd (let x = never later.0 later.1 in cc)
-      ]
+      by (Some x) is refused =
+          let c = came ask wanted step settings orderly log d plan.Init known.0 first in
+          let same = one_answer p.accepted c.answer x (orderly settings log).once c.there there.0
+          (number_of c.answer c.there c.for ∙ sym (number_of x there.0 op)) in
+          let o = opens_nothing (past settings (Got c.reply ∷ c.earlier)) c.answer.reply
+          (subst (λ z. is_rejection z.reply ≡ true) (sym same) refused) in
+          (o.0, first ∙ ap (λ z. Some z) (c.says ∙ o.1))
         where
           there : IsIn x p.accepted × (opens x ≡ true)
           there = find_in p.accepted x is
@@ -167,25 +167,27 @@ module _ (ask : Ask) (wanted : List ℕ) (step : ℕ) (settings : Settings)
           known : Replied (events_of ask settings log) x
           known = is_replied ask settings log x there.0
 
-          never : (three : Bool) → replies_in (events_of ask settings log) plan.Init ≡ Some (Opens true three) → true ≡ false
-          never three k =
-              let c = came ask wanted step settings orderly log d plan.Init (Opens true three) k in
-              let same = one_answer p.accepted c.answer x (orderly settings log).once c.there there.0
-              (number_of c.answer c.there c.for ∙ sym (number_of x there.0 op)) in
-              opens_nothing (past settings (Got c.reply ∷ c.earlier)) c.answer.reply
-              (subst (λ z. is_rejection z.reply ≡ true) (sym same) refused) true three (sym c.says)
-            where
-              number_of : (y : Answer) → IsIn y p.accepted → operation_for y.asked.what ≡ plan.Init → answered_op y ≡ 0
-              number_of y i f =
-                  numbered ask settings wanted step log d y.asked
-                  (among y.asked (asked p) ((orderly settings log).known y (contained y p.accepted i)))
-                  ∙ ap number f
+          first : replies_in (events_of ask settings log) plan.Init ≡ Some known.0
+          first = subst (λ z. replies_in (events_of ask settings log) z ≡ Some known.0) op known.1
+
+          number_of : (y : Answer) → IsIn y p.accepted → operation_for y.asked.what ≡ plan.Init → answered_op y ≡ 0
+          number_of y i f =
+              numbered ask settings wanted step log d y.asked
+              (among y.asked (asked p) ((orderly settings log).known y (contained y p.accepted i)))
+              ∙ ap number f
+
+  -- it is complete by the plan
+  pub complete_by : (log : Log) → IsDrivenLog ask wanted step settings log → complete_in (past settings log) ≡ true
+      → IsComplete wanted step (events_of ask settings log)
+  complete_by log d e = record {
+    driven = driven ask settings wanted step orderly log d;
+    ended = elim (or_cases (is_rejected (opening (past settings log))) (list_any is_close_call (past settings log).admitted) e) [
+      | inl refused ↦ inr (rejected_in log d refused)
+      | inr closed ↦ inl (closed_in ask settings log closed)
+    ];
+  }
 
   -- all that is asked was answered
   pub complete_whole : (log : Log) → IsDrivenLog ask wanted step settings log → complete_in (past settings log) ≡ true
       → IsAnsweredWhole wanted step (events_of ask settings log)
-  complete_whole log d e =
-      elim (or_cases (is_rejected (opening (past settings log))) (list_any is_close_call (past settings log).admitted) e) [
-        | inl refused ↦ rejected_whole log d refused
-        | inr closed ↦ closed_whole wanted step ask settings orderly log d closed
-      ]
+  complete_whole log d e = whole_of wanted step (events_of ask settings log) (complete_by log d e)

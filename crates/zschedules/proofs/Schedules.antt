@@ -27,7 +27,7 @@ use Rattle.zoom.proofs.Metas.{heard_at}
 use Rattle.zoom.proofs.MetaLaws.{driver_of}
 use Rattle.zoom.proofs.Orders.{from_answer, of_answer}
 use Rattle.zschedules.specs.Schedules.{IsComplete, AnswersAsked, AskedLaw, HadEqualReplies, AreAnsweredAlike, SameListLaw}
-use Rattle.zschedules.proofs.Answered.{is_replied, complete_whole}
+use Rattle.zschedules.proofs.Answered.{is_replied, complete_by, complete_whole}
 use Rattle.zschedules.proofs.Sets.{set_for, of_set, same_answer}
 use Rattle.zschedules.proofs.Same.{agree}
 
@@ -87,13 +87,10 @@ module _ (orderly : (s : Settings) (l : Log) → IsOrderly (past s l))
         let mine = events_of ask one.settings one.log in
         let theirs = events_of ask other.settings other.log in
         let l_driven = subst (λ n. IsDrivenLog ask wanted n other.settings other.log) (sym step) l.driven in
-        let one_driven = driven ask one.settings wanted s.step orderly one.log k.driven in
-        let other_driven = driven ask other.settings wanted s.step orderly other.log l_driven in
-        let one_whole = complete_whole ask wanted s.step one.settings orderly one.log k.driven this in
-        let other_whole = complete_whole ask wanted s.step other.settings orderly other.log l_driven that in
+        let one_done = complete_by ask wanted s.step one.settings orderly one.log k.driven this in
+        let other_done = complete_by ask wanted s.step other.settings orderly other.log l_driven that in
         let r = is_replied ask one.settings one.log x (among x (accepted one) i) in
-        let there = order_free wanted s.step mine theirs (record { driven = one_driven; all = one_whole })
-        (record { driven = other_driven; all = other_whole })
+        let there = order_free wanted s.step mine theirs one_done other_done
         (agree ask wanted s.step orderly accepts one.settings other.settings one.log other.log k.driven l_driven equal)
         (operation_for x.asked.what) r.0 r.1 in
         let y = replied ask other.settings other.log (operation_for x.asked.what) r.0 there in
