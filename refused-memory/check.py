@@ -20,11 +20,23 @@ VECTORS = os.path.join(ROOT, "crates/{0}/out/{0}_tests")
 
 RUNS = [
     (["show"], "examples/present-response.hex"),
+    (["pqf", "@attr 1=4 dune"], None),
     (["pqf", "@attr 1=4 @and dune @attr 1=1003 herbert"], None),
     (["run", "examples/libraries.world"], None),
+    # answers that are shorter than what was asked for, and the same with moves
+    (["run", "refused-memory/short.world"], None),
+    (["run", "refused-memory/moves.world"], None),
     (["loop", "examples/libraries.world"], None),
     (["join", "examples/monday.saved", "examples/tuesday.saved"], None),
+    # one count, and two that differ
+    (["join", "refused-memory/four.saved", "refused-memory/four.saved"], None),
+    (["join", "refused-memory/four.saved", "refused-memory/five.saved"], None),
     (["records", "examples/monday.saved", "examples/tuesday.saved"], None),
+    # wrong words, and help
+    (["run"], None),
+    (["show", "--hex"], None),
+    (["--help"], None),
+    (["ask", "--help"], None),
 ]
 TESTS = [
     ("zencodings", "pieces::a_session_goes_on_where_memory_was_refused"),
