@@ -36,7 +36,7 @@ hostile:
 wrong-bodies:
 	scripts/wrong-bodies
 
-# Three checks at a time: each takes 6 GB at most, of 24. Left to itself rt ci reserves more, and has processors stand idle.
+# Three checks at a time: each takes 6.5 GB at most, of 24. Left to itself rt ci reserves more, and lets processors idle.
 test:
 	RT_JOBS=3 rt ci
 	python3 refused-memory/check.py
