@@ -26,8 +26,6 @@ pub fn sole(node: &Node) -> Option<&Node>
 }
 
 /// The one element within an element, whichever it is.
-///
-/// `Misfit` where it is primitive, or holds none or several; `Memory` where no memory was found.
 pub fn read_any(alloc: Global, node: &Node) -> Result<Node, PartError>
     ensures { Means (sequence_of any_at node.now) result }
 {
@@ -37,7 +35,7 @@ pub fn read_any(alloc: Global, node: &Node) -> Result<Node, PartError>
     }
 }
 
-/// The element with the tag around one element. `Memory` where no memory was found; it is never `NotSpellable`.
+/// The element with the tag around one element.
 pub fn write_around(alloc: Global, node: Node, tag: Tag) -> Result<Node, BuildError>
     ensures { Makes (around tag (Some (node ∷ []))) result }
 {
@@ -46,7 +44,7 @@ pub fn write_around(alloc: Global, node: Node, tag: Tag) -> Result<Node, BuildEr
     Ok(out.into_node(tag))
 }
 
-/// The element with the tag around an equal element. `Memory` where no memory was found; it is never `NotSpellable`.
+/// The element with the tag around an equal element.
 pub fn write_any(alloc: Global, node: &Node, tag: Tag) -> Result<Node, BuildError>
     ensures { Makes (around tag (Some (node.now ∷ []))) result }
 {
