@@ -46,7 +46,7 @@ finished : (says : Result Finished Fault → Type 0) (r : Finished) (saved : Opt
 finished says r saved output printed errors told (Ok status) h f = (r, h, f)
 finished says r saved output printed errors told (Err (Write path)) h f = (r, h, f)
 finished says r saved output printed errors told (Err Memory) h (inl f) = inl f
-finished says r saved output printed errors told (Err Memory) h (inr f) = inr (r, h, f)
+finished says r saved output printed errors told (Err Memory) h (inr f) = inr (r, h, f.0, f.1)
 finished says r saved output printed errors told (Err f) h g = absurd g
 
 pub concludes : (says : List ℕ → Result Finished Fault → Type 0)

@@ -125,7 +125,8 @@ MakesSaved path r (Err _) = ⊥
 
 -- what is known is to be saved at some path
 abbrev pub IsToBeSaved : Option (List ℕ) → Type 0
-IsToBeSaved saved = (path : List ℕ) × (saved ≡ Some path)
+IsToBeSaved None = ⊥
+IsToBeSaved (Some path) = Unit {0}
 
 -- where it is to be saved, that can fail for memory, and where the file at the path cannot be written
 abbrev pub IsOfSaving : Option (List ℕ) → Fault → Type 0
