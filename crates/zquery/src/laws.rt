@@ -1,12 +1,12 @@
 // Laws of the definitions, each the contract of a function that does nothing.
 ghost use Rattle.zquery.specs.Notation.Laws.{OneLexing, SetNames, OneQuery, NoneRefused, FirstFault, TooDeepAlone, OneAnswer, PrintedReads, TextPrintable, TextSpellable};
 
-/// A text has one list of tokens, or one quote that stays open.
+/// A text has one list of tokens at most, one quote at most that stays open, and not both.
 pub fn one_lexing()
     ensures { OneLexing }
 {}
 
-/// A text names bib-1, or an object identifier.
+/// A text names a set exactly where it is bib-1, in any case, or the dotted text of an object identifier.
 pub fn set_names()
     ensures { SetNames }
 {}
@@ -32,7 +32,7 @@ pub fn too_deep_alone()
     ensures { TooDeepAlone }
 {}
 
-/// A text is that of one query, or has one fault.
+/// A text is that of one query at most, has one fault at most, and not both where its query has height 32 at most.
 pub fn one_answer()
     ensures { OneAnswer }
 {}

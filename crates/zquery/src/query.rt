@@ -13,7 +13,8 @@ use zber::{Node, Oid, Seq};
 pub enum AttrValue {
     /// A number.
     Number(i64),
-    /// A complex value, kept as the element that it is.
+    /// A complex value, kept as the element that it is. It can be sent where that is constructed with the tag `[224]`;
+    /// else `to_node` answers `NotSpellable`.
     Complex(Node),
 }
 
@@ -37,7 +38,8 @@ pub enum TermValue {
     Numeric(i64),
     /// A characterString.
     Text(Bytes),
-    /// A term of any other type, kept as the element that it is.
+    /// A term of any other type, kept as the element that it is. It can be sent where that has one of the tags `[217]`
+    /// to `[221]`; else `to_node` answers `NotSpellable`.
     Other(Node),
 }
 
@@ -45,18 +47,32 @@ pub enum TermValue {
 #[derive(Drop)]
 pub enum Rpn {
     /// The records that have a term, with attributes that say where and how (AttributesPlusTerm).
-    Term { attrs: Seq<Attr>, term: TermValue },
+    Term {
+        /// The attributes, in order.
+        attrs: Seq<Attr>,
+        /// The term.
+        term: TermValue,
+    },
     /// The records of a result set (ResultSetId).
-    ResultSet { name: Bytes },
+    ResultSet {
+        /// The result set's name.
+        name: Bytes,
+    },
     /// The records of a result set that have attributes (ResultSetPlusAttributes).
-    SetAttrs { name: Bytes, attrs: Seq<Attr> },
+    SetAttrs {
+        /// The result set's name.
+        name: Bytes,
+        /// The attributes, in order.
+        attrs: Seq<Attr>,
+    },
     /// The records of both.
     And(Box<Rpn>, Box<Rpn>),
     /// The records of either.
     Or(Box<Rpn>, Box<Rpn>),
     /// The first without the second.
     Not(Box<Rpn>, Box<Rpn>),
-    /// Proximity, whose operator is kept as the element that it is.
+    /// Proximity, whose operator is kept as the element that it is. It can be sent where that is constructed with the
+    /// tag `[3]`; else `to_node` answers `NotSpellable`.
     Prox(Node, Box<Rpn>, Box<Rpn>),
 }
 

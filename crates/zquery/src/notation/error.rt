@@ -15,7 +15,7 @@ pub enum PqfErrorKind {
     /// The text has no token.
     #[error("Empty")]
     Empty,
-    /// A token in the place of a query begins with `@` and is no word of the notation there.
+    /// A token without quotes in the place of a query begins with `@` and is no word of the notation there.
     #[error("UnknownWord")]
     UnknownWord,
     /// The text ends before the query does.
