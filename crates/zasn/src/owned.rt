@@ -32,8 +32,8 @@ pub trait Given: Sized + Drop {
     /// Its table.
     ghost table: { Elements Self };
 
-    /// Adds the elements of the value. `NotSpellable` where it has none, `Memory` where no memory was found: a part
-    /// of them may have been added then.
+    /// Adds the elements of the value. `NotSpellable` where it has none, `Memory` where no memory was found: nothing is
+    /// promised of `out` then.
     fn give(self, alloc: Global, out: &mut PartsBuf) -> Result<(), BuildError>
         ensures { Puts (table.made self out.old) result out.new };
 }

@@ -24,8 +24,8 @@ pub trait Production: Sized + Drop {
         ensures finds { Finds (table.at parts.old) result parts.new }
         ensures none { IfOk result (λ _. parts.new ≡ []) };
 
-    /// Adds the elements of the value. `NotSpellable` where it has none, `Memory` where no memory was found: a part
-    /// of them may have been added then.
+    /// Adds the elements of the value. `NotSpellable` where it has none, `Memory` where no memory was found: nothing is
+    /// promised of `out` then.
     fn write(&self, alloc: Global, out: &mut PartsBuf) -> Result<(), BuildError>
         ensures { Puts (table.made self.now out.old) result out.new };
 }
