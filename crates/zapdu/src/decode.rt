@@ -144,7 +144,7 @@ pub fn from_node(alloc: Global, node: &Node) -> Result<Apdu, ApduError>
 }
 
 /// The APDU that an element stands for, which is given away: records in syntaxes of elements are moved into the APDU,
-/// where `from_node` copies them. Its answers are those of `from_node`.
+/// where `from_node` copies them. Its answers are those of `from_node`. The element is gone in each case.
 pub fn from_element(alloc: Global, node: Node) -> Result<Apdu, ApduError>
     ensures { Decodes node result }
 {
@@ -181,7 +181,8 @@ fn tagged_of<T: Tagged>(alloc: Global, node: &Node) -> Result<Option<T>, AllocEr
     }
 }
 
-/// The record that an element stands for (NamePlusRecord), or `None` for another element.
+/// The record that an element stands for (Z39.50-2003, 4.1: NamePlusRecord), or `None` for another element.
+/// `AllocError` where no memory is found.
 pub fn record_of(alloc: Global, node: &Node) -> Result<Option<Record>, AllocError>
     ensures some { IfOk result (λ o. IfSome o (λ r. WritesRecord r node.now)) }
     ensures none { IfOk result (λ o. IfNone o ((r : Record) → WritesRecord r node.now → ⊥)) }
@@ -189,7 +190,8 @@ pub fn record_of(alloc: Global, node: &Node) -> Result<Option<Record>, AllocErro
     tagged_of(alloc, node)
 }
 
-/// The diagnostic that an element stands for (DiagRec), or `None` for another element.
+/// The diagnostic that an element stands for (Z39.50-2003, 4.1: DiagRec), or `None` for another element. `AllocError`
+/// where no memory is found.
 pub fn diag_of(alloc: Global, node: &Node) -> Result<Option<DiagRec>, AllocError>
     ensures some { IfOk result (λ o. IfSome o (λ d. WritesDiag d node.now)) }
     ensures none { IfOk result (λ o. IfNone o ((d : DiagRec) → WritesDiag d node.now → ⊥)) }

@@ -45,7 +45,10 @@ fn element_of<T: Tagged>(alloc: Global, value: &T) -> Result<Node, BuildError>
     value.to_element(alloc)
 }
 
-/// The element that stands for a record (NamePlusRecord). Its contents octets, and refusals, are as those of `to_node`.
+/// The element that stands for a record (Z39.50-2003, 4.1: NamePlusRecord). Its contents octets are as those of
+/// `to_node`.
+///
+/// Refused as `NotSpellable` where a fragment has another tag than `[3]`, `[4]` and `[5]`, and as `Memory`.
 pub fn record_node(alloc: Global, value: &Record) -> Result<Node, BuildError>
     ensures exact { Makes (record_spelt value.now) result }
     ensures written { IsWritten (WritesRecord value.now) result }
@@ -53,7 +56,9 @@ pub fn record_node(alloc: Global, value: &Record) -> Result<Node, BuildError>
     element_of(alloc, value)
 }
 
-/// The element that stands for a diagnostic (DiagRec). Its contents octets, and refusals, are as those of `to_node`.
+/// The element that stands for a diagnostic (Z39.50-2003, 4.1: DiagRec). Its contents octets are as those of `to_node`.
+///
+/// Refused as `Memory` alone: each diagnostic has such an element.
 pub fn diag_node(alloc: Global, diag: &DiagRec) -> Result<Node, BuildError>
     ensures exact { Makes (diag_spelt diag.now) result }
     ensures written { IsWritten (WritesDiag diag.now) result }

@@ -318,8 +318,8 @@ fn put_rows(
 }
 
 /// Appends the list: for each target and set its counts, its failure and its diagnostics, a line each; then for each
-/// position, target and set its record, or a conflict and all its records. Where no memory is found, nothing is
-/// appended.
+/// position, target and set its record, or a conflict and all its records. A target is named by `names`, or by `#` and
+/// its number; `mode` says how octets of records are printed. Where no memory is found, nothing is appended.
 pub fn print_list(
     alloc: Global,
     knowledge: &Knowledge,

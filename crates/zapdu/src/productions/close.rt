@@ -12,8 +12,8 @@ use zber::{Node, Oid, Tag};
 pub struct Close {
     /// The reference id.
     pub reference_id: Option<Bytes>,
-    /// Why: 0 finished, 1 shutdown, 2 system problem, 6 protocol error, 7 lack of activity, 8 peer abort, 9
-    /// unspecified.
+    /// Why: 0 finished, 1 shutdown, 2 system problem, 3 cost limit, 4 resources, 5 security violation, 6 protocol
+    /// error, 7 lack of activity, 8 peer abort, 9 unspecified.
     pub close_reason: i64,
     /// A text on the reason.
     pub diagnostic_information: Option<Bytes>,

@@ -10,7 +10,7 @@ use zasn::{
 };
 use zber::{Node, Oid, Tag};
 
-/// The additional information of a diagnostic.
+/// The additional information of a diagnostic (Z39.50-2003, 4.1: DefaultDiagFormat).
 #[derive(Drop)]
 pub enum Info {
     /// v2Addinfo, VisibleString.

@@ -12,7 +12,7 @@ use zasn::{
 };
 use zber::{Duplicate, Node, Seq, Tag};
 
-/// What stands in the place of a record.
+/// What stands in the place of a record (Z39.50-2003, 4.1: NamePlusRecord).
 pub enum RecordBody {
     /// retrievalRecord: the record.
     Retrieval(External),

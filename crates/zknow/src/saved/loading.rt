@@ -17,11 +17,13 @@ use thiserror::Error;
 /// Why a file is no saved one.
 #[derive(Clone, Copy, Debug, PartialEq, Eq, Drop, Error)]
 pub enum LoadError {
-    /// The element does not frame or does not end within 64 levels and 4,194,304 octets, is neither names first nor a
-    /// fact later, or has a number out of its range. The element of the names has index 0, that of the first fact 1.
+    /// The element with this index does not frame or does not end within 64 levels and 4,194,304 octets, is neither
+    /// names first nor a fact later, or has a number out of its range. The element of the names has index 0, that of
+    /// the first fact 1.
     #[error("NotKnowledge at {at}")]
     NotKnowledge { at: usize },
-    /// The element is not spelled canonically, or is not above the fact before it.
+    /// The element with this index is not spelled canonically, or is not above the fact before it; indices are as at
+    /// `NotKnowledge`.
     #[error("NotCanonical at {at}")]
     NotCanonical { at: usize },
     /// No memory was found.
