@@ -26,6 +26,8 @@ pub fn sole(node: &Node) -> Option<&Node>
 }
 
 /// The one element within an element, whichever it is.
+///
+/// `Misfit` where it is primitive, or holds none or several; `Memory` where no memory was found.
 pub fn read_any(alloc: Global, node: &Node) -> Result<Node, PartError>
     ensures { Means (sequence_of any_at node.now) result }
 {
@@ -35,7 +37,7 @@ pub fn read_any(alloc: Global, node: &Node) -> Result<Node, PartError>
     }
 }
 
-/// The element with the tag around one element.
+/// The element with the tag around one element. `Memory` where no memory was found; it is never `NotSpellable`.
 pub fn write_around(alloc: Global, node: Node, tag: Tag) -> Result<Node, BuildError>
     ensures { Makes (around tag (Some (node ∷ []))) result }
 {
@@ -44,7 +46,7 @@ pub fn write_around(alloc: Global, node: Node, tag: Tag) -> Result<Node, BuildEr
     Ok(out.into_node(tag))
 }
 
-/// The element with the tag around an equal element.
+/// The element with the tag around an equal element. `Memory` where no memory was found; it is never `NotSpellable`.
 pub fn write_any(alloc: Global, node: &Node, tag: Tag) -> Result<Node, BuildError>
     ensures { Makes (around tag (Some (node.now ∷ []))) result }
 {

@@ -46,7 +46,7 @@ impl PartsBuf {
         }
     }
 
-    /// Adds an element.
+    /// Adds an element. `Memory` where no memory was found; it is never `NotSpellable`.
     pub fn push(&mut self, node: Node) -> Result<(), BuildError>
         ensures puts { Puts (Some (self.old ++ node ∷ [])) result self.new }
         ensures err { OnErr result (self.new ≡ self.old) }
@@ -56,6 +56,8 @@ impl PartsBuf {
     }
 
     /// Adds the element of a value under the tag.
+    ///
+    /// `NotSpellable` where the value has none, `Memory` where no memory was found.
     pub fn required<T: Contents>(
         &mut self,
         alloc: Global,
@@ -70,6 +72,8 @@ impl PartsBuf {
     }
 
     /// Adds the element of a value under the tag, where there is one.
+    ///
+    /// `NotSpellable` where the value has none, `Memory` where no memory was found.
     pub fn optional<T: Contents>(
         &mut self,
         alloc: Global,
@@ -86,6 +90,8 @@ impl PartsBuf {
     }
 
     /// Adds the element of a value with a tag of its own.
+    ///
+    /// `NotSpellable` where the value has none, `Memory` where no memory was found.
     pub fn required_tagged<T: Tagged>(&mut self, alloc: Global, value: &T) -> Result<(), BuildError>
         ensures puts { Puts (required_put T.place.spelt value.now self.old) result self.new }
         ensures err { OnErr result (self.new ≡ self.old) }
@@ -95,6 +101,8 @@ impl PartsBuf {
     }
 
     /// Adds the element of a value with a tag of its own, where there is one.
+    ///
+    /// `NotSpellable` where the value has none, `Memory` where no memory was found.
     pub fn optional_tagged<T: Tagged>(
         &mut self,
         alloc: Global,
@@ -110,6 +118,8 @@ impl PartsBuf {
     }
 
     /// Adds the element with the outer tag around that of a value under the inner tag, where there is one.
+    ///
+    /// `NotSpellable` where the value has none, `Memory` where no memory was found.
     pub fn optional_explicit<T: Contents>(
         &mut self,
         alloc: Global,
@@ -130,6 +140,8 @@ impl PartsBuf {
     }
 
     /// Adds the element with the outer tag around that of a value with a tag of its own.
+    ///
+    /// `NotSpellable` where the value has none, `Memory` where no memory was found.
     pub fn required_explicit_tagged<T: Tagged>(
         &mut self,
         alloc: Global,
@@ -144,6 +156,8 @@ impl PartsBuf {
     }
 
     /// Adds the element with the outer tag around that of a value with a tag of its own, where there is one.
+    ///
+    /// `NotSpellable` where the value has none, `Memory` where no memory was found.
     pub fn optional_explicit_tagged<T: Tagged>(
         &mut self,
         alloc: Global,
@@ -159,7 +173,8 @@ impl PartsBuf {
         }
     }
 
-    /// Adds the element with the outer tag around those of texts, each under the inner tag.
+    /// Adds the element with the outer tag around those of texts, each under the inner tag. `Memory` where no memory
+    /// was found; it is never `NotSpellable`.
     pub fn required_texts(
         &mut self,
         alloc: Global,
@@ -174,7 +189,8 @@ impl PartsBuf {
         self.push(node)
     }
 
-    /// Adds the element with the tag around an element, where there is one.
+    /// Adds the element with the tag around an element, where there is one. `Memory` where no memory was found; it is
+    /// never `NotSpellable`.
     pub fn optional_any(
         &mut self,
         alloc: Global,
@@ -194,6 +210,8 @@ impl PartsBuf {
     }
 
     /// Adds an element that has the tag, of either form, where there is one.
+    ///
+    /// `NotSpellable` where it has another tag, `Memory` where no memory was found.
     pub fn optional_kept(
         &mut self,
         alloc: Global,
@@ -213,6 +231,8 @@ impl PartsBuf {
     }
 
     /// Adds the element of a value with a tag of its own that is given away.
+    ///
+    /// `NotSpellable` where the value has none, `Memory` where no memory was found.
     pub fn give_tagged<T: Tagged>(&mut self, alloc: Global, value: T) -> Result<(), BuildError>
         ensures puts { Puts (required_put T.place.spelt value self.old) result self.new }
         ensures err { OnErr result (self.new ≡ self.old) }
@@ -222,6 +242,8 @@ impl PartsBuf {
     }
 
     /// Adds the element with the outer tag around that of a value with a tag of its own that is given away.
+    ///
+    /// `NotSpellable` where the value has none, `Memory` where no memory was found.
     pub fn give_explicit_tagged<T: Tagged>(
         &mut self,
         alloc: Global,

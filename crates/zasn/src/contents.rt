@@ -18,10 +18,12 @@ pub trait Contents: Sized + Drop {
     ghost place: { AsnTag → Place Self };
 
     /// The value that the element stands for, whatever its tag.
+    ///
+    /// `Misfit` where it stands for none, `Memory` where no memory was found.
     fn of_node(alloc: Global, node: &Node) -> Result<Self, PartError>
         ensures { Means ((place (tag_of node.now)).meaning node.now) result };
 
-    /// The same of an element that is given away: what the value keeps of it is moved.
+    /// The same of an element that is given away, with the same refusals: what the value keeps of it is moved.
     fn take_node(alloc: Global, node: Node) -> Result<Self, PartError>
         ensures { Means ((place (tag_of node)).meaning node) result }
     {
@@ -29,10 +31,12 @@ pub trait Contents: Sized + Drop {
     }
 
     /// The element with the tag that stands for the value.
+    ///
+    /// `NotSpellable` where the value has none, `Memory` where no memory was found.
     fn to_node(&self, alloc: Global, tag: Tag) -> Result<Node, BuildError>
         ensures { Makes ((place tag).spelt self.now) result };
 
-    /// The same of a value that is given away: what it keeps of elements is moved.
+    /// The same of a value that is given away, with the same refusals: what it keeps of elements is moved.
     fn into_node(self, alloc: Global, tag: Tag) -> Result<Node, BuildError>
         ensures { Makes ((place tag).spelt self) result }
     {
@@ -50,10 +54,12 @@ pub trait Tagged: Sized + Drop {
         ensures { result ≡ among tag place.tags };
 
     /// The value that the element stands for, where it has such a tag.
+    ///
+    /// `Misfit` where it stands for none, `Memory` where no memory was found.
     fn of_element(alloc: Global, node: &Node) -> Result<Self, PartError>
         ensures { Means (place.meaning node.now) result };
 
-    /// The same of an element that is given away: what the value keeps of it is moved.
+    /// The same of an element that is given away, with the same refusals: what the value keeps of it is moved.
     fn take_element(alloc: Global, node: Node) -> Result<Self, PartError>
         ensures { Means (place.meaning node) result }
     {
@@ -61,10 +67,12 @@ pub trait Tagged: Sized + Drop {
     }
 
     /// The element that stands for the value.
+    ///
+    /// `NotSpellable` where the value has none, `Memory` where no memory was found.
     fn to_element(&self, alloc: Global) -> Result<Node, BuildError>
         ensures { Makes (place.spelt self.now) result };
 
-    /// The same of a value that is given away: what it keeps of elements is moved.
+    /// The same of a value that is given away, with the same refusals: what it keeps of elements is moved.
     fn into_element(self, alloc: Global) -> Result<Node, BuildError>
         ensures { Makes (place.spelt self) result }
     {

@@ -10,7 +10,7 @@ use zber::ValueError;
 /// Why elements were not read.
 #[derive(Clone, Copy, Debug, PartialEq, Eq, Error)]
 pub enum PartError {
-    /// An element is not one that the production has here.
+    /// An element is missing, is one too many, or is not one that the production has here.
     #[error("misfit")]
     Misfit,
     /// No memory was found.

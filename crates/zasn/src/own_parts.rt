@@ -17,8 +17,8 @@ use std::marker::Model;
 use zber::{Node, Tag};
 
 /// The elements of a production that are not yet read, and are given away to its value. Where the next one misfits, as
-/// many are left as before, the first of which stands for it, and need not be equal to it. Where no memory is found,
-/// the next one is lost, and those behind it are left.
+/// many are left as before, and nothing more is promised of them: another stands for it. Where no memory is found, the
+/// next one is lost, and those behind it are left.
 #[derive(Drop)]
 pub struct OwnParts {
     left: VecDeque<Node>,
@@ -100,7 +100,9 @@ impl OwnParts {
         Ok(())
     }
 
-    /// The value of the next element, where it has the tag.
+    /// The value of the next element, where it has the tag; `None` where none is left or it has another.
+    ///
+    /// `Misfit` where it has the tag and stands for no such value, `Memory` where no memory was found.
     pub fn optional<T: Contents>(&mut self, alloc: Global, tag: Tag) -> Result<Option<T>, PartError>
         ensures { TakesAway (optional_at (tag ∷ []) (T.place tag).meaning self.old) result self.old self.new }
     {
@@ -118,13 +120,19 @@ impl OwnParts {
     }
 
     /// The value of the next element, which has the tag.
+    ///
+    /// `Misfit` where none is left, or it has another tag or stands for no such value; `Memory` where no memory was
+    /// found.
     pub fn required<T: Contents>(&mut self, alloc: Global, tag: Tag) -> Result<T, PartError>
         ensures { TakesAway (required_at (tag ∷ []) (T.place tag).meaning self.old) result self.old self.new }
     {
         self.optional(alloc, tag)?.ok_or(PartError::Misfit)
     }
 
-    /// The value of the next element, where it has one of the value's tags.
+    /// The value of the next element, where it has one of the value's tags; `None` where none is left or it has
+    /// another.
+    ///
+    /// `Misfit` where it has one and stands for no such value, `Memory` where no memory was found.
     pub fn optional_tagged<T: Tagged>(&mut self, alloc: Global) -> Result<Option<T>, PartError>
         ensures { TakesAway (optional_at T.place.tags T.place.meaning self.old) result self.old self.new }
     {
@@ -145,6 +153,9 @@ impl OwnParts {
     }
 
     /// The value of the next element, which has one of the value's tags.
+    ///
+    /// `Misfit` where none is left, or it has another tag or stands for no such value; `Memory` where no memory was
+    /// found.
     pub fn required_tagged<T: Tagged>(&mut self, alloc: Global) -> Result<T, PartError>
         ensures { TakesAway (required_at T.place.tags T.place.meaning self.old) result self.old self.new }
     {
@@ -152,6 +163,9 @@ impl OwnParts {
     }
 
     /// The value of the one element within the next, which has the outer tag; that element has a tag of its own.
+    ///
+    /// `Misfit` where none is left, or it has another tag, is primitive, or holds anything but one element of such a
+    /// value; `Memory` where no memory was found.
     pub fn required_explicit_tagged<T: Tagged>(
         &mut self,
         alloc: Global,
@@ -173,7 +187,7 @@ impl OwnParts {
         }
     }
 
-    /// Nothing is left.
+    /// Nothing is left; `Misfit` where an element is. It changes nothing.
     pub fn end(&self) -> Result<(), PartError>
         ensures finds { Finds (ended_at self.now) result self.now }
         ensures none { IfOk result (λ _. self.now ≡ []) }

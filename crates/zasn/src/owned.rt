@@ -20,8 +20,8 @@ pub trait Taken: Sized + Drop {
     /// Its table.
     ghost table: { Elements Self };
 
-    /// The value of all elements that are left. Where one misfits, as many are left as from that one on; where no
-    /// memory is found, nothing is promised of those that are.
+    /// The value of all elements that are left. `Misfit` where one misfits: as many are left as from that one on.
+    /// `Memory` where no memory was found: nothing is promised of those that are.
     fn take(alloc: Global, parts: &mut OwnParts) -> Result<Self, PartError>
         ensures finds { FindsAway (table.at parts.old) result parts.new }
         ensures none { IfOk result (λ _. parts.new ≡ []) };
@@ -32,12 +32,14 @@ pub trait Given: Sized + Drop {
     /// Its table.
     ghost table: { Elements Self };
 
-    /// Adds the elements of the value. Where it is refused, a part of them may have been added.
+    /// Adds the elements of the value. `NotSpellable` where it has none, `Memory` where no memory was found: nothing is
+    /// promised of `out` then.
     fn give(self, alloc: Global, out: &mut PartsBuf) -> Result<(), BuildError>
         ensures { Puts (table.made self out.old) result out.new };
 }
 
-/// The value of equal elements.
+/// The value of equal elements. `Misfit` where one misfits: it is the first that is left. `Memory` where no memory was
+/// found: nothing is promised of those that are.
 pub fn read_copies<T: Taken>(alloc: Global, parts: &mut Parts<'_>) -> Result<T, PartError>
     ensures finds { Finds (T.table.at parts.old) result parts.new }
     ensures none { IfOk result (λ _. parts.new ≡ []) }
@@ -49,6 +51,8 @@ pub fn read_copies<T: Taken>(alloc: Global, parts: &mut Parts<'_>) -> Result<T, 
 }
 
 /// The value of the elements within one, whatever its tag.
+///
+/// `Misfit` where it is primitive, or those within stand for none; `Memory` where no memory was found.
 pub fn take_within<T: Taken>(alloc: Global, node: Node) -> Result<T, PartError>
     ensures { Means (sequence_of T.table.at node) result }
 {
@@ -62,6 +66,9 @@ pub fn take_within<T: Taken>(alloc: Global, node: Node) -> Result<T, PartError>
 }
 
 /// The value of the one element within an element, under the tag (explicit tagging).
+///
+/// `Misfit` where it is primitive, or holds anything but one element of such a value under the tag; `Memory` where no
+/// memory was found.
 pub fn take_alone<T: Contents>(alloc: Global, node: Node, tag: Tag) -> Result<T, PartError>
     ensures { Means (sequence_of (alone_at (tag ∷ []) (T.place tag).meaning) node) result }
 {
@@ -77,6 +84,9 @@ pub fn take_alone<T: Contents>(alloc: Global, node: Node, tag: Tag) -> Result<T,
 }
 
 /// The value of the one element within an element, with a tag of its own.
+///
+/// `Misfit` where it is primitive, or holds anything but one element of such a value; `Memory` where no memory was
+/// found.
 pub fn take_alone_tagged<T: Tagged>(alloc: Global, node: Node) -> Result<T, PartError>
     ensures { Means (sequence_of (alone_at T.place.tags T.place.meaning) node) result }
 {
@@ -91,7 +101,7 @@ pub fn take_alone_tagged<T: Tagged>(alloc: Global, node: Node) -> Result<T, Part
     }
 }
 
-/// The one element within an element, whichever it is.
+/// The one element within an element, whichever it is, or `None` where it is primitive, or holds none or several.
 pub fn take_any(node: Node) -> Option<Node>
     ensures { result ≡ sequence_of any_at node }
 {
@@ -105,7 +115,8 @@ pub fn take_any(node: Node) -> Option<Node>
     }
 }
 
-/// The element with the tag around the elements of the value.
+/// The element with the tag around the elements of the value. `NotSpellable` where it has none, `Memory` where no
+/// memory was found.
 pub fn give_within<T: Given>(alloc: Global, value: T, tag: Tag) -> Result<Node, BuildError>
     ensures { Makes (around tag (T.table.made value [])) result }
 {
@@ -114,7 +125,8 @@ pub fn give_within<T: Given>(alloc: Global, value: T, tag: Tag) -> Result<Node, 
     Ok(out.into_node(tag))
 }
 
-/// The element with the outer tag around the element of the value under the inner one.
+/// The element with the outer tag around the element of the value under the inner one. `NotSpellable` where the value
+/// has none, `Memory` where no memory was found.
 pub fn give_alone<T: Contents>(
     alloc: Global,
     value: T,
@@ -127,7 +139,8 @@ pub fn give_alone<T: Contents>(
     write_around(alloc, node, outer)
 }
 
-/// The element with the outer tag around the element of the value, which has a tag of its own.
+/// The element with the outer tag around the element of the value, which has a tag of its own. `NotSpellable` where the
+/// value has none, `Memory` where no memory was found.
 pub fn give_alone_tagged<T: Tagged>(alloc: Global, value: T, outer: Tag) -> Result<Node, BuildError>
     ensures { Makes ((explicit outer T.place).spelt value) result }
 {

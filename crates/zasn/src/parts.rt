@@ -82,7 +82,9 @@ impl<'a> Parts<'a> {
         }
     }
 
-    /// The value of the next element, where it has the tag.
+    /// The value of the next element, where it has the tag; `None` where none is left or it has another.
+    ///
+    /// `Misfit` where it has the tag and stands for no such value, `Memory` where no memory was found.
     pub fn optional<T: Contents>(&mut self, alloc: Global, tag: Tag) -> Result<Option<T>, PartError>
         ensures takes { Takes (optional_at (tag ∷ []) (T.place tag).meaning self.old) result self.new }
         ensures err { OnErr result (self.new ≡ self.old) }
@@ -96,6 +98,9 @@ impl<'a> Parts<'a> {
     }
 
     /// The value of the next element, which has the tag.
+    ///
+    /// `Misfit` where none is left, or it has another tag or stands for no such value; `Memory` where no memory was
+    /// found.
     pub fn required<T: Contents>(&mut self, alloc: Global, tag: Tag) -> Result<T, PartError>
         ensures takes { Takes (required_at (tag ∷ []) (T.place tag).meaning self.old) result self.new }
         ensures err { OnErr result (self.new ≡ self.old) }
@@ -103,7 +108,10 @@ impl<'a> Parts<'a> {
         self.optional(alloc, tag)?.ok_or(PartError::Misfit)
     }
 
-    /// The value of the next element, where it has one of the value's tags.
+    /// The value of the next element, where it has one of the value's tags; `None` where none is left or it has
+    /// another.
+    ///
+    /// `Misfit` where it has one and stands for no such value, `Memory` where no memory was found.
     pub fn optional_tagged<T: Tagged>(&mut self, alloc: Global) -> Result<Option<T>, PartError>
         ensures takes { Takes (optional_at T.place.tags T.place.meaning self.old) result self.new }
         ensures err { OnErr result (self.new ≡ self.old) }
@@ -122,6 +130,9 @@ impl<'a> Parts<'a> {
     }
 
     /// The value of the next element, which has one of the value's tags.
+    ///
+    /// `Misfit` where none is left, or it has another tag or stands for no such value; `Memory` where no memory was
+    /// found.
     pub fn required_tagged<T: Tagged>(&mut self, alloc: Global) -> Result<T, PartError>
         ensures takes { Takes (required_at T.place.tags T.place.meaning self.old) result self.new }
         ensures err { OnErr result (self.new ≡ self.old) }
@@ -129,7 +140,11 @@ impl<'a> Parts<'a> {
         self.optional_tagged(alloc)?.ok_or(PartError::Misfit)
     }
 
-    /// The value of the one element within the next, where that has the outer tag (explicit tagging).
+    /// The value of the one element within the next, where that has the outer tag (explicit tagging); `None` where none
+    /// is left or it has another.
+    ///
+    /// `Misfit` where it has the outer tag and is primitive, or holds anything but one element of such a value under
+    /// the inner tag; `Memory` where no memory was found.
     pub fn optional_explicit<T: Contents>(
         &mut self,
         alloc: Global,
@@ -149,6 +164,9 @@ impl<'a> Parts<'a> {
     }
 
     /// The value of the one element within the next, which has the outer tag; that element has a tag of its own.
+    ///
+    /// `Misfit` where none is left, or it has another tag, is primitive, or holds anything but one element of such a
+    /// value; `Memory` where no memory was found.
     pub fn required_explicit_tagged<T: Tagged>(
         &mut self,
         alloc: Global,
@@ -163,6 +181,10 @@ impl<'a> Parts<'a> {
     }
 
     /// The value of the one element within the next, where that has the outer tag; that element has a tag of its own.
+    /// `None` where none is left or it has another.
+    ///
+    /// `Misfit` where it has the outer tag and is primitive, or holds anything but one element of such a value;
+    /// `Memory` where no memory was found.
     pub fn optional_explicit_tagged<T: Tagged>(
         &mut self,
         alloc: Global,
@@ -180,6 +202,9 @@ impl<'a> Parts<'a> {
     }
 
     /// The texts of the elements within the next, which has the outer tag; each of them has the inner one.
+    ///
+    /// `Misfit` where none is left, or it has another tag or is primitive, or an element within has another tag or is
+    /// no string; `Memory` where no memory was found.
     pub fn required_texts(
         &mut self,
         alloc: Global,
@@ -197,7 +222,10 @@ impl<'a> Parts<'a> {
         Ok(texts)
     }
 
-    /// The one element within the next, whichever it is, where the next has the tag (explicit tagging of ANY).
+    /// The one element within the next, whichever it is, where the next has the tag (explicit tagging of ANY); `None`
+    /// where none is left or it has another.
+    ///
+    /// `Misfit` where it has the tag and is primitive, or holds none or several; `Memory` where no memory was found.
     pub fn optional_any(&mut self, alloc: Global, tag: Tag) -> Result<Option<Node>, PartError>
         ensures takes { Takes (optional_at (tag ∷ []) (sequence_of any_at) self.old) result self.new }
         ensures err { OnErr result (self.new ≡ self.old) }
@@ -210,7 +238,10 @@ impl<'a> Parts<'a> {
         Ok(Some(value))
     }
 
-    /// The next element as it stands, of either form, where it has the tag.
+    /// The next element as it stands, of either form, where it has the tag; `None` where none is left or it has
+    /// another.
+    ///
+    /// `Memory` where no memory was found. It is never `Misfit`.
     pub fn optional_kept(&mut self, alloc: Global, tag: Tag) -> Result<Option<Node>, PartError>
         ensures takes { Takes (optional_at (tag ∷ []) (kept tag []).meaning self.old) result self.new }
         ensures err { OnErr result (self.new ≡ self.old) }
@@ -223,7 +254,7 @@ impl<'a> Parts<'a> {
         Ok(Some(value))
     }
 
-    /// Nothing is left.
+    /// Nothing is left; `Misfit` where an element is. It changes nothing.
     pub fn end(&self) -> Result<(), PartError>
         ensures finds { Finds (ended_at self.now) result self.now }
         ensures none { IfOk result (λ _. self.now ≡ []) }

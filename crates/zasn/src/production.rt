@@ -18,18 +18,21 @@ pub trait Production: Sized + Drop {
     /// Its table.
     ghost table: { Elements Self };
 
-    /// The value of all elements that are left. Where one misfits, it is the first that is left; where no memory is
-    /// found, nothing is promised of those that are.
+    /// The value of all elements that are left. `Misfit` where one misfits: it is the first that is left. `Memory`
+    /// where no memory was found: nothing is promised of those that are.
     fn read(alloc: Global, parts: &mut Parts<'_>) -> Result<Self, PartError>
         ensures finds { Finds (table.at parts.old) result parts.new }
         ensures none { IfOk result (λ _. parts.new ≡ []) };
 
-    /// Adds the elements of the value. Where it is refused, a part of them may have been added.
+    /// Adds the elements of the value. `NotSpellable` where it has none, `Memory` where no memory was found: nothing is
+    /// promised of `out` then.
     fn write(&self, alloc: Global, out: &mut PartsBuf) -> Result<(), BuildError>
         ensures { Puts (table.made self.now out.old) result out.new };
 }
 
 /// The value of the elements within one, whatever its tag.
+///
+/// `Misfit` where it is primitive, or those within stand for none; `Memory` where no memory was found.
 pub fn read_within<T: Production>(alloc: Global, node: &Node) -> Result<T, PartError>
     ensures { Means (sequence_of T.table.at node.now) result }
 {
@@ -42,7 +45,8 @@ pub fn read_within<T: Production>(alloc: Global, node: &Node) -> Result<T, PartE
     }
 }
 
-/// The element with the tag around the elements of the value.
+/// The element with the tag around the elements of the value. `NotSpellable` where it has none, `Memory` where no
+/// memory was found.
 pub fn write_within<T: Production>(alloc: Global, value: &T, tag: Tag) -> Result<Node, BuildError>
     ensures { Makes (around tag (T.table.made value.now [])) result }
 {
@@ -52,6 +56,9 @@ pub fn write_within<T: Production>(alloc: Global, value: &T, tag: Tag) -> Result
 }
 
 /// The value of the one element within an element, under the tag (explicit tagging).
+///
+/// `Misfit` where it is primitive, or holds anything but one element of such a value under the tag; `Memory` where no
+/// memory was found.
 pub fn read_alone<T: Contents>(alloc: Global, node: &Node, tag: Tag) -> Result<T, PartError>
     ensures { Means (sequence_of (alone_at (tag ∷ []) (T.place tag).meaning) node.now) result }
 {
@@ -67,6 +74,9 @@ pub fn read_alone<T: Contents>(alloc: Global, node: &Node, tag: Tag) -> Result<T
 }
 
 /// The value of the one element within an element, with a tag of its own.
+///
+/// `Misfit` where it is primitive, or holds anything but one element of such a value; `Memory` where no memory was
+/// found.
 pub fn read_alone_tagged<T: Tagged>(alloc: Global, node: &Node) -> Result<T, PartError>
     ensures { Means (sequence_of (alone_at T.place.tags T.place.meaning) node.now) result }
 {
@@ -81,7 +91,8 @@ pub fn read_alone_tagged<T: Tagged>(alloc: Global, node: &Node) -> Result<T, Par
     }
 }
 
-/// The element with the outer tag around the element of the value under the inner one.
+/// The element with the outer tag around the element of the value under the inner one. `NotSpellable` where the value
+/// has none, `Memory` where no memory was found.
 pub fn write_alone<T: Contents>(
     alloc: Global,
     value: &T,
@@ -95,7 +106,8 @@ pub fn write_alone<T: Contents>(
     Ok(out.into_node(outer))
 }
 
-/// The element with the outer tag around the element of the value, which has a tag of its own.
+/// The element with the outer tag around the element of the value, which has a tag of its own. `NotSpellable` where the
+/// value has none, `Memory` where no memory was found.
 pub fn write_alone_tagged<T: Tagged>(
     alloc: Global,
     value: &T,
