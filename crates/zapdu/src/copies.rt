@@ -282,7 +282,7 @@ impl Duplicate for Apdu {
 }
 
 impl Apdu {
-    /// An equal APDU.
+    /// An equal APDU, or the refusal of the memory for it.
     pub fn copy(&self, alloc: Global) -> Result<Apdu, AllocError>
         ensures { IfOk result (λ copy. copy ≡ self.now) }
     {
@@ -291,7 +291,7 @@ impl Apdu {
 }
 
 impl Record {
-    /// An equal record.
+    /// An equal record, or the refusal of the memory for it.
     pub fn copy(&self, alloc: Global) -> Result<Record, AllocError>
         ensures { IfOk result (λ copy. copy ≡ self.now) }
     {
@@ -300,7 +300,7 @@ impl Record {
 }
 
 impl DiagRec {
-    /// An equal diagnostic.
+    /// An equal diagnostic, or the refusal of the memory for it.
     pub fn copy(&self, alloc: Global) -> Result<DiagRec, AllocError>
         ensures { IfOk result (λ copy. copy ≡ self.now) }
     {

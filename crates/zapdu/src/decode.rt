@@ -181,7 +181,8 @@ fn tagged_of<T: Tagged>(alloc: Global, node: &Node) -> Result<Option<T>, AllocEr
     }
 }
 
-/// The record that an element stands for (NamePlusRecord), or `None` for another element.
+/// The record that an element stands for (NamePlusRecord), or `None` for another element, or the refusal of the memory
+/// for it.
 pub fn record_of(alloc: Global, node: &Node) -> Result<Option<Record>, AllocError>
     ensures some { IfOk result (λ o. IfSome o (λ r. WritesRecord r node.now)) }
     ensures none { IfOk result (λ o. IfNone o ((r : Record) → WritesRecord r node.now → ⊥)) }
@@ -189,7 +190,8 @@ pub fn record_of(alloc: Global, node: &Node) -> Result<Option<Record>, AllocErro
     tagged_of(alloc, node)
 }
 
-/// The diagnostic that an element stands for (DiagRec), or `None` for another element.
+/// The diagnostic that an element stands for (DiagRec), or `None` for another element, or the refusal of the memory for
+/// it.
 pub fn diag_of(alloc: Global, node: &Node) -> Result<Option<DiagRec>, AllocError>
     ensures some { IfOk result (λ o. IfSome o (λ d. WritesDiag d node.now)) }
     ensures none { IfOk result (λ o. IfNone o ((d : DiagRec) → WritesDiag d node.now → ⊥)) }

@@ -1,5 +1,5 @@
 -- What readers and builders answer, against what reading and building give.
-use Rattle.std.specs.Prelude.{◌≡◌, ℕ, Bool, false, List, [], ◌∷◌, length, Option, Some, None, Result, Ok, Err}
+use Rattle.std.specs.Prelude.{◌≡◌, ℕ, Bool, false, List, [], ◌∷◌, length, drop, Option, Some, None, Result, Ok, Err}
 use Rattle.zber.specs.AsnTags.{AsnTag}
 use Rattle.zber.specs.Elements.{Element, tag_of}
 use Rattle.zber.specs.Tags.{among}
@@ -49,11 +49,12 @@ counted (Ok x) = Ok x
 counted (Err r) = Err (length r)
 
 -- what a step over elements that are given away returned and left is what reading gives; where the next one misfits, as
--- many are left as before; where memory ran out, those behind the next one
+-- many are left as before, and those behind the first are the same; where memory ran out, those behind the next one
 abbrev pub TakesAway : {A : Type 0} → Result (A × List Element) (List Element) → Result A PartError → List Element
     → List Element → Type 0
 TakesAway reading (Ok x) before left = reading ≡ Ok (x, left)
-TakesAway reading (Err Misfit) before left = (reading ≡ Err before) × (length left ≡ length before)
+TakesAway reading (Err Misfit) before left =
+    (reading ≡ Err before) × (length left ≡ length before) × (drop 1 left ≡ drop 1 before)
 TakesAway reading (Err Memory) before left = (n : Element) × (before ≡ n ∷ left)
 
 -- what the reader of a whole production returned, with how many elements it left, unless memory ran out

@@ -20,8 +20,9 @@ use Rattle.zproductions.proofs.Choices.{pick_some, choice_begins, pick_reads, pi
 use Rattle.zproductions.proofs.Withins.{within_place, within_spelled, any_place, any_spelled, kept_place, kept_spelled, list_place, list_spelled}
 
 -- the elements of a value that is made of the table's fields
-abbrev pub of_table : {V : Type 0} (t : ComponentTable V) (make : Maker t V) → ((v : V) → make_of t make (fields t v) ≡ v)
-    → ((x : Fields t) → fields t (make_of t make x) ≡ x) → clear t ≡ true → Elements V
+abbrev pub of_table : {V : Type 0} (t : ComponentTable V) (make : Maker t V)
+    → ((v : V) → make_of t make (fields t v) ≡ v) → ((x : Fields t) → fields t (make_of t make x) ≡ x)
+    → clear t ≡ true → Elements V
 of_table t make same back c = record {
   tags = tags_of t;
   stand = λ v. Stand t (fields t v);

@@ -1,6 +1,7 @@
 //! The elements of a production that are given away, read from left to right: what a value keeps of them is moved.
-ghost use Rattle.std.specs.Prelude.{◌≡◌, [], ◌∷◌, true, false, suc, length, IfSome, IfNone, IfOk, IfErr, OnOk, OnErr};
-ghost use Rattle.zber.specs.Elements.{tag_of};
+ghost use Rattle.std.specs.Prelude.{◌≡◌, [], ◌∷◌, true, false, length, IfSome, IfNone, IfOk, IfErr, OnOk, OnErr};
+ghost use Rattle.zber.specs.AsnTags.{context};
+ghost use Rattle.zber.specs.Elements.{prim, tag_of};
 ghost use Rattle.zproductions.specs.Reading.{optional_at, required_at, ended_at};
 ghost use Rattle.zproductions.specs.Place.{Place};
 ghost use Rattle.zber.specs.Tags.{among};
@@ -17,8 +18,8 @@ use std::marker::Model;
 use zber::{Node, Tag};
 
 /// The elements of a production that are not yet read, and are given away to its value. Where the next one misfits, as
-/// many are left as before, and nothing more is promised of them: another stands for it. Where no memory is found, the
-/// next one is lost, and those behind it are left.
+/// many are left as before: the first stands for it, and need not be equal to it, and those behind it are as they were.
+/// Where no memory is found, the next one is lost, and those behind it are left.
 #[derive(Drop)]
 pub struct OwnParts {
     left: VecDeque<Node>,
@@ -92,7 +93,7 @@ impl OwnParts {
 
     /// An element comes in the place of one that was refused.
     fn stand_in(&mut self) -> Result<(), AllocError>
-        ensures ok { OnOk result (length self.new ≡ suc (length self.old)) }
+        ensures ok { OnOk result (self.new ≡ prim (context 0) [] ∷ self.old) }
         ensures err { OnErr result (self.new ≡ self.old) }
     {
         self.left

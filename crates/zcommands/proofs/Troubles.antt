@@ -2,28 +2,17 @@
 use Rattle.std.proofs.Common.{◌≡◌, ◌∙◌, sym, ap, subst, refl, ℕ, ◌+◌, ◌<◌, ◌≤◌, Bool, true, false, not, ◌||◌, Option, List, [], ◌∷◌, ◌++◌, length, take, get_or, arith, append-nil, append_assoc}
 use Rattle.std.proofs.lemmas.List.{take_more, length-take-le}
 use Rattle.zoom.specs.declared.state.State.{State}
-use Rattle.zoom.specs.Heard.{state_at}
-use Rattle.zoom.specs.History.{only, AfterUpTo}
 use Rattle.zoom.specs.Befalling.{IsStateAt}
 use Rattle.zoom.specs.Laws.{OneHearing, UpToLaw}
-use Rattle.zoom.specs.Metas.{MetaLinks, Tells, is_skipped, is_complete, settings_of}
-use Rattle.zoom.proofs.Metas.{heard_at}
+use Rattle.zoom.specs.Metas.{MetaLinks, Tells, is_skipped, is_complete}
+use Rattle.zoom.proofs.Metas.{state_tells}
 use Rattle.zcommands.specs.Finished.{is_failed, has_failed, is_troubled, is_asked, IsTroubledAt, failure_line, AreLinesFrom}
-
--- what is told of a connection's state
-failed_tells : UpToLaw → OneHearing → (c : ℕ) (meta : MetaLinks) (state : State) → c < length meta.pool.connections
-    → IsStateAt c meta.pool state → Tells c meta has_failed (is_failed state)
-failed_tells law hearing c meta state lt is q s h p a heard =
-    let up : AfterUpTo (settings_of s) c h meta.pool = law (settings_of s) c h meta.pool a.pool in
-    let now = heard_at (settings_of s) h up.heard meta.pool.connections c up.stands lt in
-    let same : up.heard c ≡ p = hearing (settings_of s) (only c h) (up.heard c) p now heard in
-    ap is_failed (is (settings_of s) c h up ∙ ap state_at same)
 
 pub trouble_tells : UpToLaw → OneHearing → (c : ℕ) (meta : MetaLinks) (state : State) (failed complete skipped answer : Bool) → c < length meta.pool.connections
     → IsStateAt c meta.pool state → failed ≡ is_failed state → Tells c meta is_complete complete → Tells c meta is_skipped skipped → answer ≡ (failed || not complete || skipped)
     → Tells c meta is_troubled answer
 trouble_tells law hearing c meta state failed complete skipped answer lt is f k n e q s h p a heard =
-    e ∙ ap (λ z. z || not complete || skipped) (f ∙ failed_tells law hearing c meta state lt is q s h p a heard)
+    e ∙ ap (λ z. z || not complete || skipped) (f ∙ state_tells law hearing is_failed c meta state lt is q s h p a heard)
     ∙ ap (λ z. has_failed p || not z || skipped) (k q s h p a heard)
     ∙ ap (λ z. has_failed p || not (is_complete p) || z) (n q s h p a heard)
 

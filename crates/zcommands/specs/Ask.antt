@@ -39,8 +39,8 @@ Enquires file (Err _) = ⊥
 
 -- ---- hosts that were asked
 
--- Each of the names given is some question's; each question that was chosen was put to its host; and this is the list of
--- what is known then.
+-- Each of the names given is some question's; each question that was chosen was put to its host; and this is the list
+-- of what is known then.
 pub record IsAskedOf (manner : Manner) (mode : Mode) (e : Enquiry) (r : Finished) : Type 0 where
   pub known : AllKnown manner.only e.names
   pub chosen : List (Option (List ℕ))

@@ -179,8 +179,8 @@ IsOfPaths world saved printed (Err (Write told)) =
     ((told.now ≡ printed.path) × (printed.has_failed ≡ true)) ⊎ (saved ≡ Some told.now)
 IsOfPaths world saved printed _ = Unit {0}
 
--- what a command does with the world file at a path, of these octets, and where it is to save: what it writes and tells,
--- and its status
+-- what a command does with the world file at a path, of these octets, and where it is to save: what it writes and
+-- tells, and its status
 abbrev pub Command : Type 1
 Command = List ℕ → Option (List ℕ) → Option (List ℕ) → Device → Device → Device → Device → Status → Type 0
 

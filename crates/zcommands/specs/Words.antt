@@ -102,7 +102,8 @@ Does octets (Records first others syntax conflicts) input rest output printed er
 Does octets (Run world saved mode) input rest output printed errors told status = (rest ≡ input)
     × DoesRun mode world.now (now_of saved) (octets world.now) output printed errors told status
 Does octets (Ask world saved at_once only mode) input rest output printed errors told status = (rest ≡ input)
-    × DoesAsk (record { at_once = at_once; only = texts_of only.items }) mode world.now (now_of saved) (octets world.now) output printed errors told status
+    × DoesAsk (record { at_once = at_once; only = texts_of only.items }) mode world.now (now_of saved)
+    (octets world.now) output printed errors told status
 Does octets (Loop world saved mode) input rest output printed errors told status = (rest ≡ input)
     × DoesLoop mode world.now (now_of saved) (octets world.now) output printed errors told status
 Does octets (Serve address name world count) input rest output printed errors told status =

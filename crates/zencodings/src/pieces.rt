@@ -181,6 +181,7 @@ fn a_session_goes_on_where_memory_was_refused(rt: HostRuntime) -> Result<(), Fai
     let mut framer = Framer::new(rt.alloc(), LIMIT);
     let count = responses(&mut framer, stream.as_slice());
     assert_eq!(rt; count, Some(8));
+    assert_eq!(rt; framer.fed(), 368);
     assert_eq!(rt; framer.skipped(), 128);
     assert_eq!(rt; framer.examined(), 240);
     assert_eq!(rt; framer.finish(), Ok(true));

@@ -201,6 +201,33 @@ fn joined_either_way_the_list_is_the_same(rt: HostRuntime) -> Result<(), Fail> {
     Ok(())
 }
 
+// Adds the fact of a row, once more where memory was refused.
+fn adds(alloc: Global, knowledge: &mut Knowledge, row: &str) -> bool {
+    add(alloc, knowledge, row).is_ok() || add(alloc, knowledge, row).is_ok()
+}
+
+// Whether a knowledge absorbs another and has the list then, each once more where memory was refused.
+fn unites(alloc: Global, knowledge: &mut Knowledge, other: &Knowledge, due: &str) -> bool {
+    (knowledge.absorb(other).is_ok() || knowledge.absorb(other).is_ok())
+        && (is_listed(alloc, knowledge, "a", Mode::Text, due)
+            || is_listed(alloc, knowledge, "a", Mode::Text, due))
+}
+
+// With ample memory each step is made once. Where one of its allocations is refused, the step is made again, and all
+// facts are known then; and to absorb them once more adds none.
+#[test]
+fn what_is_known_grows_where_memory_was_refused(rt: HostRuntime) -> Result<(), Fail> {
+    let other = known(rt.alloc(), OTHER)?;
+    let mut knowledge = nothing(rt.alloc())?;
+    assert!(rt; adds(rt.alloc(), &mut knowledge, SEARCH));
+    for row in FIRST.lines() {
+        assert!(rt; adds(rt.alloc(), &mut knowledge, row), "{row}");
+    }
+    assert!(rt; unites(rt.alloc(), &mut knowledge, &other, CONFLICT));
+    assert!(rt; unites(rt.alloc(), &mut knowledge, &other, CONFLICT));
+    Ok(())
+}
+
 // Rows of facts with a semicolon behind each, a question, and its answer.
 const ANSWERS: &str = "\
 # Nothing is known at first.
@@ -211,6 +238,7 @@ const ANSWERS: &str = "\
 # Two spellings of one record are one.
 seen 0 1 1 hi;seen 0 1 1 ~hi; => at 1 =>  one 3013a111a10f280d06072a8648ce13050a81026869
 seen 0 1 1 hi;seen 0 1 1 ~hi; => at 2 =>  nothing
+seen 0 1 1 hi;seen 0 1 1 3015a113a1112882000d06072a8648ce13050a81026869; => at 1 =>  one 3013a111a10f280d06072a8648ce13050a81026869
 seen 0 1 1 hi;seen 0 1 1 ~hi; => list a => 1 \"a\" 1 rec 1.2.840.10003.5.10 - \"hi\"%0a
 seen 0 1 1 hi;seen 0 1 1 3017a115a113281106072a8648ce13050aa106040168040169; => at 1 =>  one 3013a111a10f280d06072a8648ce13050a81026869
 # Records and counts in conflict stand in order.

@@ -160,7 +160,8 @@ fn put_counts_at(
     out: &mut Vec<u8>,
 ) -> Result<(), AllocError>
     requires { AreLawful tables.now }
-    ensures { OnOk result (out.new.items ≡ out.old.items ++ flat_map (line_in names.now key.now) (counts_of tables.now)) }
+    ensures { OnOk result (out.new.items ≡ out.old.items
+        ++ flat_map (line_in names.now key.now) (counts_of tables.now)) }
 {
     match tables.counts.get(key) {
         None => Ok(()),
@@ -177,7 +178,8 @@ fn put_failed_at(
     out: &mut Vec<u8>,
 ) -> Result<(), AllocError>
     requires { AreLawful tables.now }
-    ensures { OnOk result (out.new.items ≡ out.old.items ++ flat_map (line_in names.now key.now) (failed_of tables.now)) }
+    ensures { OnOk result (out.new.items ≡ out.old.items
+        ++ flat_map (line_in names.now key.now) (failed_of tables.now)) }
 {
     match tables.failed.get(key) {
         None => Ok(()),
@@ -194,7 +196,8 @@ fn put_diags_at(
     out: &mut Vec<u8>,
 ) -> Result<(), AllocError>
     requires { AreLawful tables.now }
-    ensures { OnOk result (out.new.items ≡ out.old.items ++ flat_map (line_in names.now key.now) (diags_of tables.now)) }
+    ensures { OnOk result (out.new.items ≡ out.old.items
+        ++ flat_map (line_in names.now key.now) (diags_of tables.now)) }
 {
     match tables.diags.get(key) {
         None => Ok(()),

@@ -53,7 +53,10 @@ module _ {B : Type 0} (see : B → Seen) (q : List Question) (s : MetaSettings) 
       → IsDone see q s c h now 1000000000 first last → IsTalkedOutIf chosen q s true c now
   done_at None None true o d = none_talked q s true c h now o d
   done_at None None false o d = d ∙ o.1
-  done_at (Some x) (Some y) true o d = ended q s c h now d.over o d.reads (see x) (see y) d.few d.ended
+  done_at (Some x) (Some y) true o d =
+      let given : d.reads ≤ d.polls = d.given in
+      let few : d.polls ≤ 1000000000 = d.few in
+      ended q s c h now d.over o d.reads (see x) (see y) (omega (arith, given, few)) d.ended
   done_at (Some x) (Some y) false o d = absurd (let e = o.0 in cc)
   done_at None (Some y) chosen o d = absurd d
   done_at (Some x) None chosen o d = absurd d

@@ -31,8 +31,8 @@ pub data Opening (questions : List Question) (s : MetaSettings) (c : ℕ) (h : H
       → HasSpoken s c ((c, Gives octets) ∷ (made c calls ++ h))
       → Opening questions s c h ((c, Stops reasons.Write) ∷ (c, Gives octets) ∷ made c calls) false
 
--- after how many reads a talk may be stopped for `Turns`: one alone; one that goes on among others at once, whose source
--- may have had nothing yet at the other polls
+-- after how many reads a talk may be stopped for `Turns`: one alone; one that goes on among others at once, whose
+-- source may have had nothing yet at the other polls
 abbrev pub TurnsOut : Bool → ℕ → Type 0
 TurnsOut false reads = reads ≡ 1000000
 TurnsOut true reads = reads ≤ 1000000000

@@ -13,8 +13,8 @@ use ztalk::{Failed, Polled};
 /// How long a poll that may wait waits, in milliseconds.
 const WAIT: u64 = 4;
 
-/// A stream that need not be waited for. A poll fails where the stream does, where nothing came for 30 seconds, and once
-/// the conversation has taken an hour.
+/// A stream that need not be waited for. A poll fails where the stream does, where nothing came for 30 seconds, and
+/// once the conversation has taken an hour.
 #[derive(Drop)]
 pub(crate) struct Polling<'a, C, S> {
     timed: Timed<'a, C, S>,

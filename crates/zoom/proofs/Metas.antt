@@ -28,12 +28,12 @@ use Rattle.zoom.specs.Coming.{Met, Stopped, Message, Foreign, Fault, Rest, Nothi
 use Rattle.zoom.specs.Heard.{Heard, HasHeard, Hears, Deed, Calls, Feeds, Takes, Ends, Gives, Stops, Meets, take_at, heed}
 use Rattle.zoom.specs.Heard.{hears_call, hears_piece, stop_by, end_by, truncated, past_of, state_at, told_by, told_as, IsDone}
 use Rattle.zoom.specs.Links.{Link}
-use Rattle.zoom.specs.History.{History, only, Stands, After}
+use Rattle.zoom.specs.History.{History, only, Stands, After, AfterUpTo}
 use Rattle.zoom.specs.Steering.{Errand, errand_with, errand_of, IsAskable, AreFit}
 use Rattle.zoom.specs.Drivers.{DriverState, IsDriver, KnowsTold, RefusedLaw}
-use Rattle.zoom.specs.Metas.{MetaLinks, settings_of, AreDriven, MetaAfter, MetaAfterUpTo, MetaTook, MetaKeeps, KnowsTake, LearnsTold, AreAskable, StandFor}
-use Rattle.zoom.specs.Laws.{OneMeeting, OneHearing}
-use Rattle.zoom.specs.Befalling.{IsToldAnswer, Took, Keeps}
+use Rattle.zoom.specs.Metas.{MetaLinks, settings_of, AreDriven, MetaAfter, MetaAfterUpTo, MetaTook, MetaKeeps, KnowsTake, LearnsTold, AreAskable, StandFor, Tells}
+use Rattle.zoom.specs.Laws.{OneMeeting, OneHearing, UpToLaw}
+use Rattle.zoom.specs.Befalling.{IsStateAt, IsToldAnswer, Took, Keeps}
 use Rattle.zoom.proofs.Pools.{only_same, only_other, get_same}
 
 -- ---- what stopped a connection
@@ -239,6 +239,16 @@ slice_some (x ∷ xs) (suc c) lt = slice_some xs c (omega arith)
 pub heard_at : (settings : Settings) (h : History) (heard : ℕ → Heard) (cs : List Link) (c : ℕ)
     → Stands settings h heard cs → c < length cs → HasHeard settings (only c h) (heard c)
 heard_at settings h heard cs c s lt = let k = slice_some cs c lt in (s.each c k.0 k.1).heard
+
+-- what the state of a connection tells
+pub state_tells : UpToLaw → OneHearing → (tells : State → Bool) (c : ℕ) (meta : MetaLinks) (state : State)
+    → c < length meta.pool.connections → IsStateAt c meta.pool state
+    → Tells c meta (λ p. tells (state_at p)) (tells state)
+state_tells law hearing tells c meta state lt is q s h p a heard =
+    let up : AfterUpTo (settings_of s) c h meta.pool = law (settings_of s) c h meta.pool a.pool in
+    let now = heard_at (settings_of s) h up.heard meta.pool.connections c up.stands lt in
+    let same : up.heard c ≡ p = hearing (settings_of s) (only c h) (up.heard c) p now heard in
+    ap tells (is (settings_of s) c h up ∙ ap state_at same)
 
 -- the slices
 pub get_other : {X : Type 0} (xs : List X) (c i : ℕ) (x : X) → (c == i) ≡ false

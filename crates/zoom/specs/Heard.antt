@@ -122,6 +122,14 @@ told_as p (Fault kind at) = Err (errors.Frame kind at)
 told_as p (Rest n) = if p.ended then Err (errors.Frame kinds.Truncated n) else Ok told.Nothing
 told_as p Nothing = Ok (if p.ended then told.Ended else told.Nothing)
 
+-- a message was taken and accepted
+abbrev pub is_message : Step → Bool
+is_message steps.Opened = true
+is_message steps.Rejected = true
+is_message steps.Answered = true
+is_message steps.Closed = true
+is_message _ = false
+
 -- what a caller is told of it
 abbrev pub step_told : Told → Step
 step_told told.Nothing = steps.Nothing
@@ -159,8 +167,7 @@ IsNews target p q = (met : Met) × Meets p met × Contains (news_at target p met
 -- ---- deeds
 
 -- What befalls one connection: a call, a piece of octets, a Take, the end of its input, octets handed out, and that its
--- host
--- stopped it. A call or a Take that was answered for want of memory is none.
+-- host stopped it. A call or a Take that was answered for want of memory is none.
 pub data Deed : Type 0 where
   Calls : Call → Deed
   Feeds : List ℕ → Deed

@@ -1,31 +1,17 @@
 -- Connections that are finished, one after the other.
-use Rattle.std.proofs.Common.{◌≡◌, ◌∙◌, sym, ap, subst, inl, inr, ℕ, ◌+◌, ◌<◌, ◌==◌, Bool, true, false, List, [], ◌∷◌, ◌++◌, length}
+use Rattle.std.proofs.Common.{◌≡◌, sym, subst, inl, inr, ℕ, ◌+◌, ◌<◌, ◌==◌, Bool, true, false, List, [], ◌∷◌, ◌++◌, length}
 use Rattle.std.proofs.Common.{refl, arith}
 use Rattle.std.proofs.lemmas.Bool.Decides.{nat_tests}
 use Rattle.zoom.specs.declared.question.Question.{Question}
 use Rattle.zoom.specs.declared.question.MetaSettings.{MetaSettings}
-use Rattle.zoom.specs.declared.state.State.{State}
 use Rattle.zoom.specs.declared.state.Reason.{Reason}
-use Rattle.zoom.specs.States.{is_stopped}
-use Rattle.zoom.specs.Heard.{Stops, Heard, HasHeard, state_at}
-use Rattle.zoom.specs.History.{History, only, AfterUpTo}
-use Rattle.zoom.specs.Befalling.{IsStateAt}
-use Rattle.zoom.specs.Laws.{OneHearing, UpToLaw}
+use Rattle.zoom.specs.Heard.{Stops, Heard, HasHeard}
+use Rattle.zoom.specs.History.{History, only}
 use Rattle.zoom.specs.Metas.{MetaLinks, MetaBefell, Tells, IsFinished, settings_of}
 use Rattle.zoom.proofs.Pools.{only_same, only_other}
-use Rattle.zoom.proofs.Metas.{heard_at}
 use Rattle.zrounds.specs.Run.{is_over}
 use Rattle.zrounds.specs.RunSteps.{StopsAt, Halted, Halts}
 use Rattle.zrounds.proofs.RunGoes.{all_silent, one_silent}
-
--- what is told of a connection's state
-pub over_tells : UpToLaw → OneHearing → (c : ℕ) (meta : MetaLinks) (state : State) → c < length meta.pool.connections
-    → IsStateAt c meta.pool state → Tells c meta is_over (is_stopped state)
-over_tells law hearing c meta state lt is q s h p a heard =
-    let up : AfterUpTo (settings_of s) c h meta.pool = law (settings_of s) c h meta.pool a.pool in
-    let now = heard_at (settings_of s) h up.heard meta.pool.connections c up.stands lt in
-    let same : up.heard c ≡ p = hearing (settings_of s) (only c h) (up.heard c) p now heard in
-    ap is_stopped (is (settings_of s) c h up ∙ ap state_at same)
 
 pub halts_none : (m : MetaLinks) → Halts 0 m m
 halts_none m = record {

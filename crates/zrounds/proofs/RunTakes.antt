@@ -20,7 +20,7 @@ use Rattle.zoom.specs.declared.answer.TakeError.{TakeError}
 use Rattle.zoom.specs.States.{is_stopped}
 use Rattle.zoom.specs.Befalling.{IsTakeAnswer}
 use Rattle.zoom.specs.Coming.{Met, Stopped, Message, Foreign, Fault, Rest, Nothing}
-use Rattle.zoom.specs.Heard.{Deed, Calls, Takes, Heard, HasHeard, Meets, IsDone, given, fed, state_at, past_of, take_at, took_as, told_of, step_of, heed, hears_call}
+use Rattle.zoom.specs.Heard.{Deed, Calls, Takes, Heard, HasHeard, Meets, IsDone, given, fed, state_at, past_of, take_at, took_as, told_of, step_of, is_message, heed, hears_call}
 use Rattle.zoom.specs.History.{History, only}
 use Rattle.zoom.specs.Hosts.{Holdings, Event, HostState, holdings_of}
 use Rattle.zoom.specs.Laws.{OneHearing, TakeLaws, UpToLaw, Waits}
@@ -29,7 +29,7 @@ use Rattle.zoom.specs.Metas.{MetaLinks, MetaAfter, MetaTook, Drives, made, setti
 use Rattle.zoom.proofs.Metas.{heard_at, slice_some}
 use Rattle.zexchange.specs.Exchange.{IsSound, TookAll, ExchangeLaws, CallsLaw}
 use Rattle.zrounds.specs.declared.peers.Peer.{Peer}
-use Rattle.zrounds.specs.RunSound.{of, DrivesAt, TakesAt, is_message, is_taken, IsIdle, IsFine, Stepped, Adds}
+use Rattle.zrounds.specs.RunSound.{of, DrivesAt, TakesAt, is_taken, IsIdle, IsFine, Stepped, Adds}
 use Rattle.zrounds.specs.RunTurns.{AddsAt}
 use Rattle.zrounds.proofs.RunGoes.{up_to_meta}
 use Rattle.zrounds.proofs.RunSound.{only_more, of_append}

@@ -6,11 +6,10 @@ use Rattle.ztarget.specs.Receiving.{TargetState}
 use Rattle.zoom.specs.declared.question.Question.{Question}
 use Rattle.zoom.specs.declared.question.MetaSettings.{MetaSettings}
 use Rattle.zoom.specs.declared.answer.Step.{Step}
-use Rattle.zoom.specs.declared.answer.Step.TheVariants as steps
 use Rattle.zoom.specs.declared.answer.TakeError.{TakeError}
 use Rattle.zoom.specs.States.{is_stopped}
 use Rattle.zoom.specs.Coming.{Met}
-use Rattle.zoom.specs.Heard.{Deed, Takes, Heard, HasHeard, Meets, given, fed, state_at, past_of, sent, took_as}
+use Rattle.zoom.specs.Heard.{Deed, Takes, Heard, HasHeard, Meets, given, fed, state_at, past_of, is_message, sent, took_as}
 use Rattle.zoom.specs.History.{History, only}
 use Rattle.zoom.specs.Hosts.{Holdings, Event, IsLong, holdings_of, handed_out, replies_to}
 use Rattle.zoom.specs.Metas.{MetaLinks, MetaAfter, Drives, NoneIsNext, settings_of}
@@ -32,14 +31,6 @@ abbrev pub DrivesAt : ℕ → MetaLinks → MetaLinks → Type 0
 DrivesAt c old new =
     (questions : List Question) (s : MetaSettings) (h : History)
     → MetaAfter questions s h old → (n : ℕ) × Drives questions s c h n new
-
--- a message was taken
-abbrev pub is_message : Step → Bool
-is_message steps.Opened = true
-is_message steps.Rejected = true
-is_message steps.Answered = true
-is_message steps.Closed = true
-is_message _ = false
 
 abbrev pub is_taken : Result Step TakeError → Bool
 is_taken (Ok step) = is_message step

@@ -1,10 +1,11 @@
 //! Turns of connections: what is due is sent, and what came is taken.
 ghost use Rattle.std.specs.Prelude.{◌≡◌, ◌<◌, ◌^◌, length, IfOk, OnOk, None};
+ghost use Rattle.zoom.specs.Heard.{is_message};
 ghost use Rattle.zoom.specs.States.{is_stopped};
 ghost use Rattle.zoom.specs.Metas.{Tells};
 ghost use Rattle.zrounds.specs.Run.{is_over};
 ghost use Rattle.zrounds.specs.RunSteps.{GoesOn, StopsAt, Halts};
-ghost use Rattle.zrounds.specs.RunSound.{DrivesAt, TakesAt, TakesAll, Starts, Spares, is_message};
+ghost use Rattle.zrounds.specs.RunSound.{DrivesAt, TakesAt, TakesAll, Starts, Spares};
 ghost use Rattle.zrounds.specs.RunTurns.{AddsAt};
 
 use std::alloc::AllocError;

@@ -79,8 +79,8 @@ pub(crate) fn ran_line<S: Folder + Net + Clock>(
     Ok(ran(alloc, system, Ok(words.as_slice()), input))
 }
 
-// What is printed of the worlds on the shelf.
-const WORLD_LIST: &str = "\
+/// What is printed of the worlds on the shelf.
+pub(crate) const WORLD_LIST: &str = "\
 target \"a\" set 1 count 0
 target \"b\" set 1 count 1
 target \"c\" set 1 count 7

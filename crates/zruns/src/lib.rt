@@ -14,6 +14,8 @@ mod faults;
 #[cfg(test)]
 mod folders;
 #[cfg(test)]
+mod hosts;
+#[cfg(test)]
 mod joined;
 #[cfg(test)]
 mod lines;

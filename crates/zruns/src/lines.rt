@@ -38,6 +38,7 @@ zmeta|join|broken|count => 3 > - > zmeta: cannot read broken%0a
 zmeta|join|count|broken => 3 > - > zmeta: cannot read broken%0a
 zmeta|run|world < BF 30 05 9F 81 53 01 00 => 0 > WORLD_LIST > -
 zmeta|run|world|--save|out => 0 > WORLD_LIST > -
+zmeta|run|short => 0 > SHORT_LIST > -
 zmeta|run|refusing => 1 > REFUSING_LIST > -
 zmeta|run|empty => 0 > - > -
 zmeta|run|--hex|world|--save|none => 3 > HEX_LIST > zmeta: cannot write none%0a

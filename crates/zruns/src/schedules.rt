@@ -1,5 +1,6 @@
 // The world of short answers, run in several ways: positions asked for at a time, requests that wait at a time, what
-// its targets offer, and how much they put into one answer.
+// its targets offer, how much they put into one answer, and what is wanted.
+use crate::answers::WORLD_LIST;
 use crate::runs::{SHORT_LIST, is_listed};
 use crate::written::{put_entry, put_question, put_settings, put_target};
 use std::alloc::{AllocError, Global};
@@ -37,6 +38,7 @@ struct Schedule {
     size: u64,
     last: u64,
     flags: &'static str,
+    want: &'static str,
 }
 
 // Appends the numbered entries of a target, all of one title.
@@ -62,7 +64,7 @@ fn world(alloc: Global, schedule: Schedule) -> Result<String, AllocError> {
     put_settings(&mut file, schedule.step, schedule.window)?;
     put_targets(&mut file, schedule)?;
     for name in ["a", "b", "c"] {
-        put_question(&mut file, name, "10", "dune")?;
+        put_question(&mut file, name, schedule.want, "dune")?;
     }
     Ok(file)
 }
@@ -72,8 +74,8 @@ fn has_list(alloc: Global, schedule: Schedule, list: &str) -> Result<bool, Unrea
     is_listed(alloc, file.as_str().as_bytes(), &[], list)
 }
 
-// The schedules with answers of this size that have another list.
-fn unlike(alloc: Global, size: u64) -> Result<String, AllocError> {
+// The schedules with answers of this size in which what is wanted has another list.
+fn unlike(alloc: Global, size: u64, want: &'static str, list: &str) -> Result<String, AllocError> {
     let mut unlike = String::new(alloc);
     for step in STEPS {
         for window in WINDOWS {
@@ -84,8 +86,9 @@ fn unlike(alloc: Global, size: u64) -> Result<String, AllocError> {
                     size,
                     last: size,
                     flags,
+                    want,
                 };
-                if !held(has_list(alloc, schedule, SHORT_LIST)) {
+                if !held(has_list(alloc, schedule, list)) {
                     write!(unlike, "{step} {window} {flags};")?;
                 }
             }
@@ -96,19 +99,25 @@ fn unlike(alloc: Global, size: u64) -> Result<String, AllocError> {
 
 #[test]
 fn one_list_where_an_answer_has_one_record(rt: HostRuntime) -> Result<(), Fail> {
-    assert_eq!(rt; unlike(rt.alloc(), 24)?.as_str(), "");
+    assert_eq!(rt; unlike(rt.alloc(), 24, "10", SHORT_LIST)?.as_str(), "");
+    assert_eq!(rt; unlike(rt.alloc(), 24, "1-2,5-7", WORLD_LIST)?.as_str(), "");
     Ok(())
 }
 
 #[test]
 fn one_list_where_an_answer_has_two_records(rt: HostRuntime) -> Result<(), Fail> {
-    assert_eq!(rt; unlike(rt.alloc(), 48)?.as_str(), "");
+    assert_eq!(rt; unlike(rt.alloc(), 48, "10", SHORT_LIST)?.as_str(), "");
+    assert_eq!(rt; unlike(rt.alloc(), 48, "1-2,5-7", WORLD_LIST)?.as_str(), "");
     Ok(())
 }
 
 #[test]
 fn one_list_where_an_answer_has_all_records(rt: HostRuntime) -> Result<(), Fail> {
-    assert_eq!(rt; unlike(rt.alloc(), 4096)?.as_str(), "");
+    assert_eq!(rt; unlike(rt.alloc(), 4096, "10", SHORT_LIST)?.as_str(), "");
+    assert_eq!(rt;
+        unlike(rt.alloc(), 4096, "1-2,5-7", WORLD_LIST)?.as_str(),
+        ""
+    );
     Ok(())
 }
 
@@ -121,6 +130,7 @@ fn each_record_without_room_has_its_diagnostic(rt: HostRuntime) {
             size: 48,
             last: 23,
             flags,
+            want: "10",
         };
         assert!(rt;
             held(has_list(rt.alloc(), schedule, NARROW_LIST)),

@@ -1,5 +1,6 @@
 // The files that commands find: worlds, and saved files.
 use crate::devices::{Kept, Shelf};
+use crate::runs::SHORT;
 
 /// Names `a`, and set 1 of target 0 with 4 records.
 pub(crate) const COUNT: &[u8] = b"\xa4\x03\x80\x01a\xa0\x09\x80\x01\x00\x81\x01\x01\x82\x01\x04";
@@ -84,10 +85,15 @@ pub(crate) const HOSTS: &[u8] = b"host b 127.0.0.1:1\nask b d - 1 dune\n";
 /// Two catalogues at addresses.
 const TWO: &[u8] = b"host a 127.0.0.1:1\nhost b 127.0.0.1:1\nask a d - 1 dune\nask b d - 1 dune\n";
 
-const FILES: [Kept<'static>; 17] = [
+const FILES: [Kept<'static>; 18] = [
     Kept {
         path: "world",
         octets: WORLD,
+        fails_at: 0,
+    },
+    Kept {
+        path: "short",
+        octets: SHORT,
         fails_at: 0,
     },
     Kept {

@@ -13,9 +13,9 @@ use Rattle.zoom.specs.Heard.{Feeds, Takes, Ends, Stops, state_at}
 use Rattle.zoom.specs.Links.{stop_at, OthersStay}
 use Rattle.zoom.specs.Befalling.{IsStateAt}
 use Rattle.zoom.specs.Laws.{OneHearing, OneMeeting, UpToLaw}
-use Rattle.zoom.specs.History.{History, only, AfterUpTo}
+use Rattle.zoom.specs.History.{History}
 use Rattle.zoom.specs.Metas.{MetaLinks, MetaAfter, MetaAfterUpTo, MetaBefell, MetaTook, settings_of}
-use Rattle.zoom.proofs.Metas.{heard_at}
+use Rattle.zoom.proofs.Metas.{state_tells}
 use Rattle.ztalk.specs.declared.conversation.TalkError.TheVariants as errors
 use Rattle.ztalk.specs.Devices.{DeviceState, HasFailed, Rests}
 use Rattle.ztalk.specs.Talks.{reason_of, ended_well, IsStoppedFor, Stage, Due, Waiting, Over, Ended, Talk, GoesOn, Stopped, Talks, reads, ends, same}
@@ -272,10 +272,7 @@ goes_ended law meeting c old mid new befell took left held = record {
 pub well_tells : UpToLaw → OneHearing → (c : ℕ) (meta : MetaLinks) (state : State) (well : Bool)
     → c < length meta.pool.connections → IsStateAt c meta.pool state → ended_well state ≡ well → EndedWell c meta well
 well_tells law hearing c meta state well lt is e q s h p a heard =
-    let up : AfterUpTo (settings_of s) c h meta.pool = law (settings_of s) c h meta.pool a.pool in
-    let now = heard_at (settings_of s) h up.heard meta.pool.connections c up.stands lt in
-    let same : up.heard c ≡ p = hearing (settings_of s) (only c h) (up.heard c) p now heard in
-    sym e ∙ ap ended_well (is (settings_of s) c h up ∙ ap state_at same)
+    sym e ∙ state_tells law hearing ended_well c meta state lt is q s h p a heard
 
 -- ---- the reason
 

@@ -16,7 +16,7 @@ use Rattle.zoom.specs.declared.answer.TakeError.{TakeError}
 use Rattle.zoom.specs.declared.answer.TakeError.TheVariants as errors
 use Rattle.zoom.specs.States.{is_stopped, is_closing}
 use Rattle.zoom.specs.Coming.{Met, Stopped, Message, Foreign, Fault, Rest, Nothing}
-use Rattle.zoom.specs.Heard.{Heard, HasHeard, Takes, Ends, Meets, took_as, told_of, take_at, heed, stop_by, end_by, truncated, state_at, past_of, IsDone}
+use Rattle.zoom.specs.Heard.{Heard, HasHeard, Takes, Ends, Meets, took_as, told_of, take_at, heed, stop_by, end_by, truncated, state_at, past_of, is_message, IsDone}
 use Rattle.zoom.specs.History.{History, only, AfterUpTo}
 use Rattle.zoom.specs.Befalling.{IsTakeAnswer}
 use Rattle.zoom.specs.Laws.{OneMeeting, OneHearing, UpToLaw}
@@ -24,7 +24,7 @@ use Rattle.zoom.specs.Metas.{MetaLinks, MetaAfter, MetaAfterUpTo, MetaTook, sett
 use Rattle.zoom.proofs.Pools.{only_same}
 use Rattle.zoom.proofs.Metas.{heard_at}
 use Rattle.ztalk.specs.declared.turns.Turn.TheVariants as turns
-use Rattle.ztalk.specs.Talks.{Stage, Due, Listening, Waiting, Over, StandsAt, AnswersNext, IsStoppedAt, Follows, begins, speaks, hears, lacks, stops, reads, ends, is_message}
+use Rattle.ztalk.specs.Talks.{Stage, Due, Listening, Waiting, Over, StandsAt, AnswersNext, IsStoppedAt, Follows, begins, speaks, hears, lacks, stops, reads, ends}
 use Rattle.ztalk.specs.Turns.{Hears, GoesAlone, turn_of}
 
 -- ---- answers after which the connection is stopped

@@ -218,7 +218,10 @@ module _ (c n turns : ℕ) (le : n ≤ turns) (old new : MetaLinks) (before : Se
             after = w.after;
             among = record {
               reads = g.reads;
-              few = omega (arith, less, le);
+              polls = n;
+              given = less;
+              few = le;
+              polled = g.polled;
               ended = closes w.talk (record { reader = g.reader; writer = (goes before.source).writer ∙ g.writer });
               over = w.stands;
             };
@@ -243,7 +246,10 @@ module _ (c n turns : ℕ) (le : n ≤ turns) (old new : MetaLinks) (before : Se
             after = b.after;
             among = record {
               reads = g.reads;
-              few = omega (arith, less, le);
+              polls = n;
+              given = less;
+              few = le;
+              polled = g.polled;
               ended = fails_to_write
                   (record {
                     more = b.more;
@@ -336,7 +342,10 @@ module _ (c n turns : ℕ) (lt : n < turns) (old new : MetaLinks) (before : Seen
             after = befell q s now a;
             among = record {
               reads = g.reads;
-              few = omega (arith, less, lt);
+              polls = n + 1;
+              given = omega (arith, less);
+              few = omega (arith, lt);
+              polled = polled_more first g.polled;
               ended = fails_to_read
                   (stopped q s c h now g.reads Waiting reasons.Read first (with_source before left polls phases.Over)
                   (kept q s c h now g.reads Waiting first before (with_source before left polls phases.Over) still
@@ -366,7 +375,10 @@ module _ (c n turns : ℕ) (lt : n < turns) (old new : MetaLinks) (before : Seen
             after = w.after;
             among = record {
               reads = g.reads;
-              few = omega (arith, less, lt);
+              polls = n + 1;
+              given = omega (arith, less);
+              few = omega (arith, lt);
+              polled = polled_more first g.polled;
               ended = drains t
                   (λ p heard.
                   sym (f.1 q s w.later p w.after (heard_alike (settings_of s) c w.later (t.more ++ h) p t.mine heard)))
@@ -395,7 +407,10 @@ module _ (c n turns : ℕ) (lt : n < turns) (old new : MetaLinks) (before : Seen
             after = f.0.3 q s w.later w.after;
             among = record {
               reads = g.reads;
-              few = omega (arith, less, lt);
+              polls = n + 1;
+              given = omega (arith, less);
+              few = omega (arith, lt);
+              polled = polled_more first g.polled;
               ended = is_cut_off
                   (record {
                     more = t.more;
@@ -462,7 +477,10 @@ turned_out c n old new before is befell = record {
         after = befell q s now a;
         among = record {
           reads = g.reads;
-          few = g.few;
+          polls = n;
+          given = g.few;
+          few = omega arith;
+          polled = g.polled;
           ended = turns_out
               (stopped q s c h now g.reads Waiting reasons.Turns first last
               (kept q s c h now g.reads Waiting first before last quiet refl g.talk)) g.polled

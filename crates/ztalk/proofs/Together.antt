@@ -111,7 +111,10 @@ module _ (q : List Question) (s : MetaSettings) (c : ℕ) (h now later : History
     phase_same n turns phases.Waiting t = goes_same t
     phase_same n turns phases.Over t = record {
       reads = t.reads;
+      polls = t.polls;
+      given = t.given;
       few = t.few;
+      polled = t.polled;
       ended = ends_same t.ended;
       over = over_alike s c now later (sym e) t.over;
     }

@@ -111,12 +111,16 @@ pub data EndsAmong
       → HasRisen turns first.polls last.polls → AreSound first last
       → EndsAmong questions s c h now reads turns first last
 
--- a talk ended, after no more reads than may be made, and the connection is Closed or Failed
+-- A talk ended, and the connection is Closed or Failed; its source was polled no more often than it may be, and no more
+-- reads gave octets than there were polls.
 pub record IsDoneAmong
     (questions : List Question) (s : MetaSettings) (c : ℕ) (h now : History) (turns : ℕ) (first last : Seen)
     : Type 0 where
   pub reads : ℕ
-  pub few : reads ≤ turns
+  pub polls : ℕ
+  pub given : reads ≤ polls
+  pub few : polls ≤ turns
+  pub polled : HasRisen polls first.polls last.polls
   pub ended : EndsAmong questions s c h now reads turns first last
   pub over : IsStoppedAt s c now
 

@@ -13,7 +13,7 @@ use Rattle.zoom.specs.declared.answer.Step.{Step}
 use Rattle.zoom.specs.declared.answer.Step.TheVariants as steps
 use Rattle.zoom.specs.States.{is_stopped}
 use Rattle.zoom.specs.Coming.{Met}
-use Rattle.zoom.specs.Heard.{Heard, HasHeard, Feeds, Takes, Ends, Gives, Stops, Meets, took_as, state_at, past_of, given, is_lost, sent}
+use Rattle.zoom.specs.Heard.{Heard, HasHeard, Feeds, Takes, Ends, Gives, Stops, Meets, took_as, state_at, past_of, given, is_lost, is_message, sent}
 use Rattle.zoom.specs.History.{History, only}
 use Rattle.zoom.specs.Links.{stop_at, OthersStay}
 use Rattle.zoom.specs.Steering.{errand_of}
@@ -72,14 +72,6 @@ abbrev pub StandsAt : Stage → MetaSettings → ℕ → History → Type 0
 StandsAt Over s c h = IsStoppedAt s c h
 StandsAt Ended s c h = IsStoppedAt s c h
 StandsAt _ s c h = Unit {0}
-
--- a message was taken and accepted
-abbrev pub is_message : Step → Bool
-is_message steps.Opened = true
-is_message steps.Rejected = true
-is_message steps.Answered = true
-is_message steps.Closed = true
-is_message _ = false
 
 -- These deeds of the connection, the newest first, follow the history in this order: what is due is called and all that
 -- waits is handed out to be written, first and after each message; a piece is read only where no message was there; the

@@ -17,9 +17,10 @@ use zoom::Meta;
 /// may wait; the others may not.
 ///
 /// Each of them is Closed or Failed then: by its messages, by its calls or by the end of its input, or for the reason
-/// `Read`, `Write` or `Ended`, as `talk` says, or for `Turns`, where it was polled that many times. No more reads of it
-/// give octets than there are rounds, and of its devices at most one call fails. One that fails costs its own
-/// connection alone. Nothing befalls a connection that has no ends. Before each round `watch` looks on.
+/// `Read`, `Write` or `Ended`, as `talk` says, or for `Turns`, where it was polled that many times. It is polled at
+/// most once for each round, and no more reads of it give octets; and of its devices at most one call fails. One that
+/// fails costs its own connection alone. Nothing befalls a connection that has no ends. Before each round `watch` looks
+/// on.
 ///
 /// An error only where no memory was found; of the connections nothing more is told then.
 pub fn talk_at_once<R: Polled, W: Sink, V: Watch>(

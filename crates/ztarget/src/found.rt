@@ -56,7 +56,8 @@ pub(crate) fn places(
     searched: &[Numbered<'_>],
 ) -> Result<Vec<u32>, AllocError>
     requires { length (entries_in (databases_of searched.now)) < 2 ^ 32 }
-    ensures { IfOk result (λ places. places.items ≡ places_in (meets (asks criterion.now)) 0 (databases_of searched.now)) }
+    ensures { IfOk result (λ places. places.items
+        ≡ places_in (meets (asks criterion.now)) 0 (databases_of searched.now)) }
 {
     let mut places = Vec::new(alloc);
     let mut first = 0;

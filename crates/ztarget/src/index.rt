@@ -92,7 +92,8 @@ impl Index {
 
     /// Adds a place of a word, behind those that the word has.
     fn put(&mut self, word: &Word, place: Place) -> Result<(), AllocError>
-        ensures { OnOk result ((w : List ℕ) → standing self.new w ≡ standing self.old w ++ at_word w ((word.now, place) ∷ [])) }
+        ensures { OnOk result ((w : List ℕ) → standing self.new w ≡ standing self.old w
+            ++ at_word w ((word.now, place) ∷ [])) }
     {
         if let Some(places) = self.words.get_mut(word) {
             return places.push(place);

@@ -52,8 +52,8 @@ fn type_1_fault(
     request: &SearchRequest,
     query: &Query,
 ) -> Result<Option<Fault>, AllocError>
-    ensures { IfOk result (λ f. f ≡ search_fault databases.now (sets_of databases.now sets.now) (terms_of terms) request.now
-        (Rpn query.now)) }
+    ensures { IfOk result (λ f. f ≡ search_fault databases.now (sets_of databases.now sets.now)
+        (terms_of terms) request.now (Rpn query.now)) }
 {
     let name = &request.result_set_name;
     if let Some(fault) = name_fault(terms.named, name)? {

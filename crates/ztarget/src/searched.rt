@@ -28,8 +28,8 @@ fn put_if_called<'a>(
 ) -> Result<(), AllocError>
     ensures called { OnOk result (databases_of out.new.items ≡ databases_of out.old.items
         ++ called (numbered.entry.database.now ∷ []) name.now) }
-    ensures numbered { (databases : List Database) → IsNumbered databases numbered.entry → All (IsNumbered databases) out.old.items
-        → OnOk result (All (IsNumbered databases) out.new.items) }
+    ensures numbered { (databases : List Database) → IsNumbered databases numbered.entry
+        → All (IsNumbered databases) out.old.items → OnOk result (All (IsNumbered databases) out.new.items) }
 {
     if numbered.database.name().as_slice() == name.as_slice() {
         out.push(numbered)?;
@@ -43,8 +43,10 @@ fn put_called<'a>(
     name: &Bytes,
     out: &mut Vec<Numbered<'a>>,
 ) -> Result<(), AllocError>
-    ensures called { OnOk result (databases_of out.new.items ≡ databases_of out.old.items ++ called databases.now name.now) }
-    ensures numbered { All (IsNumbered databases.now) out.old.items → OnOk result (All (IsNumbered databases.now) out.new.items) }
+    ensures called { OnOk result (databases_of out.new.items
+        ≡ databases_of out.old.items ++ called databases.now name.now) }
+    ensures numbered { All (IsNumbered databases.now) out.old.items
+        → OnOk result (All (IsNumbered databases.now) out.new.items) }
 {
     for number in 0..databases.len() {
         let database = &databases[number];

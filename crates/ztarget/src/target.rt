@@ -144,7 +144,8 @@ impl Target {
 
     /// Puts the answer to Init last, and begins the association or ends it.
     fn begin(&mut self, request: &InitRequest) -> Result<(), AllocError>
-        ensures ok { OnOk result (self.new ≡ answered self.old (to_init self.old.settings self.old.standing.sets request.now)) }
+        ensures ok { OnOk result (self.new ≡ answered self.old
+            (to_init self.old.settings self.old.standing.sets request.now)) }
         ensures err { OnErr result (self.new ≡ self.old) }
     {
         let settings = self.settings;
@@ -255,7 +256,8 @@ impl Target {
     /// Puts the response to a request for records last.
     fn present(&mut self, terms: Terms, request: &PresentRequest) -> Result<(), AllocError>
         requires { self.old.standing.state ≡ Open (terms_of terms) }
-        ensures ok { OnOk result (self.new ≡ answered self.old (to_present (terms_of terms) self.old.standing.sets request.now)) }
+        ensures ok { OnOk result (self.new ≡ answered self.old
+            (to_present (terms_of terms) self.old.standing.sets request.now)) }
         ensures err { OnErr result (self.new ≡ self.old) }
     {
         let response = self.presented(terms, request)?;
@@ -366,7 +368,8 @@ impl Target {
     /// to 6), a term of another type (100). `Memory`.
     pub fn matches(&self, names: &[Bytes], query: &Query) -> Result<Vec<u32>, MatchError>
         ensures lawful { OnOk result (match_fault self.now.databases names.now query.now ≡ None) }
-        ensures places { IfOk result (λ places. places.items ≡ found_places self.now.databases names.now query.now.root) }
+        ensures places { IfOk result (λ places. places.items
+            ≡ found_places self.now.databases names.now query.now.root) }
         ensures refused { IfErr result (λ e. IsRefusal (match_fault self.now.databases names.now query.now) e) }
     {
         matching_places(self.alloc, &self.databases, names, query)

@@ -15,7 +15,8 @@ init_request_table =
     ⨾ required (integer (context 6)) (λ v. v.exceptional_record_size)
     ⨾ optional (any (context 7)) (λ v. v.id_authentication)
     ⨾ also implementation_parts
-    (λ v. implementation v.implementation_id v.implementation_name v.implementation_version v.user_information_field v.other_info)
+    (λ v. implementation v.implementation_id v.implementation_name v.implementation_version v.user_information_field
+    v.other_info)
 
 -- no tag of a place that may be left out stands again after it
 pub init_request_clear : clear init_request_table ≡ true

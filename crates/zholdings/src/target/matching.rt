@@ -107,12 +107,15 @@ const PLACED: &str = "\
 one | a => 0
 two | a => 1
 one | a b => 0 2
-one | b a => 0 1
+one | b a => 0 3
 one | b b => 0
 one | a b a => 0 2
-@or one two | b a b => 0 1 2
-@not @or one two one | b a => 2
+@or one two | b a b => 0 3 4
+@not @or one two one | b a => 4
 zebra | a b => 
+# Each of three entries.
+@attr 1=4 dune | b => 0 1 2
+dune | a b => 2 3 4
 ";
 
 const SETTINGS: TargetSettings = TargetSettings {
@@ -187,7 +190,8 @@ fn placed(alloc: Global, target: &Target, query: &Query, named: &str) -> Result<
 
 fn places_of(alloc: Global, text: &str, named: &str) -> Result<Vec<u32>, Unread> {
     let query = query(alloc, text)?;
-    let target = target_of_rows(alloc, "r | 4 one\nr | 4 two", "r | 4 one")?;
+    let second = "r | 4 one dune\nr | 4 dune\nr | 4 dune";
+    let target = target_of_rows(alloc, "r | 4 one\nr | 4 two", second)?;
     placed(alloc, &target, &query, named)
 }
 

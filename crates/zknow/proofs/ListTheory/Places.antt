@@ -8,6 +8,7 @@ use Rattle.std.specs.Ordering.{int_cmp, int_eq}
 use Rattle.std.specs.List.{filter_map, cons_option, AllByRecursion}
 use Rattle.std.specs.List.Sorted.{IsStrictlySortedBy}
 use Rattle.std.proofs.lemmas.Bool.Decides.{Decides-eqb, Decides-int_eq}
+use Rattle.std.proofs.lemmas.Cmp.{int_cmp_total}
 use Rattle.std.proofs.lemmas.Map.Keys.{sorted_head, sorted_tail}
 use Rattle.zapdu.specs.declared.productions.record.Record.{Record}
 use Rattle.zapdu.specs.Productions.Records.{whole_record}
@@ -17,7 +18,7 @@ use Rattle.zknow.specs.Tables.DistinctLaws.{in_cons, in_head, in_tail, none_in_n
 use Rattle.zknow.specs.Encodings.{encoding_cmp, encoding_total, IsSpellable}
 use Rattle.zknow.specs.Facts.{fact_cmp, IsFact, AreFacts}
 use Rattle.zknow.specs.Known.{is_set, count_in, record_in, counts_at, records_at}
-use Rattle.zknow.specs.List.ListLaws.{IsConflict}
+use Rattle.zknow.specs.List.ListLaws.{HasTwoCounts, IsConflict}
 use Rattle.zknow.specs.Tables.Tables.{AreCounts, AreRecords}
 use Rattle.zknow.proofs.TableTheory.FactsInOrder.{same_place, counts_differ}
 use Rattle.zknow.proofs.TableTheory.InSections.{all_from}
@@ -158,6 +159,20 @@ differ_two [] x y differ hx hy = absurd (none_in_nil x hx)
 differ_two (z ∷ []) x y differ hx hy =
     absurd (differ (⊎_elim sym (λ never. absurd (none_in_nil x never)) (in_cons z [] x hx) ∙ ⊎_elim (λ same. same) (λ never. absurd (none_in_nil y never)) (in_cons z [] y hy)))
 differ_two (z ∷ w ∷ ws) x y differ hx hy = omega arith
+
+module _ (t s : ℕ) (facts : List Fact) where
+  pub two_counts : AreFacts facts → (2 ≤ length (counts_at t s facts)) ↔ HasTwoCounts t s facts
+  two_counts good = (
+    λ two. let both = two_differ int_cmp int_cmp_total (counts_at t s facts) (counts_in_order t s facts good).ordered two in
+        record {
+          one = both.0;
+          other = both.1;
+          differ = both.2;
+          tells_one = (counts_are t s facts both.0).0 both.3;
+          tells_other = (counts_are t s facts both.1).0 both.4;
+        },
+    λ h. differ_two (counts_at t s facts) h.one h.other h.differ ((counts_are t s facts h.one).1 h.tells_one) ((counts_are t s facts h.other).1 h.tells_other),
+  )
 
 module _ (t s : ℕ) (p : ℤ) (facts : List Fact) where
   pub conflict_is : AreFacts facts → (2 ≤ length (records_at t s p facts)) ↔ IsConflict t s p facts

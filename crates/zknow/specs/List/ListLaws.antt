@@ -2,7 +2,7 @@
 use Rattle.std.specs.Prelude.{◌≡◌, ◌≢◌, ◌↔◌, ◌≤◌, ℕ, ℤ, Bool, List, ◌++◌, length, codes, Contains}
 use Rattle.std.specs.declared.cmp.Ordering.{Ordering}
 use Rattle.std.specs.Fmt.{decimal, signed_decimal}
-use Rattle.std.specs.List.{flat_map}
+use Rattle.std.specs.List.{flat_map, filter_map}
 use Rattle.std.specs.List.Sorted.{IsStrictlySortedBy}
 use Rattle.zapdu.specs.declared.productions.record.Record.{Record}
 use Rattle.zapdu.specs.Text.{record_text}
@@ -14,7 +14,7 @@ use Rattle.zknow.specs.declared.tables.keys.RowKey.{RowKey}
 use Rattle.zknow.specs.Facts.{AreFacts}
 use Rattle.zknow.specs.Tables.Keys.{set_cmp, row_cmp}
 use Rattle.zknow.specs.Known.{counts_at, records_at}
-use Rattle.zknow.specs.List.Listing.{ascending, name_text, is_hex, listing}
+use Rattle.zknow.specs.List.Listing.{ascending, block_of, row_of, block_text, row_text, name_text, is_hex, listing}
 use Rattle.zknow.specs.Tables.Tables.{AreCounts, AreRecords}
 
 -- two different records are seen at the position
@@ -25,10 +25,20 @@ pub record IsConflict (target set : ℕ) (position : ℤ) (facts : List Fact) : 
   pub sees_one : Contains facts (Seen target set position one)
   pub sees_other : Contains facts (Seen target set position other)
 
--- what the facts say of a set: its counts, in order and each once
+-- two different counts of the set are told
+pub record HasTwoCounts (target set : ℕ) (facts : List Fact) : Type 0 where
+  pub one : ℤ
+  pub other : ℤ
+  pub differ : one ≢ other
+  pub tells_one : Contains facts (Count target set one)
+  pub tells_other : Contains facts (Count target set other)
+
+-- what the facts say of a set: its counts, in order and each once, two or more exactly where two different ones are
+-- told
 pub record CountLaws (t s : ℕ) (facts : List Fact) : Type 0 where
   pub members : (n : ℤ) → Contains (counts_at t s facts) n ↔ Contains facts (Count t s n)
   pub once : AreFacts facts → AreCounts (counts_at t s facts)
+  pub conflict : AreFacts facts → (2 ≤ length (counts_at t s facts)) ↔ HasTwoCounts t s facts
 
 -- what they say of a position: its records, in order and each once, two or more exactly where two different ones are
 -- seen
@@ -70,9 +80,25 @@ IsListedWhole names mode facts k =
     let records = records_at k.target k.set k.position facts in
     2 ≤ length records → StandsIn (conflict_text names (is_hex mode) k records) (listing names mode facts)
 
+-- the targets and sets in whose blocks facts are, in order and each once
+abbrev pub block_keys : List Fact → List SetKey
+block_keys facts = ascending set_cmp (filter_map block_of facts)
+
+-- the positions, targets and sets in whose rows facts are, in order and each once
+abbrev pub row_keys : List Fact → List RowKey
+row_keys facts = ascending row_cmp (filter_map row_of facts)
+
+-- the list is the blocks of these targets and sets, then the rows of these positions, and nothing else
+abbrev pub IsBlocksAndRows : List (List ℕ) → Mode → List Fact → Type 0
+IsBlocksAndRows names mode facts =
+    listing names mode facts
+    ≡ flat_map (block_text names facts) (block_keys facts)
+    ++ flat_map (row_text names (is_hex mode) facts) (row_keys facts)
+
 -- the list has each block and each row once, in order, and each conflict whole
 pub record ListLaws : Type 0 where
-  pub blocks : (keys : List SetKey) → AreKeysOf set_cmp keys (ascending set_cmp keys)
-  pub rows : (keys : List RowKey) → AreKeysOf row_cmp keys (ascending row_cmp keys)
+  pub whole : (names : List (List ℕ)) (mode : Mode) (facts : List Fact) → IsBlocksAndRows names mode facts
+  pub blocks : (facts : List Fact) → AreKeysOf set_cmp (filter_map block_of facts) (block_keys facts)
+  pub rows : (facts : List Fact) → AreKeysOf row_cmp (filter_map row_of facts) (row_keys facts)
   pub conflict : (names : List (List ℕ)) (mode : Mode) (facts : List Fact) (k : RowKey)
       → IsListedWhole names mode facts k

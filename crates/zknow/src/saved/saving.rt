@@ -192,7 +192,8 @@ pub fn save(
     names: &Names,
     out: &mut Vec<u8>,
 ) -> Result<(), SaveError>
-    ensures ok { OnOk result ((file : List ℕ) × (out.new.items ≡ out.old.items ++ file) × IsSaved names.now knowledge.now file) }
+    ensures ok { OnOk result ((file : List ℕ) × (out.new.items ≡ out.old.items ++ file)
+        × IsSaved names.now knowledge.now file) }
     ensures within { OnOk result (AreWithin names.now knowledge.now) }
     ensures refused { IfErr result (IsRefused names.now knowledge.now) }
     ensures err { OnErr result (out.new.items ≡ out.old.items) }

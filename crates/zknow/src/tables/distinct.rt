@@ -43,7 +43,8 @@ fn next_place(low: usize, high: usize, is_first: bool) -> usize
 fn gap_for<T: Ranked>(alloc: Global, items: &[T], item: &T) -> Result<Option<usize>, AllocError>
     requires distinct { AreDistinct T.order T.is_valid items.now }
     requires valid { T.is_valid item.now }
-    ensures { IfOk result (λ o. MatchOption o (Contains items.now item.now) (IsGap (λ x. T.order x item.now) items.now)) }
+    ensures { IfOk result (λ o. MatchOption o (Contains items.now item.now)
+        (IsGap (λ x. T.order x item.now) items.now)) }
 {
     if items.is_empty() {
         return Ok(Some(0));

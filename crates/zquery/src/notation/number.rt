@@ -17,8 +17,9 @@ fn is_numeral(text: &[u8]) -> bool
     !text.is_empty() && are_digits(text)
 }
 
-/// The number that the digits write, if it is at most `most`.
-pub(crate) fn number(text: &[u8], most: u64) -> Option<u64>
+/// The number that a text of decimal digits writes, where it is at most `most`; `None` where it is above, and of no
+/// digits or of other octets. It takes no memory.
+pub fn number(text: &[u8], most: u64) -> Option<u64>
     ensures value { result ≡ number_of most text.now }
     ensures small { IfSome result (λ n. n ≤ most) }
 {

@@ -222,7 +222,7 @@ pub fn print_pqf(alloc: Global, query: &Query, out: &mut Vec<u8>) -> Result<(), 
     ensures refused { result ≡ Err NotPrintable → printable query.now ≡ false }
     ensures err { OnErr result (out.new.items ≡ out.old.items) }
 {
-    if !is_printable(query) {
+    if !is_printable(alloc, query)? {
         return Err(PrintError::NotPrintable);
     }
     let mut text = Vec::new(alloc);

@@ -1,14 +1,18 @@
 // Which queries have a text.
-ghost use Rattle.std.specs.Prelude.{◌≡◌, true, nat_le};
+ghost use Rattle.std.specs.Prelude.{◌≡◌, ◌∷◌, List, true, not, nat_le, IfOk, OnOk};
 ghost use Rattle.std.specs.List.{list_any};
+ghost use Rattle.std.specs.Option.{option_map};
+ghost use Rattle.zquery.specs.declared.query.Attr.{Attr};
 ghost use Rattle.zquery.specs.InForce.{alike};
 ghost use Rattle.zquery.specs.Trees.{height};
 ghost use Rattle.zquery.specs.QueryTrees.{seen};
 ghost use Rattle.zquery.specs.Notation.Printing.{in_range, names, plain_value, plain_attr, plain_attrs, plain_term, plain_tree, printable};
+ghost use Rattle.zquery.specs.Notation.Apart.{AreKeysOf};
 ghost use Rattle.zquery.specs.Lawful.{IsLawfulSet, AreLawful, IsLawfulTerm, IsLawfulTree};
 
-use crate::attribute::are_alike;
 use crate::query::{Attr, AttrValue, Query, Rpn, TermValue};
+use std::alloc::{AllocError, Global};
+use std::collections::BTreeSet;
 use zber::Oid;
 
 /// The height of a query that the notation has at most.
@@ -48,25 +52,45 @@ fn is_plain(own: &Oid, attr: &Attr) -> bool
     !names(own, &attr.attr_set) && in_range(attr.kind) && is_plain_value(&attr.value)
 }
 
-fn has_alike(attr: &Attr, others: &[Attr]) -> bool
-    ensures { result ≡ list_any (alike attr.now) others.now }
+/// The set and type of an attribute.
+fn set_and_type(attr: &Attr) -> (Option<&[u32]>, i64)
+    ensures set { option_map (λ s. s.now) result.0 ≡ attr.now.attr_set }
+    ensures kind { result.1 ≡ attr.now.kind }
 {
-    others.iter().any(|other| are_alike(attr, other))
+    let set = match &attr.attr_set {
+        None => None,
+        Some(set) => Some(set.arcs()),
+    };
+    (set, attr.kind)
+}
+
+/// Adds the set and type of an attribute; whether those of none that was added before are the same.
+fn put<'a>(
+    attr: &'a Attr,
+    seen: &mut BTreeSet<(Option<&'a [u32]>, i64), Global>,
+) -> Result<bool, AllocError>
+    ensures apart { (others : List Attr) → AreKeysOf seen.old others
+        → IfOk result (λ apart. apart ≡ not (list_any (alike attr.now) others)) }
+    ensures keys { (others : List Attr) → AreKeysOf seen.old others
+        → OnOk result (AreKeysOf seen.new (attr.now ∷ others)) }
+{
+    Ok(seen.insert(set_and_type(attr))?)
 }
 
 /// Whether the notation has each attribute, and no two have the same set and type.
-fn are_plain(own: &Oid, attrs: &[Attr]) -> bool
-    ensures value { result ≡ plain_attrs own.now attrs.now }
-    ensures lawful { result ≡ true → AreLawful attrs.now }
+fn are_plain(alloc: Global, own: &Oid, attrs: &[Attr]) -> Result<bool, AllocError>
+    ensures value { IfOk result (λ plain. plain ≡ plain_attrs own.now attrs.now) }
+    ensures lawful { IfOk result (λ plain. plain ≡ true → AreLawful attrs.now) }
 {
+    let mut seen = BTreeSet::new(alloc);
     let mut left = attrs;
-    while let [attr, others @ ..] = left {
-        if !is_plain(own, attr) || has_alike(attr, others) {
-            return false;
+    while let [others @ .., attr] = left {
+        if !is_plain(own, attr) || !put(attr, &mut seen)? {
+            return Ok(false);
         }
         left = others;
     }
-    true
+    Ok(true)
 }
 
 fn is_plain_term(term: &TermValue) -> bool
@@ -100,25 +124,29 @@ fn fits(rpn: &Rpn, room: u32) -> bool
 }
 
 /// Whether the notation has each part of the tree.
-fn is_plain_tree(own: &Oid, rpn: &Rpn) -> bool
-    ensures value { result ≡ plain_tree own.now (seen rpn.now) }
-    ensures lawful { result ≡ true → IsLawfulTree (seen rpn.now) }
+fn is_plain_tree(alloc: Global, own: &Oid, rpn: &Rpn) -> Result<bool, AllocError>
+    ensures value { IfOk result (λ plain. plain ≡ plain_tree own.now (seen rpn.now)) }
+    ensures lawful { IfOk result (λ plain. plain ≡ true → IsLawfulTree (seen rpn.now)) }
 {
     match rpn {
-        Rpn::Term { attrs, term } => are_plain(own, attrs.as_slice()) && is_plain_term(term),
-        Rpn::ResultSet { .. } => true,
-        Rpn::SetAttrs { attrs, .. } => attrs.len() > 0 && are_plain(own, attrs.as_slice()),
-        Rpn::And(a, b) => is_plain_tree(own, a) && is_plain_tree(own, b),
-        Rpn::Or(a, b) => is_plain_tree(own, a) && is_plain_tree(own, b),
-        Rpn::Not(a, b) => is_plain_tree(own, a) && is_plain_tree(own, b),
-        Rpn::Prox(..) => false,
+        Rpn::Term { attrs, term } => {
+            Ok(are_plain(alloc, own, attrs.as_slice())? && is_plain_term(term))
+        }
+        Rpn::ResultSet { .. } => Ok(true),
+        Rpn::SetAttrs { attrs, .. } => {
+            Ok(attrs.len() > 0 && are_plain(alloc, own, attrs.as_slice())?)
+        }
+        Rpn::And(a, b) => Ok(is_plain_tree(alloc, own, a)? && is_plain_tree(alloc, own, b)?),
+        Rpn::Or(a, b) => Ok(is_plain_tree(alloc, own, a)? && is_plain_tree(alloc, own, b)?),
+        Rpn::Not(a, b) => Ok(is_plain_tree(alloc, own, a)? && is_plain_tree(alloc, own, b)?),
+        Rpn::Prox(..) => Ok(false),
     }
 }
 
-/// Whether the query has a text.
-pub(crate) fn is_printable(query: &Query) -> bool
-    ensures value { result ≡ printable query.now }
-    ensures lawful { result ≡ true → IsLawfulTree query.now.root }
+/// Whether the query has a text, or the refusal of the memory to tell.
+pub(crate) fn is_printable(alloc: Global, query: &Query) -> Result<bool, AllocError>
+    ensures value { IfOk result (λ is_printable. is_printable ≡ printable query.now) }
+    ensures lawful { IfOk result (λ is_printable. is_printable ≡ true → IsLawfulTree query.now.root) }
 {
-    fits(&query.root, HIGHEST) && is_plain_tree(&query.attr_set, &query.root)
+    Ok(fits(&query.root, HIGHEST) && is_plain_tree(alloc, &query.attr_set, &query.root)?)
 }

@@ -54,7 +54,9 @@ pub(crate) fn bib_1(alloc: Global) -> Result<Oid, AllocError>
     }
 }
 
-fn oid_named(alloc: Global, text: &[u8]) -> Result<Option<Oid>, AllocError>
+/// The object identifier whose arcs in decimal, with dots between them, are the text, or `None` of another text, or the
+/// refusal of the memory for it.
+pub fn oid_named(alloc: Global, text: &[u8]) -> Result<Option<Oid>, AllocError>
     ensures { IfOk result (λ o. o ≡ oid_of text.now) }
 {
     match Oid::parse_dotted(alloc, text) {

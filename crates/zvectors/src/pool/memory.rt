@@ -16,6 +16,7 @@ b51c820400000000830205e0840301c006850310000086031000008c01ff init -
 b7128204000000019701049801009901009601ff search 1 1
 b9508204000000029801039901049b0100bc3f3013a111a10f280d06072a8648ce13050a810272313013a111a10f280d06072a8648ce13050a810272323013a111a10f280d06072a8648ce13050a81027233 present 2 1 1 3
 b9508204000000039801039901009b0100bc3f3013a111a10f280d06072a8648ce13050a810278323013a111a10f280d06072a8648ce13050a810272333013a111a10f280d06072a8648ce13050a81027234 present 3 1 2 3
+b9508204000000049801039901009b0100bc3f3013a111a10f280d06072a8648ce13050a810272313013a111a10f280d06072a8648ce13050a810272333013a111a10f280d06072a8648ce13050a81027234 ranges 4 1 1+1 3+2
 ";
 
 #[derive(Drop)]
@@ -89,7 +90,7 @@ fn records(pool: &Pool, position: i64) -> usize {
 fn a_session_goes_on_where_memory_was_refused(rt: HostRuntime) -> Result<(), Fail> {
     let turns = turns(rt.alloc())?;
     let mut pool = pool(rt.alloc(), 1)?;
-    assert!(rt; go(&mut pool, turns.as_slice())?);
+    assert!(rt; held(go(&mut pool, turns.as_slice())));
     assert!(rt; records(&pool, 1) == 1 && records(&pool, 2) == 2);
     assert!(rt; records(&pool, 4) == 1 && records(&pool, 5) == 0);
     Ok(())

@@ -1,5 +1,6 @@
 // Which ranges of positions an origin asks for in one request, and which replies fit them (Z39.50-2003, 3.2.3.1).
 use crate::sessions::go_as_told;
+use crate::sessions::pooled::go_through_pool;
 use std::test::Fail;
 
 const SESSIONS: &str = "\
@@ -61,5 +62,6 @@ peek b9268204000000029801019901009b0100bc153013a111a10f280d06072a8648ce13050a810
 
 #[test]
 fn ranges_are_asked_for_as_told(rt: HostRuntime) -> Result<(), Fail> {
-    go_as_told(&rt, SESSIONS)
+    go_as_told(&rt, SESSIONS)?;
+    go_through_pool(&rt, SESSIONS)
 }

@@ -5,14 +5,14 @@ ghost use Rattle.zworld.specs.World.{Answers};
 ghost use Rattle.zworld.specs.WorldLines.{words, is_flag, are_flags, has, settings, syntax_of, step_line, window_line, target_line, host_line, database_line, record_line, field_line, ask_line, carry_line, line_by, line_of};
 
 use crate::world::fault::LineFault;
-use crate::world::number::{number_in, oid_named};
+use crate::world::number::number_in;
 use crate::world::wanted::wanted_of;
 use crate::world::word::{Keyword, keyword_of};
 use bytes::Bytes;
 use std::alloc::Global;
 use zber::{Oid, Seq};
 use zorigin::Range;
-use zquery::Token;
+use zquery::{Token, oid_named};
 use ztarget::{Field, TargetSettings};
 
 /// Between whom a move carries octets.

@@ -1,12 +1,14 @@
-use Rattle.std.proofs.Common.{◌≡◌, length}
-use Rattle.zquery.specs.Notation.Printing.{plain_attrs}
+use Rattle.std.proofs.Common.{◌≡◌, true, List, ◌++◌, length}
+use Rattle.zquery.specs.declared.query.Attr.{Attr}
 use Rattle.zquery.specs.Lawful.{AreLawful}
+use Rattle.zquery.specs.Notation.Apart.{AreKeysOf}
+use Rattle.zquery.specs.Notation.Printing.{plain_attrs}
 use Rattle.zquery.proofs.notation.printable.are_plain.Given as goal
 
 abbrev pub invariant-loop-left : goal.invariant-loop-left
 invariant-loop-left l = record {
-  plain : plain_attrs l.own l.attrs ≡ plain_attrs l.own l.left;
-  lawful : AreLawful l.left → AreLawful l.attrs;
+  behind : (behind : List Attr) × (l.attrs ≡ l.left ++ behind) × AreKeysOf l.seen behind
+      × (plain_attrs l.own behind ≡ true) × AreLawful behind;
 }
 
 abbrev pub decreases-loop-left : goal.decreases-loop-left
