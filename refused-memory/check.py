@@ -40,6 +40,7 @@ RUNS = [
 ]
 TESTS = [
     ("zencodings", "pieces::a_session_goes_on_where_memory_was_refused"),
+    ("zholdings", "known::what_is_known_grows_where_memory_was_refused"),
     ("zvectors", "pool::memory::a_session_goes_on_where_memory_was_refused"),
     ("zvectors", "failing::a_talk_tells_where_memory_was_refused"),
 ]
