@@ -36,11 +36,8 @@ hostile:
 wrong-bodies:
 	scripts/wrong-bodies
 
-# First the lowest crates, of which each stands on the one before, each with all processors; what passes is kept. Then the
-# gate itself, three checks at a time: each takes 6.5 GB at most, of 24. Left to itself rt ci reserves more there, and lets
-# processors idle.
+# Three checks at a time: each takes 6.5 GB at most, of 24. Left to itself rt ci reserves more, and lets processors idle.
 test:
-	rt ci zapdu
 	RT_JOBS=3 rt ci
 	python3 refused-memory/check.py
 
