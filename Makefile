@@ -10,6 +10,7 @@ PREFIX ?= /usr/local
 DESTDIR ?=
 
 program = crates/zmeta/out/zmeta
+checks = $(shell n=$$(nproc); echo $$((n < 3 ? n : 3)))
 bin = $(DESTDIR)$(PREFIX)/bin
 man = $(DESTDIR)$(PREFIX)/share/man/man1
 bash = $(DESTDIR)$(PREFIX)/share/bash-completion/completions
@@ -36,9 +37,10 @@ hostile:
 wrong-bodies:
 	scripts/wrong-bodies
 
-# Three checks at a time: each takes 6.5 GB at most, of 24. Left to itself rt ci reserves more, and lets processors idle.
+# As many checks at a time as there are processors, and three at most: each takes 6.5 GB at most, of 24. Left to itself rt ci
+# reserves more, and lets processors idle; and more checks than processors keep the longest chain of them waiting.
 test:
-	RT_JOBS=3 rt ci
+	RT_JOBS=$(checks) rt ci
 	python3 refused-memory/check.py
 
 # It builds nothing: make show does.

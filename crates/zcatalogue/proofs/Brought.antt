@@ -41,8 +41,8 @@ use Rattle.ztarget.specs.Responding.{due_count, records_of}
 use Rattle.ztarget.specs.Initialising as initialising
 use Rattle.ztarget.specs.Replies.{replies}
 use Rattle.ztarget.specs.Laws.{KeptSets, WhatFits}
-use Rattle.zoom.specs.declared.question.Question.{Question}
-use Rattle.zoom.specs.declared.question.MetaSettings.{MetaSettings}
+use Rattle.zquestions.specs.declared.question.Question.{Question}
+use Rattle.zquestions.specs.declared.question.MetaSettings.{MetaSettings}
 use Rattle.zoom.specs.Driving.{operation_for, reply_for, can_search, can_present, counted, events_of}
 use Rattle.zoom.specs.Steering.{ask_of, errand_of, complete_in}
 use Rattle.zoom.specs.Drivers.{DriverState, IsDriver}

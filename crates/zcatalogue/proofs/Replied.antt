@@ -49,8 +49,8 @@ use Rattle.ztarget.specs.Responding.{search_found, search_failed, presented, pre
 use Rattle.ztarget.specs.Replies.{replies, standing_after, to_search, to_search_unless, to_present}
 use Rattle.ztarget.specs.Replies as targets
 use Rattle.ztarget.specs.Laws.{KeptSets}
-use Rattle.zoom.specs.declared.question.Question.{Question}
-use Rattle.zoom.specs.declared.question.MetaSettings.{MetaSettings}
+use Rattle.zquestions.specs.declared.question.Question.{Question}
+use Rattle.zquestions.specs.declared.question.MetaSettings.{MetaSettings}
 use Rattle.zoom.specs.Driving.{operation_for}
 use Rattle.zoom.specs.Steering.{Errand, ask_of, errand_of, IsSteered, IsSteeredCall}
 use Rattle.zoom.specs.Drivers.{DriverState, IsDriver}

@@ -5,8 +5,8 @@ use Rattle.std.proofs.lemmas.Bool.Decides.{nat_tests}
 use Rattle.std.proofs.lemmas.Option.{slice_get_within}
 use Rattle.zknow.specs.declared.fact.Fact.{Fact}
 use Rattle.ztarget.specs.Receiving.{TargetState}
-use Rattle.zoom.specs.declared.question.Question.{Question}
-use Rattle.zoom.specs.declared.question.MetaSettings.{MetaSettings}
+use Rattle.zquestions.specs.declared.question.Question.{Question}
+use Rattle.zquestions.specs.declared.question.MetaSettings.{MetaSettings}
 use Rattle.zoom.specs.Heard.{Heard, silence}
 use Rattle.zoom.specs.History.{only, facts_at}
 use Rattle.zoom.specs.Hosts.{holdings_of}

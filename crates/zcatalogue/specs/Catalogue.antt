@@ -18,8 +18,8 @@ use Rattle.ztarget.specs.Showing.{diagnostic, in_syntax, size_of}
 use Rattle.ztarget.specs.Initialising.{natural}
 use Rattle.ztarget.specs.Positions.{at_positions}
 use Rattle.ztarget.specs.Replies.{replies}
-use Rattle.zoom.specs.declared.question.Question.{Question}
-use Rattle.zoom.specs.declared.question.MetaSettings.{MetaSettings}
+use Rattle.zquestions.specs.declared.question.Question.{Question}
+use Rattle.zquestions.specs.declared.question.MetaSettings.{MetaSettings}
 use Rattle.zoom.specs.Steering.{ask_of}
 use Rattle.zoom.specs.Heard.{Heard, HasHeard, past_of}
 use Rattle.zoom.specs.History.{History, only, accepted, facts_at}

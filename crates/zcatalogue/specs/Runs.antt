@@ -2,8 +2,8 @@
 use Rattle.std.specs.Prelude.{◌≡◌, ◌↔◌, ℕ, List, length, slice_get, Some, Contains}
 use Rattle.zknow.specs.declared.fact.Fact.{Fact}
 use Rattle.ztarget.specs.Receiving.{TargetState}
-use Rattle.zoom.specs.declared.question.Question.{Question}
-use Rattle.zoom.specs.declared.question.MetaSettings.{MetaSettings}
+use Rattle.zquestions.specs.declared.question.Question.{Question}
+use Rattle.zquestions.specs.declared.question.MetaSettings.{MetaSettings}
 use Rattle.zoom.specs.History.{History, only}
 use Rattle.zoom.specs.Metas.{MetaLinks}
 use Rattle.zrounds.specs.RunSound.{IsLost}

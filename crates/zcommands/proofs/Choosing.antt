@@ -5,7 +5,7 @@ use Rattle.std.specs.Borrow.{Bor}
 use Rattle.std.specs.List.{list_any}
 use Rattle.std.specs.Str.{bytes_eq}
 use Rattle.std.proofs.lemmas.Bool.Decides.{nat_tests}
-use Rattle.zcommands.specs.Files.{texts_of}
+use Rattle.zwords.specs.Texts.{texts_of}
 use Rattle.zcommands.specs.Choice.{is_among, is_picked, address_if, AreChosen, AreKnown, IsFirstUnknown}
 
 -- ---- elements in their places

@@ -13,7 +13,7 @@ use Rattle.zknow.specs.declared.saved.loading.LoadError.{LoadError}
 use Rattle.zknow.specs.declared.saved.loading.LoadError.TheVariants as loads
 use Rattle.zknow.specs.Saved.Loaded.{IsFault}
 use Rattle.zcommands.specs.Faults.{of_load}
-use Rattle.zcommands.specs.Files.{texts_of}
+use Rattle.zwords.specs.Texts.{texts_of}
 use Rattle.zcommands.specs.Join.{Loads, IsOfFile, IsSavedAt, IsFaultAt, LoadsAt, HasOtherNames, Absorbs, AreJoined, IsRefusedAmong, AbsorbsAll, LoadsAll, IsListOf, IsKnownStatus, PutsList, Joins}
 use Rattle.zcommands.specs.Join.AreJoined.{one, more}
 use Rattle.zcommands.specs.Join.IsRefusedAmong.{first, later, differs}

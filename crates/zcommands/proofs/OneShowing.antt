@@ -10,7 +10,7 @@ use Rattle.zapdu.specs.declared.apdu.Apdu.{Apdu}
 use Rattle.zapdu.specs.declared.apdu.Kind.{Kind}
 use Rattle.zapdu.specs.Writes.{Writes, IsNoApdu, IsMalformed}
 use Rattle.zoom.proofs.Meetings.{Laws}
-use Rattle.zcommands.specs.Lines.{apdu_text}
+use Rattle.zlines.specs.Lines.{apdu_text}
 use Rattle.zcommands.specs.Show.{limit, Shown, nothing_left, apdu, fault, unfinished, no_apdu, malformed}
 use Rattle.zcommands.specs.declared.fault.Fault.{Fault}
 use Rattle.zcommands.specs.declared.fault.Fault.TheVariants.{Frame, NotApdu, Malformed}

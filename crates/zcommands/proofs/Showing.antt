@@ -16,7 +16,7 @@ use Rattle.zapdu.specs.declared.apdu.ApduError.TheVariants as apdus
 use Rattle.zapdu.specs.Writes.{Writes, Decodes}
 use Rattle.zcommands.specs.Digits.{octets_of}
 use Rattle.zcommands.specs.Faults.{of_frame, of_apdu}
-use Rattle.zcommands.specs.Lines.{apdu_text}
+use Rattle.zlines.specs.Lines.{apdu_text}
 use Rattle.zcommands.specs.Show.{limit, Shown, nothing_left, apdu, fault, unfinished, no_apdu, malformed, ShowsDigits, ShowsText}
 use Rattle.zcommands.specs.Steps.{ShowsNext, ShowsOctets, PutsLines, PrintsLines}
 use Rattle.zcommands.specs.Devices.{Device, Gains, Stops, FailsPut, IsOfStream}

@@ -1,20 +1,11 @@
--- What words ask for, and what is done for them.
-use Rattle.std.proofs.Common.{◌≡◌, ℕ, List, Option, Some, None, Result, Ok, Err, IfOk, IfSome, MatchResult, slice_get}
+-- What is done for words.
+use Rattle.std.proofs.Common.{◌≡◌, ℕ, List, Option, Result, Ok, Err, IfOk, MatchResult}
 use Rattle.clap.specs.declared.error.Error.{Error}
-use Rattle.clap.specs.declared.parser.matches.Found.{Found}
 use Rattle.zcommands.specs.Devices.{Device}
 use Rattle.zcommands.specs.declared.fault.Status.{Status}
-use Rattle.zcommands.specs.declared.words.Words.{Words}
-use Rattle.zcommands.specs.Words.{AreFor, Asks, Does, DoesAsked, TellsWords}
-
--- words of which the second names the command
-pub are_for : {E : Type 0} (words : List (List ℕ)) (name : List ℕ) (found : Found) (answer : Result (Option Words) E)
-    → slice_get words 1 ≡ Some name → IfOk answer (λ asked. IfSome asked (Asks name found))
-    → IfOk answer (λ asked. IfSome asked (AreFor words))
-are_for words name found (Ok (Some asked)) stands is =
-    record { name = name; found = found; stands = stands; asks = is }
-are_for words name found (Ok None) stands is = tt
-are_for words name found (Err e) stands is = tt
+use Rattle.zwords.specs.declared.words.Words.{Words}
+use Rattle.zwords.specs.Words.{AreFor}
+use Rattle.zcommands.specs.Words.{Does, DoesAsked, TellsWords}
 
 -- what is done for what they ask for; `Kept` says that the input is left as it is
 pub does_asked : (octets : List ℕ → Option (List ℕ)) (words : List (List ℕ)) (asked : Result Words Error)

@@ -1,10 +1,5 @@
 -- Files by their names.
-use Rattle.std.specs.Prelude.{ℕ, List, map, Option, Some, None}
-use Rattle.std.specs.Borrow.{Bor}
-
--- texts that are borrowed
-abbrev pub texts_of : List (Bor (List ℕ)) → List (List ℕ)
-texts_of texts = map (λ text. text.now) texts
+use Rattle.std.specs.Prelude.{ℕ, List, Option, Some, None}
 
 -- what is left of a file that opens when it is first read: of the open one, else of the file at its path
 abbrev pub opened_left : {A : Type 0} → (A → Option (List ℕ)) → Option (List ℕ) → Option A → Option (List ℕ)

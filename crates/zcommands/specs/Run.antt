@@ -16,10 +16,6 @@ use Rattle.zcommands.specs.Finished.{asker, IsListed, Concludes, Command, DoesAn
 
 -- ---- the world of a file
 
--- some world is arranged so
-abbrev pub IsArrangement : Arrangement → Type 0
-IsArrangement a = (world : World) × IsArranged asker world a
-
 -- the file says a world, which is arranged so
 abbrev pub IsArrangedFile : List ℕ → Arrangement → Type 0
 IsArrangedFile file a = (world : World) × IsWorld file world × IsArranged asker world a

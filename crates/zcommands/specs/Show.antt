@@ -10,7 +10,7 @@ use Rattle.zapdu.specs.declared.apdu.Apdu.{Apdu}
 use Rattle.zapdu.specs.declared.apdu.Kind.{Kind}
 use Rattle.zapdu.specs.Writes.{Writes, IsNoApdu, IsMalformed}
 use Rattle.zcommands.specs.Digits.{octets_of}
-use Rattle.zcommands.specs.Lines.{apdu_text}
+use Rattle.zlines.specs.Lines.{apdu_text}
 use Rattle.zcommands.specs.Faults.{answer_status}
 use Rattle.zcommands.specs.Devices.{Device, Stays, Gains, Stops, IsOfStream, TellsAnswer}
 use Rattle.zcommands.specs.declared.fault.Fault.{Fault}

@@ -6,7 +6,7 @@ use Rattle.zber.specs.Stream.{Stream}
 use Rattle.zber.specs.Unfinished.{IsUnfinished}
 use Rattle.zapdu.specs.declared.apdu.Apdu.{Apdu}
 use Rattle.zapdu.specs.Writes.{Writes}
-use Rattle.zcommands.specs.Lines.{apdu_text}
+use Rattle.zlines.specs.Lines.{apdu_text}
 use Rattle.zcommands.specs.Show.{limit, Shown}
 use Rattle.zcommands.specs.Devices.{Device, Stays, Gains, FailsPut}
 use Rattle.zcommands.specs.declared.fault.Fault.{Fault}

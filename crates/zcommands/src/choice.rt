@@ -3,7 +3,7 @@
 ghost use Rattle.std.specs.Prelude.{◌≡◌, length, Ok, Err, IfOk, MatchResult};
 ghost use Rattle.std.specs.List.{list_any};
 ghost use Rattle.std.specs.Str.{bytes_eq};
-ghost use Rattle.zcommands.specs.Files.{texts_of};
+ghost use Rattle.zwords.specs.Texts.{texts_of};
 ghost use Rattle.zcommands.specs.Choice.{is_among, is_picked, address_if, IsChosen, Chooses, Knows};
 
 use crate::fault::Fault;

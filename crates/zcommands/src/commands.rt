@@ -17,13 +17,13 @@ use crate::records::{Extract, SavedFiles, records_named};
 use crate::run::run_named;
 use crate::serve::{Service, serve_named};
 use crate::show::show;
-use crate::words;
-use crate::words::Words;
+use crate::usage::tell;
 use clap::Error;
 use std::alloc::Global;
 use std::io::{ErrorKind, Read, Write};
 use std::net::Net;
 use std::time::Clock;
+use zwords::{Words, odd_words, parse};
 
 /// Does what the words ask for, the first being the program's name and the second that of the command. Without words
 /// they are not UTF-8, or memory ran out: nothing is read or printed then, and where memory ran out the answer is
@@ -67,7 +67,7 @@ fn answer_words<'a, S: Folder + Net + Clock, R: Read, W: Write, E: Write, P: Wri
         (held W.contents output.old) (held W.contents output.new)
         (held E.contents errors.old) (held E.contents errors.new) result }
 {
-    let asked = words::parse(alloc, words);
+    let asked = parse(alloc, words);
     answer(alloc, system, asked, input, output, errors, screen)
 }
 
@@ -90,7 +90,7 @@ fn answer<'a, S: Folder + Net + Clock, R: Read, W: Write, E: Write, P: Write + D
 {
     match asked {
         Ok(asked) => call(alloc, system, asked, input, output, errors, screen),
-        Err(error) => words::tell(&error, output, errors),
+        Err(error) => tell(&error, output, errors),
     }
 }
 
@@ -108,8 +108,8 @@ fn refuse<'a, W: Write, E: Write>(
     if kind == ErrorKind::OutOfMemory {
         return Fault::Memory.report(errors);
     }
-    match words::odd_words(alloc) {
-        Ok(error) => words::tell(&error, output, errors),
+    match odd_words(alloc) {
+        Ok(error) => tell(&error, output, errors),
         Err(_) => Fault::Memory.report(errors),
     }
 }

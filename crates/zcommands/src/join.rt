@@ -1,6 +1,6 @@
 //! The command `join`: what saved files know together.
 ghost use Rattle.std.specs.Prelude.{◌≡◌, ◌↔◌, ◌∷◌, IsTrue, IfSome, IfErr, Result};
-ghost use Rattle.zcommands.specs.Files.{texts_of};
+ghost use Rattle.zwords.specs.Texts.{texts_of};
 ghost use Rattle.zcommands.specs.Join.{IsKnownStatus, Loads, LoadsAt, LoadsAll, Absorbs, AbsorbsAll, IsOfFile, PutsList, Joins, DoesJoin};
 ghost use Rattle.zcommands.specs.Devices.{held};
 ghost use Rattle.zcommands.specs.declared.fault.Fault.{Fault};

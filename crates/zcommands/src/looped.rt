@@ -5,7 +5,8 @@ ghost use Rattle.std.specs.Option.{option_map};
 ghost use Rattle.zcommands.specs.Devices.{held};
 ghost use Rattle.zcommands.specs.Finished.{IsSound, IsOfPaths};
 ghost use Rattle.zcommands.specs.Loop.{IsOfNetwork, LoopsFile, Loops, DoesLoop};
-ghost use Rattle.zcommands.specs.Run.{IsArrangement, IsRunOf};
+ghost use Rattle.zworld.specs.Fitness.{IsArrangement};
+ghost use Rattle.zcommands.specs.Run.{IsRunOf};
 ghost use Rattle.zcommands.specs.Serve.{IsOfService};
 
 use crate::fault::{Fault, Status};

@@ -3,7 +3,7 @@
 ghost use Rattle.std.specs.Prelude.{◌≡◌, ◌++◌, ◌∷◌, codes, IfErr, IfOk, OnOk, MatchResult, Ok, Err};
 ghost use Rattle.std.specs.Option.{option_map};
 ghost use Rattle.zcommands.specs.Devices.{held};
-ghost use Rattle.zcommands.specs.Files.{texts_of};
+ghost use Rattle.zwords.specs.Texts.{texts_of};
 ghost use Rattle.zcommands.specs.Records.{ReadsSyntax, left_line, left_text, extract, PutsRecords, Extracts, DoesRecords};
 
 use crate::fault::{Fault, Status};

@@ -4,7 +4,8 @@ ghost use Rattle.std.specs.Prelude.{◌≡◌, IfOk, IfErr, IfSome};
 ghost use Rattle.std.specs.Option.{option_map};
 ghost use Rattle.zcommands.specs.Devices.{held};
 ghost use Rattle.zcommands.specs.Finished.{IsSound, IsOfPaths, IsOfWorld};
-ghost use Rattle.zcommands.specs.Run.{Arranges, IsArrangement, IsWholeRunOf, RunsFile, Runs, DoesRun};
+ghost use Rattle.zworld.specs.Fitness.{IsArrangement};
+ghost use Rattle.zcommands.specs.Run.{Arranges, IsWholeRunOf, RunsFile, Runs, DoesRun};
 
 use crate::fault::{Fault, Status};
 use crate::files::{Folder, named};

@@ -7,7 +7,6 @@ ghost use Rattle.zcommands.specs.Devices.{left, held, IsOfStream};
 use crate::digits::decode;
 use crate::fault::{Fault, Status};
 use crate::input::Input;
-use crate::lines::print_apdu;
 use crate::output::Output;
 use std::alloc::Global;
 use std::io::{Read, Write};
@@ -15,6 +14,7 @@ use zapdu::from_element;
 use zapdu::laws::{one_refusal, one_value};
 use zber::Framer;
 use zber::laws::one_answer;
+use zlines::print_apdu;
 
 /// The most octets of one message.
 const MESSAGE_LIMIT: u32 = 2_097_152;

@@ -1,5 +1,5 @@
-// APDUs in octets, worked out by hand from Z39.50-2003, 4.1, and X.690, each tag of each production in one of them; and what
-// they stand for. Of each kind one has all parts that may be absent, and one has none.
+// APDUs in octets, worked out by hand from Z39.50-2003, 4.1, and X.690, each tag of each production in one of them; and
+// what they stand for. Of each kind one has all parts that may be absent, and one has none.
 use crate::boxes::{apdu_node, apdu_of};
 use crate::encodings::{PRESENT_RESPONSE, PRESENT_RESPONSE_INDEFINITE};
 use crate::parts::Line;

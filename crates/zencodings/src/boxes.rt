@@ -1,5 +1,5 @@
-//! Calls of the layers below that tests of several crates make, without their contracts and with large values in boxes: no test
-//! needs the contracts, and what is proved of a function is dear where it owns a large value.
+//! Calls of the layers below that tests of several crates make, without their contracts and with large values in boxes:
+//! no test needs the contracts, and what is proved of a function is dear where it owns a large value.
 use crate::rows::element;
 use crate::unread::Unread;
 use std::alloc::{AllocError, Global};

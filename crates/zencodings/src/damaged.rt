@@ -172,8 +172,8 @@ fn each_changed_octet_of_an_encoding_is_answered(rt: HostRuntime) -> Result<(), 
     each_row(rt.alloc(), rows.as_str(), &is_answered_changed_anywhere)
 }
 
-// How many strings of octets are the front of a message, are an APDU, are another message, and show a fault; and the sum of the
-// numbers at which they are refused.
+// How many strings of octets are the front of a message, are an APDU, are another message, and show a fault; and the
+// sum of the numbers at which they are refused.
 #[derive(Clone, Copy, Debug, PartialEq, Eq)]
 struct Tally {
     fronts: u64,
@@ -224,8 +224,8 @@ impl Tally {
     }
 }
 
-// Messages, and of those that one octet makes of them how many are fronts, APDUs, other messages, malformed APDUs and faults, and
-// the sum of the places; as another reader tells them, which was written in another language.
+// Messages, and of those that one octet makes of them how many are fronts, APDUs, other messages, malformed APDUs and
+// faults, and the sum of the places; as another reader tells them, which was written in another language.
 const CHANGED: &str = "\
 b421820400000000830205e0840301c006850310000086031000009f6f057a6d657461 99 4608 240 1228 2750 47506
 b51c820400000000830205e0840301c006850310000086031000008c01ff 100 3585 240 1254 2471 39682

@@ -1,5 +1,5 @@
-//! Octets from outside, each with what it stands for: elements, values, queries, records and APDUs. And what reads the rows of
-//! such tables, for the crates of tests above.
+//! Octets from outside, each with what it stands for: elements, values, queries, records and APDUs. And what reads the
+//! rows of such tables, for the crates of tests above.
 #![tactic(auto)]
 
 #[cfg(test)]
@@ -48,3 +48,4 @@ mod structures;
 pub mod unread;
 #[cfg(test)]
 mod values;
+pub mod worlds;

@@ -10,9 +10,9 @@ use std::test::Fail;
 use zapdu::{Apdu, ApduError, Kind};
 use zber::{Body, Node, Tag};
 
-// Kinds and APDUs, and for each change and each element how many elements stand before the fault, in base 36; a dot where
-// none is at fault. In order each element is dropped, doubled, swapped with the next one (the last one stays), renamed to
-// `[99]`, put into the other form and emptied, emptied.
+// Kinds and APDUs, and for each change and each element how many elements stand before the fault, in base 36; a dot
+// where none is at fault. In order each element is dropped, doubled, swapped with the next one (the last one stays),
+// renamed to `[99]`, put into the other form and emptied, emptied.
 const ROWS: &str = "\
 InitRequest b421820400000000830205e0840301c006850310000086031000009f6f057a6d657461 .1234. 123456 11234. 012345 .1234. .1234.
 InitResponse b51c820400000000830205e0840301c006850310000086031000008c01ff .12345 123456 11234. 012345 .12345 .12345

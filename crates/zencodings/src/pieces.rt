@@ -24,7 +24,8 @@ fn is_message(framer: &mut Framer) -> Result<bool, FrameError> {
     Ok(message.is_some())
 }
 
-// How many octets stood before each one that ended a message, of octets that are fed one by one with a question after each.
+// How many octets stood before each one that ended a message, of octets that are fed one by one with a question after
+// each.
 fn ends(alloc: Global, framer: &mut Framer, stream: &[u8]) -> Result<Vec<usize>, Unread> {
     let mut ends = Vec::new(alloc);
     for (before, octet) in stream.iter().enumerate() {
@@ -44,8 +45,8 @@ fn has_counts(framer: &Framer, due: &str) -> Result<bool, Unread> {
     Ok(counts.contains(&framer.examined()) && framer.skipped() == skipped.parse::<u64>()?)
 }
 
-// Octets that are one message, the least and the most of them that are looked at, and how many are passed over. A framer that
-// began anew at each question would look at 80,001,000,000 octets of the second.
+// Octets that are one message, the least and the most of them that are looked at, and how many are passed over. A
+// framer that began anew at each question would look at 80,001,000,000 octets of the second.
 const COUNTED: &str = "\
 b9268204000000029801019901029b0100bc153013a111a10f280d06072a8648ce13050a81026869 0 -: 24 40 16
 b9808204000000029801019901029b0100bc803015a113a1112882000d06072a8648ce13050a8102686900000000 0 -: 30 46 16
@@ -155,7 +156,8 @@ fn is_reference(node: &Node) -> bool {
     }
 }
 
-// How many responses come of octets that are fed seven at a time, none of which ends two; `None` where something else comes.
+// How many responses come of octets that are fed seven at a time, none of which ends two; `None` where something else
+// comes.
 fn responses(framer: &mut Framer, stream: &[u8]) -> Option<u32> {
     let mut count = 0u32;
     for piece in stream.chunks(7) {
@@ -172,7 +174,8 @@ fn responses(framer: &mut Framer, stream: &[u8]) -> Option<u32> {
     Some(count)
 }
 
-// With ample memory each step is made once. Where one of its allocations is refused, the step is made again, and answers the same.
+// With ample memory each step is made once. Where one of its allocations is refused, the step is made again, and
+// answers the same.
 #[test]
 fn a_session_goes_on_where_memory_was_refused(rt: HostRuntime) -> Result<(), Fail> {
     let row =

@@ -142,8 +142,8 @@ fn records_of_each_form_are_printed(rt: HostRuntime) -> Result<(), Fail> {
     each_row(rt.alloc(), PRINTED, &is_printed)
 }
 
-// Tags of a fragment and levels of elements within it, and its record's canonical encoding, which may have any number of
-// levels, or nothing, where the tag is none of a fragment.
+// Tags of a fragment and levels of elements within it, and its record's canonical encoding, which may have any number
+// of levels, or nothing, where the tag is none of a fragment.
 pub(crate) const MADE: &str = "\
 3 0=3006a104a3028000
 4 1=3008a106a40430028000

@@ -1,4 +1,5 @@
-//! What the tables of vectors share: a table is a text with a row on each line, and octets stand in it as hexadecimal digits.
+//! What the tables of vectors share: a table is a text with a row on each line, and octets stand in it as hexadecimal
+//! digits.
 ghost use Rattle.std.specs.Prelude.{◌≡◌, ◌↔◌, true, Ok, IsTrue, IsOkAnd, string_bytes};
 
 use crate::unread::Unread;

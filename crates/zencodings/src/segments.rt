@@ -1,4 +1,5 @@
-// Strings in constructed form (X.690, 8.7.3 and 8.23): by themselves, at each place of APDUs and queries, and of many segments.
+// Strings in constructed form (X.690, 8.7.3 and 8.23): by themselves, at each place of APDUs and queries, and of many
+// segments.
 ghost use Rattle.std.specs.Prelude.{◌<◌};
 
 use crate::apdus::{APDUS, put_indefinite};
@@ -13,7 +14,8 @@ use std::process::Abort;
 use std::test::Fail;
 use zber::{Body, Node, Oid, Tag, ValueError};
 
-// Elements, and the octets of the strings that they are, or why they are none; a line with `#` says what those below it have.
+// Elements, and the octets of the strings that they are, or why they are none; a line with `#` says what those below it
+// have.
 pub(crate) const STRINGS: &str = "\
 # The primitive form.
 8100 -
@@ -83,7 +85,8 @@ fn either_form_says_the_same(rt: HostRuntime) -> Result<(), Fail> {
     each_row(rt.alloc(), SPELLED, &is_spelled)
 }
 
-// What a string is made into: one segment, three, three within one, none; and, for what none says, primitive with no octets.
+// What a string is made into: one segment, three, three within one, none; and, for what none says, primitive with no
+// octets.
 #[derive(Clone, Copy, PartialEq, Eq)]
 enum Form {
     One,
@@ -124,7 +127,8 @@ fn formed(alloc: Global, tag: Tag, octets: &Bytes, form: Form) -> Result<Node, A
     Ok(Node::cons(tag, nodes))
 }
 
-// A copy with the string at a place in another form; the element itself has place 0, and each the next one as it begins.
+// A copy with the string at a place in another form; the element itself has place 0, and each the next one as it
+// begins.
 fn changed(alloc: Global, node: &Node, place: &mut usize, form: Form) -> Result<Node, AllocError> {
     let here = *place == 0;
     *place = place.wrapping_sub(1);

@@ -185,8 +185,8 @@ fn other_lengths_say_the_same(rt: HostRuntime) -> Result<(), Fail> {
     Ok(())
 }
 
-// Numbers of context tags; and in which places of opaque parts an element of the tag may stand that is primitive, and one
-// that is constructed: as a term, as the value of an attribute, as proximity.
+// Numbers of context tags; and in which places of opaque parts an element of the tag may stand that is primitive, and
+// one that is constructed: as a term, as the value of an attribute, as proximity.
 const OPAQUE: &str = "\
 0 ... ...
 3 ... ..p

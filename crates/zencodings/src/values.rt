@@ -81,7 +81,8 @@ oid 908080804f 2.4294967295
 oid 908080804f8fffffff7f 2.4294967295.4294967295
 ";
 
-// The same of contents that are not written, each with its value or why it has none; `()` stands for a constructed element.
+// The same of contents that are not written, each with its value or why it has none; `()` stands for a constructed
+// element.
 const READ: &str = "\
 integer 000001 1
 integer ffff -1

@@ -17,15 +17,16 @@ use Rattle.ztarget.specs.declared.database.Database.{Database}
 use Rattle.ztarget.specs.declared.settings.TargetSettings.{TargetSettings}
 use Rattle.ztarget.specs.declared.error.TargetError.{TargetError}
 use Rattle.ztarget.specs.Replies.{Answer, owed, reply_of, replies}
-use Rattle.zoom.specs.declared.question.Question.{Question}
+use Rattle.zquestions.specs.declared.question.Question.{Question}
 use Rattle.zoom.specs.Heard.{past_of}
 use Rattle.zoom.specs.Hosts.{replies_to}
 use Rattle.zoom.specs.Laws.{OneHearing}
 use Rattle.zoom.specs.Leaving.{AreReadBack}
 use Rattle.zoom.specs.History.{only}
 use Rattle.zoom.specs.MetaLaws.{MetaLaws, found_for}
-use Rattle.zoom.specs.Metas.{AreAskable, settings_of}
-use Rattle.zoom.specs.Steering.{IsAskable}
+use Rattle.zquestions.specs.Askable.{AreAskable}
+use Rattle.zoom.specs.Metas.{settings_of}
+use Rattle.zquestions.specs.Askable.{IsAskable}
 use Rattle.zoom.proofs.Drivings.{asked_more, same_asked}
 use Rattle.zoom.proofs.Phases.{any_last}
 use Rattle.zplan.specs.Positions.{up_to}

@@ -14,3 +14,4 @@ pub mod Counts
 pub mod Over
 pub mod Answering
 pub mod Ended
+pub mod Tried

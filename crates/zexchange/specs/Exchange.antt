@@ -7,15 +7,15 @@ use Rattle.zapdu.specs.declared.apdu.Apdu.{Apdu}
 use Rattle.zorigin.specs.declared.settings.Settings.{Settings}
 use Rattle.zorigin.specs.Standings.{Call}
 use Rattle.zorigin.specs.Sending.{encoding_of}
-use Rattle.zorigin.specs.Log.{Log, Made, Got, outstanding}
+use Rattle.zorigin.specs.Log.{Log, Made, Got, opening, outstanding}
 use Rattle.ztarget.specs.Receiving.{may_release}
-use Rattle.zoom.specs.declared.question.Question.{Question}
-use Rattle.zoom.specs.declared.question.MetaSettings.{MetaSettings}
+use Rattle.zquestions.specs.declared.question.Question.{Question}
+use Rattle.zquestions.specs.declared.question.MetaSettings.{MetaSettings}
 use Rattle.zoom.specs.declared.state.State.TheVariants as states
 use Rattle.zoom.specs.States.{is_stopped}
 use Rattle.zoom.specs.Coming.{limit, Met, IsBehind}
 use Rattle.zoom.specs.Heard.{Deed, Calls, Feeds, Takes, Gives, Heard, HasHeard, Meets, silence, past_of, state_at, sent, take_at, hears_call, hears_piece}
-use Rattle.zoom.specs.Steering.{errand_of, complete_in}
+use Rattle.zoom.specs.Steering.{errand_of, complete_in, is_rejected, IsTried}
 use Rattle.zoom.specs.Hosts.{HostState, Holdings, HostAfter, Served, HasServed, Event, Fed, FedPart, Released, HandedOut, handed_out, replies_to}
 use Rattle.zoom.specs.History.{History, only}
 use Rattle.zoom.specs.Leaving.{AreReadBack}
@@ -228,6 +228,13 @@ EndedLaw =
     → NoneIsNext (errand_of s q) p → p.stop ≡ None → outstanding (past_of p) ≡ []
     → state_at p ≢ states.Initialising → state_at p ≢ states.Closing → is_stopped (state_at p) ≡ true
 
+-- one that is complete and was not rejected tried its search: it was admitted, or skipped
+abbrev pub TriedLaw : Type 0
+TriedLaw =
+    (questions : List Question) (s : MetaSettings) (h : History) (meta : MetaLinks) (c : ℕ) (q : Question) (p : Heard)
+    → MetaAfter questions s h meta → slice_get questions c ≡ Some q → HasHeard (settings_of s) (only c h) p
+    → complete_in (past_of p) ≡ true → is_rejected (opening (past_of p)) ≡ false → IsTried p.settings p.log
+
 -- so many requests are sent at most, and so many octets
 abbrev pub FewLaw : Type 0
 FewLaw =
@@ -255,4 +262,5 @@ pub record ExchangeLaws : Type 0 where
   pub empty : EmptyLaw
   pub over : OverLaw
   pub ended : EndedLaw
+  pub tried : TriedLaw
   pub few : FewLaw

@@ -13,8 +13,8 @@ use zencodings::rows::{element, pair};
 use zencodings::unread::Unread;
 use zknow::{Fact, Knowledge};
 
-// The element that a word names: digits; or of two octets, a record of them in the syntax 1.2.840.10003.5.10 with the shortest
-// lengths; or behind `~` the same with longer lengths.
+// The element that a word names: digits; or of two octets, a record of them in the syntax 1.2.840.10003.5.10 with the
+// shortest lengths; or behind `~` the same with longer lengths.
 fn digits_of(alloc: Global, word: &str) -> Result<String, AllocError> {
     match word.as_bytes() {
         [first, second] => format!(in alloc;

@@ -1,4 +1,5 @@
-// Facts of few keys, so that many meet, in orders of no kind in particular and joined from parts: their list is that of the reference.
+// Facts of few keys, so that many meet, in orders of no kind in particular and joined from parts: their list is that of
+// the reference.
 use crate::facts::nothing;
 use crate::known::add_in_order;
 use crate::reference::{facts_of, list};
@@ -11,8 +12,8 @@ use zencodings::rows::each_row;
 use zencodings::unread::Unread;
 use zknow::{Knowledge, Mode};
 
-// Records: three with the octets of one syntax, one of them twice in different lengths; a surrogate diagnostic, a fragment and an
-// element.
+// Records: three with the octets of one syntax, one of them twice in different lengths; a surrogate diagnostic, a
+// fragment and an element.
 const RECORDS: [&str; 7] = [
     "r1",
     "x2",

@@ -90,7 +90,8 @@ pub(crate) fn target_of(
     Ok(boxed(alloc, target)?)
 }
 
-// `LIBRARY SIZE OPTIONS`: of the options `c` offers concurrent operations, `n` named result sets, and `r` refuses each association.
+// `LIBRARY SIZE OPTIONS`: of the options `c` offers concurrent operations, `n` named result sets, and `r` refuses each
+// association.
 fn target(alloc: Global, row: &str) -> Result<Box<Target>, Unread> {
     let (library, others) = pair(row);
     let (size, options) = pair(others);
@@ -182,8 +183,9 @@ fn goes(alloc: Global, target: &mut Target, row: &str) -> Result<bool, Unread> {
     Ok(tells(answer, due))
 }
 
-// Sessions, each `new` with a library and the settings, and then its steps, a row for each: `ask` a request and get its reply, `receive` a request,
-// `release` a pending reply, and how many are `pending`; and behind `=` the answer. APDUs are in hexadecimal.
+// Sessions, each `new` with a library and the settings, and then its steps, a row for each: `ask` a request and get its
+// reply, `receive` a request, `release` a pending reply, and how many are `pending`; and behind `=` the answer. APDUs
+// are in hexadecimal.
 pub(crate) fn go_as_told(rt: &(impl Abort + AllocGlobal), sessions: &str) -> Result<(), Fail> {
     let mut current = target(rt.alloc(), "one 4096 -")?;
     for row in sessions.lines() {

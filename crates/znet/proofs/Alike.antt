@@ -1,7 +1,7 @@
 -- Deeds of one connection: behind histories that tell the same of it, and in histories that go on.
 use Rattle.std.proofs.Common.{◌≡◌, ◌∙◌, sym, ap, refl, append-nil, arith, ℕ, zero, suc, ◌<◌, ◌==◌, Bool, true, false, List, [], ◌∷◌, ◌++◌, length, get_or, Option, is_some}
-use Rattle.zoom.specs.declared.question.Question.{Question}
-use Rattle.zoom.specs.declared.question.MetaSettings.{MetaSettings}
+use Rattle.zquestions.specs.declared.question.Question.{Question}
+use Rattle.zquestions.specs.declared.question.MetaSettings.{MetaSettings}
 use Rattle.zoom.specs.declared.state.Reason.TheVariants as reasons
 use Rattle.zoom.specs.Heard.{Gives, Stops}
 use Rattle.zoom.specs.History.{History, only}

@@ -1,7 +1,7 @@
 -- What the steps of asking do, each for every history that can have left the connections.
 use Rattle.std.specs.Prelude.{◌≡◌, ℕ, ◌<◌, ◌≤◌, Bool, true, false, List, [], ◌++◌, length, Option}
-use Rattle.zoom.specs.declared.question.Question.{Question}
-use Rattle.zoom.specs.declared.question.MetaSettings.{MetaSettings}
+use Rattle.zquestions.specs.declared.question.Question.{Question}
+use Rattle.zquestions.specs.declared.question.MetaSettings.{MetaSettings}
 use Rattle.zoom.specs.History.{History, only}
 use Rattle.zoom.specs.Metas.{MetaLinks, MetaAfter}
 use Rattle.ztalk.specs.Talks.{IsStoppedAt}

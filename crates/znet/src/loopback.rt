@@ -1,8 +1,8 @@
 //! Connections to targets within one process, over TCP on 127.0.0.1.
 ghost use Rattle.std.specs.Prelude.{◌≡◌, ◌≤◌, ◌<◌, ◌^◌, length, IfOk};
-ghost use Rattle.zoom.specs.Steering.{AreFit};
-ghost use Rattle.zoom.specs.Metas.{AreAskable};
-ghost use Rattle.zoom.specs.Hosts.{AreNew};
+ghost use Rattle.zquestions.specs.Askable.{AreFit};
+ghost use Rattle.zquestions.specs.Askable.{AreAskable};
+ghost use Rattle.zquestions.specs.NewTargets.{AreNew};
 ghost use Rattle.zrounds.specs.Run.{Ran};
 
 use crate::line::{PATIENCE, set_limits};

@@ -16,8 +16,8 @@ use Rattle.zorigin.specs.Calls.{refusal, call_answer, answer_by}
 use Rattle.zorigin.specs.Sending.{request_of, sent_of}
 use Rattle.zorigin.specs.Laws.{IsSent}
 use Rattle.zorigin.specs.Log.{Log, Made, Past, past, standing, state_of, admit_unless, IsCalled}
-use Rattle.zoom.specs.declared.question.Question.{Question}
-use Rattle.zoom.specs.declared.question.MetaSettings.{MetaSettings}
+use Rattle.zquestions.specs.declared.question.Question.{Question}
+use Rattle.zquestions.specs.declared.question.MetaSettings.{MetaSettings}
 use Rattle.zoom.specs.declared.state.State.{State}
 use Rattle.zoom.specs.declared.call.Call.{Call as RustCall}
 use Rattle.zoom.specs.CallsOf.{call_of}

@@ -35,7 +35,8 @@ use Rattle.zorigin.specs.Log.{outstanding, op_of, searches_in, with_outcome, out
 use Rattle.zoom.specs.declared.phase.Phase.{Phase}
 use Rattle.zoom.specs.declared.phase.Phase.TheVariants as phases
 use Rattle.zoom.specs.Driving.{operation_for, DrivenLaws}
-use Rattle.zoom.specs.Steering.{Errand, HasArcs, IsNextCall, is_skip, may_call, room_in}
+use Rattle.zquestions.specs.Askable.{HasArcs}
+use Rattle.zoom.specs.Steering.{Errand, IsNextCall, is_skip, may_call, room_in}
 use Rattle.zoom.specs.Drivers.{DriverState, IsDriver, IsAt, AtOpened, HasOpening, HasFound, AllAnswered, events_at, found_events}
 use Rattle.zoom.specs.Drivers.{opened_events}
 use Rattle.zoom.specs.Due.{CanAskFor, CanBeCalled, DueLaws}

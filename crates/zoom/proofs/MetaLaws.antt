@@ -1,7 +1,7 @@
 -- How much is asked of a connection that is driven follows from its log.
 use Rattle.std.proofs.Common.{◌≡◌, ℕ, zero, suc, List, [], ◌∷◌, length, slice_get, Some, refl}
 use Rattle.zorigin.specs.Ranges.{positions}
-use Rattle.zoom.specs.declared.question.Question.{Question}
+use Rattle.zquestions.specs.declared.question.Question.{Question}
 use Rattle.zoom.specs.Driving.{DrivenLaws}
 use Rattle.zoom.specs.Steering.{ask_of}
 use Rattle.zoom.specs.Drivers.{DriverState}

@@ -14,8 +14,8 @@ use Rattle.zorigin.specs.declared.refusal.Refused.{Refused}
 use Rattle.zorigin.specs.Standings.{Call}
 use Rattle.zorigin.specs.Replies.{verdict}
 use Rattle.zorigin.specs.Log.{Made, Got, standing, state_of}
-use Rattle.zoom.specs.declared.question.Question.{Question}
-use Rattle.zoom.specs.declared.question.MetaSettings.{MetaSettings}
+use Rattle.zquestions.specs.declared.question.Question.{Question}
+use Rattle.zquestions.specs.declared.question.MetaSettings.{MetaSettings}
 use Rattle.zoom.specs.declared.state.State.{State}
 use Rattle.zoom.specs.declared.state.State.TheVariants as states
 use Rattle.zoom.specs.declared.state.Reason.{Reason}
@@ -29,9 +29,11 @@ use Rattle.zoom.specs.Heard.{Heard, HasHeard, Hears, Deed, Calls, Feeds, Takes, 
 use Rattle.zoom.specs.Heard.{hears_call, hears_piece, stop_by, end_by, truncated, past_of, state_at, told_by, told_as, IsDone}
 use Rattle.zoom.specs.Links.{Link}
 use Rattle.zoom.specs.History.{History, only, Stands, After, AfterUpTo}
-use Rattle.zoom.specs.Steering.{Errand, errand_with, errand_of, IsAskable, AreFit}
+use Rattle.zquestions.specs.Askable.{IsAskable, AreFit}
+use Rattle.zoom.specs.Steering.{Errand, errand_with, errand_of}
 use Rattle.zoom.specs.Drivers.{DriverState, IsDriver, KnowsTold, RefusedLaw}
-use Rattle.zoom.specs.Metas.{MetaLinks, settings_of, AreDriven, MetaAfter, MetaAfterUpTo, MetaTook, MetaKeeps, KnowsTake, LearnsTold, AreAskable, StandFor, Tells}
+use Rattle.zquestions.specs.Askable.{AreAskable}
+use Rattle.zoom.specs.Metas.{MetaLinks, settings_of, AreDriven, MetaAfter, MetaAfterUpTo, MetaTook, MetaKeeps, KnowsTake, LearnsTold, StandFor, Tells}
 use Rattle.zoom.specs.Laws.{OneMeeting, OneHearing, UpToLaw}
 use Rattle.zoom.specs.Befalling.{IsStateAt, IsToldAnswer, Took, Keeps}
 use Rattle.zoom.proofs.Pools.{only_same, only_other, get_same}

@@ -6,9 +6,10 @@ use Rattle.zplan.specs.Ranges.{AreWanted}
 use Rattle.zplan.specs.Ranges as plans
 use Rattle.zorigin.specs.declared.settings.Settings.{Settings}
 use Rattle.zorigin.specs.Ranges.{positions}
-use Rattle.zoom.specs.declared.question.Question.{Question}
+use Rattle.zquestions.specs.declared.question.Question.{Question}
 use Rattle.zoom.specs.declared.phase.Phase.TheVariants as phases
-use Rattle.zoom.specs.Steering.{Errand, HasArcs, ask_of, errand_with, plan_range}
+use Rattle.zquestions.specs.Askable.{HasArcs, plan_range}
+use Rattle.zoom.specs.Steering.{Errand, ask_of, errand_with}
 use Rattle.zoom.specs.Drivers.{DriverState, IsDriver}
 use Rattle.zoom.proofs.Wants.{wanted_of, same_positions}
 

@@ -13,7 +13,7 @@ use Rattle.zplan.proofs.Cuts.{places_ascend}
 use Rattle.zorigin.specs.declared.range.Range.{Range}
 use Rattle.zorigin.specs.Ranges.{natural, positions, positions_of, last_of, is_range, follow, are_ranges}
 use Rattle.zorigin.proofs.Ranges.{IsGood, good_each, follows, natural_low}
-use Rattle.zoom.specs.Steering.{plan_range}
+use Rattle.zquestions.specs.Askable.{plan_range}
 use Rattle.zoom.specs.Drivers.{range_back}
 
 same_places : (rs : List PlanRange) → places (map span_of rs) ≡ plans.positions rs

@@ -24,14 +24,6 @@ pub record HostState : Type 0 where
   pub stopped : Bool
   pub closed : Bool
 
--- a target that has received nothing yet
-abbrev pub IsNew : TargetState → Type 0
-IsNew t = t ≡ new_target t.databases t.settings
-
-abbrev pub AreNew : List TargetState → Type 0
-AreNew [] = Unit {0}
-AreNew (t ∷ ts) = IsNew t × AreNew ts
-
 -- what a target has
 pub record Holdings : Type 0 where
   pub databases : List Database

@@ -4,8 +4,8 @@ use Rattle.zplan.specs.Plan.{replies_in, count_in}
 use Rattle.zplan.specs.Positions.{up_to}
 use Rattle.zorigin.specs.Ranges.{positions}
 use Rattle.zorigin.specs.Log.{asked}
-use Rattle.zoom.specs.declared.question.Question.{Question}
-use Rattle.zoom.specs.declared.question.MetaSettings.{MetaSettings}
+use Rattle.zquestions.specs.declared.question.Question.{Question}
+use Rattle.zquestions.specs.declared.question.MetaSettings.{MetaSettings}
 use Rattle.zoom.specs.Driving.{events_of}
 use Rattle.zoom.specs.Heard.{Heard, HasHeard, past_of}
 use Rattle.zoom.specs.History.{History, only}

@@ -3,8 +3,8 @@
 use Rattle.std.specs.Prelude.{◌≡◌, ◌↔◌, ℕ, ◌+◌, ◌<◌, ◌≤◌, Bool, true, false, List, [], ◌∷◌, ◌++◌, map, length, slice_get, Option, None, Some, Result, Ok, Err}
 use Rattle.zorigin.specs.declared.settings.Settings.{Settings}
 use Rattle.zorigin.specs.Standings.{Call}
-use Rattle.zoom.specs.declared.question.Question.{Question}
-use Rattle.zoom.specs.declared.question.MetaSettings.{MetaSettings}
+use Rattle.zquestions.specs.declared.question.Question.{Question}
+use Rattle.zquestions.specs.declared.question.MetaSettings.{MetaSettings}
 use Rattle.zoom.specs.declared.meta.Turn.{Turn}
 use Rattle.zoom.specs.declared.meta.Turn.TheVariants as turns
 use Rattle.zoom.specs.declared.answer.Told.{Told}
@@ -15,7 +15,8 @@ use Rattle.zoom.specs.Coming.{Met}
 use Rattle.zoom.specs.Heard.{Heard, HasHeard, Deed, Calls, Takes, take_at, told_as, past_of, state_at}
 use Rattle.zoom.specs.Links.{Links}
 use Rattle.zoom.specs.History.{History, only, After, AfterUpTo}
-use Rattle.zoom.specs.Steering.{Errand, errand_with, errand_of, IsAskable, AreFit, IsNextCall, IsTried, skipped_in, complete_in}
+use Rattle.zquestions.specs.Askable.{AreAskable, AreFit}
+use Rattle.zoom.specs.Steering.{Errand, errand_with, errand_of, IsNextCall, IsTried, skipped_in, complete_in}
 use Rattle.zoom.specs.Drivers.{DriverState, IsDriver, HasOpening, Offers, KnowsTold}
 
 -- A pool, and what drives each of its connections, by number.
@@ -25,11 +26,6 @@ pub record MetaLinks : Type 0 where
 
 abbrev pub settings_of : MetaSettings → Settings
 settings_of s = record { name = s.name }
-
--- each question can be asked
-abbrev pub AreAskable : List Question → Type 0
-AreAskable [] = Unit {0}
-AreAskable (q ∷ qs) = IsAskable q × AreAskable qs
 
 -- each connection is driven for its question
 pub record AreDriven (questions : List Question) (s : MetaSettings) (h : History) (drivers : List DriverState)

@@ -1,15 +1,12 @@
 -- A connection that is driven for one question: which call is next, and the logs in which each call was the next one
 -- (Z39.50-2003, 3.2.1.1, 3.2.2.1, 3.2.3.1 and 3.2.11.1).
-use Rattle.std.specs.Prelude.{◌≡◌, ◌≢◌, ◌⊎◌, ℕ, pos, ◌<◌, ◌≤◌, Bool, true, false, ◌||◌, not, if◌then◌else◌, List, [], ◌∷◌, map, length, Option, None, Some}
+use Rattle.std.specs.Prelude.{◌≡◌, ◌≢◌, ◌⊎◌, ℕ, pos, ◌≤◌, Bool, true, false, ◌||◌, not, if◌then◌else◌, List, [], ◌∷◌, length, Option, None, Some}
 use Rattle.std.specs.List.{list_any, flat_map}
 use Rattle.zapdu.specs.declared.apdu.Apdu.{Apdu}
 use Rattle.zapdu.specs.declared.apdu.Apdu.TheVariants as apdus
-use Rattle.zplan.specs.declared.range.Range.{Range as PlanRange}
-use Rattle.zplan.specs.Ranges.{AreWanted}
 use Rattle.zplan.specs.Plan.{IsNext}
 use Rattle.zorigin.specs.declared.settings.Settings.{Settings}
 use Rattle.zorigin.specs.declared.settings.Ask.{Ask}
-use Rattle.zorigin.specs.declared.range.Range.{Range}
 use Rattle.zorigin.specs.declared.answer.Answer.{Answer}
 use Rattle.zorigin.specs.declared.refusal.CallRefused.{CallRefused}
 use Rattle.zorigin.specs.declared.refusal.CallRefused.TheVariants as calls
@@ -18,13 +15,13 @@ use Rattle.zorigin.specs.Standings.{Call, Init, Search, Present, Close, is_fresh
 use Rattle.zorigin.specs.Ranges.{positions}
 use Rattle.zorigin.specs.Calls.{refusal}
 use Rattle.zorigin.specs.Log.{Log, Made, Got, Past, past, standing, state_of, opening, force_after, is_close_call, search_in}
-use Rattle.zoom.specs.declared.question.Question.{Question}
-use Rattle.zoom.specs.declared.question.MetaSettings.{MetaSettings}
+use Rattle.zquestions.specs.declared.question.Question.{Question}
+use Rattle.zquestions.specs.declared.question.MetaSettings.{MetaSettings}
+use Rattle.zquestions.specs.Askable.{HasArcs}
 use Rattle.zoom.specs.Driving.{plan_of, events_of, IsNumbered}
 
 -- What is asked of one connection: the search; the positions that are wanted; how many of them one Present asks for;
--- how
--- many Presents wait for their answers at a time, where the target takes several.
+-- how many Presents wait for their answers at a time, where the target takes several.
 pub record Errand : Type 0 where
   pub ask : Ask
   pub wanted : List ℕ
@@ -50,27 +47,6 @@ abbrev pub errand_of : MetaSettings → Question → Errand
 errand_of s q = errand_with q s.step s.window
 
 -- ---- what can be asked
-
-abbrev pub plan_range : Range → PlanRange
-plan_range r = record { start = r.start; n = r.n }
-
-abbrev pub HasArcs : Option (List ℕ) → Type 0
-HasArcs None = Unit {0}
-HasArcs (Some arcs) = length arcs ≤ 1000
-
--- a question can be asked: its ranges ascend and leave gaps, from 1 to 2,147,483,647, 1,000,000 positions at most
-pub record IsAskable (q : Question) : Type 0 where
-  pub wanted : AreWanted (map plan_range q.wanted)
-  pub some : length (positions q.wanted) ≤ 1000000
-  pub syntax : HasArcs q.syntax
-
--- and so
-pub record AreFit (s : MetaSettings) : Type 0 where
-  pub name : length s.name ≤ 2000000
-  pub steps : 0 < s.step
-  pub most : s.step ≤ 1000
-  pub room : 0 < s.window
-  pub widest : s.window ≤ 64
 
 -- What an errand and its connection keep to, so that the calls can be sent: its name and its syntax are short, a
 -- Present asks for few positions, and the search for no records.

@@ -4,13 +4,13 @@ ghost use Rattle.zplan.specs.Ranges.{AreWanted};
 ghost use Rattle.zorigin.specs.declared.settings.Settings.{Settings};
 ghost use Rattle.zorigin.specs.Log.{is_close_call};
 ghost use Rattle.zoom.specs.CallsOf.{call_of};
-ghost use Rattle.zoom.specs.Steering.{HasArcs, plan_range, errand_with};
+ghost use Rattle.zquestions.specs.Askable.{HasArcs, plan_range};
+ghost use Rattle.zoom.specs.Steering.{errand_with};
 ghost use Rattle.zoom.specs.Drivers.{IsDriver, Stays, GivesNext, KnowsSent, KnowsRefused, KnowsTold, Prepares, RefusedLaw, is_rejection_of};
 
 use crate::call::Call;
 use crate::driving::{driven_laws, due_laws};
 use crate::phase::{Phase, give, send, tell};
-use crate::question::Question;
 use crate::state::State;
 use std::alloc::{AllocError, Global};
 use std::marker::Model;
@@ -18,6 +18,7 @@ use zorigin::laws::orderly_logs;
 use zorigin::{Ask, Range, Taken};
 use zplan::Schedule;
 use zplan::laws::{agenda_laws, bound_laws, next_laws, number_law};
+use zquestions::Question;
 
 /// What drives one connection: it knows which call is next.
 ///

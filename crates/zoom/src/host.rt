@@ -2,7 +2,8 @@
 ghost use Rattle.std.specs.Prelude.{◌≡◌, ◌++◌, ◌&&◌, ◌||◌, not, [], true, OnOk, OnErr};
 ghost use Rattle.ztarget.specs.Receiving.{is_close};
 ghost use Rattle.ztarget.specs.Levels.{HasElement};
-ghost use Rattle.zoom.specs.Hosts.{IsNew, Fed, FedPart, HandedOut, holdings_of, HostAfter, Underwent, ReleasesAs};
+ghost use Rattle.zquestions.specs.NewTargets.{IsNew};
+ghost use Rattle.zoom.specs.Hosts.{Fed, FedPart, HandedOut, holdings_of, HostAfter, Underwent, ReleasesAs};
 ghost use Rattle.zoom.specs.HostSteps.{EncodesReply, PutsReply, ReceivesPiece, is_unput};
 
 use crate::receiving::receive_all;

@@ -6,15 +6,15 @@ ghost use Rattle.zoom.specs.Heard.{Feeds, Ends, Gives, Stops, IsDone};
 ghost use Rattle.zoom.specs.Learned.{Grows};
 ghost use Rattle.zoom.specs.Links.{waiting_at, stop_at, OthersStay};
 ghost use Rattle.zoom.specs.Befalling.{IsStateAt, IsTakeAnswer, HasGivenAll};
-ghost use Rattle.zoom.specs.Steering.{AreFit};
-ghost use Rattle.zoom.specs.Metas.{AreAskable, MetaAfter, MetaBefell, MetaTook, MetaKeeps, DrivesTo, AdvancesTo, IssuesTo, LearnsTold, TellsUpTo, StandFor, is_skipped, is_complete, IsFinishedUpTo};
+ghost use Rattle.zquestions.specs.Askable.{AreFit};
+ghost use Rattle.zquestions.specs.Askable.{AreAskable};
+ghost use Rattle.zoom.specs.Metas.{MetaAfter, MetaBefell, MetaTook, MetaKeeps, DrivesTo, AdvancesTo, IssuesTo, LearnsTold, TellsUpTo, StandFor, is_skipped, is_complete, IsFinishedUpTo};
 
 use crate::answer::{Step, TakeError, Told, step_told};
 use crate::call::Call;
 use crate::driver::{Driver, refused_law};
 use crate::laws::{one_hearing, one_meeting};
 use crate::pool::Pool;
-use crate::question::{MetaSettings, Question};
 use crate::state::{Reason, State, is_stopped};
 use std::alloc::{AllocError, Global};
 use std::marker::Model;
@@ -22,6 +22,7 @@ use zber::Seq;
 use zknow::Knowledge;
 use zorigin::CallRefused;
 use zorigin::laws::sent_requests;
+use zquestions::{MetaSettings, Question};
 
 /// The most calls of one drive: an Init, a search, a Close, and so many Presents as may wait, and one look more.
 const MOST_TURNS: u32 = 70;

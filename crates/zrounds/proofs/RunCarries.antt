@@ -2,8 +2,8 @@
 use Rattle.std.proofs.Common.{◌≡◌, ◌∙◌, sym, ap, subst, inl, inr, ℕ, zero, suc, ◌==◌, Bool, true, false, List, [], ◌∷◌, ◌++◌, length, take, drop}
 use Rattle.std.proofs.Common.{Result, Ok, Err, refl, append_assoc, append-nil}
 use Rattle.std.specs.Prelude.{OnOk}
-use Rattle.zoom.specs.declared.question.Question.{Question}
-use Rattle.zoom.specs.declared.question.MetaSettings.{MetaSettings}
+use Rattle.zquestions.specs.declared.question.Question.{Question}
+use Rattle.zquestions.specs.declared.question.MetaSettings.{MetaSettings}
 use Rattle.zoom.specs.Heard.{Deed, Feeds, Gives, given, fed}
 use Rattle.zoom.specs.History.{History, only}
 use Rattle.zoom.specs.Hosts.{HostState, HostAfter, Holdings, Event, Fed, FedPart, Released, Lost, HandedOut, Underwent, ReleasesAs, handed_out}

@@ -3,8 +3,8 @@ use Rattle.std.proofs.Common.{◌≡◌, ◌∙◌, ◌⊎◌, inl, inr, sym, ap
 use Rattle.std.specs.Prelude.{OnOk, Contains}
 use Rattle.std.proofs.lemmas.Option.{slice_get_within, get_or_from_slice_get}
 use Rattle.ztarget.specs.Receiving.{TargetState, may_release}
-use Rattle.zoom.specs.declared.question.Question.{Question}
-use Rattle.zoom.specs.declared.question.MetaSettings.{MetaSettings}
+use Rattle.zquestions.specs.declared.question.Question.{Question}
+use Rattle.zquestions.specs.declared.question.MetaSettings.{MetaSettings}
 use Rattle.zoom.specs.Heard.{Deed, Heard, past_of}
 use Rattle.zoom.specs.History.{History, only}
 use Rattle.zoom.specs.Hosts.{HostState, Served, Sends, Event, Released, Underwent, HasNone, IsTooLong, ReleasesAs, holdings_of}

@@ -4,8 +4,8 @@ use Rattle.std.proofs.Common.{◌≡◌, ◌∙◌, ◌⊎◌, inl, inr, sym, ap
 use Rattle.std.specs.Prelude.{◌||◌, not, nat_lt}
 use Rattle.std.proofs.lemmas.Bool.Decides.{nat_tests}
 use Rattle.ztarget.specs.Receiving.{TargetState}
-use Rattle.zoom.specs.declared.question.Question.{Question}
-use Rattle.zoom.specs.declared.question.MetaSettings.{MetaSettings}
+use Rattle.zquestions.specs.declared.question.Question.{Question}
+use Rattle.zquestions.specs.declared.question.MetaSettings.{MetaSettings}
 use Rattle.zoom.specs.States.{is_stopped}
 use Rattle.zoom.specs.Heard.{Deed, Heard, HasHeard, fed, state_at, past_of, sent}
 use Rattle.zoom.specs.History.{History, only}

@@ -5,8 +5,8 @@ use Rattle.std.proofs.lemmas.Bool.Decides.{nat_tests}
 use Rattle.std.proofs.lemmas.Option.{slice_get_within}
 use Rattle.std.proofs.Math.ListN.{length-set}
 use Rattle.ztarget.specs.Receiving.{TargetState}
-use Rattle.zoom.specs.declared.question.Question.{Question}
-use Rattle.zoom.specs.declared.question.MetaSettings.{MetaSettings}
+use Rattle.zquestions.specs.declared.question.Question.{Question}
+use Rattle.zquestions.specs.declared.question.MetaSettings.{MetaSettings}
 use Rattle.zoom.specs.Heard.{Deed, Heard, HasHeard, past_of, sent}
 use Rattle.zoom.specs.History.{History, only}
 use Rattle.zoom.specs.Hosts.{Event, holdings_of}
@@ -307,27 +307,31 @@ module _ (hearing : OneHearing) (longer : LongerLaw) (few : FewLaw) (qs : List Q
 abbrev pub AreOver : List Question → MetaSettings → History → Type 0
 AreOver qs s h = (c : ℕ) (p : Heard) → c < length qs → HasHeard (settings_of s) (only c h) p → is_over p ≡ true
 
-module _ (laws : ExchangeLaws) (s : MetaSettings) (t : TargetState) where
-  whole_by : (q : Question) (taken : Bool) (deeds : List Deed) (p : Heard) (events : List Event) (peer : Peer)
-      → IsFine s q t taken deeds p events peer → is_over p ≡ true → IsWhole s t deeds
-  whole_by q taken deeds p events peer f over =
-      let o = laws.over (holdings_of t) (settings_of s) deeds p events peer.host f.sound over in
+module _ (laws : ExchangeLaws) (qs : List Question) (s : MetaSettings) (h : History) (meta : MetaLinks)
+    (after : MetaAfter qs s h meta) (c : ℕ) (q : Question) (at : slice_get qs c ≡ Some q) (t : TargetState) where
+  whole_by : (taken : Bool) (p : Heard) (events : List Event) (peer : Peer)
+      → IsFine s q t taken (only c h) p events peer → is_over p ≡ true → IsWhole s t (only c h)
+  whole_by taken p events peer f over =
+      let o = laws.over (holdings_of t) (settings_of s) (only c h) p events peer.host f.sound over in
+      let complete = laws.ends (holdings_of t) (settings_of s) (only c h) p events peer.host f.sound over in
       record {
         heard = p;
         events = events;
         host = peer.host;
         sound = f.sound;
         over = over;
-        complete = laws.ends (holdings_of t) (settings_of s) deeds p events peer.host f.sound over;
+        complete = complete;
+        tried = laws.tried qs s h meta c q p after at f.sound.heard complete;
         replies = f.sound.served.served.sent;
         owed = o.0;
         stream = o.1;
       }
 
-  kept_whole : (n : ℕ) (q : Question) (deeds : List Deed) (peer : Peer) → IsKept n s q t deeds peer
-      → ((p : Heard) → HasHeard (settings_of s) deeds p → is_over p ≡ true) → IsWhole s t deeds ⊎ IsLost s t deeds
-  kept_whole n q deeds peer (inl k) over = inl (whole_by q true deeds k.0 k.1 peer k.2 (over k.0 k.2.sound.heard))
-  kept_whole n q deeds peer (inr lost) over = inr lost
+  kept_whole : (n : ℕ) (peer : Peer) → IsKept n s q t (only c h) peer
+      → ((p : Heard) → HasHeard (settings_of s) (only c h) p → is_over p ≡ true)
+      → IsWhole s t (only c h) ⊎ IsLost s t (only c h)
+  kept_whole n peer (inl k) over = inl (whole_by true k.0 k.1 peer k.2 (over k.0 k.2.sound.heard))
+  kept_whole n peer (inr lost) over = inr lost
 
 ran_by : (least : ℕ → ℕ) (qs : List Question) (s : MetaSettings) (ts : List TargetState) (meta : MetaLinks)
     (peers : List Peer) (w : WorldFine least qs s ts meta peers)
@@ -349,7 +353,7 @@ pub ran_whole : ExchangeLaws → (least : ℕ → ℕ) (qs : List Question) (s :
     → RanWhole qs s ts meta
 ran_whole laws least qs s ts meta peers w over =
     ran_by least qs s ts meta peers w (λ c q t p at kept.
-    kept_whole laws s t (least c) q (only c w.history) p kept
+    kept_whole laws qs s w.history meta w.after c q at t (least c) p kept
     (λ x heard. over c x (slice_get_within qs c q at) heard))
 
 -- where so much was said of each, each is finished, unless some reply is too long
@@ -361,7 +365,7 @@ ran_kept laws hearing qs s ts meta peers w = ran_by (λ i. most) qs s ts meta pe
         → IsKept most s q t (only c w.history) p
         → IsWhole s t (only c w.history) ⊎ IsLost s t (only c w.history)
     by c q t p at (inl k) =
-        inl (whole_by laws s t q true (only c w.history) k.0 k.1 p k.2
+        inl (whole_by laws qs s w.history meta w.after c q at t true k.0 k.1 p k.2
         (over_by hearing laws.longer laws.few qs s ts meta peers w c q k.0 at k.2.sound.heard k.3))
     by c q t p at (inr lost) = inr lost
 

@@ -4,8 +4,8 @@ use Rattle.std.proofs.lemmas.Bool.Decides.{nat_tests}
 use Rattle.zber.specs.Laws.{nothing}
 use Rattle.zorigin.specs.declared.settings.Settings.{Settings}
 use Rattle.ztarget.specs.Receiving.{TargetState}
-use Rattle.zoom.specs.declared.question.Question.{Question}
-use Rattle.zoom.specs.declared.question.MetaSettings.{MetaSettings}
+use Rattle.zquestions.specs.declared.question.Question.{Question}
+use Rattle.zquestions.specs.declared.question.MetaSettings.{MetaSettings}
 use Rattle.zoom.specs.Coming.{Nothing, IsBehind}
 use Rattle.zoom.specs.Heard.{Calls, Heard, Meets, silence, given, fed}
 use Rattle.zoom.specs.History.{History, only}

@@ -13,8 +13,8 @@ use Rattle.zorigin.specs.Replies.{verdict}
 use Rattle.zorigin.specs.Sending.{request_of}
 use Rattle.zorigin.specs.Log.{Past, Made, standing, request_list, admit_unless}
 use Rattle.ztarget.specs.Receiving.{TargetState}
-use Rattle.zoom.specs.declared.question.Question.{Question}
-use Rattle.zoom.specs.declared.question.MetaSettings.{MetaSettings}
+use Rattle.zquestions.specs.declared.question.Question.{Question}
+use Rattle.zquestions.specs.declared.question.MetaSettings.{MetaSettings}
 use Rattle.zoom.specs.declared.answer.Step.{Step}
 use Rattle.zoom.specs.declared.answer.TakeError.{TakeError}
 use Rattle.zoom.specs.States.{is_stopped}

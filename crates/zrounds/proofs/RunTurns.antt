@@ -2,8 +2,8 @@
 use Rattle.std.proofs.Common.{◌≡◌, ◌∙◌, inl, sym, subst, ℕ, ◌+◌, ◌<◌, Bool, true, false, List, [], ◌++◌, length, slice_get, Some, refl, arith, true≢false}
 use Rattle.std.specs.Prelude.{◌&&◌}
 use Rattle.ztarget.specs.Receiving.{TargetState}
-use Rattle.zoom.specs.declared.question.Question.{Question}
-use Rattle.zoom.specs.declared.question.MetaSettings.{MetaSettings}
+use Rattle.zquestions.specs.declared.question.Question.{Question}
+use Rattle.zquestions.specs.declared.question.MetaSettings.{MetaSettings}
 use Rattle.zoom.specs.States.{is_stopped}
 use Rattle.zoom.specs.Heard.{Heard, state_at}
 use Rattle.zoom.specs.History.{History, only}

@@ -5,11 +5,12 @@ use Rattle.std.proofs.lemmas.Bool.Decides.{nat_tests}
 use Rattle.std.proofs.lemmas.Option.{slice_get_within}
 use Rattle.std.proofs.Math.ListN.{length-set}
 use Rattle.ztarget.specs.Receiving.{TargetState}
-use Rattle.zoom.specs.declared.question.Question.{Question}
-use Rattle.zoom.specs.declared.question.MetaSettings.{MetaSettings}
+use Rattle.zquestions.specs.declared.question.Question.{Question}
+use Rattle.zquestions.specs.declared.question.MetaSettings.{MetaSettings}
 use Rattle.zoom.specs.Heard.{Deed, given, fed}
 use Rattle.zoom.specs.History.{History, only}
-use Rattle.zoom.specs.Hosts.{IsNew, AreNew, holdings_of, handed_out}
+use Rattle.zquestions.specs.NewTargets.{IsNew, AreNew}
+use Rattle.zoom.specs.Hosts.{holdings_of, handed_out}
 use Rattle.zoom.specs.Metas.{MetaLinks, MetaAfter}
 use Rattle.zoom.proofs.Pools.{only_append, got, get_same}
 use Rattle.zoom.proofs.Metas.{get_other, slice_some}

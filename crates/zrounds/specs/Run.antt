@@ -2,8 +2,8 @@
 -- (Z39.50-2003, 3.2).
 use Rattle.std.specs.Prelude.{◌≡◌, ℕ, ◌<◌, Bool, true, List, ◌++◌, length, slice_get, Some}
 use Rattle.ztarget.specs.Receiving.{TargetState}
-use Rattle.zoom.specs.declared.question.Question.{Question}
-use Rattle.zoom.specs.declared.question.MetaSettings.{MetaSettings}
+use Rattle.zquestions.specs.declared.question.Question.{Question}
+use Rattle.zquestions.specs.declared.question.MetaSettings.{MetaSettings}
 use Rattle.zoom.specs.States.{is_stopped}
 use Rattle.zoom.specs.Heard.{Deed, Heard, HasHeard, given, fed, state_at}
 use Rattle.zoom.specs.History.{History, only}

@@ -1,8 +1,8 @@
 -- What the steps of a connection and its target do besides, where the way between them loses nothing.
 use Rattle.std.specs.Prelude.{◌≡◌, ◌⊎◌, ℕ, ◌≤◌, true, List, [], ◌++◌, length, slice_get, Some}
 use Rattle.ztarget.specs.Receiving.{TargetState}
-use Rattle.zoom.specs.declared.question.Question.{Question}
-use Rattle.zoom.specs.declared.question.MetaSettings.{MetaSettings}
+use Rattle.zquestions.specs.declared.question.Question.{Question}
+use Rattle.zquestions.specs.declared.question.MetaSettings.{MetaSettings}
 use Rattle.zoom.specs.Heard.{Deed, Heard}
 use Rattle.zoom.specs.History.{History, only}
 use Rattle.zoom.specs.Hosts.{Event, HandedOut, Underwent, holdings_of}

@@ -3,14 +3,15 @@ use Rattle.std.specs.Prelude.{◌≡◌, ◌⊎◌, ℕ, suc, ◌≤◌, Bool, t
 use Rattle.std.specs.List.{flat_map}
 use Rattle.zapdu.specs.declared.apdu.Apdu.{Apdu}
 use Rattle.zorigin.specs.Sending.{encoding_of}
+use Rattle.zorigin.specs.Log.{opening}
 use Rattle.ztarget.specs.Receiving.{TargetState}
-use Rattle.zoom.specs.declared.question.Question.{Question}
-use Rattle.zoom.specs.declared.question.MetaSettings.{MetaSettings}
+use Rattle.zquestions.specs.declared.question.Question.{Question}
+use Rattle.zquestions.specs.declared.question.MetaSettings.{MetaSettings}
 use Rattle.zoom.specs.Heard.{Deed, Heard, past_of, sent}
 use Rattle.zoom.specs.History.{History, only}
 use Rattle.zoom.specs.Hosts.{HostState, Event, holdings_of, replies_to}
 use Rattle.zoom.specs.Metas.{MetaLinks, MetaAfter, settings_of}
-use Rattle.zoom.specs.Steering.{complete_in}
+use Rattle.zoom.specs.Steering.{complete_in, is_rejected, IsTried}
 use Rattle.zaccord.specs.Accord.{requests}
 use Rattle.zexchange.specs.Exchange.{IsSound}
 use Rattle.zrounds.specs.declared.peers.Peer.{Peer}
@@ -55,8 +56,9 @@ pub record WorldGrows (old new : MetaLinks) (was now : List Peer) : Type 0 where
 
 -- ---- the end
 
--- A connection and its target after a complete exchange: neither was stopped; the connection was rejected, or its Close
--- was answered; and what came to it are the replies that the target owes to what it sent, each once, in some order.
+-- A connection and its target after a complete exchange: neither was stopped; the connection was rejected, or its
+-- search was tried and its Close was answered; and what came to it are the replies that the target owes to what it sent,
+-- each once, in some order.
 pub record IsWhole (s : MetaSettings) (target : TargetState) (deeds : List Deed) : Type 0 where
   pub heard : Heard
   pub events : List Event
@@ -64,6 +66,7 @@ pub record IsWhole (s : MetaSettings) (target : TargetState) (deeds : List Deed)
   pub sound : IsSound (holdings_of target) (settings_of s) deeds heard events host
   pub over : is_over heard ≡ true
   pub complete : complete_in (past_of heard) ≡ true
+  pub tried : is_rejected (opening (past_of heard)) ≡ false → IsTried heard.settings heard.log
   pub replies : List Apdu
   pub owed : IsPermutation (replies_to (holdings_of target) (requests heard.settings heard.log)) replies
   pub stream : heard.stream ≡ flat_map encoding_of replies

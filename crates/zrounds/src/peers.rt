@@ -1,7 +1,7 @@
 //! Targets in memory, each at the other end of a connection.
 ghost use Rattle.std.specs.Prelude.{◌≡◌, ◌<◌, ◌^◌, ◌-◌, Bool, true, false, not, [], length, OnOk, IfOk};
 ghost use Rattle.zoom.specs.Links.{waiting_at};
-ghost use Rattle.zoom.specs.Hosts.{IsNew, AreNew};
+ghost use Rattle.zquestions.specs.NewTargets.{IsNew, AreNew};
 ghost use Rattle.zrounds.specs.RunSteps.{GoesOn, Carries, ReleasesReplies, IsPeerOf, ArePeersOf};
 ghost use Rattle.zrounds.specs.RunSound.{Steps, Rounds, ReleasesFine};
 ghost use Rattle.zrounds.specs.RunPeers.{BringsAll, Empties};

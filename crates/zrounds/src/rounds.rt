@@ -1,8 +1,8 @@
 //! Moves, and rounds over all connections until each is finished.
 ghost use Rattle.std.specs.Prelude.{◌≡◌, ◌<◌, ◌^◌, true, List, [], length, IfOk, OnOk};
 ghost use Rattle.ztarget.specs.Receiving.{TargetState};
-ghost use Rattle.zoom.specs.declared.question.Question.{Question};
-ghost use Rattle.zoom.specs.declared.question.MetaSettings.{MetaSettings};
+ghost use Rattle.zquestions.specs.declared.question.Question.{Question};
+ghost use Rattle.zquestions.specs.declared.question.MetaSettings.{MetaSettings};
 ghost use Rattle.zoom.specs.Metas.{MetaAfter};
 ghost use Rattle.zrounds.specs.RunSteps.{WorldGoes, WorldEnds, ArePeersOf};
 ghost use Rattle.zrounds.specs.RunRounds.{WorldStays, WorldRounds, WorldGrows, WorldWhole, RanWhole};

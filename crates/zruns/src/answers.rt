@@ -1,5 +1,4 @@
 // What a command prints, tells and answers by its words.
-use crate::runs::SHORT_LIST;
 use crate::shelf::SHELF;
 use std::alloc::{AllocError, Global};
 use std::io::{ErrorKind, Write};
@@ -12,6 +11,7 @@ use zcommands::input::Input;
 use zcommands::output::Output;
 use zencodings::rows::{halves, parted, unescaped};
 use zencodings::unread::Unread;
+use zencodings::worlds::{REFUSING_LIST, SHORT_LIST, WORLD_LIST};
 
 /// What a command answered, printed and told.
 #[derive(Drop)]
@@ -80,18 +80,6 @@ pub(crate) fn ran_line<S: Folder + Net + Clock>(
 }
 
 /// What is printed of the worlds on the shelf.
-pub(crate) const WORLD_LIST: &str = "\
-target \"a\" set 1 count 0
-target \"b\" set 1 count 1
-target \"c\" set 1 count 7
-1 \"b\" 1 rec 1.2.840.10003.5.10 \"d\" \"b1\"
-1 \"c\" 1 rec 1.2.840.10003.5.10 \"d\" \"c1\"
-2 \"c\" 1 rec 1.2.840.10003.5.10 \"d\" \"c2\"
-5 \"c\" 1 rec 1.2.840.10003.5.10 \"d\" \"c5\"
-6 \"c\" 1 rec 1.2.840.10003.5.10 \"d\" \"c6\"
-7 \"c\" 1 rec 1.2.840.10003.5.10 \"d\" \"c7\"
-";
-
 const HEX_LIST: &str = "\
 target \"a\" set 1 count 0
 target \"b\" set 1 count 1
@@ -102,14 +90,6 @@ target \"c\" set 1 count 7
 5 \"c\" 1 rec 1.2.840.10003.5.10 \"d\" 6335
 6 \"c\" 1 rec 1.2.840.10003.5.10 \"d\" 6336
 7 \"c\" 1 rec 1.2.840.10003.5.10 \"d\" 6337
-";
-
-const REFUSING_LIST: &str = "\
-target \"a\" set 1 failed
-target \"a\" set 1 diag 0 1.2.840.10003.4.1 114 \"5\"
-target \"b\" set 0 failed
-target \"c\" set 1 count 1
-1 \"c\" 1 rec 1.2.840.10003.5.10 \"d\" \"c1\"
 ";
 
 // What a text of a row stands for.

@@ -1,11 +1,11 @@
 // Files of the host: those that are joined, and one that is saved.
 use crate::answers::{is_done_in, is_due, ran_line};
-use crate::runs::SHORT;
-use crate::shelf::{COUNT, HOSTS, RECORD, REFUSING, WORLD};
+use crate::shelf::{COUNT, HOSTS, RECORD, WORLD};
 use std::fs;
 use std::process::Abort;
 use std::test::Fail;
 use zencodings::unread::Unread;
+use zencodings::worlds::{REFUSING, SHORT};
 
 // A folder opens, and a read of it fails.
 const JOINED: &str = "\

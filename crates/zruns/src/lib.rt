@@ -1,10 +1,8 @@
-//! Runs of worlds and of commands, as rows.
+//! Commands, as rows: their words, files and streams, and what they print and tell.
 #![tactic(auto)]
 
 #[cfg(test)]
 mod answers;
-#[cfg(test)]
-mod arranged;
 #[cfg(test)]
 mod broken;
 #[cfg(test)]
@@ -20,24 +18,10 @@ mod joined;
 #[cfg(test)]
 mod lines;
 #[cfg(test)]
-mod moves;
-#[cfg(test)]
 mod queries;
-#[cfg(test)]
-mod random_worlds;
-#[cfg(test)]
-mod runs;
-#[cfg(test)]
-mod schedules;
 #[cfg(test)]
 mod shelf;
 #[cfg(test)]
 mod shown;
 #[cfg(test)]
-mod wants;
-#[cfg(test)]
 mod words;
-#[cfg(test)]
-mod worlds;
-#[cfg(test)]
-mod written;

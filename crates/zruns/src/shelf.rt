@@ -1,6 +1,6 @@
 // The files that commands find: worlds, and saved files.
 use crate::devices::{Kept, Shelf};
-use crate::runs::SHORT;
+use zencodings::worlds::{REFUSING, SHORT};
 
 /// Names `a`, and set 1 of target 0 with 4 records.
 pub(crate) const COUNT: &[u8] = b"\xa4\x03\x80\x01a\xa0\x09\x80\x01\x00\x81\x01\x01\x82\x01\x04";
@@ -56,24 +56,6 @@ ask c d - 1-2,5-7 \"@attr 1=4 dune\"
 to c 100000
 rel c 0
 from c 1
-";
-
-/// A search that fails, a catalogue that refuses, and one that answers.
-pub(crate) const REFUSING: &[u8] = b"target a 4096 cn
-db d
-rec 1.2.840.10003.5.10 a1
-field 4 dune
-target b 4096 r
-db d
-rec 1.2.840.10003.5.10 b1
-field 4 dune
-target c 4096 cn
-db d
-rec 1.2.840.10003.5.10 c1
-field 4 dune
-ask a d - 10 \"@attr 1=5 dune\"
-ask b d - 10 \"@attr 1=4 dune\"
-ask c d - 10 \"@attr 1=4 dune\"
 ";
 
 /// The second question is put to a catalogue at an address.

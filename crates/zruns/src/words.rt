@@ -3,9 +3,9 @@ use crate::answers::words_of;
 use std::alloc::Global;
 use std::process::Abort;
 use std::test::Fail;
-use zcommands::words::parse;
 use zencodings::rows::{each_row, halves};
 use zencodings::unread::{Unread, read};
+use zwords::parse;
 
 const ASKED: &str = "\
 zmeta|show => Show

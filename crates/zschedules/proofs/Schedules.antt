@@ -14,8 +14,8 @@ use Rattle.zorigin.specs.Ranges.{positions}
 use Rattle.zorigin.specs.Accepts.{IsAccepted}
 use Rattle.zorigin.specs.Log.{Log, past, asked}
 use Rattle.zorigin.specs.Laws.{IsOrderly}
-use Rattle.zoom.specs.declared.question.Question.{Question}
-use Rattle.zoom.specs.declared.question.MetaSettings.{MetaSettings}
+use Rattle.zquestions.specs.declared.question.Question.{Question}
+use Rattle.zquestions.specs.declared.question.MetaSettings.{MetaSettings}
 use Rattle.zoom.specs.Driving.{operation_for, events_of, IsDrivenLog}
 use Rattle.zoom.specs.Steering.{ask_of, errand_of}
 use Rattle.zoom.specs.Drivers.{DriverState, IsDriver}

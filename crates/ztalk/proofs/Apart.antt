@@ -3,8 +3,8 @@ use Rattle.std.proofs.Common.{◌≡◌, ◌∙◌, sym, ap, subst, ℕ, ◌==�
 use Rattle.std.proofs.lemmas.Bool.Decides.{nat_tests}
 use Rattle.zorigin.specs.Standings.{Call}
 use Rattle.zorigin.specs.declared.settings.Settings.{Settings}
-use Rattle.zoom.specs.declared.question.Question.{Question}
-use Rattle.zoom.specs.declared.question.MetaSettings.{MetaSettings}
+use Rattle.zquestions.specs.declared.question.Question.{Question}
+use Rattle.zquestions.specs.declared.question.MetaSettings.{MetaSettings}
 use Rattle.zoom.specs.declared.answer.Step.{Step}
 use Rattle.zoom.specs.Heard.{Deed, Calls, Feeds, Takes, Ends, Gives, Heard, HasHeard, past_of, given, is_lost, sent}
 use Rattle.zoom.specs.Leaving.{Leaves}

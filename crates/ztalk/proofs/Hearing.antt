@@ -6,8 +6,8 @@ use Rattle.zorigin.specs.declared.refusal.Refused.{Refused}
 use Rattle.zorigin.specs.Replies.{verdict}
 use Rattle.zorigin.specs.Log.{Got, standing}
 use Rattle.zber.specs.declared.fault.FaultKind.TheVariants as kinds
-use Rattle.zoom.specs.declared.question.Question.{Question}
-use Rattle.zoom.specs.declared.question.MetaSettings.{MetaSettings}
+use Rattle.zquestions.specs.declared.question.Question.{Question}
+use Rattle.zquestions.specs.declared.question.MetaSettings.{MetaSettings}
 use Rattle.zoom.specs.declared.state.State.TheVariants as states
 use Rattle.zoom.specs.declared.state.Reason.TheVariants as reasons
 use Rattle.zoom.specs.declared.answer.Step.{Step}

@@ -3,8 +3,8 @@ use Rattle.std.proofs.Common.{◌≡◌, ◌∙◌, sym, ap, subst, ℕ, ◌<◌
 use Rattle.std.specs.Io.KnownBytes.{Appends}
 use Rattle.std.proofs.KnownBytes.{Appends-trans, Appends-nil, Consumes-nil}
 use Rattle.zorigin.specs.Standings.{Call}
-use Rattle.zoom.specs.declared.question.Question.{Question}
-use Rattle.zoom.specs.declared.question.MetaSettings.{MetaSettings}
+use Rattle.zquestions.specs.declared.question.Question.{Question}
+use Rattle.zquestions.specs.declared.question.MetaSettings.{MetaSettings}
 use Rattle.zoom.specs.declared.state.Reason.TheVariants as reasons
 use Rattle.zoom.specs.Heard.{Heard, HasHeard, Ends, Gives, Stops, past_of, given, is_lost, sent}
 use Rattle.zoom.specs.History.{History, only, After}

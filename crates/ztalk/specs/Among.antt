@@ -2,8 +2,8 @@
 -- others (Z39.50-2003, 3.2).
 use Rattle.std.specs.Prelude.{◌≡◌, ◌≤◌, ◌==◌, ℕ, false, List, ◌∷◌, ◌++◌, slice_get, Option, None, Some}
 use Rattle.std.specs.Io.KnownBytes.{Appends, Consumes, IsAtEnd}
-use Rattle.zoom.specs.declared.question.Question.{Question}
-use Rattle.zoom.specs.declared.question.MetaSettings.{MetaSettings}
+use Rattle.zquestions.specs.declared.question.Question.{Question}
+use Rattle.zquestions.specs.declared.question.MetaSettings.{MetaSettings}
 use Rattle.zoom.specs.declared.state.Reason.{Reason}
 use Rattle.zoom.specs.declared.state.Reason.TheVariants as reasons
 use Rattle.zoom.specs.Heard.{Gives, Stops}

@@ -1,7 +1,7 @@
 -- Octets that wait to go out on a connection are written to a device (Z39.50-2003, 3.2).
 use Rattle.std.specs.Prelude.{◌≡◌, ℕ, List, ◌∷◌, Some, Result, Ok, Err}
-use Rattle.zoom.specs.declared.question.Question.{Question}
-use Rattle.zoom.specs.declared.question.MetaSettings.{MetaSettings}
+use Rattle.zquestions.specs.declared.question.Question.{Question}
+use Rattle.zquestions.specs.declared.question.MetaSettings.{MetaSettings}
 use Rattle.zoom.specs.declared.state.State.TheVariants as states
 use Rattle.zoom.specs.declared.state.Reason.TheVariants as reasons
 use Rattle.zoom.specs.Heard.{Gives, Stops}

@@ -1,7 +1,7 @@
 -- What the turns of a talk do.
 use Rattle.std.specs.Prelude.{ℕ, List, Result, Ok, Err}
-use Rattle.zoom.specs.declared.question.Question.{Question}
-use Rattle.zoom.specs.declared.question.MetaSettings.{MetaSettings}
+use Rattle.zquestions.specs.declared.question.Question.{Question}
+use Rattle.zquestions.specs.declared.question.MetaSettings.{MetaSettings}
 use Rattle.zoom.specs.declared.answer.Step.{Step}
 use Rattle.zoom.specs.declared.answer.Step.TheVariants as steps
 use Rattle.zoom.specs.History.{History}

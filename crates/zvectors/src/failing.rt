@@ -22,7 +22,8 @@ struct Ended {
     writes: usize,
 }
 
-// A conversation on a connection that has sent nothing yet, of which these calls of the devices fail, the first being 1.
+// A conversation on a connection that has sent nothing yet, of which these calls of the devices fail, the first being
+// 1.
 fn talk_on(alloc: Global, meta: &mut Meta, all: &[u8], read: usize, write: usize) -> Ended
     requires { 0 < length meta.old.pool.connections }
 {

@@ -1,8 +1,11 @@
-//! Sessions of origins, pools, hosts and driven connections, step by step: the tests that cross the crates above what is known.
+//! Sessions of origins, pools, hosts and driven connections, step by step, and worlds in memory that are read and run:
+//! the tests that cross the crates above what is known.
 #![tactic(auto)]
 
 #[cfg(test)]
 mod answers;
+#[cfg(test)]
+mod arranged;
 #[cfg(test)]
 mod failing;
 #[cfg(test)]
@@ -10,9 +13,17 @@ mod hosts;
 #[cfg(test)]
 mod metas;
 #[cfg(test)]
+mod moves;
+#[cfg(test)]
 mod pool;
 #[cfg(test)]
+mod random_worlds;
+#[cfg(test)]
 mod refusals;
+#[cfg(test)]
+mod runs;
+#[cfg(test)]
+mod schedules;
 #[cfg(test)]
 mod sessions;
 #[cfg(test)]
@@ -20,4 +31,10 @@ mod talks;
 #[cfg(test)]
 mod together;
 #[cfg(test)]
+mod wants;
+#[cfg(test)]
 mod windows;
+#[cfg(test)]
+mod worlds;
+#[cfg(test)]
+mod written;

@@ -2,7 +2,7 @@
 ghost use Rattle.std.specs.Prelude.{◌<◌, ◌≤◌, length, map, IfOk};
 ghost use Rattle.zplan.specs.Ranges.{AreWanted};
 ghost use Rattle.zorigin.specs.Ranges.{positions};
-ghost use Rattle.zoom.specs.Steering.{IsAskable, plan_range};
+ghost use Rattle.zquestions.specs.Askable.{IsAskable, plan_range};
 
 use bytes::Bytes;
 use std::alloc::{AllocError, Global};
@@ -15,8 +15,8 @@ use zencodings::unread::{Unread, read};
 use zoom::{Meta, MetaSettings, Question};
 use zorigin::Range;
 
-// Steps of one connection: what is fed, what a take answers then, how many calls a drive makes, and what is handed out; and
-// at last whether the question was skipped, and the connection is complete and finished.
+// Steps of one connection: what is fed, what a take answers then, how many calls a drive makes, and what is handed out;
+// and at last whether the question was skipped, and the connection is complete and finished.
 const DRIVEN: &str = "\
 # One record is found, and asked for.
 - Nothing 1 b421820400000000830205e0840301c006850310000086031000009f6f057a6d657461 | b51c820400000000830205e0840301c006850310000086031000008c01ff Opened 1 b6418204000000018d01008e01018f01009001ff910131b2049f690164b524a12206072a8648ce130301a017bf6614bf2c0a30089f7801019f7901049f2d0464756e65 | b7128204000000019701019801009901019601ff Answered 1 b8108204000000029f1f01319e01019d0101 | b9268204000000029801019901029b0100bc153013a111a10f280d06072a8648ce13050a81026869 Answered 1 bf30059f81530100 | bf30059f81530100 Closed 0 - | false true true

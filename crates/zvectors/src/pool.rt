@@ -225,8 +225,8 @@ fn goes(alloc: Global, pool: &mut Pool, row: &str) -> Result<bool, Unread> {
     }
 }
 
-// Sessions, each `new` with the number of its connections and then its steps, a row for each: the connection's number and an
-// event; or a question or a call, and behind `=` its answer; or `list`, the names and the printed list.
+// Sessions, each `new` with the number of its connections and then its steps, a row for each: the connection's number
+// and an event; or a question or a call, and behind `=` its answer; or `list`, the names and the printed list.
 pub(crate) fn go_as_told(rt: &(impl Abort + AllocGlobal), sessions: &str) -> Result<(), Fail> {
     let mut current = pool(rt.alloc(), 0)?;
     for row in sessions.lines() {

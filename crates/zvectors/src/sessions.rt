@@ -271,8 +271,9 @@ fn goes(alloc: Global, origin: &mut Origin, row: &str) -> Result<bool, Unread> {
     Ok(is_due(answer.as_str(), due))
 }
 
-// Sessions, each `new` and then its steps, a row for each: a call, an APDU that comes, in hexadecimal, or a question, and behind `=` its
-// answer. A call answers its request's octets, where they are told, or `sent`, or its refusal; an APDU what it comes to.
+// Sessions, each `new` and then its steps, a row for each: a call, an APDU that comes, in hexadecimal, or a question,
+// and behind `=` its answer. A call answers its request's octets, where they are told, or `sent`, or its refusal; an
+// APDU what it comes to.
 pub(crate) fn go_as_told(rt: &(impl Abort + AllocGlobal), sessions: &str) -> Result<(), Fail> {
     let mut current = origin(rt.alloc())?;
     for row in sessions.lines() {

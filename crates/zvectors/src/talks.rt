@@ -1,6 +1,6 @@
 // Conversations over devices in memory: connections that are driven, and targets that answer.
 ghost use Rattle.std.specs.Prelude.{◌<◌, length, IfOk};
-ghost use Rattle.zoom.specs.Steering.{IsAskable};
+ghost use Rattle.zquestions.specs.Askable.{IsAskable};
 
 use crate::hosts::host;
 use bytes::Bytes;
@@ -16,8 +16,8 @@ use zencodings::unread::Unread;
 use zoom::{Meta, MetaSettings, Question};
 use ztalk::{Device, answer, talk};
 
-// What can be read, how much a call moves, which read and which write fails (the first being 1), and how many reads there
-// may be; then the answer, the state, and what was written. The question wants no record.
+// What can be read, how much a call moves, which read and which write fails (the first being 1), and how many reads
+// there may be; then the answer, the state, and what was written. The question wants no record.
 const TALKS: &str = "\
 # All answers at once, octet by octet, and in the one read that there may be.
 b51c820400000000830205e0840301c006850310000086031000008c01ffb7128204000000019701019801009901019601ffbf30059f81530100 4096 0 0 9 | Ok(()) | Closed | b421820400000000830205e0840301c006850310000086031000009f6f057a6d657461b6418204000000018d01008e01018f01009001ff910131b2049f690164b524a12206072a8648ce130301a017bf6614bf2c0a30089f7801019f7901049f2d0464756e65bf30059f81530100

@@ -1,7 +1,7 @@
 -- Worlds whose hosts can be asked.
 use Rattle.std.proofs.Common.{◌≡◌, ◌∙◌, sym, ap, subst, refl, ℕ, ◌<◌, ◌≤◌, ◌^◌, List, length}
-use Rattle.zoom.specs.declared.question.Question.{Question}
-use Rattle.zoom.specs.Metas.{AreAskable}
+use Rattle.zquestions.specs.declared.question.Question.{Question}
+use Rattle.zquestions.specs.Askable.{AreAskable}
 use Rattle.zworld.specs.declared.world.World.{World}
 use Rattle.zworld.specs.declared.world.Inquiry.{Inquiry}
 use Rattle.zworld.specs.declared.world.NamedHost.{NamedHost}

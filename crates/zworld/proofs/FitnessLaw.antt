@@ -2,8 +2,8 @@
 use Rattle.std.proofs.Common.{◌≡◌, ◌∙◌, sym, ap, subst, refl, ℕ, ◌+◌, ◌<◌, ◌≤◌, ◌^◌, Bool, true, false, if◌then◌else◌, List, [], ◌∷◌, ◌++◌, length, Option, Some, None, arith}
 use Rattle.std.specs.Option.{option_map}
 use Rattle.zquery.specs.Trees.{RpnQuery}
-use Rattle.zoom.specs.Metas.{AreAskable}
-use Rattle.zoom.specs.Steering.{IsAskable, HasArcs}
+use Rattle.zquestions.specs.Askable.{AreAskable}
+use Rattle.zquestions.specs.Askable.{IsAskable, HasArcs}
 use Rattle.zworld.specs.Finding.{questions_of}
 use Rattle.zworld.specs.Fitness.{IsFit}
 use Rattle.zworld.specs.WorldLines.{words}

@@ -2,7 +2,7 @@
 use Rattle.std.proofs.Common.{◌≡◌, subst, ℕ, ◌≤◌, ◌-◌, ◌^◌, pos, List, [], ◌∷◌, Bool, true, false, if◌then◌else◌, Option, Some, None}
 use Rattle.std.specs.Option.{option_map}
 use Rattle.zquery.specs.Notation.Sets.{oid_of}
-use Rattle.zoom.specs.Steering.{HasArcs}
+use Rattle.zquestions.specs.Askable.{HasArcs}
 use Rattle.zworld.specs.WorldLines.{keyword_of, line_by, line_of, step_line, window_line, target_line, host_line, database_line, record_line, field_line, ask_line, carry_line, are_flags, settings, syntax_of}
 use Rattle.zworld.specs.WorldWants.{number_in, wanted_of}
 use Rattle.zworld.specs.declared.world.line.Line.{Line}

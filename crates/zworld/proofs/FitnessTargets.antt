@@ -6,11 +6,11 @@ use Rattle.std.specs.Str.{bytes_eq}
 use Rattle.std.proofs.lemmas.List.{at_drop_more}
 use Rattle.ztarget.specs.Receiving.{TargetState, new_target}
 use Rattle.ztarget.specs.Searching.{entries_in}
-use Rattle.zoom.specs.declared.question.Question.{Question}
-use Rattle.zoom.specs.Metas.{AreAskable}
+use Rattle.zquestions.specs.declared.question.Question.{Question}
+use Rattle.zquestions.specs.Askable.{AreAskable}
 use Rattle.zworld.specs.Finding.{questions_of, AreFound, AreParts}
 use Rattle.zworld.specs.Fitness.{AreSmall, target_at, target_for, target_named, state_of, IsFit, IsArranged, settings_by}
-use Rattle.zoom.specs.Hosts.{AreNew}
+use Rattle.zquestions.specs.NewTargets.{AreNew}
 use Rattle.zworld.proofs.Finding.{as_many, few_questions}
 use Rattle.zworld.specs.declared.world.End.{End}
 use Rattle.zworld.specs.declared.world.End.TheVariants as ends

@@ -13,7 +13,7 @@ use Rattle.zquery.specs.Notation.Sets.{oid_of}
 use Rattle.zplan.specs.Ranges.{IsApart, IsBounded, span_of}
 use Rattle.zorigin.specs.declared.range.Range.{Range}
 use Rattle.zorigin.specs.Ranges.{positions, positions_of}
-use Rattle.zoom.specs.Steering.{plan_range, HasArcs}
+use Rattle.zquestions.specs.Askable.{plan_range, HasArcs}
 use Rattle.zworld.specs.WorldLines.{syntax_of, short}
 use Rattle.zworld.specs.WorldWants.{number_in, ends_of, ends_in, count, range, ranges_in, firsts, wanted_of, highest, most_wanted, two, is_hyphen, is_comma}
 use Rattle.zworld.proofs.WorldSaid.{none_some, some_same}

@@ -1,6 +1,6 @@
 -- Questions of a world, one after the other: what is asked, and what is found for each.
 use Rattle.std.specs.Prelude.{◌≡◌, ℕ, List, [], ◌∷◌, ◌++◌, map, Option, Some, None, Result, Ok, Err}
-use Rattle.zoom.specs.declared.question.Question.{Question}
+use Rattle.zquestions.specs.declared.question.Question.{Question}
 use Rattle.zworld.specs.declared.world.Inquiry.{Inquiry}
 use Rattle.zworld.specs.declared.world.WorldError.{WorldError}
 use Rattle.zworld.specs.declared.world.WorldError.TheVariants as errors

@@ -4,9 +4,9 @@ use Rattle.std.specs.Option.{option_map}
 use Rattle.std.specs.Str.{bytes_eq}
 use Rattle.ztarget.specs.Receiving.{TargetState, new_target}
 use Rattle.ztarget.specs.Searching.{entries_in}
-use Rattle.zoom.specs.declared.question.MetaSettings.{MetaSettings}
-use Rattle.zoom.specs.Metas.{AreAskable}
-use Rattle.zoom.specs.Steering.{AreFit}
+use Rattle.zquestions.specs.declared.question.MetaSettings.{MetaSettings}
+use Rattle.zquestions.specs.Askable.{AreAskable}
+use Rattle.zquestions.specs.Askable.{AreFit}
 use Rattle.zworld.specs.declared.world.World.{World}
 use Rattle.zworld.specs.declared.world.WorldError.{WorldError}
 use Rattle.zworld.specs.declared.world.NamedTarget.{NamedTarget}
@@ -15,7 +15,7 @@ use Rattle.zworld.specs.declared.world.End.{End}
 use Rattle.zworld.specs.declared.world.End.TheVariants as ends
 use Rattle.zworld.specs.declared.fitness.Arrangement.{Arrangement}
 use Rattle.zworld.specs.Worlds.{asked_names}
-use Rattle.zoom.specs.Hosts.{AreNew}
+use Rattle.zquestions.specs.NewTargets.{AreNew}
 use Rattle.zworld.specs.Finding.{questions_of, AreFound, IsOfFirstNone, IsFirstAtNone}
 
 -- the settings of one who asks by this name
@@ -66,6 +66,10 @@ pub record IsArranged (name : List ℕ) (w : World) (a : Arrangement) : Type 0 w
   pub fit : AreFit a.settings
   pub equal : length a.targets ≡ length a.questions
   pub fresh : AreNew a.targets
+
+-- some world is arranged so, for one of some name
+abbrev pub IsArrangement : Arrangement → Type 0
+IsArrangement a = (name : List ℕ) × (w : World) × IsArranged name w a
 
 -- ---- a question to a host
 

@@ -11,9 +11,9 @@ use Rattle.ztarget.specs.declared.database.Database.{Database}
 use Rattle.ztarget.specs.declared.database.Entry.{Entry}
 use Rattle.ztarget.specs.declared.database.Field.{Field}
 use Rattle.ztarget.specs.declared.settings.TargetSettings.{TargetSettings}
-use Rattle.zoom.specs.declared.moves.Move.{Move}
-use Rattle.zoom.specs.declared.moves.Move.TheVariants as moves
-use Rattle.zoom.specs.declared.question.Question.{Question}
+use Rattle.zquestions.specs.declared.moves.Move.{Move}
+use Rattle.zquestions.specs.declared.moves.Move.TheVariants as moves
+use Rattle.zquestions.specs.declared.question.Question.{Question}
 use Rattle.zworld.specs.declared.world.World.{World}
 use Rattle.zworld.specs.declared.world.NamedTarget.{NamedTarget}
 use Rattle.zworld.specs.declared.world.NamedHost.{NamedHost}

@@ -12,7 +12,7 @@ use bytes::Bytes;
 use std::alloc::{AllocError, Global};
 use zber::Seq;
 use zknow::Names;
-use zoom::{MetaSettings, Question};
+use zquestions::{MetaSettings, Question};
 
 /// A world arranged so that its hosts can be asked: question `i` is put to the host at address `i`, under name `i`.
 #[derive(Drop)]

@@ -13,7 +13,7 @@ use bytes::Bytes;
 use std::alloc::{AllocError, Global};
 use zber::{Duplicate, Seq};
 use zknow::Names;
-use zoom::{MetaSettings, Move, Question};
+use zquestions::{MetaSettings, Move, Question};
 use ztarget::Target;
 
 /// A world arranged so that it can be run: question `i` is put to target `i`, under name `i`.

@@ -6,7 +6,7 @@ ghost use Rattle.zworld.specs.Finding.{AreParts, IsOneMore};
 use crate::world::Inquiry;
 use bytes::Bytes;
 use std::alloc::{AllocError, Global};
-use zoom::Question;
+use zquestions::Question;
 
 /// The questions, and the name that each is put to, in order.
 #[derive(Drop)]

@@ -24,7 +24,7 @@ use crate::world::reader::Reader;
 use bytes::Bytes;
 use std::alloc::{AllocError, Global};
 use zber::Seq;
-use zoom::{Move, Question};
+use zquestions::{Move, Question};
 use ztarget::{Database, TargetSettings};
 
 /// A target in memory, under the name that it is asked by.

@@ -1,4 +1,5 @@
-// Two connections whose octets come in alternation: neither their cutting nor the order of the replies changes what is known.
+// Two connections whose octets come in alternation: neither their cutting nor the order of the replies changes what is
+// known.
 use crate::pool::{feed, lists, make, pool, take};
 use crate::sessions::call;
 use std::alloc::Global;

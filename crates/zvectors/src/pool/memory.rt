@@ -84,8 +84,8 @@ fn records(pool: &Pool, position: i64) -> usize {
     }
 }
 
-// With ample memory each step is made once. Where one of its allocations is refused, the step is made again, and answers the
-// same.
+// With ample memory each step is made once. Where one of its allocations is refused, the step is made again, and
+// answers the same.
 #[test]
 fn a_session_goes_on_where_memory_was_refused(rt: HostRuntime) -> Result<(), Fail> {
     let turns = turns(rt.alloc())?;

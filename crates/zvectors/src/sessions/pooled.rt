@@ -57,7 +57,8 @@ fn goes(alloc: Global, pool: &mut Pool, row: &str) -> Result<bool, Unread> {
     Ok(is_due(answer.as_str(), due))
 }
 
-/// The sessions go as they are told for an origin, but for the questions what it would answer, which a pool is not asked.
+/// The sessions go as they are told for an origin, but for the questions what it would answer, which a pool is not
+/// asked.
 pub(crate) fn go_through_pool(rt: &(impl Abort + AllocGlobal), sessions: &str) -> Result<(), Fail> {
     let mut current = pool(rt.alloc(), 1)?;
     for row in sessions.lines() {

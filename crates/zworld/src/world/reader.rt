@@ -19,8 +19,8 @@ use bytes::Bytes;
 use indexmap::IndexSet;
 use std::alloc::{AllocError, Global};
 use zber::{Oid, Seq};
-use zoom::{Move, Question};
 use zquery::Query;
+use zquestions::{Move, Question};
 use ztarget::{Field, TargetSettings};
 
 /// What was read so far.

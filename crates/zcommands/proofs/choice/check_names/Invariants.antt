@@ -1,4 +1,4 @@
-use Rattle.zcommands.specs.Files.{texts_of}
+use Rattle.zwords.specs.Texts.{texts_of}
 use Rattle.zcommands.specs.Choice.{AreKnown}
 use Rattle.zcommands.proofs.choice.check_names.Given as goal
 

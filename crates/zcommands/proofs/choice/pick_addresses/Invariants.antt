@@ -1,5 +1,5 @@
 use Rattle.std.proofs.Common.{◌≡◌, length}
-use Rattle.zcommands.specs.Files.{texts_of}
+use Rattle.zwords.specs.Texts.{texts_of}
 use Rattle.zcommands.specs.Choice.{AreChosen}
 use Rattle.zcommands.proofs.choice.pick_addresses.Given as goal
 

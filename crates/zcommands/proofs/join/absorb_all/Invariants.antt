@@ -1,7 +1,7 @@
 -- the files so far are joined to those before them
 use Rattle.std.proofs.Common.{ℕ, List, ◌++◌, take}
 use Rattle.zcommands.specs.Join.{AreJoined}
-use Rattle.zcommands.specs.Files.{texts_of}
+use Rattle.zwords.specs.Texts.{texts_of}
 use Rattle.zcommands.proofs.join.absorb_all.Given as goal
 
 abbrev pub invariant-loop-path : goal.invariant-loop-path

@@ -1,7 +1,7 @@
 use Rattle.std.proofs.Common.{◌∷◌}
 use Rattle.std.proofs.lemmas.Result.{err_from_is_err_and}
 use Rattle.zcommands.specs.Devices.{held}
-use Rattle.zcommands.specs.Files.{texts_of}
+use Rattle.zwords.specs.Texts.{texts_of}
 use Rattle.zcommands.proofs.Joining.{join_refused, join_done}
 use Rattle.zcommands.proofs.join.join_files.Goals as goal
 

@@ -1,6 +1,6 @@
 use Rattle.std.proofs.Common.{[], ◌∷◌}
 use Rattle.std.proofs.lemmas.Result.{err_from_is_err_and}
-use Rattle.zcommands.specs.Files.{texts_of}
+use Rattle.zwords.specs.Texts.{texts_of}
 use Rattle.zcommands.specs.Join.AreJoined.{one}
 use Rattle.zcommands.proofs.Joining.{first_refused, rest_refused}
 use Rattle.zcommands.proofs.join.load_all.Goals as goal

@@ -3,7 +3,7 @@ use Rattle.std.specs.Option.{option_copied}
 use Rattle.std.proofs.lemmas.Result.{err_from_is_err_and}
 use Rattle.zrecords.specs.Records.{records_octets, left_out}
 use Rattle.zcommands.specs.Devices.{held}
-use Rattle.zcommands.specs.Files.{texts_of}
+use Rattle.zwords.specs.Texts.{texts_of}
 use Rattle.zcommands.specs.Records.{extract}
 use Rattle.zcommands.proofs.Extracting.{files_refused, extracted}
 use Rattle.zcommands.proofs.records.records_files.Goals as goal

@@ -5,6 +5,7 @@ use Rattle.zexchange.proofs.Longer.{longer}
 use Rattle.zexchange.proofs.Counts.{count, few}
 use Rattle.zexchange.proofs.Over.{empty, over}
 use Rattle.zexchange.proofs.Ended.{ended}
+use Rattle.zexchange.proofs.Tried.{tried}
 use Rattle.zexchange.proofs.laws.exchange_laws.Goals as goal
 
 pub returns : goal.returns
@@ -28,5 +29,6 @@ returns c = record {
   empty = empty c.accord_laws.ensures;
   over = over c.accord_laws.ensures;
   ended = ended c.next_laws.ensures c.agenda_laws.ensures c.driven_laws.ensures;
+  tried = tried;
   few = few c.meta_laws.ensures c.one_hearing.ensures;
 }

@@ -1,6 +1,6 @@
 use Rattle.std.proofs.Common.{◌≡◌, ◌∷◌, [], ◌++◌, length, sym, ap, subst, ◌∙◌, append_assoc, arith}
 use Rattle.std.specs.Vec.Iter.{into_iter_items}
-use Rattle.zoom.specs.Hosts.{AreNew}
+use Rattle.zquestions.specs.NewTargets.{AreNew}
 use Rattle.zrounds.specs.RunSteps.{ArePeersOf}
 use Rattle.zrounds.proofs.RunWorlds.{new_at, peers_push}
 use Rattle.zrounds.proofs.peers.peers_of.Goals as goal

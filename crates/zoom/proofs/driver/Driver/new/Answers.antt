@@ -1,6 +1,6 @@
 use Rattle.std.proofs.Common.{◌≡◌, map, sym, ap, subst, ◌∙◌}
 use Rattle.zplan.specs.Ranges.{AreWanted}
-use Rattle.zoom.specs.Steering.{plan_range}
+use Rattle.zquestions.specs.Askable.{plan_range}
 use Rattle.zoom.proofs.Starts.{started}
 use Rattle.zoom.proofs.driver.Driver.new.Goals as goal
 

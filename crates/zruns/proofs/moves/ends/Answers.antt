@@ -1,6 +1,0 @@
-use Rattle.std.proofs.Common.{sym, subst}
-use Rattle.zoom.specs.Hosts.{AreNew}
-use Rattle.zruns.proofs.moves.ends.Goals as goal
-
-pub peers_of-requires : goal.peers_of-requires
-peers_of-requires c = subst AreNew (sym c.into_vec.ensures) c.requires.1.fresh

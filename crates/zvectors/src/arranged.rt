@@ -1,0 +1,94 @@
+// Worlds that are arranged, and others that put a question to a host.
+ghost use Rattle.std.specs.Prelude.{IfOk};
+ghost use Rattle.zworld.specs.Fitness.{IsArrangement};
+
+use bytes::Bytes;
+use std::alloc::{AllocError, Global};
+use std::process::Abort;
+use std::test::Fail;
+use zencodings::rows::{each_row, halves, unescaped};
+use zencodings::unread::Unread;
+use zworld::fitness::Arrangement;
+use zworld::world::{WorldError, read_world};
+
+// A file, and the number of the line with a question to a host.
+const HOSTED: &str = "\
+host a h:210%0aask a d - 1 dune => 2
+target a 1 -%0ahost b h:210%0aask a d - 1 dune%0a%0aask b d - 1 dune%0a => 5
+";
+
+const TWO: &[u8] = b"step 3
+window 5
+target a 1 -
+host x h:210
+target b 1 r
+target c 1 -
+ask c d - 1 dune
+ask a d - 1 emma
+to a 7";
+
+/// The world of a file of at most 1,000,000 octets, arranged for one who asks by the name `zmeta`.
+pub(crate) fn arranged(alloc: Global, file: &[u8]) -> Result<Arrangement, WorldError>
+    ensures { IfOk result IsArrangement }
+{
+    if file.len() > 1_000_000 {
+        return Err(WorldError::Memory);
+    }
+    let name = Bytes::copy_from_slice(alloc, b"zmeta")?;
+    let world = read_world(alloc, file)?;
+    world.arranged(alloc, name)
+}
+
+fn fault(alloc: Global, file: &[u8]) -> Option<WorldError> {
+    arranged(alloc, file).err()
+}
+
+fn is_hosted(alloc: Global, row: &str) -> Result<bool, Unread> {
+    let (file, line) = halves(row);
+    let file = unescaped(alloc, file)?;
+    let line = line.parse::<u64>()?;
+    Ok(fault(alloc, file.as_slice()) == Some(WorldError::Refused { line }))
+}
+
+#[test]
+fn a_question_to_a_host_is_refused(rt: HostRuntime) -> Result<(), Fail> {
+    each_row(rt.alloc(), HOSTED, &is_hosted)
+}
+
+/// Whether octets are those of a text.
+pub(crate) fn spells(octets: &Bytes, text: &str) -> bool {
+    octets.as_slice() == text.as_bytes()
+}
+
+fn has_names(names: &[Bytes]) -> bool {
+    let [first, second] = names else {
+        return false;
+    };
+    spells(first, "c") && spells(second, "a")
+}
+
+// How many targets, questions and moves there are, and the settings.
+fn counts(alloc: Global, world: &Arrangement) -> Result<String, AllocError> {
+    let (targets, questions) = (world.targets.len(), world.questions.len());
+    let (moves, settings) = (world.moves.len(), &world.settings);
+    let (step, window) = (settings.step, settings.window);
+    format!(in alloc; "{targets} {questions} {moves} {step} {window}")
+}
+
+fn is_in_order(alloc: Global, world: &Arrangement) -> Result<bool, AllocError> {
+    let counts = counts(alloc, world)?;
+    let is_asker = spells(&world.settings.name, "zmeta");
+    Ok(is_asker && has_names(world.names.as_slice()) && counts.as_str() == "2 2 1 3 5")
+}
+
+fn is_arranged(alloc: Global) -> Result<bool, AllocError> {
+    match arranged(alloc, TWO) {
+        Ok(world) => is_in_order(alloc, &world),
+        Err(_) => Ok(false),
+    }
+}
+
+#[test]
+fn targets_stand_in_the_order_of_the_questions(rt: HostRuntime) {
+    assert!(rt; is_arranged(rt.alloc()).unwrap_or(false));
+}

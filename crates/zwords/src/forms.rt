@@ -1,0 +1,380 @@
+//! The forms of the command line: its commands with the words and options that each wants, and their help.
+
+use clap::{Arg, ArgAction, Command, value_parser};
+use std::alloc::{AllocError, Global};
+
+/// An option that a command may be given.
+#[derive(Clone, Copy)]
+struct Extra {
+    id: &'static str,
+    help: &'static str,
+    /// The name that help gives its value, where it has one.
+    value: Option<&'static str>,
+    /// Whether it may be given more than once.
+    is_many: bool,
+}
+
+const HEX: Extra = Extra {
+    id: "hex",
+    help: "Prints the octets of records in hexadecimal",
+    value: None,
+    is_many: false,
+};
+
+const SAVE: Extra = Extra {
+    id: "save",
+    help: "Saves what was brought, in the file OUT",
+    value: Some("OUT"),
+    is_many: false,
+};
+
+const AT_ONCE: Extra = Extra {
+    id: "at-once",
+    help: "Asks all catalogues at once, and not one after the other",
+    value: None,
+    is_many: false,
+};
+
+const ONLY: Extra = Extra {
+    id: "only",
+    help: "Asks just the question of this name; may be given several times",
+    value: Some("NAME"),
+    is_many: true,
+};
+
+const SYNTAX: Extra = Extra {
+    id: "syntax",
+    help: "Writes just the records of this record syntax",
+    value: Some("OID"),
+    is_many: false,
+};
+
+const CONFLICTS: Extra = Extra {
+    id: "conflicts",
+    help: "Writes all records of a place for which several are known",
+    value: None,
+    is_many: false,
+};
+
+/// The most connections that one command serves.
+const MOST_CONNECTIONS: i64 = 1_000_000;
+
+/// A command: its name, what it is for, an example for its help, the words that it wants, and its options.
+#[derive(Clone, Copy)]
+struct Form {
+    name: &'static str,
+    about: &'static str,
+    example: &'static str,
+    wants: &'static [Word],
+    may: &'static [Extra],
+}
+
+/// A word that a command wants, under the name that help gives it.
+#[derive(Clone, Copy)]
+struct Word {
+    id: &'static str,
+    help: &'static str,
+    /// Whether it may begin with a hyphen and be no option.
+    has_hyphen: bool,
+    /// Whether it is a number of connections.
+    is_count: bool,
+    /// Whether more than one may be given.
+    is_many: bool,
+    /// Whether one has to be given.
+    is_needed: bool,
+}
+
+/// A file that was saved.
+const SAVED: Word = Word {
+    id: "A",
+    help: "A file that --save made",
+    has_hyphen: false,
+    is_count: false,
+    is_many: false,
+    is_needed: true,
+};
+
+/// A world file.
+const WORLD: Word = Word {
+    id: "FILE",
+    help: "A file of catalogues and questions",
+    has_hyphen: false,
+    is_count: false,
+    is_many: false,
+    is_needed: true,
+};
+
+const ABOUT: &str = "Asks library catalogues over Z39.50, and shows what they answer";
+
+const ADVICE: &str = "'zmeta help COMMAND' says what a command reads and prints, with an example, as
+  zmeta help ask
+
+Statuses:
+  0  all was done
+  1  a catalogue failed, closed its connection, refused a search or could not be asked;
+     the list has what the others brought
+  2  the words are wrong
+  3  a file, a message, a query or an option's value was refused, or a file, a stream or
+     the socket that listens failed
+  4  memory ran out";
+
+const SHOW: Form = Form {
+    name: "show",
+    about: "Shows what recorded Z39.50 messages say",
+    example: "Reads hexadecimal digits from standard input; spaces and line ends between them don't count.
+Prints a line for each message, and below it a line for each record that it brings.
+
+Example, the message with which a catalogue ends a session:
+  echo 'BF 30 05 9F 81 53 01 00' | zmeta show
+prints
+  close - 0",
+    wants: &[],
+    may: &[],
+};
+
+const PQF: Form = Form {
+    name: "pqf",
+    about: "Shows how a query is understood, and how it goes out",
+    example: "TEXT is a query in prefix notation (PQF), as one word: quote it for the shell.
+Prints it with all its attributes in place, and below it its encoding in hexadecimal.
+
+Example, books with the title word dune that Herbert wrote:
+  zmeta pqf '@and @attr 1=4 dune @attr 1=1003 herbert'
+prints first
+  @and @attr 1=4 \"dune\" @attr 1=1003 \"herbert\"",
+    wants: &[Word {
+        id: "TEXT",
+        help: "The query in prefix notation",
+        has_hyphen: true,
+        is_count: false,
+        is_many: false,
+        is_needed: true,
+    }],
+    may: &[],
+};
+
+const JOIN: Form = Form {
+    name: "join",
+    about: "Puts together what searches of the same catalogues brought",
+    example: "A and each B are saved files, of the same catalogues in the same order.
+Prints one list of all that any search brought. Where they brought different records for one
+place of a result set, all of these are shown there as a conflict.
+
+Example, the searches of two days:
+  zmeta join monday.saved tuesday.saved
+prints lines as
+  target \"city library\" set 1 count 2
+  1 \"city library\" 1 rec 1.2.840.10003.5.10 - \"first record\"",
+    wants: &[
+        SAVED,
+        Word {
+            id: "B",
+            help: "More such files",
+            has_hyphen: false,
+            is_count: false,
+            is_many: true,
+            is_needed: true,
+        },
+    ],
+    may: &[HEX],
+};
+
+const RECORDS: Form = Form {
+    name: "records",
+    about: "Writes the records that searches of the same catalogues brought",
+    example: "A and each B are saved files, of the same catalogues in the same order; one is enough.
+Writes the octets of the records, one after the other in the order of the list of 'zmeta join',
+as cataloguing tools read them. Where several records are known for one place, all of these are
+left out, or none with --conflicts. What is left out is told on standard error: such places,
+whatever stands there, and of the others diagnostics that stand for records, and records that
+have no octets of their own. Records of another syntax than the one asked for are not told.
+
+Example, the MARC 21 records that a search brought:
+  zmeta ask --save books.saved catalogues
+  zmeta records --syntax 1.2.840.10003.5.10 books.saved > books.mrc",
+    wants: &[
+        SAVED,
+        Word {
+            id: "B",
+            help: "More such files",
+            has_hyphen: false,
+            is_count: false,
+            is_many: true,
+            is_needed: false,
+        },
+    ],
+    may: &[SYNTAX, CONFLICTS],
+};
+
+const RUN: Form = Form {
+    name: "run",
+    about: "Runs searches against catalogues in memory",
+    example: "FILE describes the catalogues, what each is asked, and in which order octets are carried, a
+line each:
+  step N, window N            positions that one request asks for, requests that may wait
+  target NAME SIZE FLAGS      a catalogue; FLAGS are of c concurrent, n named, r refuse, or -
+  db NAME                     a database of it
+  rec OID OCTETS              a record of that
+  field USE TEXT              a text that the record is found by
+  ask NAME DB SYNTAX WANT QUERY
+                              SYNTAX may be -; WANT is a number, or as 1-3,10-12
+  to NAME K, from NAME K      octets carried; rel NAME K releases reply K
+Prints one list of all that they answer.
+
+Example:
+  zmeta run world
+prints lines as
+  target \"city library\" set 1 count 2
+  1 \"city library\" 1 rec 1.2.840.10003.5.10 \"books\" \"first record\"",
+    wants: &[WORLD],
+    may: &[HEX, SAVE],
+};
+
+const ASK: Form = Form {
+    name: "ask",
+    about: "Asks library catalogues",
+    example: "FILE describes the catalogues and what each is asked, a line each:
+  step N, window N            positions that one request asks for, requests that may wait
+  host NAME ADDRESS           a catalogue, at an address as z3950.example.org:210
+  ask NAME DB SYNTAX WANT QUERY
+                              SYNTAX may be -; WANT is a number, or as 1-3,10-12
+Connects to all of them, asks each, and prints one list of all that they answer. A catalogue that
+cannot be reached, or is silent for 30 seconds, is told of, and the others are listed: status 1.
+With --at-once no catalogue waits for another. With --only just the questions of these names are
+asked, so that saved files of parts can be joined; status 3 where there is no such question.
+
+Example, a file with the two lines
+  host loc lx2.loc.gov:210
+  ask loc LCDB 1.2.840.10003.5.10 5 \"@attr 1=4 dune\"
+is asked by
+  zmeta ask --at-once catalogues
+and prints lines as
+  target \"loc\" set 1 count 2
+  1 \"loc\" 1 rec 1.2.840.10003.5.10 \"LCDB\" \"first record\"",
+    wants: &[WORLD],
+    may: &[AT_ONCE, ONLY, HEX, SAVE],
+};
+
+const SERVE: Form = Form {
+    name: "serve",
+    about: "Serves a catalogue in memory to other programs",
+    example: "ADDRESS is where connections are taken, as localhost:9999. FILE describes catalogues in memory,
+as 'zmeta help run' says, and NAME is one of them. N connections are taken, one after the other.
+Status 3 with 'cannot serve' where there is no such catalogue, or the address cannot be taken.
+
+Example, one client asks the catalogue of a city library:
+  zmeta serve localhost:9999 'city library' world 1",
+    wants: &[
+        Word {
+            id: "ADDRESS",
+            help: "Where connections are taken, as host:port",
+            has_hyphen: false,
+            is_count: false,
+            is_many: false,
+            is_needed: true,
+        },
+        Word {
+            id: "NAME",
+            help: "The catalogue that is served",
+            has_hyphen: false,
+            is_count: false,
+            is_many: false,
+            is_needed: true,
+        },
+        Word {
+            id: "FILE",
+            help: "A file of catalogues",
+            has_hyphen: false,
+            is_count: false,
+            is_many: false,
+            is_needed: true,
+        },
+        Word {
+            id: "N",
+            help: "How many connections are taken, up to 1000000",
+            has_hyphen: false,
+            is_count: true,
+            is_many: false,
+            is_needed: true,
+        },
+    ],
+    may: &[],
+};
+
+const LOOP: Form = Form {
+    name: "loop",
+    about: "Runs searches against catalogues in memory, over this machine's network",
+    example: "FILE is as for 'zmeta run'. Each catalogue is asked over a TCP connection to 127.0.0.1, so that the
+list shows whether this machine's network carries octets as they are: it is the list of 'zmeta run'.
+Lines of FILE that say in which order octets are carried are read, and not followed.
+Status 3 with 'cannot serve' where no connections can be made.
+
+Example:
+  zmeta loop world
+prints lines as
+  target \"city library\" set 1 count 2
+  1 \"city library\" 1 rec 1.2.840.10003.5.10 \"books\" \"first record\"",
+    wants: &[WORLD],
+    may: &[HEX, SAVE],
+};
+
+const FORMS: [Form; 8] = [ASK, RUN, LOOP, JOIN, RECORDS, SERVE, SHOW, PQF];
+
+fn argument(alloc: Global, word: &Word) -> Arg<'static> {
+    let argument = Arg::new(alloc, word.id)
+        .help(word.help)
+        .required(word.is_needed)
+        .allow_hyphen_values(word.has_hyphen)
+        .action(ArgAction::Set);
+    if word.is_count {
+        argument.value_parser(value_parser!(u32).range(0..=MOST_CONNECTIONS))
+    } else if word.is_many {
+        argument.num_args(1..).action(ArgAction::Append)
+    } else {
+        argument
+    }
+}
+
+fn action_of(extra: &Extra) -> ArgAction {
+    if extra.value.is_none() {
+        ArgAction::SetTrue
+    } else if extra.is_many {
+        ArgAction::Append
+    } else {
+        ArgAction::Set
+    }
+}
+
+fn option(alloc: Global, extra: &Extra) -> Arg<'static> {
+    let option = Arg::new(alloc, extra.id).long(extra.id).help(extra.help);
+    let option = option.action(action_of(extra));
+    match extra.value {
+        None => option,
+        Some(value) => option.value_name(value),
+    }
+}
+
+fn subcommand<'a>(alloc: Global, form: &Form) -> Result<Command<'a>, AllocError> {
+    let mut command = Command::new(alloc, form.name)
+        .about(form.about)
+        .after_help(form.example);
+    for word in form.wants {
+        command = command.arg(argument(alloc, word))?;
+    }
+    for extra in form.may {
+        command = command.arg(option(alloc, extra))?;
+    }
+    Ok(command)
+}
+
+/// The command line: its commands, what each reads, and their help.
+pub(crate) fn command<'a>(alloc: Global) -> Result<Command<'a>, AllocError> {
+    let mut command = Command::new(alloc, "zmeta")
+        .about(ABOUT)
+        .after_help(ADVICE)
+        .subcommand_required(true);
+    for form in &FORMS {
+        command = command.subcommand(subcommand(alloc, form)?)?;
+    }
+    Ok(command)
+}
