@@ -11,7 +11,7 @@ use Rattle.zapdu.specs.declared.productions.record.Record.{Record}
 use Rattle.zknow.specs.declared.fact.Fact.{Fact}
 use Rattle.zknow.specs.declared.fact.Fact.TheVariants.{Count, Failed, Seen}
 use Rattle.zplan.specs.Plan as plan
-use Rattle.zplan.specs.Plan.{Operation, Event, Reply, Opens, Finds, Shows, Replies, IsAsked, first, search, cut, rest, replies_in, count_in, IsDriven, IsAnsweredWhole, IsServed, IsShown}
+use Rattle.zplan.specs.Plan.{Operation, Event, Reply, Opens, Finds, Shows, Replies, IsAsked, first, search, replies_in, IsDriven, IsAnsweredWhole, IsServed, IsShown}
 use Rattle.zplan.specs.Positions.{IsIn, up_to}
 use Rattle.zplan.specs.Laws.{ShownLaws}
 use Rattle.zplan.proofs.Order.{sent_asked, answered_sent}

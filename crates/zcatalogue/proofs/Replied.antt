@@ -44,7 +44,7 @@ use Rattle.ztarget.specs.declared.settings.TargetSettings.{TargetSettings}
 use Rattle.ztarget.specs.Faults.{Reason}
 use Rattle.ztarget.specs.Searching.{Found}
 use Rattle.ztarget.specs.Standing as target
-use Rattle.ztarget.specs.Standing.{Terms, Open, NamedSet, set_named}
+use Rattle.ztarget.specs.Standing.{Terms, Open, NamedSet}
 use Rattle.ztarget.specs.Responding.{search_found, search_failed, presented, present_response}
 use Rattle.ztarget.specs.Replies.{replies, standing_after, to_search, to_search_unless, to_present}
 use Rattle.ztarget.specs.Replies as targets

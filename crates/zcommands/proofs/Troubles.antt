@@ -1,5 +1,5 @@
 -- Connections that have trouble, and the lines of those that failed.
-use Rattle.std.proofs.Common.{◌≡◌, ◌∙◌, sym, ap, subst, refl, ℕ, ◌+◌, ◌<◌, ◌≤◌, Bool, true, false, not, ◌||◌, Option, List, [], ◌∷◌, ◌++◌, length, take, get_or, arith, append-nil, append_assoc}
+use Rattle.std.proofs.Common.{◌≡◌, ◌∙◌, sym, ap, subst, refl, ℕ, ◌+◌, ◌<◌, Bool, true, false, not, ◌||◌, Option, List, [], ◌∷◌, ◌++◌, length, take, get_or, arith, append-nil, append_assoc}
 use Rattle.std.proofs.lemmas.List.{take_more, length-take-le}
 use Rattle.zoom.specs.declared.state.State.{State}
 use Rattle.zoom.specs.Befalling.{IsStateAt}

@@ -2,8 +2,7 @@
 
 ghost use Rattle.std.specs.Prelude.{◌≡◌, ◌<◌, ◌^◌, length, IfOk, IfErr, IfSome};
 ghost use Rattle.std.specs.Option.{option_map};
-ghost use Rattle.zquestions.specs.Askable.{AreAskable};
-ghost use Rattle.zquestions.specs.Askable.{AreFit};
+ghost use Rattle.zquestions.specs.Askable.{AreAskable, AreFit};
 ghost use Rattle.znet.specs.Asking.{has, IsAsked};
 ghost use Rattle.zcommands.specs.Devices.{held};
 ghost use Rattle.zcommands.specs.Finished.{IsSound, IsOfPaths, IsOfWorld};

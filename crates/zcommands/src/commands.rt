@@ -1,5 +1,5 @@
 //! From the words of the command line to what is done for them.
-ghost use Rattle.std.specs.Prelude.{◌≡◌, ◌≢◌, Err, IfErr, IfOk, MatchResult, map, string_bytes};
+ghost use Rattle.std.specs.Prelude.{◌≡◌, Err, IfErr, IfOk, MatchResult, map, string_bytes};
 ghost use Rattle.zcommands.specs.Devices.{left, held};
 ghost use Rattle.zcommands.specs.Words.{Does, DoesWords, TellsWords, IsWrong};
 

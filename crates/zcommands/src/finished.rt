@@ -1,8 +1,7 @@
 //! What is known once all was asked: its list is printed, what failed is told, and it is saved where that is asked for.
 
-ghost use Rattle.std.specs.Prelude.{◌≡◌, ◌++◌, IfOk, IfErr, MatchResult};
+ghost use Rattle.std.specs.Prelude.{IfOk, IfErr, MatchResult};
 ghost use Rattle.std.specs.Option.{option_map};
-ghost use Rattle.zknow.specs.List.Listing.{listing};
 ghost use Rattle.zcommands.specs.Devices.{held};
 ghost use Rattle.zcommands.specs.Finished.{IsSound, IsListed, PutsFinished, IsOfSaving, MakesSaved, Finishes};
 

@@ -1,5 +1,5 @@
 //! The command `pqf`: a query in the prefix notation, as it is understood and as it goes out.
-ghost use Rattle.std.specs.Prelude.{◌≡◌, ℕ, List, [], ◌∷◌, ◌++◌, Some, OnOk, IfOk, IfErr};
+ghost use Rattle.std.specs.Prelude.{◌≡◌, ℕ, List, ◌++◌, Some, OnOk, IfOk, IfErr};
 ghost use Rattle.zber.specs.Elements.{Element};
 ghost use Rattle.zquery.specs.Notation.Printing.{query_text};
 ghost use Rattle.zquery.specs.Element.Type1.{WritesQuery};

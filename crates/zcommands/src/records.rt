@@ -1,6 +1,6 @@
 //! The command `records`: the octets of the records that saved files know.
 
-ghost use Rattle.std.specs.Prelude.{◌≡◌, ◌++◌, ◌∷◌, codes, IfErr, IfOk, OnOk, MatchResult, Ok, Err};
+ghost use Rattle.std.specs.Prelude.{◌≡◌, ◌++◌, ◌∷◌, IfOk, OnOk, Ok, Err};
 ghost use Rattle.std.specs.Option.{option_map};
 ghost use Rattle.zcommands.specs.Devices.{held};
 ghost use Rattle.zwords.specs.Texts.{texts_of};

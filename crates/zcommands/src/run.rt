@@ -1,6 +1,6 @@
 //! The command `run`: what targets in memory answer to the questions of a world file.
 
-ghost use Rattle.std.specs.Prelude.{◌≡◌, IfOk, IfErr, IfSome};
+ghost use Rattle.std.specs.Prelude.{IfOk, IfErr, IfSome};
 ghost use Rattle.std.specs.Option.{option_map};
 ghost use Rattle.zcommands.specs.Devices.{held};
 ghost use Rattle.zcommands.specs.Finished.{IsSound, IsOfPaths, IsOfWorld};

@@ -24,9 +24,8 @@ use Rattle.zoom.specs.Laws.{OneHearing}
 use Rattle.zoom.specs.Leaving.{AreReadBack}
 use Rattle.zoom.specs.History.{only}
 use Rattle.zoom.specs.MetaLaws.{MetaLaws, found_for}
-use Rattle.zquestions.specs.Askable.{AreAskable}
+use Rattle.zquestions.specs.Askable.{AreAskable, IsAskable}
 use Rattle.zoom.specs.Metas.{settings_of}
-use Rattle.zquestions.specs.Askable.{IsAskable}
 use Rattle.zoom.proofs.Drivings.{asked_more, same_asked}
 use Rattle.zoom.proofs.Phases.{any_last}
 use Rattle.zplan.specs.Positions.{up_to}

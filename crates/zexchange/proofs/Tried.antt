@@ -1,5 +1,5 @@
 -- A driven connection that sent its Close tried its search before.
-use Rattle.std.proofs.Common.{◌≡◌, inl, Bool, true, false, List, [], Some, refl, sym, ap, ◌∙◌, true≢false}
+use Rattle.std.proofs.Common.{◌≡◌, inl, true, false, List, [], refl, sym, ap, ◌∙◌, true≢false}
 use Rattle.std.specs.Prelude.{◌||◌}
 use Rattle.std.specs.List.{list_any}
 use Rattle.zplan.specs.Plan.{Event}

@@ -1,7 +1,6 @@
 //! Hosts are asked at once, without threads.
 ghost use Rattle.std.specs.Prelude.{◌≡◌, ◌<◌, ◌^◌, ℕ, true, length, is_some, IfOk};
-ghost use Rattle.zquestions.specs.Askable.{AreFit};
-ghost use Rattle.zquestions.specs.Askable.{AreAskable};
+ghost use Rattle.zquestions.specs.Askable.{AreFit, AreAskable};
 ghost use Rattle.ztalk.specs.declared.among.Phase.TheVariants as phases;
 ghost use Rattle.ztalk.specs.Among.{IsAt, AreAt};
 ghost use Rattle.znet.specs.Asking.{has, IsAsked};

@@ -1,7 +1,6 @@
 //! Hosts are asked, one after the other.
 ghost use Rattle.std.specs.Prelude.{◌≡◌, ◌<◌, ◌^◌, false, true, length, is_some, IfOk, OnOk};
-ghost use Rattle.zquestions.specs.Askable.{AreFit};
-ghost use Rattle.zquestions.specs.Askable.{AreAskable};
+ghost use Rattle.zquestions.specs.Askable.{AreFit, AreAskable};
 ghost use Rattle.znet.specs.Asking.{has, IsAsked};
 ghost use Rattle.znet.specs.AskingSteps.{TalksOut, TalksAllOut};
 

@@ -4,7 +4,7 @@ ghost use Rattle.std.specs.Prelude.{◌≡◌, IfOk};
 use bytes::Bytes;
 use std::io;
 use std::io::{ErrorKind, Read, Write};
-use std::net::{Net, OpenStream, SocketAddr, TcpStream, ToSocketAddrs};
+use std::net::{Net, OpenStream, TcpStream, ToSocketAddrs};
 use std::time::{Clock, Duration, Instant};
 use ztalk::Device;
 

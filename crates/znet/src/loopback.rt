@@ -1,7 +1,6 @@
 //! Connections to targets within one process, over TCP on 127.0.0.1.
 ghost use Rattle.std.specs.Prelude.{◌≡◌, ◌≤◌, ◌<◌, ◌^◌, length, IfOk};
-ghost use Rattle.zquestions.specs.Askable.{AreFit};
-ghost use Rattle.zquestions.specs.Askable.{AreAskable};
+ghost use Rattle.zquestions.specs.Askable.{AreFit, AreAskable};
 ghost use Rattle.zquestions.specs.NewTargets.{AreNew};
 ghost use Rattle.zrounds.specs.Run.{Ran};
 

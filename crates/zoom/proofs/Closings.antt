@@ -1,6 +1,6 @@
 -- Whether Close was admitted, and where an association stands that was accepted.
 use Rattle.std.proofs.Common.{◌≡◌, Bool, true, false, cond, not, List, [], ◌∷◌, Option, None, Some, Result, Ok, Err}
-use Rattle.std.proofs.Common.{refl, sym, ap, subst, ◌∙◌, true≢false}
+use Rattle.std.proofs.Common.{refl, sym, subst, ◌∙◌, true≢false}
 use Rattle.std.specs.Prelude.{◌||◌}
 use Rattle.std.specs.List.{list_any}
 use Rattle.zapdu.specs.declared.apdu.Apdu.{Apdu}

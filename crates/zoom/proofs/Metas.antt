@@ -29,10 +29,9 @@ use Rattle.zoom.specs.Heard.{Heard, HasHeard, Hears, Deed, Calls, Feeds, Takes, 
 use Rattle.zoom.specs.Heard.{hears_call, hears_piece, stop_by, end_by, truncated, past_of, state_at, told_by, told_as, IsDone}
 use Rattle.zoom.specs.Links.{Link}
 use Rattle.zoom.specs.History.{History, only, Stands, After, AfterUpTo}
-use Rattle.zquestions.specs.Askable.{IsAskable, AreFit}
+use Rattle.zquestions.specs.Askable.{IsAskable, AreFit, AreAskable}
 use Rattle.zoom.specs.Steering.{Errand, errand_with, errand_of}
 use Rattle.zoom.specs.Drivers.{DriverState, IsDriver, KnowsTold, RefusedLaw}
-use Rattle.zquestions.specs.Askable.{AreAskable}
 use Rattle.zoom.specs.Metas.{MetaLinks, settings_of, AreDriven, MetaAfter, MetaAfterUpTo, MetaTook, MetaKeeps, KnowsTake, LearnsTold, StandFor, Tells}
 use Rattle.zoom.specs.Laws.{OneMeeting, OneHearing, UpToLaw}
 use Rattle.zoom.specs.Befalling.{IsStateAt, IsToldAnswer, Took, Keeps}

@@ -12,7 +12,7 @@ use Rattle.ztarget.specs.declared.database.Database.{Database}
 use Rattle.ztarget.specs.declared.settings.TargetSettings.{TargetSettings}
 use Rattle.ztarget.specs.declared.error.TargetError.{TargetError}
 use Rattle.ztarget.specs.Replies.{Answer, owed, replies}
-use Rattle.ztarget.specs.Receiving.{TargetState, new_target, is_close, may_release, After as TargetAfter}
+use Rattle.ztarget.specs.Receiving.{TargetState, is_close, may_release, After as TargetAfter}
 use Rattle.zoom.specs.Coming.{limit, Met, Message, Foreign, Fault, AreMetAs}
 
 -- A host, for every contract: its target; the octets that came and were not yet given out in a message; the octets that

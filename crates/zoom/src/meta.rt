@@ -6,8 +6,7 @@ ghost use Rattle.zoom.specs.Heard.{Feeds, Ends, Gives, Stops, IsDone};
 ghost use Rattle.zoom.specs.Learned.{Grows};
 ghost use Rattle.zoom.specs.Links.{waiting_at, stop_at, OthersStay};
 ghost use Rattle.zoom.specs.Befalling.{IsStateAt, IsTakeAnswer, HasGivenAll};
-ghost use Rattle.zquestions.specs.Askable.{AreFit};
-ghost use Rattle.zquestions.specs.Askable.{AreAskable};
+ghost use Rattle.zquestions.specs.Askable.{AreFit, AreAskable};
 ghost use Rattle.zoom.specs.Metas.{MetaAfter, MetaBefell, MetaTook, MetaKeeps, DrivesTo, AdvancesTo, IssuesTo, LearnsTold, TellsUpTo, StandFor, is_skipped, is_complete, IsFinishedUpTo};
 
 use crate::answer::{Step, TakeError, Told, step_told};

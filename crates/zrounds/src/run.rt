@@ -1,9 +1,8 @@
 //! Worlds in memory: connections that are driven, and targets in memory that answer them.
 ghost use Rattle.std.specs.Prelude.{◌≡◌, ◌<◌, ◌^◌, ◌++◌, true, length, IfOk, OnErr};
 ghost use Rattle.zknow.specs.List.Listing.{listing};
-ghost use Rattle.zquestions.specs.Askable.{AreFit};
+ghost use Rattle.zquestions.specs.Askable.{AreFit, AreAskable};
 ghost use Rattle.zquestions.specs.NewTargets.{AreNew};
-ghost use Rattle.zquestions.specs.Askable.{AreAskable};
 ghost use Rattle.zrounds.specs.Run.{Ran};
 ghost use Rattle.zrounds.specs.RunRounds.{RanWhole};
 

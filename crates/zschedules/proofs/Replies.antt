@@ -1,5 +1,5 @@
 -- Where a reply of a log came from.
-use Rattle.std.proofs.Common.{◌≡◌, ◌⊎◌, ℕ, true, false, cond, List, [], ◌∷◌, ◌++◌, Option, None, Some, Result, Ok, Err, refl, sym, subst, ◌∙◌}
+use Rattle.std.proofs.Common.{◌≡◌, ℕ, true, false, cond, List, [], ◌∷◌, ◌++◌, Option, None, Some, Result, Ok, Err, refl, sym, subst, ◌∙◌}
 use Rattle.zplan.specs.Plan.{Operation, Receives, Reply, same, asked_in, replies_in, IsDriven}
 use Rattle.zplan.specs.Positions.{IsIn}
 use Rattle.zplan.proofs.Order.{same_is}

@@ -1,5 +1,5 @@
 -- Two runs with equal replies know the same.
-use Rattle.std.proofs.Common.{◌≡◌, ◌⊎◌, inl, inr, ℕ, zero, suc, ◌<◌, ◌≤◌, true, false, List, [], ◌∷◌, length, slice_get, Some, refl, sym, ap, subst, ◌∙◌, arith}
+use Rattle.std.proofs.Common.{◌≡◌, ◌⊎◌, inl, inr, ℕ, zero, suc, ◌<◌, ◌≤◌, true, false, List, [], ◌∷◌, length, slice_get, Some, refl, sym, ap, subst, arith}
 use Rattle.std.specs.Prelude.{Contains, nat_lt}
 use Rattle.std.proofs.lemmas.Bool.Decides.{nat_tests}
 use Rattle.zknow.specs.declared.fact.Fact.{Fact}
@@ -20,7 +20,7 @@ use Rattle.zoom.specs.Driving.{operation_for, events_of, IsDrivenLog}
 use Rattle.zoom.specs.Steering.{ask_of, errand_of}
 use Rattle.zoom.specs.Drivers.{DriverState, IsDriver}
 use Rattle.zoom.specs.Heard.{Heard, HasHeard}
-use Rattle.zoom.specs.History.{History, only, accepted, facts_at, IsKnown}
+use Rattle.zoom.specs.History.{History, only, accepted, facts_at}
 use Rattle.zoom.specs.Metas.{MetaLinks, MetaAfter, settings_of}
 use Rattle.zoom.proofs.Drivings.{contained, among, replied, driven}
 use Rattle.zoom.proofs.Metas.{heard_at}

@@ -6,7 +6,7 @@ use Rattle.zorigin.specs.declared.settings.Settings.{Settings}
 use Rattle.zquestions.specs.declared.question.Question.{Question}
 use Rattle.zquestions.specs.declared.question.MetaSettings.{MetaSettings}
 use Rattle.zoom.specs.declared.answer.Step.{Step}
-use Rattle.zoom.specs.Heard.{Deed, Calls, Feeds, Takes, Ends, Gives, Heard, HasHeard, past_of, given, is_lost, sent}
+use Rattle.zoom.specs.Heard.{Deed, Calls, Feeds, Takes, Ends, Gives, Heard, HasHeard, given, is_lost}
 use Rattle.zoom.specs.Leaving.{Leaves}
 use Rattle.zoom.specs.Links.{Links}
 use Rattle.zoom.specs.History.{History, only, After}

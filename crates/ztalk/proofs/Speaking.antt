@@ -1,13 +1,13 @@
 -- What making the calls that are due, and writing what waits, does to a talk; and talks that go on.
-use Rattle.std.proofs.Common.{◌≡◌, ◌∙◌, sym, ap, subst, ℕ, ◌<◌, false, List, [], ◌∷◌, ◌++◌, length, slice_get, Some, Result, Ok, Err, refl, append_assoc}
+use Rattle.std.proofs.Common.{◌≡◌, ◌∙◌, sym, ap, subst, ℕ, ◌<◌, false, List, [], ◌∷◌, ◌++◌, length, Result, Ok, Err, refl, append_assoc}
 use Rattle.std.specs.Io.KnownBytes.{Appends}
 use Rattle.std.proofs.KnownBytes.{Appends-trans, Appends-nil, Consumes-nil}
 use Rattle.zorigin.specs.Standings.{Call}
 use Rattle.zquestions.specs.declared.question.Question.{Question}
 use Rattle.zquestions.specs.declared.question.MetaSettings.{MetaSettings}
 use Rattle.zoom.specs.declared.state.Reason.TheVariants as reasons
-use Rattle.zoom.specs.Heard.{Heard, HasHeard, Ends, Gives, Stops, past_of, given, is_lost, sent}
-use Rattle.zoom.specs.History.{History, only, After}
+use Rattle.zoom.specs.Heard.{HasHeard, Ends, Gives, Stops, past_of, given, is_lost, sent}
+use Rattle.zoom.specs.History.{History, only}
 use Rattle.zoom.specs.Laws.{UpToLaw, OneHearing}
 use Rattle.zoom.specs.Metas.{MetaLinks, MetaAfter, MetaAfterUpTo, MetaBefell, MetaKeeps, DrivesTo, Drives, Progress, made, settings_of}
 use Rattle.ztalk.specs.Devices.{DeviceState, AppendsFront, HasFailed}
@@ -17,7 +17,7 @@ use Rattle.ztalk.specs.declared.turns.Turn.{Turn}
 use Rattle.ztalk.specs.declared.turns.Turn.TheVariants as turns
 use Rattle.ztalk.specs.Pushes.{MetaBroke, Pushes}
 use Rattle.ztalk.specs.Talks.{Stage, Due, Listening, Waiting, Over, Talk, GoesOn, HaltsFrom, HasSpoken, begins, speaks, same}
-use Rattle.zoom.specs.Links.{Link, waiting_at, waiting_in}
+use Rattle.zoom.specs.Links.{waiting_at, waiting_in}
 use Rattle.zoom.proofs.Metas.{slice_some}
 use Rattle.zoom.proofs.Pools.{only_same, only_other}
 use Rattle.ztalk.specs.Talking.{Settles}

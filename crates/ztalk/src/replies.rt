@@ -3,7 +3,7 @@ ghost use Rattle.std.specs.Prelude.{◌≡◌, ◌||◌};
 ghost use Rattle.ztalk.specs.declared.replies.AnswerError.TheVariants as errors;
 ghost use Rattle.ztalk.specs.Answers.{ServesAll, Hands, AnswersPiece, Answers};
 
-use crate::device::{Failed, Sink, Source};
+use crate::device::{Sink, Source};
 use crate::outgoing::write_all;
 use std::alloc::{AllocError, Global};
 use thiserror::Error;

@@ -1,5 +1,5 @@
 -- Two conversations that are not begun.
-use Rattle.std.proofs.Common.{◌≡◌, ℕ, zero, suc, [], ◌∷◌, Some}
+use Rattle.std.proofs.Common.{◌≡◌, zero, suc, [], ◌∷◌, Some}
 use Rattle.ztalk.specs.declared.among.Ends.{Ends}
 use Rattle.ztalk.specs.declared.among.Phase.TheVariants as phases
 use Rattle.ztalk.specs.Among.{AreAt}

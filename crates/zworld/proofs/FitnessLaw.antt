@@ -2,12 +2,11 @@
 use Rattle.std.proofs.Common.{◌≡◌, ◌∙◌, sym, ap, subst, refl, ℕ, ◌+◌, ◌<◌, ◌≤◌, ◌^◌, Bool, true, false, if◌then◌else◌, List, [], ◌∷◌, ◌++◌, length, Option, Some, None, arith}
 use Rattle.std.specs.Option.{option_map}
 use Rattle.zquery.specs.Trees.{RpnQuery}
-use Rattle.zquestions.specs.Askable.{AreAskable}
-use Rattle.zquestions.specs.Askable.{IsAskable, HasArcs}
+use Rattle.zquestions.specs.Askable.{AreAskable, IsAskable, HasArcs}
 use Rattle.zworld.specs.Finding.{questions_of}
 use Rattle.zworld.specs.Fitness.{IsFit}
 use Rattle.zworld.specs.WorldLines.{words}
-use Rattle.zworld.specs.Worlds.{Leaves, AreWorld, none, more, IsWorld, in_last, in_target, with_targets, change_target, new_target, new_host, add_entry, add_entry_field, add_database, inquiry, question, move_of, end_of, is_defined, is_among, place_of, asked_names, target_names}
+use Rattle.zworld.specs.Worlds.{Leaves, AreWorld, none, more, IsWorld, in_last, in_target, with_targets, change_target, new_target, new_host, add_content, in_database, add_database, inquiry, question, move_of, end_of, is_defined, is_among, place_of, asked_names, target_names}
 use Rattle.zworld.specs.declared.world.World.{World}
 use Rattle.zworld.specs.declared.world.Inquiry.{Inquiry}
 use Rattle.zworld.specs.declared.world.NamedTarget.{NamedTarget}
@@ -78,8 +77,8 @@ keeps number (lines.Target name settings) w v i h s =
 keeps number (lines.Host name address) w v i h s =
     subst IsSane (chosen (is_defined name w.targets w.hosts) (record w { hosts = w.hosts ++ new_host name address ∷ [] }) v h) s
 keeps number (lines.Database name) w v i h s = subst IsSane (targets (add_database name) w v h) s
-keeps number (lines.Record syntax octets) w v i h s = subst IsSane (targets (in_target (add_entry syntax octets)) w v h) s
-keeps number (lines.Field field) w v i h s = subst IsSane (targets (in_target (add_entry_field field)) w v h) s
+keeps number (lines.Content content) w v i h s =
+    subst IsSane (targets (in_target (in_database (add_content content))) w v h) s
 keeps number (lines.Ask line) w v i h s =
     with_one (is_among line.name (asked_names w.questions)) (λ end. record w { questions = w.questions ++ inquiry number line h.0 end ∷ [] }) (end_of line.name w.targets w.hosts) v
     (λ end. record {

@@ -5,6 +5,7 @@ use Rattle.zquery.specs.Notation.Sets.{oid_of}
 use Rattle.zquestions.specs.Askable.{HasArcs}
 use Rattle.zworld.specs.WorldLines.{keyword_of, line_by, line_of, step_line, window_line, target_line, host_line, database_line, record_line, field_line, ask_line, carry_line, are_flags, settings, syntax_of}
 use Rattle.zworld.specs.WorldWants.{number_in, wanted_of}
+use Rattle.zworld.specs.declared.world.line.Content.TheVariants as contents
 use Rattle.zworld.specs.declared.world.line.Line.{Line}
 use Rattle.zworld.specs.declared.world.line.Line.TheVariants as lines
 use Rattle.zworld.specs.declared.world.line.Way.{Way}
@@ -54,13 +55,13 @@ database_within _ line e = absurd (none_some e)
 
 record_within : (ws : List (List ℕ)) (line : Line) → record_line ws ≡ Some line → IsWithin line
 record_within (syntax ∷ octets ∷ []) line e =
-    let m = mapped (λ oid. lines.Record oid octets) (oid_of syntax) line e in
+    let m = mapped (λ oid. lines.Content (contents.Record oid octets)) (oid_of syntax) line e in
     subst IsWithin m.gives tt
 record_within _ line e = absurd (none_some e)
 
 field_within : (ws : List (List ℕ)) (line : Line) → field_line ws ≡ Some line → IsWithin line
 field_within (attr ∷ text ∷ []) line e =
-    let m = mapped (λ n. lines.Field (record { attr = pos n; text = text })) (number_in 0 (2 ^ 63 - 1) attr) line e in
+    let m = mapped (λ n. lines.Content (contents.Field (record { attr = pos n; text = text }))) (number_in 0 (2 ^ 63 - 1) attr) line e in
     subst IsWithin m.gives tt
 field_within _ line e = absurd (none_some e)
 

@@ -4,13 +4,15 @@ use Rattle.std.specs.Option.{option_map}
 use Rattle.zquery.specs.declared.notation.token.Token.{Token}
 use Rattle.zquery.specs.Notation.Tokens.{AreTokens}
 use Rattle.ztarget.specs.declared.database.Database.{Database}
-use Rattle.ztarget.specs.declared.database.Field.{Field}
+use Rattle.ztarget.specs.declared.database.Entry.{Entry}
 use Rattle.ztarget.specs.Searching.{entries_in}
 use Rattle.zworld.specs.Fitness.{AreSmall}
 use Rattle.zworld.specs.WorldLines.{words, line_of, lines_of, is_feed}
-use Rattle.zworld.specs.Worlds.{Leaves, AreWorld, none, more, IsWorld, in_last, with_targets, change_target, new_target, new_host, new_database, new_entry, add_field, add_entry, add_entry_field, add_database, in_target, inquiry, move_of, end_of, is_defined, is_among, place_of, asked_names, target_names, database_names}
+use Rattle.zworld.specs.Worlds.{Leaves, AreWorld, none, more, IsWorld, in_last, with_targets, change_target, new_target, new_host, new_database, new_entry, add_field, add_content, in_database, add_database, in_target, inquiry, move_of, end_of, is_defined, is_among, place_of, asked_names, target_names, database_names}
 use Rattle.zworld.specs.declared.world.World.{World}
 use Rattle.zworld.specs.declared.world.NamedTarget.{NamedTarget}
+use Rattle.zworld.specs.declared.world.line.Content.{Content}
+use Rattle.zworld.specs.declared.world.line.Content.TheVariants as contents
 use Rattle.zworld.specs.declared.world.line.Line.{Line}
 use Rattle.zworld.specs.declared.world.line.Line.TheVariants as lines
 use Rattle.zworld.proofs.WorldSaid.{none_some, some_same}
@@ -45,17 +47,19 @@ target_grows k change g x y e =
     let m = mapped (λ databases. record x { databases = databases }) (in_last change x.databases) y e in
     subst (λ z. entries z ≤ entries x + k) m.gives (last_held size_of k change x.databases m.from g m.is)
 
-entry_grows : (syntax octets : List ℕ) → Grows size_of 1 (add_entry syntax octets)
-entry_grows syntax octets x y e =
-    let same = some_same (record x { entries = x.entries ++ new_entry syntax octets ∷ [] }) y e in
-    let more = length-append x.entries (new_entry syntax octets ∷ []) in
-    subst (λ z. size_of z ≤ size_of x + 1) same (omega (arith, more))
+content_adds : (content : Content) (xs ys : List Entry) → add_content content xs ≡ Some ys → length ys ≤ length xs + 1
+content_adds (contents.Record syntax octets) xs ys e =
+    let same = some_same (xs ++ new_entry syntax octets ∷ []) ys e in
+    let more = length-append xs (new_entry syntax octets ∷ []) in
+    subst (λ z. length z ≤ length xs + 1) same (omega (arith, more))
+content_adds (contents.Field field) xs ys e =
+    let same : length ys ≡ length xs = last_length (add_field field) xs ys e in
+    omega (arith, same)
 
-field_grows : (field : Field) → Grows size_of 0 (add_entry_field field)
-field_grows field x y e =
-    let m = mapped (λ entries. record x { entries = entries }) (in_last (add_field field) x.entries) y e in
-    let same : length m.from ≡ length x.entries = last_length (add_field field) x.entries m.from m.is in
-    subst (λ z. size_of z ≤ size_of x + 0) m.gives (omega (arith, same))
+content_grows : (content : Content) → Grows size_of 1 (in_database (add_content content))
+content_grows content x y e =
+    let m = mapped (λ entries. record x { entries = entries }) (add_content content x.entries) y e in
+    subst (λ z. size_of z ≤ size_of x + 1) m.gives (content_adds content x.entries m.from m.is)
 
 targets_load : (k : ℕ) (change : NamedTarget → Option NamedTarget) (w v : World) → Grows entries k change → change_target change w ≡ Some v → load v ≤ load w + k
 targets_load k change w v g e =
@@ -97,10 +101,9 @@ leaves_load number (lines.Host name address) w v h =
     chosen (is_defined name w.targets w.hosts) (record w { hosts = w.hosts ++ new_host name address ∷ [] }) v h in
     omega (arith, same)
 leaves_load number (lines.Database name) w v h = omega (arith, targets_load 0 (add_database name) w v (database_grows name) h)
-leaves_load number (lines.Record syntax octets) w v h =
-    targets_load 1 (in_target (add_entry syntax octets)) w v (target_grows 1 (add_entry syntax octets) (entry_grows syntax octets)) h
-leaves_load number (lines.Field field) w v h =
-    omega (arith, targets_load 0 (in_target (add_entry_field field)) w v (target_grows 0 (add_entry_field field) (field_grows field)) h)
+leaves_load number (lines.Content content) w v h =
+    let change = in_database (add_content content) in
+    targets_load 1 (in_target change) w v (target_grows 1 change (content_grows content)) h
 leaves_load number (lines.Ask line) w v h =
     let one : (i : _) → load (record w { questions = w.questions ++ i ∷ [] }) ≡ load w + 1 =
     λ i. omega (arith, length-append w.questions (i ∷ [])) in

@@ -41,9 +41,7 @@ leaves_one number (lines.Host name address) w v h =
     let same : length w.questions ≡ length v.questions = chosen (is_defined name w.targets w.hosts) (record w { hosts = w.hosts ++ new_host name address ∷ [] }) v h in omega arith
 leaves_one number (lines.Database name) w v h =
     let same : length w.questions ≡ length v.questions = mapped (length w.questions) (with_targets w) _ v (λ a. refl) h in omega arith
-leaves_one number (lines.Record syntax octets) w v h =
-    let same : length w.questions ≡ length v.questions = mapped (length w.questions) (with_targets w) _ v (λ a. refl) h in omega arith
-leaves_one number (lines.Field field) w v h =
+leaves_one number (lines.Content content) w v h =
     let same : length w.questions ≡ length v.questions = mapped (length w.questions) (with_targets w) _ v (λ a. refl) h in omega arith
 leaves_one number (lines.Ask line) w v h =
     let same : length w.questions + 1 ≡ length v.questions =

@@ -32,7 +32,7 @@ pub less : {A : Type 0} (now : A → List ℕ) (n : ℕ) (after : Option A) → 
 less now n None h = tt
 less now n (Some r) h = h
 
-pub goes_on : (file texts text : List ℕ) (number : ℕ) (after : Option (List ℕ)) (r q : Reader) → IsReading file number (Some texts) r → slice_split (λ b. b == 10) texts ≡ text ∷ pieces 10 after → IfSome (option_map length after) (λ k. k < length texts) → Reads (number + 1) text (world_of r) (Ok q) → IsReading file (number + 1) after q
+pub goes_on : (file texts text : List ℕ) (number : ℕ) (after : Option (List ℕ)) (r q : Reader) → IsReading file number (Some texts) r → slice_split (λ b. b == 10) texts ≡ text ∷ pieces 10 after → IfSome (option_map length after) (λ k. k < length texts) → Reads (number + 1) text (world_of r) q (Ok tt) → IsReading file (number + 1) after q
 goes_on file texts text number after r q i f s m = record {
   front = i.front ++ text ∷ [];
   cut = first_cut file texts text i.front after i.cut f ∙ sym (append_assoc i.front (text ∷ []) (pieces 10 after));
@@ -42,8 +42,8 @@ goes_on file texts text number after r q i f s m = record {
   within = shorter number (length file + 1) texts after i.within s;
 }
 
-pub refuses : (file texts text : List ℕ) (number : ℕ) (after : Option (List ℕ)) (r : Reader) (e : WorldError) → IsReading file number (Some texts) r → slice_split (λ b. b == 10) texts ≡ text ∷ pieces 10 after → Reads (number + 1) text (world_of r) (Err e) → IsFaultOf file e
-refuses file texts text number after r (errors.Refused line) i f m = record {
+pub refuses : (file texts text : List ℕ) (number : ℕ) (after : Option (List ℕ)) (r q : Reader) (e : WorldError) → IsReading file number (Some texts) r → slice_split (λ b. b == 10) texts ≡ text ∷ pieces 10 after → Reads (number + 1) text (world_of r) q (Err e) → IsFaultOf file e
+refuses file texts text number after r q (errors.Refused line) i f m = record {
   front = i.front;
   text = text;
   rest = pieces 10 after;
@@ -53,7 +53,7 @@ refuses file texts text number after r (errors.Refused line) i f m = record {
   before = i.world;
   fault = λ v h. m.1 v (subst (λ z. Makes z text (world_of r) v) m.0 h);
 }
-refuses file texts text number after r errors.Memory i f m = tt
+refuses file texts text number after r q errors.Memory i f m = tt
 
 pub ends : (file : List ℕ) (number : ℕ) (r : Reader) → IsReading file number None r → IsWorld file (world_of r)
 ends file number r i = subst (λ z. AreWorld z (world_of r)) (sym (i.cut ∙ append-nil i.front)) i.world

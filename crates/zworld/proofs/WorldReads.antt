@@ -4,9 +4,8 @@ use Rattle.std.specs.Option.{option_map}
 use Rattle.std.proofs.lemmas.Bool.{cond-true, cond-false}
 use Rattle.ztarget.specs.declared.database.Database.{Database}
 use Rattle.ztarget.specs.declared.database.Entry.{Entry}
-use Rattle.ztarget.specs.declared.database.Field.{Field}
 use Rattle.ztarget.specs.declared.settings.TargetSettings.{TargetSettings}
-use Rattle.zworld.specs.Worlds.{in_last, in_target, add_database, add_entry, add_entry_field, add_field, new_entry, change_target, with_targets, put_target, put_host, put_move, new_target, new_host, new_database, move_of, is_defined, is_among, place_of, target_names, host_names, asked_names, database_names}
+use Rattle.zworld.specs.Worlds.{in_last, in_database, in_target, add_database, change_target, with_targets, put_target, put_host, put_move, new_target, new_host, new_database, move_of, is_defined, is_among, place_of, target_names, host_names, asked_names, database_names}
 use Rattle.zworld.specs.declared.world.World.{World}
 use Rattle.zworld.specs.declared.world.NamedHost.{NamedHost}
 use Rattle.zworld.specs.declared.world.NamedTarget.{NamedTarget}
@@ -79,15 +78,12 @@ names_stay change xs ys k e = stay (λ t. t.name) change xs ys k e
 pub databases_stay : (change : Database → Option Database) (xs ys : List Database) → ((d u : Database) → change d ≡ Some u → d.name ≡ u.name) → in_last change xs ≡ Some ys → database_names xs ≡ database_names ys
 databases_stay change xs ys k e = stay (λ d. d.name) change xs ys k e
 
-pub entry_keeps : (syntax octets : List ℕ) (d u : Database) → add_entry syntax octets d ≡ Some u → d.name ≡ u.name
-entry_keeps syntax octets d u e = ap (λ z. z.name) (some_same (record d { entries = d.entries ++ new_entry syntax octets ∷ [] }) u e)
-
 with_entries : (o : Option (List Entry)) (d u : Database) → option_map (λ entries. record d { entries = entries }) o ≡ Some u → d.name ≡ u.name
 with_entries None d u e = absurd (none_some e)
 with_entries (Some xs) d u e = ap (λ z. z.name) (some_same (record d { entries = xs }) u e)
 
-pub field_keeps : (field : Field) (d u : Database) → add_entry_field field d ≡ Some u → d.name ≡ u.name
-field_keeps field d u e = with_entries (in_last (add_field field) d.entries) d u e
+pub database_stays : (change : List Entry → Option (List Entry)) (d u : Database) → in_database change d ≡ Some u → d.name ≡ u.name
+database_stays change d u e = with_entries (change d.entries) d u e
 
 -- where the databases of the last target cannot be changed, it cannot
 last_kept : (change : Database → Option Database) (before : List NamedTarget) (t : NamedTarget) → in_last change t.databases ≡ None → in_last (in_target change) (before ++ t ∷ []) ≡ None
@@ -128,10 +124,20 @@ not_asked way name k w e p = cond-true _ _ _ e ∙ ap (option_map (λ c. record 
 
 -- ---- the databases of the last target
 
-pub still_named : (change : Database → Option Database) (keys : List (List ℕ)) (had : Option (List Database)) (ds es : List Database) → ((d u : Database) → change d ≡ Some u → d.name ≡ u.name) → keys ≡ database_names (listed had) → had ≡ Some ds → in_last change ds ≡ Some es → keys ≡ database_names es
-still_named change keys had ds es k n is e = n ∙ ap (λ z. database_names (listed z)) is ∙ databases_stay change ds es k e
+pub still_named : (change : Database → Option Database) (keys : List (List ℕ)) (had es : List Database) → ((d u : Database) → change d ≡ Some u → d.name ≡ u.name) → keys ≡ database_names had → in_last change had ≡ Some es → keys ≡ database_names es
+still_named change keys had es k n e = n ∙ databases_stay change had es k e
 
-pub refused_last : (change : Database → Option Database) (before : List NamedTarget) (name : List ℕ) (settings : TargetSettings) (had : Option (List Database)) (ds : List Database) (whole : Option (List NamedTarget)) (last : List NamedTarget) (e f : LineFault) (r : Result (List NamedTarget) LineFault) → whole ≡ Some last → before ++ target name settings (listed had) ∷ [] ≡ last → had ≡ Some ds → r ≡ Err f → f ≡ e → Answers {A = List Database} (in_last change ds) (Err e) → Answers (in_last (in_target change) (listed whole)) r
-refused_last change before name settings had ds whole last e f r some view is err of h =
-    let same : before ++ target name settings ds ∷ [] ≡ listed whole = ap (λ z. before ++ target name settings (listed z) ∷ []) (sym is) ∙ view ∙ sym (ap listed some) in
-    subst (λ z. Answers {A = List NamedTarget} (in_last (in_target change) z) r) same (refused_in change before (target name settings ds) e f r err of h)
+pub refused_last : (change : Database → Option Database) (before : List NamedTarget) (name : List ℕ) (settings : TargetSettings) (had : List Database) (whole : Option (List NamedTarget)) (last : List NamedTarget) (e f : LineFault) (r : Result (List NamedTarget) LineFault) → whole ≡ Some last → before ++ target name settings had ∷ [] ≡ last → r ≡ Err f → f ≡ e → Answers {A = List Database} (in_last change had) (Err e) → Answers (in_last (in_target change) (listed whole)) r
+refused_last change before name settings had whole last e f r some view err of h =
+    subst (λ z. Answers {A = List NamedTarget} (in_last (in_target change) z) r) (view ∙ sym (ap listed some)) (refused_in change before (target name settings had) e f r err of h)
+
+-- a name that a database of the last target has already
+name_taken : (name : List ℕ) (before : List NamedTarget) (t : NamedTarget) (e : LineFault) → (e ≡ faults.Refused → is_among name (database_names t.databases) ≡ true) → Answers {A = List NamedTarget} (in_last (add_database name) (before ++ t ∷ [])) (Err e)
+name_taken name before t faults.Refused h =
+    in_last_end (add_database name) before t ∙ ap (option_map (λ y. before ++ y ∷ [])) (cond-true _ _ _ (h refl))
+name_taken name before t faults.Memory h = tt
+
+pub database_taken : (name : List ℕ) (keys : List (List ℕ)) (before : List NamedTarget) (t : NamedTarget) (whole : Option (List NamedTarget)) (last : List NamedTarget) (e f : LineFault) (r : Result (List NamedTarget) LineFault) → whole ≡ Some last → before ++ t ∷ [] ≡ last → keys ≡ database_names t.databases → r ≡ Err f → f ≡ e → (e ≡ faults.Refused → is_among name keys ≡ true) → Answers (in_last (add_database name) (listed whole)) r
+database_taken name keys before t whole last e f r some view named err of h =
+    subst (λ z. Answers {A = List NamedTarget} (in_last (add_database name) z) r) (view ∙ sym (ap listed some))
+    (rw (err, of) (name_taken name before t e (λ is. sym (ap (is_among name) named) ∙ h is)))

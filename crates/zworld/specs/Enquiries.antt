@@ -1,8 +1,7 @@
 -- Worlds whose hosts can be asked: what is asked, and at which addresses.
 use Rattle.std.specs.Prelude.{◌≡◌, ℕ, ◌<◌, ◌^◌, List, length, slice_get, Option, None}
 use Rattle.std.specs.Option.{option_map}
-use Rattle.zquestions.specs.Askable.{AreAskable}
-use Rattle.zquestions.specs.Askable.{AreFit}
+use Rattle.zquestions.specs.Askable.{AreAskable, AreFit}
 use Rattle.zworld.specs.declared.world.World.{World}
 use Rattle.zworld.specs.declared.world.WorldError.{WorldError}
 use Rattle.zworld.specs.declared.world.NamedHost.{NamedHost}

@@ -5,8 +5,7 @@ use Rattle.std.specs.Str.{bytes_eq}
 use Rattle.ztarget.specs.Receiving.{TargetState, new_target}
 use Rattle.ztarget.specs.Searching.{entries_in}
 use Rattle.zquestions.specs.declared.question.MetaSettings.{MetaSettings}
-use Rattle.zquestions.specs.Askable.{AreAskable}
-use Rattle.zquestions.specs.Askable.{AreFit}
+use Rattle.zquestions.specs.Askable.{AreAskable, AreFit}
 use Rattle.zworld.specs.declared.world.World.{World}
 use Rattle.zworld.specs.declared.world.WorldError.{WorldError}
 use Rattle.zworld.specs.declared.world.NamedTarget.{NamedTarget}

@@ -9,6 +9,7 @@ use Rattle.ztarget.specs.declared.settings.TargetSettings.{TargetSettings}
 use Rattle.zworld.specs.WorldWants.{number_in, wanted_of}
 use Rattle.zworld.specs.declared.world.word.Keyword.{Keyword}
 use Rattle.zworld.specs.declared.world.word.Keyword.TheVariants as keys
+use Rattle.zworld.specs.declared.world.line.Content.TheVariants as contents
 use Rattle.zworld.specs.declared.world.line.Line.{Line}
 use Rattle.zworld.specs.declared.world.line.Line.TheVariants as lines
 use Rattle.zworld.specs.declared.world.line.Way.{Way}
@@ -92,13 +93,15 @@ database_line _ = None
 
 -- rec OID OCTETS
 abbrev pub record_line : List (List ℕ) → Option Line
-record_line (syntax ∷ octets ∷ []) = option_map (λ oid. lines.Record oid octets) (oid_of syntax)
+record_line (syntax ∷ octets ∷ []) = option_map (λ oid. lines.Content (contents.Record oid octets)) (oid_of syntax)
 record_line _ = None
 
 -- field USE TEXT
 abbrev pub field_line : List (List ℕ) → Option Line
 field_line (attr ∷ text ∷ []) =
-    option_map (λ n. lines.Field (record { attr = pos n; text = text })) (number_in 0 (2 ^ 63 - 1) attr)
+    option_map
+    (λ n. lines.Content (contents.Field (record { attr = pos n; text = text })))
+    (number_in 0 (2 ^ 63 - 1) attr)
 field_line _ = None
 
 -- a syntax of 1,000 arcs at most, or - for none

@@ -34,22 +34,22 @@ pub record IsSound (r : Reader) : Type 0 where
   pub hosts : r.host_names.keys ≡ host_names r.hosts.items
   pub asked : r.asked_names.keys ≡ asked_names r.questions.items
 
--- what is due is read; where nothing is due, the line is refused
-abbrev pub Gives : Option World → Result Reader LineFault → Type 0
-Gives due (Ok r) = IsSound r × (due ≡ Some (world_of r))
-Gives due (Err faults.Refused) = due ≡ None
-Gives due (Err faults.Memory) = Unit {0}
+-- what is due was read then; where nothing is due, the line is refused
+abbrev pub Gives : Option World → Reader → Result Unit LineFault → Type 0
+Gives due r (Ok _) = IsSound r × (due ≡ Some (world_of r))
+Gives due r (Err faults.Refused) = due ≡ None
+Gives due r (Err faults.Memory) = Unit {0}
 
--- the line leaves what was read; where it leaves nothing, it is refused
-abbrev pub Follows : ℕ → Line → World → Result Reader LineFault → Type 0
-Follows number line w (Ok r) = IsSound r × Leaves number line w (world_of r)
-Follows number line w (Err faults.Refused) = (v : World) → Leaves number line w v → ⊥
-Follows number line w (Err faults.Memory) = Unit {0}
+-- the line leaves what was read then; where it leaves nothing, it is refused
+abbrev pub Follows : ℕ → Line → World → Reader → Result Unit LineFault → Type 0
+Follows number line w r (Ok _) = IsSound r × Leaves number line w (world_of r)
+Follows number line w r (Err faults.Refused) = (v : World) → Leaves number line w v → ⊥
+Follows number line w r (Err faults.Memory) = Unit {0}
 
-abbrev pub MakesOr : ℕ → List ℕ → World → Result Reader LineFault → Type 0
-MakesOr number text w (Ok r) = IsSound r × Makes number text w (world_of r)
-MakesOr number text w (Err faults.Refused) = (v : World) → Makes number text w v → ⊥
-MakesOr number text w (Err faults.Memory) = Unit {0}
+abbrev pub MakesOr : ℕ → List ℕ → World → Reader → Result Unit LineFault → Type 0
+MakesOr number text w r (Ok _) = IsSound r × Makes number text w (world_of r)
+MakesOr number text w r (Err faults.Refused) = (v : World) → Makes number text w v → ⊥
+MakesOr number text w r (Err faults.Memory) = Unit {0}
 
 -- the text's words say this, and nothing else
 pub record IsSaid (text : List ℕ) (line : Line) : Type 0 where
@@ -94,10 +94,10 @@ pub record IsReading (file : List ℕ) (number : ℕ) (rest : Option (List ℕ))
   pub within : number + left rest ≤ length file + 1
 
 -- what line `number` makes of what was read; or it is the one that is refused
-abbrev pub Reads : ℕ → List ℕ → World → Result Reader WorldError → Type 0
-Reads number text w (Ok r) = IsSound r × Makes number text w (world_of r)
-Reads number text w (Err (errors.Refused line)) = (line ≡ number) × ((v : World) → Makes number text w v → ⊥)
-Reads number text w (Err errors.Memory) = Unit {0}
+abbrev pub Reads : ℕ → List ℕ → World → Reader → Result Unit WorldError → Type 0
+Reads number text w r (Ok _) = IsSound r × Makes number text w (world_of r)
+Reads number text w r (Err (errors.Refused line)) = (line ≡ number) × ((v : World) → Makes number text w v → ⊥)
+Reads number text w r (Err errors.Memory) = Unit {0}
 
 -- the file's first line at fault
 abbrev pub IsFaultOf : List ℕ → WorldError → Type 0

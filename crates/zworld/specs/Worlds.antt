@@ -21,6 +21,8 @@ use Rattle.zworld.specs.declared.world.Inquiry.{Inquiry}
 use Rattle.zworld.specs.declared.world.End.{End}
 use Rattle.zworld.specs.declared.world.End.TheVariants as ends
 use Rattle.zworld.specs.declared.world.line.AskLine.{AskLine}
+use Rattle.zworld.specs.declared.world.line.Content.{Content}
+use Rattle.zworld.specs.declared.world.line.Content.TheVariants as contents
 use Rattle.zworld.specs.declared.world.line.Line.{Line}
 use Rattle.zworld.specs.declared.world.line.Line.TheVariants as lines
 use Rattle.zworld.specs.declared.world.line.Way.{Way}
@@ -83,14 +85,15 @@ new_entry syntax octets = record { syntax = syntax; octets = octets; fields = []
 abbrev pub add_field : Field → Entry → Option Entry
 add_field field entry = Some (record entry { fields = entry.fields ++ field ∷ [] })
 
--- a record of the database, and a field of the last record
-abbrev pub add_entry : List ℕ → List ℕ → Database → Option Database
-add_entry syntax octets database =
-    Some (record database { entries = database.entries ++ new_entry syntax octets ∷ [] })
+-- a record more, or a field of the last one
+abbrev pub add_content : Content → List Entry → Option (List Entry)
+add_content (contents.Record syntax octets) entries = Some (entries ++ new_entry syntax octets ∷ [])
+add_content (contents.Field field) entries = in_last (add_field field) entries
 
-abbrev pub add_entry_field : Field → Database → Option Database
-add_entry_field field database =
-    option_map (λ entries. record database { entries = entries }) (in_last (add_field field) database.entries)
+-- the database with its records changed
+abbrev pub in_database : (List Entry → Option (List Entry)) → Database → Option Database
+in_database change database =
+    option_map (λ entries. record database { entries = entries }) (change database.entries)
 
 -- a database of the target, with a name that no other has
 abbrev pub add_database : List ℕ → NamedTarget → Option NamedTarget
@@ -178,8 +181,8 @@ Leaves number (lines.Window n) w v = Some (record w { window = n }) ≡ Some v
 Leaves number (lines.Target name settings) w v = put_target name settings w ≡ Some v
 Leaves number (lines.Host name address) w v = put_host name address w ≡ Some v
 Leaves number (lines.Database name) w v = change_target (add_database name) w ≡ Some v
-Leaves number (lines.Record syntax octets) w v = change_target (in_target (add_entry syntax octets)) w ≡ Some v
-Leaves number (lines.Field field) w v = change_target (in_target (add_entry_field field)) w ≡ Some v
+Leaves number (lines.Content content) w v =
+    change_target (in_target (in_database (add_content content))) w ≡ Some v
 Leaves number (lines.Ask line) w v =
     (query : RpnQuery) × IsQueryOf line.text query × (put_question number line query w ≡ Some v)
 Leaves number (lines.Carry way name k) w v = put_move way name k w ≡ Some v

@@ -9,7 +9,7 @@ ghost use Rattle.zworld.specs.Enquiries.{host_at, address_for, IsEnquiry, IsPutT
 use crate::parts::{add, parted};
 use crate::world::{End, Inquiry, NamedHost, World, WorldError};
 use bytes::Bytes;
-use std::alloc::{AllocError, Global};
+use std::alloc::Global;
 use zber::Seq;
 use zknow::Names;
 use zquestions::{MetaSettings, Question};

@@ -9,7 +9,6 @@ ghost use Rattle.zworld.specs.Fitness.{IsFit};
 mod cut;
 mod fault;
 mod line;
-mod lists;
 mod names;
 mod number;
 mod reader;
@@ -103,14 +102,14 @@ impl From<AllocError> for WorldError {
     }
 }
 
-/// What line `number` adds.
-fn read_line(reader: Reader, number: u64, text: &[u8]) -> Result<Reader, WorldError>
-    requires sound { IsSound reader }
-    requires few { length reader.questions.items < 2 ^ 32 }
-    ensures { Reads number text.now (world_of reader) result }
+/// Reads line `number`.
+fn read_line(reader: &mut Reader, number: u64, text: &[u8]) -> Result<(), WorldError>
+    requires sound { IsSound reader.old }
+    requires few { length reader.old.questions.items < 2 ^ 32 }
+    ensures { Reads number text.now (world_of reader.old) reader.new result }
 {
     match reader.read(number, text) {
-        Ok(reader) => Ok(reader),
+        Ok(()) => Ok(()),
         Err(LineFault::Refused) => Err(WorldError::Refused { line: number }),
         Err(LineFault::Memory) => Err(WorldError::Memory),
     }
@@ -133,7 +132,7 @@ pub fn read_world(alloc: Global, file: &[u8]) -> Result<World, WorldError>
     while let Some(texts) = rest {
         let (text, after) = cut(texts, b'\n');
         number += 1;
-        reader = read_line(reader, number, text)?;
+        read_line(&mut reader, number, text)?;
         rest = after;
     }
     Ok(reader.finish()?)

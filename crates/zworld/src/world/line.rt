@@ -1,5 +1,5 @@
 //! What a line says by itself.
-ghost use Rattle.std.specs.Prelude.{◌≡◌, ◌<◌, ◌^◌, IfOk};
+ghost use Rattle.std.specs.Prelude.{◌≡◌, ◌<◌, ◌^◌};
 ghost use Rattle.std.specs.List.{list_all};
 ghost use Rattle.zworld.specs.World.{Answers};
 ghost use Rattle.zworld.specs.WorldLines.{words, is_flag, are_flags, has, settings, syntax_of, step_line, window_line, target_line, host_line, database_line, record_line, field_line, ask_line, carry_line, line_by, line_of};
@@ -38,6 +38,15 @@ pub(crate) struct AskLine {
     pub(crate) text: Bytes,
 }
 
+/// What a line adds to the last database.
+#[derive(Drop)]
+pub(crate) enum Content {
+    /// A record, without fields.
+    Record { syntax: Oid, octets: Bytes },
+    /// A field of the last record.
+    Field(Field),
+}
+
 /// What a line says.
 #[derive(Drop)]
 pub(crate) enum Line {
@@ -53,11 +62,7 @@ pub(crate) enum Line {
         address: Bytes,
     },
     Database(Bytes),
-    Record {
-        syntax: Oid,
-        octets: Bytes,
-    },
-    Field(Field),
+    Content(Content),
     Ask(AskLine),
     Carry {
         way: Way,
@@ -174,10 +179,10 @@ fn record_line(alloc: Global, args: &[Token]) -> Result<Line, LineFault>
         return Err(LineFault::Refused);
     };
     match oid_named(alloc, syntax.text.as_slice())? {
-        Some(syntax) => Ok(Line::Record {
+        Some(syntax) => Ok(Line::Content(Content::Record {
             syntax,
             octets: octets.text.clone()?,
-        }),
+        })),
         None => Err(LineFault::Refused),
     }
 }
@@ -189,10 +194,10 @@ fn field_line(args: &[Token]) -> Result<Line, LineFault>
         return Err(LineFault::Refused);
     };
     match number_in(0, 9_223_372_036_854_775_807, attr.text.as_slice()) {
-        Some(attr) => Ok(Line::Field(Field {
+        Some(attr) => Ok(Line::Content(Content::Field(Field {
             attr: attr as i64,
             text: text.text.clone()?,
-        })),
+        }))),
         None => Err(LineFault::Refused),
     }
 }

@@ -1,27 +1,25 @@
 //! What was read of a world file so far, and what a line adds to it.
-ghost use Rattle.std.specs.Prelude.{◌≡◌, ◌<◌, ◌^◌, ◌++◌, ◌∷◌, [], length, false, Some, IfOk};
+ghost use Rattle.std.specs.Prelude.{◌≡◌, ◌<◌, ◌^◌, ◌++◌, ◌∷◌, [], length, false, Some, IfOk, OnOk};
 ghost use Rattle.zworld.specs.declared.world.line.Line.TheVariants as lines;
 ghost use Rattle.zworld.specs.WorldParts.{listed};
-ghost use Rattle.zworld.specs.Worlds.{empty, is_among, asked_names, end_of, is_defined, put_target, put_host, change_target, add_database, add_entry, add_entry_field, in_target, inquiry, move_of, put_move, IsQueryOf, Leaves};
+ghost use Rattle.zworld.specs.Worlds.{empty, is_among, asked_names, end_of, is_defined, put_target, put_host, change_target, add_database, add_content, in_database, in_target, inquiry, move_of, put_move, IsQueryOf, Leaves};
 ghost use Rattle.zworld.specs.WorldReading.{IsSound, world_of, Gives, Follows, MakesOr};
 
 use crate::world::fault::LineFault;
-use crate::world::line::{AskLine, Line, Way};
-use crate::world::lists::pushed;
-use crate::world::names::with_name;
+use crate::world::line::{AskLine, Content, Line, Way};
+use crate::world::names::add_name;
 use crate::world::said::{query_of, said};
 use crate::world::targets::{
-    OpenTarget, closed_targets, with_target, with_target_database, with_target_entry,
-    with_target_field,
+    OpenTarget, closed_targets, with_target, with_target_content, with_target_database,
 };
 use crate::world::{End, Inquiry, NamedHost, World};
 use bytes::Bytes;
 use indexmap::IndexSet;
 use std::alloc::{AllocError, Global};
-use zber::{Oid, Seq};
+use zber::Seq;
 use zquery::Query;
 use zquestions::{Move, Question};
-use ztarget::{Field, TargetSettings};
+use ztarget::TargetSettings;
 
 /// What was read so far.
 #[derive(Drop)]
@@ -137,149 +135,107 @@ impl Reader {
         }
     }
 
-    fn with_step(self, step: u32) -> Reader
-        requires { IsSound self }
-        ensures sound { IsSound result }
-        ensures world { world_of result ≡ record (world_of self) { step = step } }
-    {
-        Reader { step, ..self }
-    }
-
-    fn with_window(self, window: u32) -> Reader
-        requires { IsSound self }
-        ensures sound { IsSound result }
-        ensures world { world_of result ≡ record (world_of self) { window = window } }
-    {
-        Reader { window, ..self }
-    }
-
-    fn with_target(self, name: Bytes, settings: TargetSettings) -> Result<Reader, LineFault>
-        requires { IsSound self }
-        ensures { Gives (put_target name settings (world_of self)) result }
+    fn add_target(&mut self, name: Bytes, settings: TargetSettings) -> Result<(), LineFault>
+        requires { IsSound self.old }
+        ensures { Gives (put_target name settings (world_of self.old)) self.new result }
     {
         if self.is_defined(&name) {
             return Err(LineFault::Refused);
         }
-        let target_names = with_name(self.target_names, &name)?;
-        let targets = with_target(self.alloc, self.targets, name, settings)?;
-        Ok(Reader {
-            targets: Some(targets),
-            target_names,
-            ..self
-        })
+        add_name(&mut self.target_names, &name)?;
+        let targets = with_target(self.alloc, self.targets.take(), name, settings)?;
+        self.targets = Some(targets);
+        Ok(())
     }
 
-    fn with_host(self, name: Bytes, address: Bytes) -> Result<Reader, LineFault>
-        requires { IsSound self }
-        ensures { Gives (put_host name address (world_of self)) result }
+    fn add_host(&mut self, name: Bytes, address: Bytes) -> Result<(), LineFault>
+        requires { IsSound self.old }
+        ensures { Gives (put_host name address (world_of self.old)) self.new result }
     {
         if self.is_defined(&name) {
             return Err(LineFault::Refused);
         }
-        let host_names = with_name(self.host_names, &name)?;
-        let hosts = pushed(self.hosts, NamedHost { name, address })?;
-        Ok(Reader {
-            hosts,
-            host_names,
-            ..self
-        })
+        add_name(&mut self.host_names, &name)?;
+        self.hosts.push(NamedHost { name, address })?;
+        Ok(())
     }
 
-    fn with_database(self, name: Bytes) -> Result<Reader, LineFault>
-        requires { IsSound self }
-        ensures { Gives (change_target (add_database name) (world_of self)) result }
+    fn add_database(&mut self, name: Bytes) -> Result<(), LineFault>
+        requires { IsSound self.old }
+        ensures { Gives (change_target (add_database name) (world_of self.old)) self.new result }
     {
-        let targets = with_target_database(self.alloc, self.targets, name)?;
-        Ok(Reader {
-            targets: Some(targets),
-            ..self
-        })
+        let targets = with_target_database(self.alloc, self.targets.take(), name)?;
+        self.targets = Some(targets);
+        Ok(())
     }
 
-    fn with_entry(self, syntax: Oid, octets: Bytes) -> Result<Reader, LineFault>
-        requires { IsSound self }
-        ensures { Gives (change_target (in_target (add_entry syntax octets)) (world_of self)) result }
+    fn add_content(&mut self, content: Content) -> Result<(), LineFault>
+        requires { IsSound self.old }
+        ensures { Gives (change_target (in_target (in_database (add_content content))) (world_of self.old)) self.new result }
     {
-        let targets = with_target_entry(self.alloc, self.targets, syntax, octets)?;
-        Ok(Reader {
-            targets: Some(targets),
-            ..self
-        })
+        let targets = with_target_content(self.alloc, self.targets.take(), content)?;
+        self.targets = Some(targets);
+        Ok(())
     }
 
-    fn with_field(self, field: Field) -> Result<Reader, LineFault>
-        requires { IsSound self }
-        ensures { Gives (change_target (in_target (add_entry_field field)) (world_of self)) result }
+    fn add_inquiry(&mut self, inquiry: Inquiry) -> Result<(), AllocError>
+        requires sound { IsSound self.old }
+        requires new { is_among inquiry.name (asked_names self.old.questions.items) ≡ false }
+        ensures sound { OnOk result (IsSound self.new) }
+        ensures world { OnOk result (world_of self.new
+            ≡ record (world_of self.old) { questions = self.old.questions.items ++ inquiry ∷ [] }) }
     {
-        let targets = with_target_field(self.targets, field)?;
-        Ok(Reader {
-            targets: Some(targets),
-            ..self
-        })
+        add_name(&mut self.asked_names, &inquiry.name)?;
+        self.questions.push(inquiry)?;
+        Ok(())
     }
 
-    fn with_inquiry(self, inquiry: Inquiry) -> Result<Reader, AllocError>
-        requires sound { IsSound self }
-        requires new { is_among inquiry.name (asked_names self.questions.items) ≡ false }
-        ensures sound { IfOk result IsSound }
-        ensures world { IfOk result (λ r. world_of r
-            ≡ record (world_of self) { questions = self.questions.items ++ inquiry ∷ [] }) }
-    {
-        let asked_names = with_name(self.asked_names, &inquiry.name)?;
-        let questions = pushed(self.questions, inquiry)?;
-        Ok(Reader {
-            questions,
-            asked_names,
-            ..self
-        })
-    }
-
-    fn with_query(
-        self,
+    fn add_query(
+        &mut self,
         number: u64,
         line: AskLine,
         query: Query,
         end: End,
-    ) -> Result<Reader, AllocError>
-        requires sound { IsSound self }
-        requires new { is_among line.name (asked_names self.questions.items) ≡ false }
-        requires defined { end_of line.name (listed self.targets) self.hosts.items ≡ Some end }
+    ) -> Result<(), AllocError>
+        requires sound { IsSound self.old }
+        requires new { is_among line.name (asked_names self.old.questions.items) ≡ false }
+        requires defined { end_of line.name (listed self.old.targets) self.old.hosts.items ≡ Some end }
         requires asked { IsQueryOf line.text query }
-        ensures { IfOk result (λ r. IsSound r × Leaves number (lines.Ask line) (world_of self) (world_of r)) }
+        ensures { OnOk result (IsSound self.new × Leaves number (lines.Ask line) (world_of self.old) (world_of self.new)) }
     {
         let inquiry = inquiry(self.alloc, number, line, query, end)?;
-        self.with_inquiry(inquiry)
+        self.add_inquiry(inquiry)
     }
 
-    fn with_end(self, number: u64, line: AskLine, end: End) -> Result<Reader, LineFault>
-        requires sound { IsSound self }
-        requires new { is_among line.name (asked_names self.questions.items) ≡ false }
-        requires defined { end_of line.name (listed self.targets) self.hosts.items ≡ Some end }
-        ensures { Follows number (lines.Ask line) (world_of self) result }
+    fn add_end(&mut self, number: u64, line: AskLine, end: End) -> Result<(), LineFault>
+        requires sound { IsSound self.old }
+        requires new { is_among line.name (asked_names self.old.questions.items) ≡ false }
+        requires defined { end_of line.name (listed self.old.targets) self.old.hosts.items ≡ Some end }
+        ensures { Follows number (lines.Ask line) (world_of self.old) self.new result }
     {
         match query_of(self.alloc, line.text.as_slice()) {
-            Ok(query) => Ok(self.with_query(number, line, query, end)?),
+            Ok(query) => Ok(self.add_query(number, line, query, end)?),
             Err(fault) => Err(fault),
         }
     }
 
-    fn with_question(self, number: u64, line: AskLine) -> Result<Reader, LineFault>
-        requires { IsSound self }
-        ensures { Follows number (lines.Ask line) (world_of self) result }
+    fn add_question(&mut self, number: u64, line: AskLine) -> Result<(), LineFault>
+        requires { IsSound self.old }
+        ensures { Follows number (lines.Ask line) (world_of self.old) self.new result }
     {
         if self.asked_names.contains(&line.name) {
             return Err(LineFault::Refused);
         }
         match self.end_of(&line.name) {
-            Some(end) => self.with_end(number, line, end),
+            Some(end) => self.add_end(number, line, end),
             None => Err(LineFault::Refused),
         }
     }
 
-    fn with_move(self, way: Way, name: Bytes, k: u32) -> Result<Reader, LineFault>
-        requires sound { IsSound self }
-        requires few { length self.questions.items < 2 ^ 32 }
-        ensures { Gives (put_move way name k (world_of self)) result }
+    fn add_move(&mut self, way: Way, name: Bytes, k: u32) -> Result<(), LineFault>
+        requires sound { IsSound self.old }
+        requires few { length self.old.questions.items < 2 ^ 32 }
+        ensures { Gives (put_move way name k (world_of self.old)) self.new result }
     {
         if !self.target_names.contains(&name) {
             return Err(LineFault::Refused);
@@ -287,38 +243,44 @@ impl Reader {
         let Some(c) = self.asked_names.get_index_of(&name) else {
             return Err(LineFault::Refused);
         };
-        let moves = pushed(self.moves, move_of(way, c as u32, k))?;
-        Ok(Reader { moves, ..self })
+        self.moves.push(move_of(way, c as u32, k))?;
+        Ok(())
     }
 
     /// What a line, once it is read, adds.
-    fn with_line(self, number: u64, line: Line) -> Result<Reader, LineFault>
-        requires sound { IsSound self }
-        requires few { length self.questions.items < 2 ^ 32 }
-        ensures { Follows number line (world_of self) result }
+    fn add_line(&mut self, number: u64, line: Line) -> Result<(), LineFault>
+        requires sound { IsSound self.old }
+        requires few { length self.old.questions.items < 2 ^ 32 }
+        ensures { Follows number line (world_of self.old) self.new result }
     {
         match line {
-            Line::Empty => Ok(self),
-            Line::Step(step) => Ok(self.with_step(step)),
-            Line::Window(window) => Ok(self.with_window(window)),
-            Line::Target { name, settings } => self.with_target(name, settings),
-            Line::Host { name, address } => self.with_host(name, address),
-            Line::Database(name) => self.with_database(name),
-            Line::Record { syntax, octets } => self.with_entry(syntax, octets),
-            Line::Field(field) => self.with_field(field),
-            Line::Ask(line) => self.with_question(number, line),
-            Line::Carry { way, name, k } => self.with_move(way, name, k),
+            Line::Empty => Ok(()),
+            Line::Step(step) => {
+                self.step = step;
+                Ok(())
+            }
+            Line::Window(window) => {
+                self.window = window;
+                Ok(())
+            }
+            Line::Target { name, settings } => self.add_target(name, settings),
+            Line::Host { name, address } => self.add_host(name, address),
+            Line::Database(name) => self.add_database(name),
+            Line::Content(content) => self.add_content(content),
+            Line::Ask(line) => self.add_question(number, line),
+            Line::Carry { way, name, k } => self.add_move(way, name, k),
         }
     }
 
-    /// What line `number` adds. `Refused` where it is no line of a world file, or none that can stand here.
-    pub(crate) fn read(self, number: u64, text: &[u8]) -> Result<Reader, LineFault>
-        requires sound { IsSound self }
-        requires few { length self.questions.items < 2 ^ 32 }
-        ensures { MakesOr number text.now (world_of self) result }
+    /// Reads line `number`. `Refused` where it is no line of a world file, or none that can stand here; what was read so
+    /// far is of no use then.
+    pub(crate) fn read(&mut self, number: u64, text: &[u8]) -> Result<(), LineFault>
+        requires sound { IsSound self.old }
+        requires few { length self.old.questions.items < 2 ^ 32 }
+        ensures { MakesOr number text.now (world_of self.old) self.new result }
     {
         match said(self.alloc, text) {
-            Ok(line) => self.with_line(number, line),
+            Ok(line) => self.add_line(number, line),
             Err(fault) => Err(fault),
         }
     }

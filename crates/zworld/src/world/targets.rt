@@ -1,14 +1,15 @@
 //! Targets as lines tell of them: the last one grows.
-ghost use Rattle.std.specs.Prelude.{◌≡◌, ◌++◌, ◌∷◌, [], IfOk, IfErr, Option};
+ghost use Rattle.std.specs.Prelude.{◌≡◌, ◌++◌, ◌∷◌, [], true, false, IfOk, IfErr, Option};
+ghost use Rattle.zworld.specs.declared.world.fault.LineFault.TheVariants.{Refused};
 ghost use Rattle.ztarget.specs.declared.database.Entry.{Entry};
-ghost use Rattle.zworld.specs.declared.world.fault.LineFault.TheVariants.{Memory};
 ghost use Rattle.zworld.specs.World.{Answers};
 ghost use Rattle.zworld.specs.WorldParts.{listed};
-ghost use Rattle.zworld.specs.Worlds.{new_entry, new_database, new_target, in_last, in_target, add_field, add_entry, add_entry_field, add_database};
+ghost use Rattle.zworld.specs.Worlds.{is_among, new_entry, new_database, new_target, in_last, in_target, add_field, add_content, in_database, add_database};
 
 use crate::world::NamedTarget;
 use crate::world::fault::LineFault;
-use crate::world::names::with_name;
+use crate::world::line::Content;
+use crate::world::names::add_name;
 use bytes::Bytes;
 use indexmap::IndexSet;
 use std::alloc::{AllocError, Global};
@@ -42,17 +43,11 @@ fn closed_entries(alloc: Global, had: Option<OpenEntry>) -> Result<Vec<Entry>, A
     let Some(had) = had else {
         return Ok(Vec::new(alloc));
     };
-    let OpenEntry {
-        before,
-        syntax,
-        octets,
-        fields,
-    } = had;
-    let mut entries = before;
+    let mut entries = had.before;
     entries.push(Entry {
-        syntax,
-        octets,
-        fields: Seq::from_vec(fields),
+        syntax: had.syntax,
+        octets: had.octets,
+        fields: Seq::from_vec(had.fields),
     })?;
     Ok(entries)
 }
@@ -76,23 +71,29 @@ fn with_entry(
 
 /// One more field of the last record.
 #[tactic(auto, using(crate::proofs::WorldLast::in_last_end))]
-fn with_field(had: OpenEntry, field: Field) -> Result<OpenEntry, LineFault>
-    ensures { Answers (in_last (add_field field) had) result }
+fn with_field(had: Option<OpenEntry>, field: Field) -> Result<OpenEntry, LineFault>
+    ensures { Answers (in_last (add_field field) (listed had)) result }
 {
-    let OpenEntry {
-        before,
-        syntax,
-        octets,
-        fields,
-    } = had;
-    let mut fields = fields;
+    let Some(had) = had else {
+        return Err(LineFault::Refused);
+    };
+    let mut fields = had.fields;
     fields.push(field)?;
-    Ok(OpenEntry {
-        before,
-        syntax,
-        octets,
-        fields,
-    })
+    Ok(OpenEntry { fields, ..had })
+}
+
+/// One more record, or one more field of the last one.
+fn with_content(
+    alloc: Global,
+    had: Option<OpenEntry>,
+    content: Content,
+) -> Result<OpenEntry, LineFault>
+    ensures { Answers (add_content content (listed had)) result }
+{
+    match content {
+        Content::Record { syntax, octets } => Ok(with_entry(alloc, had, syntax, octets)?),
+        Content::Field(field) => with_field(had, field),
+    }
 }
 
 /// Databases, of which the last may get more records. Contracts see the list.
@@ -120,14 +121,11 @@ fn closed_databases(alloc: Global, had: Option<OpenDatabase>) -> Result<Vec<Data
     let Some(had) = had else {
         return Ok(Vec::new(alloc));
     };
-    let OpenDatabase {
-        before,
-        name,
-        entries,
-    } = had;
-    let mut databases = before;
-    let entries = Seq::from_vec(closed_entries(alloc, entries)?);
-    databases.push(Database { name, entries })?;
+    let mut databases = had.before;
+    databases.push(Database {
+        name: had.name,
+        entries: Seq::from_vec(closed_entries(alloc, had.entries)?),
+    })?;
     Ok(databases)
 }
 
@@ -146,48 +144,20 @@ fn with_database(
     })
 }
 
-/// One more record of the last database.
+/// More in the last database.
 #[tactic(auto, using(crate::proofs::WorldLast::in_last_end))]
-fn with_database_entry(
+fn with_database_content(
     alloc: Global,
-    had: OpenDatabase,
-    syntax: Oid,
-    octets: Bytes,
+    had: Option<OpenDatabase>,
+    content: Content,
 ) -> Result<OpenDatabase, LineFault>
-    ensures { Answers (in_last (add_entry syntax octets) had) result }
+    ensures { Answers (in_last (in_database (add_content content)) (listed had)) result }
 {
-    let OpenDatabase {
-        before,
-        name,
-        entries,
-    } = had;
-    let entries = Some(with_entry(alloc, entries, syntax, octets)?);
-    Ok(OpenDatabase {
-        before,
-        name,
-        entries,
-    })
-}
-
-/// One more field of the last record of the last database.
-#[tactic(auto, using(crate::proofs::WorldLast::in_last_end))]
-fn with_database_field(had: OpenDatabase, field: Field) -> Result<OpenDatabase, LineFault>
-    ensures { Answers (in_last (add_entry_field field) had) result }
-{
-    let OpenDatabase {
-        before,
-        name,
-        entries,
-    } = had;
-    let Some(entries) = entries else {
+    let Some(had) = had else {
         return Err(LineFault::Refused);
     };
-    let entries = Some(with_field(entries, field)?);
-    Ok(OpenDatabase {
-        before,
-        name,
-        entries,
-    })
+    let entries = Some(with_content(alloc, had.entries, content)?);
+    Ok(OpenDatabase { entries, ..had })
 }
 
 /// Targets, of which the last may get more databases. Contracts see the list.
@@ -223,19 +193,11 @@ pub(crate) fn closed_targets(
     let Some(had) = had else {
         return Ok(Vec::new(alloc));
     };
-    let OpenTarget {
-        before,
-        name,
-        settings,
-        databases,
-        names: _,
-    } = had;
-    let mut targets = before;
-    let databases = Seq::from_vec(closed_databases(alloc, databases)?);
+    let mut targets = had.before;
     targets.push(NamedTarget {
-        name,
-        settings,
-        databases,
+        name: had.name,
+        settings: had.settings,
+        databases: Seq::from_vec(closed_databases(alloc, had.databases)?),
     })?;
     Ok(targets)
 }
@@ -258,6 +220,20 @@ pub(crate) fn with_target(
     })
 }
 
+/// The names with one more. `Refused` where it is among them.
+fn more_names(names: IndexSet<Bytes>, name: &Bytes) -> Result<IndexSet<Bytes>, LineFault>
+    ensures more { IfOk result (λ all. all.keys ≡ names.keys ++ name.now ∷ []) }
+    ensures fresh { IfOk result (λ all. is_among name.now names.keys ≡ false) }
+    ensures taken { IfErr result (λ fault. fault ≡ Refused → is_among name.now names.keys ≡ true) }
+{
+    if names.contains(name) {
+        return Err(LineFault::Refused);
+    }
+    let mut all = names;
+    add_name(&mut all, name)?;
+    Ok(all)
+}
+
 /// One more database of the last target.
 #[tactic(auto, using(crate::proofs::WorldLast::in_last_end))]
 pub(crate) fn with_target_database(
@@ -270,87 +246,27 @@ pub(crate) fn with_target_database(
     let Some(had) = had else {
         return Err(LineFault::Refused);
     };
-    let OpenTarget {
-        before,
-        name: target_name,
-        settings,
-        databases,
-        names,
-    } = had;
-    if names.contains(&name) {
-        return Err(LineFault::Refused);
-    }
-    let names = with_name(names, &name)?;
-    let databases = Some(with_database(alloc, databases, name)?);
+    let names = more_names(had.names, &name)?;
+    let databases = Some(with_database(alloc, had.databases, name)?);
     Ok(OpenTarget {
-        before,
-        name: target_name,
-        settings,
         databases,
         names,
+        ..had
     })
 }
 
-/// One more record of the last database of the last target.
+/// More in the last database of the last target.
 #[tactic(auto, using(crate::proofs::WorldLast::in_last_end))]
-pub(crate) fn with_target_entry(
+pub(crate) fn with_target_content(
     alloc: Global,
     had: Option<OpenTarget>,
-    syntax: Oid,
-    octets: Bytes,
+    content: Content,
 ) -> Result<OpenTarget, LineFault>
-    ensures { Answers (in_last (in_target (add_entry syntax octets)) (listed had)) result }
+    ensures { Answers (in_last (in_target (in_database (add_content content))) (listed had)) result }
 {
     let Some(had) = had else {
         return Err(LineFault::Refused);
     };
-    let OpenTarget {
-        before,
-        name,
-        settings,
-        databases,
-        names,
-    } = had;
-    let Some(databases) = databases else {
-        return Err(LineFault::Refused);
-    };
-    let databases = Some(with_database_entry(alloc, databases, syntax, octets)?);
-    Ok(OpenTarget {
-        before,
-        name,
-        settings,
-        databases,
-        names,
-    })
-}
-
-/// One more field of the last record of the last database of the last target.
-#[tactic(auto, using(crate::proofs::WorldLast::in_last_end))]
-pub(crate) fn with_target_field(
-    had: Option<OpenTarget>,
-    field: Field,
-) -> Result<OpenTarget, LineFault>
-    ensures { Answers (in_last (in_target (add_entry_field field)) (listed had)) result }
-{
-    let Some(had) = had else {
-        return Err(LineFault::Refused);
-    };
-    let OpenTarget {
-        before,
-        name,
-        settings,
-        databases,
-        names,
-    } = had;
-    let Some(databases) = databases else {
-        return Err(LineFault::Refused);
-    };
-    let databases = Some(with_database_field(databases, field)?);
-    Ok(OpenTarget {
-        before,
-        name,
-        settings,
-        databases,
-        names,
-    })
+    let databases = Some(with_database_content(alloc, had.databases, content)?);
+    Ok(OpenTarget { databases, ..had })
 }

@@ -1,4 +1,4 @@
-use Rattle.std.proofs.Common.{◌≡◌, ◌∙◌, ◌<◌, sym, subst, refl, rules, is_some}
+use Rattle.std.proofs.Common.{◌∙◌, sym, subst, refl, rules, is_some}
 use Rattle.znet.specs.Asking.{has}
 use Rattle.znet.specs.AskingSteps.{OpensAll, OpensIf}
 use Rattle.znet.proofs.Alike.{has_place}

@@ -1,8 +1,7 @@
 use Rattle.std.proofs.Common.{◌≡◌, ◌∷◌, [], ◌++◌, List, length, rules, refl, sym, ap, subst, ◌∙◌, append_assoc, append-nil, arith}
 use Rattle.std.specs.Vec.Iter.{into_iter_items}
 use Rattle.zquestions.specs.declared.question.Question.{Question}
-use Rattle.zquestions.specs.Askable.{IsAskable}
-use Rattle.zquestions.specs.Askable.{AreAskable}
+use Rattle.zquestions.specs.Askable.{IsAskable, AreAskable}
 use Rattle.zoom.specs.Metas.{StandFor}
 use Rattle.zoom.proofs.Metas.{askable_at, stand_push}
 use Rattle.zoom.proofs.meta.drivers_for.Goals as goal

@@ -1,4 +1,4 @@
-use Rattle.std.proofs.Common.{◌<◌, ◌+◌, ◌≤◌, Ok, subst, sym, ◌∙◌, arith}
+use Rattle.std.proofs.Common.{◌<◌, Ok, subst, sym, ◌∙◌, arith}
 use Rattle.std.specs.declared.alloc.AllocError.{AllocError}
 use Rattle.zoom.specs.Metas.{AdvancesTo}
 use Rattle.zoom.proofs.Advancing.{drove_admitted, drove_skipped, drove_rests, drove_wanting, drove_all}

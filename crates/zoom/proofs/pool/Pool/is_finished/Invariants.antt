@@ -1,4 +1,3 @@
-use Rattle.std.proofs.Common.{◌≡◌}
 use Rattle.zoom.proofs.Pools.{AllStopped}
 use Rattle.zoom.proofs.pool.Pool.is_finished.Given as goal
 
