@@ -19,6 +19,34 @@ use crate::productions::search_response::SearchResponse;
 use std::alloc::{AllocError, Global};
 use zber::Duplicate;
 
+/// Two equal values. Of many fields a few at a time are duplicated, so that few steps can fail where much would be to
+/// drop.
+fn two<A: Duplicate + Drop, B: Duplicate + Drop>(
+    alloc: Global,
+    a: &A,
+    b: &B,
+) -> Result<(A, B), AllocError>
+    ensures { IfOk result (λ copies. copies ≡ (a.now, b.now)) }
+{
+    let a = a.duplicate(alloc)?;
+    let b = b.duplicate(alloc)?;
+    Ok((a, b))
+}
+
+/// Three equal values.
+fn three<A: Duplicate + Drop, B: Duplicate + Drop, C: Duplicate + Drop>(
+    alloc: Global,
+    a: &A,
+    b: &B,
+    c: &C,
+) -> Result<(A, B, C), AllocError>
+    ensures { IfOk result (λ copies. copies ≡ (a.now, b.now, c.now)) }
+{
+    let (a, b) = two(alloc, a, b)?;
+    let c = c.duplicate(alloc)?;
+    Ok((a, b, c))
+}
+
 impl Duplicate for Content {
     fn duplicate(&self, alloc: Global) -> Result<Self, AllocError> {
         match self {
@@ -101,36 +129,71 @@ impl Duplicate for Records {
 
 impl Duplicate for InitRequest {
     fn duplicate(&self, alloc: Global) -> Result<Self, AllocError> {
+        let (reference_id, protocol_version, options) = three(
+            alloc,
+            &self.reference_id,
+            &self.protocol_version,
+            &self.options,
+        )?;
+        let (id_authentication, implementation_id, implementation_name) = three(
+            alloc,
+            &self.id_authentication,
+            &self.implementation_id,
+            &self.implementation_name,
+        )?;
+        let (implementation_version, user_information_field, other_info) = three(
+            alloc,
+            &self.implementation_version,
+            &self.user_information_field,
+            &self.other_info,
+        )?;
         Ok(InitRequest {
-            reference_id: self.reference_id.duplicate(alloc)?,
-            protocol_version: self.protocol_version.duplicate(alloc)?,
-            options: self.options.duplicate(alloc)?,
+            reference_id,
+            protocol_version,
+            options,
             preferred_message_size: self.preferred_message_size,
             exceptional_record_size: self.exceptional_record_size,
-            id_authentication: self.id_authentication.duplicate(alloc)?,
-            implementation_id: self.implementation_id.duplicate(alloc)?,
-            implementation_name: self.implementation_name.duplicate(alloc)?,
-            implementation_version: self.implementation_version.duplicate(alloc)?,
-            user_information_field: self.user_information_field.duplicate(alloc)?,
-            other_info: self.other_info.duplicate(alloc)?,
+            id_authentication,
+            implementation_id,
+            implementation_name,
+            implementation_version,
+            user_information_field,
+            other_info,
         })
     }
 }
 
 impl Duplicate for InitResponse {
     fn duplicate(&self, alloc: Global) -> Result<Self, AllocError> {
+        let (reference_id, protocol_version, options) = three(
+            alloc,
+            &self.reference_id,
+            &self.protocol_version,
+            &self.options,
+        )?;
+        let (implementation_id, implementation_name, implementation_version) = three(
+            alloc,
+            &self.implementation_id,
+            &self.implementation_name,
+            &self.implementation_version,
+        )?;
+        let (user_information_field, other_info) = two(
+            alloc,
+            &self.user_information_field,
+            &self.other_info,
+        )?;
         Ok(InitResponse {
-            reference_id: self.reference_id.duplicate(alloc)?,
-            protocol_version: self.protocol_version.duplicate(alloc)?,
-            options: self.options.duplicate(alloc)?,
+            reference_id,
+            protocol_version,
+            options,
             preferred_message_size: self.preferred_message_size,
             exceptional_record_size: self.exceptional_record_size,
             result: self.result,
-            implementation_id: self.implementation_id.duplicate(alloc)?,
-            implementation_name: self.implementation_name.duplicate(alloc)?,
-            implementation_version: self.implementation_version.duplicate(alloc)?,
-            user_information_field: self.user_information_field.duplicate(alloc)?,
-            other_info: self.other_info.duplicate(alloc)?,
+            implementation_id,
+            implementation_name,
+            implementation_version,
+            user_information_field,
+            other_info,
         })
     }
 }
@@ -146,37 +209,62 @@ impl Duplicate for SearchQuery {
 
 impl Duplicate for SearchRequest {
     fn duplicate(&self, alloc: Global) -> Result<Self, AllocError> {
+        let (reference_id, result_set_name, database_names) = three(
+            alloc,
+            &self.reference_id,
+            &self.result_set_name,
+            &self.database_names,
+        )?;
+        let (small_set_element_set_names, medium_set_element_set_names, preferred_record_syntax) =
+            three(
+                alloc,
+                &self.small_set_element_set_names,
+                &self.medium_set_element_set_names,
+                &self.preferred_record_syntax,
+            )?;
+        let (query, additional_search_info, other_info) = three(
+            alloc,
+            &self.query,
+            &self.additional_search_info,
+            &self.other_info,
+        )?;
         Ok(SearchRequest {
-            reference_id: self.reference_id.duplicate(alloc)?,
+            reference_id,
             small_set_upper_bound: self.small_set_upper_bound,
             large_set_lower_bound: self.large_set_lower_bound,
             medium_set_present_number: self.medium_set_present_number,
             replace_indicator: self.replace_indicator,
-            result_set_name: self.result_set_name.duplicate(alloc)?,
-            database_names: self.database_names.duplicate(alloc)?,
-            small_set_element_set_names: self.small_set_element_set_names.duplicate(alloc)?,
-            medium_set_element_set_names: self.medium_set_element_set_names.duplicate(alloc)?,
-            preferred_record_syntax: self.preferred_record_syntax.duplicate(alloc)?,
-            query: self.query.duplicate(alloc)?,
-            additional_search_info: self.additional_search_info.duplicate(alloc)?,
-            other_info: self.other_info.duplicate(alloc)?,
+            result_set_name,
+            database_names,
+            small_set_element_set_names,
+            medium_set_element_set_names,
+            preferred_record_syntax,
+            query,
+            additional_search_info,
+            other_info,
         })
     }
 }
 
 impl Duplicate for SearchResponse {
     fn duplicate(&self, alloc: Global) -> Result<Self, AllocError> {
+        let (reference_id, records) = two(alloc, &self.reference_id, &self.records)?;
+        let (additional_search_info, other_info) = two(
+            alloc,
+            &self.additional_search_info,
+            &self.other_info,
+        )?;
         Ok(SearchResponse {
-            reference_id: self.reference_id.duplicate(alloc)?,
+            reference_id,
             result_count: self.result_count,
             number_of_records_returned: self.number_of_records_returned,
             next_result_set_position: self.next_result_set_position,
             search_status: self.search_status,
             result_set_status: self.result_set_status,
             present_status: self.present_status,
-            records: self.records.duplicate(alloc)?,
-            additional_search_info: self.additional_search_info.duplicate(alloc)?,
-            other_info: self.other_info.duplicate(alloc)?,
+            records,
+            additional_search_info,
+            other_info,
         })
     }
 }
@@ -225,18 +313,36 @@ impl Duplicate for Range {
 
 impl Duplicate for PresentRequest {
     fn duplicate(&self, alloc: Global) -> Result<Self, AllocError> {
+        let (reference_id, result_set_id, additional_ranges) = three(
+            alloc,
+            &self.reference_id,
+            &self.result_set_id,
+            &self.additional_ranges,
+        )?;
+        let (record_composition, preferred_record_syntax, max_segment_count) = three(
+            alloc,
+            &self.record_composition,
+            &self.preferred_record_syntax,
+            &self.max_segment_count,
+        )?;
+        let (max_record_size, max_segment_size, other_info) = three(
+            alloc,
+            &self.max_record_size,
+            &self.max_segment_size,
+            &self.other_info,
+        )?;
         Ok(PresentRequest {
-            reference_id: self.reference_id.duplicate(alloc)?,
-            result_set_id: self.result_set_id.duplicate(alloc)?,
+            reference_id,
+            result_set_id,
             result_set_start_point: self.result_set_start_point,
             number_of_records_requested: self.number_of_records_requested,
-            additional_ranges: self.additional_ranges.duplicate(alloc)?,
-            record_composition: self.record_composition.duplicate(alloc)?,
-            preferred_record_syntax: self.preferred_record_syntax.duplicate(alloc)?,
-            max_segment_count: self.max_segment_count.duplicate(alloc)?,
-            max_record_size: self.max_record_size.duplicate(alloc)?,
-            max_segment_size: self.max_segment_size.duplicate(alloc)?,
-            other_info: self.other_info.duplicate(alloc)?,
+            additional_ranges,
+            record_composition,
+            preferred_record_syntax,
+            max_segment_count,
+            max_record_size,
+            max_segment_size,
+            other_info,
         })
     }
 }
@@ -256,13 +362,20 @@ impl Duplicate for PresentResponse {
 
 impl Duplicate for Close {
     fn duplicate(&self, alloc: Global) -> Result<Self, AllocError> {
+        let (reference_id, diagnostic_information, resource_report_format) = three(
+            alloc,
+            &self.reference_id,
+            &self.diagnostic_information,
+            &self.resource_report_format,
+        )?;
+        let (resource_report, other_info) = two(alloc, &self.resource_report, &self.other_info)?;
         Ok(Close {
-            reference_id: self.reference_id.duplicate(alloc)?,
+            reference_id,
             close_reason: self.close_reason,
-            diagnostic_information: self.diagnostic_information.duplicate(alloc)?,
-            resource_report_format: self.resource_report_format.duplicate(alloc)?,
-            resource_report: self.resource_report.duplicate(alloc)?,
-            other_info: self.other_info.duplicate(alloc)?,
+            diagnostic_information,
+            resource_report_format,
+            resource_report,
+            other_info,
         })
     }
 }

@@ -15,7 +15,7 @@ use std::alloc::{AllocError, Global};
 use std::marker::Model;
 use zber::laws::stream_laws;
 use zber::{Framer, Node};
-use zorigin::{CallRefused, Origin, Settings};
+use zorigin::{CallRefused, Origin, Sent, Settings};
 
 /// The most octets of one message.
 const MESSAGE_LIMIT: u32 = 2_097_152;
@@ -95,7 +95,9 @@ impl Connection {
         }
         self.waiting.reserve(1)?;
         let sent = sent_for(&mut self.origin, call)?;
-        put(&mut self.waiting, sent.octets);
+        let Sent { apdu, octets } = sent;
+        drop(apdu);
+        put(&mut self.waiting, octets);
         Ok(())
     }
 

@@ -65,7 +65,7 @@ fn set_and_type(attr: &Attr) -> (Option<&[u32]>, i64)
 }
 
 /// Adds the set and type of an attribute; whether those of none that was added before are the same.
-fn put<'a>(
+fn put_apart<'a>(
     attr: &'a Attr,
     seen: &mut BTreeSet<(Option<&'a [u32]>, i64), Global>,
 ) -> Result<bool, AllocError>
@@ -85,7 +85,7 @@ fn are_plain(alloc: Global, own: &Oid, attrs: &[Attr]) -> Result<bool, AllocErro
     let mut seen = BTreeSet::new(alloc);
     let mut left = attrs;
     while let [others @ .., attr] = left {
-        if !is_plain(own, attr) || !put(attr, &mut seen)? {
+        if !is_plain(own, attr) || !put_apart(attr, &mut seen)? {
             return Ok(false);
         }
         left = others;

@@ -8,7 +8,8 @@ use std::alloc::AllocError;
 
 /// Puts one more name last, where it is not among them.
 pub(crate) fn add_name(names: &mut IndexSet<Bytes>, name: &Bytes) -> Result<(), AllocError>
-    ensures { is_among name.now names.old.keys ≡ false → OnOk result (names.new.keys ≡ names.old.keys ++ name.now ∷ []) }
+    ensures { is_among name.now names.old.keys ≡ false
+        → OnOk result (names.new.keys ≡ names.old.keys ++ name.now ∷ []) }
 {
     names.insert(name.clone()?)?;
     Ok(())

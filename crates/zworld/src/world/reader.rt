@@ -171,7 +171,8 @@ impl Reader {
 
     fn add_content(&mut self, content: Content) -> Result<(), LineFault>
         requires { IsSound self.old }
-        ensures { Gives (change_target (in_target (in_database (add_content content))) (world_of self.old)) self.new result }
+        ensures { Gives (change_target (in_target (in_database (add_content content))) (world_of self.old))
+            self.new result }
     {
         let targets = with_target_content(self.alloc, self.targets.take(), content)?;
         self.targets = Some(targets);
@@ -201,7 +202,8 @@ impl Reader {
         requires new { is_among line.name (asked_names self.old.questions.items) ≡ false }
         requires defined { end_of line.name (listed self.old.targets) self.old.hosts.items ≡ Some end }
         requires asked { IsQueryOf line.text query }
-        ensures { OnOk result (IsSound self.new × Leaves number (lines.Ask line) (world_of self.old) (world_of self.new)) }
+        ensures { OnOk result
+            (IsSound self.new × Leaves number (lines.Ask line) (world_of self.old) (world_of self.new)) }
     {
         let inquiry = inquiry(self.alloc, number, line, query, end)?;
         self.add_inquiry(inquiry)
@@ -272,8 +274,10 @@ impl Reader {
         }
     }
 
-    /// Reads line `number`. `Refused` where it is no line of a world file, or none that can stand here; what was read so
-    /// far is of no use then.
+    /// Reads line `number`.
+    ///
+    /// `Refused` where it is no line of a world file, or none that can stand here; what was read so far is of no use
+    /// then.
     pub(crate) fn read(&mut self, number: u64, text: &[u8]) -> Result<(), LineFault>
         requires sound { IsSound self.old }
         requires few { length self.old.questions.items < 2 ^ 32 }

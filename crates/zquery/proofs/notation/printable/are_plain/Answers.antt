@@ -7,7 +7,7 @@ use Rattle.zquery.specs.InForce.{alike}
 use Rattle.zquery.specs.Notation.Printing.{plain_attr, plain_attrs}
 use Rattle.zquery.proofs.NotationTheory.ApartLemmas.{not_plain}
 use Rattle.zquery.proofs.notation.printable.are_plain.Goals as goal
-use Rattle.zquery.proofs.notation.printable.are_plain.Goals.{then-not-is_plain-via-then-not-is_plain, then-not-is_plain-via-else-not-is_plain+in_ok-put+then-not-branch}
+use Rattle.zquery.proofs.notation.printable.are_plain.Goals.{then-not-is_plain-via-then-not-is_plain, then-not-is_plain-via-else-not-is_plain+in_ok-put_apart+then-not-branch}
 
 no_and : (b : Bool) → (b && false) ≡ false
 no_and true = refl
@@ -31,8 +31,9 @@ returns-then-not-is_plain-clause-value c =
     let last : plain_attrs own (a ∷ rest.0) ≡ false = elim c.then-not-is_plain.branch [
       | then-not-is_plain-via-then-not-is_plain w ↦
           ap (λ b. b && (not others && plain_attrs own rest.0)) (sym c.is_plain.ensures.value ∙ w.if-not-is_plain.true)
-      | then-not-is_plain-via-else-not-is_plain+in_ok-put+then-not-branch w ↦
-          ap (λ b. plain_attr own a && (b && plain_attrs own rest.0)) (sym (w.in_ok-put.ensures.apart rest.0 rest.2) ∙ w.if-not-branch.true)
+      | then-not-is_plain-via-else-not-is_plain+in_ok-put_apart+then-not-branch w ↦
+          ap (λ b. plain_attr own a && (b && plain_attrs own rest.0))
+          (sym (w.in_ok-put_apart.ensures.apart rest.0 rest.2) ∙ w.if-not-branch.true)
           ∙ no_and (plain_attr own a)
     ] in
     sym (ap (plain_attrs own) cut ∙ not_plain own front (a ∷ rest.0) last)

@@ -1,5 +1,5 @@
 use Rattle.zquery.proofs.NotationTheory.ApartLemmas.{apart_keys, more_keys}
-use Rattle.zquery.proofs.notation.printable.put.Goals as goal
+use Rattle.zquery.proofs.notation.printable.put_apart.Goals as goal
 
 pub returns-clause-apart : goal.returns-clause-apart
 returns-clause-apart c = λ others keys.
