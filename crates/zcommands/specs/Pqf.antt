@@ -31,6 +31,11 @@ IsElementOf q n = WritesQuery q n × (query_spelt q ≡ Some n)
 unfoldable pub query_lines : RpnQuery → Element → List ℕ
 query_lines q n = query_text q ++ codes "\n" ++ element_text n ++ codes "\n"
 
+-- both lines of a query are put, of its own element, or memory was refused
+abbrev pub PutsQuery : RpnQuery → List ℕ → List ℕ → Result (Unit {0}) Fault → Type 0
+PutsQuery q old new (Ok _) = (n : Element) × IsElementOf q n × (new ≡ old ++ query_lines q n)
+PutsQuery q old new (Err e) = e ≡ Memory
+
 -- what an answer of `pqf` says of the text, and of what was written: each query of a text can be printed, and has an
 -- element
 abbrev pub TellsQuery : List ℕ → List ℕ → List ℕ → Result (Unit {0}) Fault → Type 0

@@ -76,7 +76,9 @@ fn ask_paths<'a, 'o: 'a, S: Folder + Net + Clock, W: Write, E: Write, P: Write +
 {
     let mut world = named(system, paths.world);
     let finished = ask_file(alloc, system, &mut world, choice, mode, screen)?;
-    finish(alloc, system, &finished, paths.saved, output, errors)
+    let answer = finish(alloc, system, &finished, paths.saved, output, errors);
+    drop(finished);
+    answer
 }
 
 /// Asks the hosts of a file.

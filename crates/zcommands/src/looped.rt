@@ -60,7 +60,9 @@ fn loop_paths<'a, 'o: 'a, S: Folder + Net, W: Write, E: Write>(
 {
     let mut world = named(system, paths.world);
     let finished = loop_file(alloc, system, &mut world, mode)?;
-    finish(alloc, system, &finished, paths.saved, output, errors)
+    let answer = finish(alloc, system, &finished, paths.saved, output, errors);
+    drop(finished);
+    answer
 }
 
 /// Runs the world of a file.

@@ -4,7 +4,7 @@ ghost use Rattle.zber.specs.Elements.{Element};
 ghost use Rattle.zquery.specs.Notation.Printing.{query_text};
 ghost use Rattle.zquery.specs.Element.Type1.{WritesQuery};
 ghost use Rattle.zquery.specs.Element.Type1Reading.{query_spelt};
-ghost use Rattle.zcommands.specs.Pqf.{IsQueryOf, element_text, query_lines, TellsQuery, PrintsQuery, DoesPqf};
+ghost use Rattle.zcommands.specs.Pqf.{IsQueryOf, element_text, PutsQuery, TellsQuery, PrintsQuery, DoesPqf};
 ghost use Rattle.zcommands.specs.Devices.{held};
 
 use crate::fault::{Fault, Status};
@@ -48,14 +48,24 @@ fn pqf_text<'a, W: Write>(
 }
 
 /// Appends both lines of a text.
-#[tactic(auto, unfolding(crate::specs::Pqf::query_lines))]
 fn put_query(alloc: Global, text: &[u8], lines: &mut Vec<u8>) -> Result<(), Fault<'static>>
     ensures { TellsQuery text.now lines.old.items lines.new.items result }
 {
     let query = parse_pqf(alloc, text)?;
-    put_text(alloc, &query, lines)?;
+    let put = put_both(alloc, &query, lines);
+    drop(query);
+    put
+}
+
+/// Appends both lines of a query that a text stands for.
+#[tactic(auto, unfolding(crate::specs::Pqf::query_lines))]
+fn put_both(alloc: Global, query: &Query, lines: &mut Vec<u8>) -> Result<(), Fault<'static>>
+    requires { (text : List ℕ) × IsQueryOf text query.now }
+    ensures { PutsQuery query.now lines.old.items lines.new.items result }
+{
+    put_text(alloc, query, lines)?;
     lines.extend_from_slice(b"\n")?;
-    let node = node_of(alloc, &query)?;
+    let node = node_of(alloc, query)?;
     put_element(alloc, node, lines)?;
     lines.extend_from_slice(b"\n")?;
     Ok(())

@@ -3,6 +3,7 @@
 ghost use Rattle.std.specs.Prelude.{◌≡◌, ◌++◌, ◌∷◌, IfOk, OnOk, Ok, Err};
 ghost use Rattle.std.specs.Option.{option_map};
 ghost use Rattle.zcommands.specs.Devices.{held};
+ghost use Rattle.zrecords.specs.Records.{records_octets, left_out};
 ghost use Rattle.zwords.specs.Texts.{texts_of};
 ghost use Rattle.zcommands.specs.Records.{ReadsSyntax, left_line, left_text, extract, PutsRecords, Extracts, DoesRecords};
 
@@ -13,6 +14,7 @@ use crate::output::Output;
 use std::alloc::{AllocError, Global};
 use std::io::Write;
 use zber::{Oid, OidError};
+use zknow::Knowledge;
 use zrecords::{LeftOut, write_records};
 
 /// Which records are written.
@@ -73,17 +75,27 @@ fn records_files<'a, 'o: 'a, F: Folder, W: Write, E: Write>(
     let syntax = syntax_of(alloc, wanted.syntax)?;
     let (knowledge, _) = load_all(alloc, files, saved.first, saved.others)?;
     let status = known_status(&knowledge);
-    let mut octets = Vec::new(alloc);
-    let left = write_records(
-        alloc,
-        &knowledge,
-        syntax.as_ref(),
-        wanted.conflicts,
-        &mut octets,
-    )?;
+    let taken = take_records(alloc, &knowledge, &syntax, wanted.conflicts);
+    drop(knowledge);
+    let (octets, left) = taken?;
     let lines = left_lines(alloc, &left)?;
     put_records(octets.as_slice(), lines.as_slice(), output, errors)?;
     Ok(status)
+}
+
+/// The octets of the records, and what was left out.
+fn take_records(
+    alloc: Global,
+    knowledge: &Knowledge,
+    syntax: &Option<Oid>,
+    conflicts: bool,
+) -> Result<(Vec<u8>, LeftOut), AllocError>
+    ensures octets { IfOk result (λ taken. taken.0.items ≡ records_octets syntax.now conflicts knowledge.now) }
+    ensures left { IfOk result (λ taken. taken.1 ≡ left_out syntax.now conflicts knowledge.now) }
+{
+    let mut octets = Vec::new(alloc);
+    let left = write_records(alloc, knowledge, syntax.as_ref(), conflicts, &mut octets)?;
+    Ok((octets, left))
 }
 
 /// The object identifier of a text, where there is a text.

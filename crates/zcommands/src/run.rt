@@ -62,7 +62,9 @@ fn run_paths<'a, 'o: 'a, F: Folder, W: Write, E: Write>(
 {
     let mut world = named(files, paths.world);
     let finished = run_file(alloc, &mut world, mode)?;
-    finish(alloc, files, &finished, paths.saved, output, errors)
+    let answer = finish(alloc, files, &finished, paths.saved, output, errors);
+    drop(finished);
+    answer
 }
 
 /// Runs the world of a file.

@@ -66,12 +66,14 @@ init_response_text v =
     ++ numbers_text (v.preferred_message_size ∷ v.exceptional_record_size ∷ []) ++ truth_text v.result
     ++ name_text v.implementation_name ++ codes "\n"
 
-abbrev pub search_response_text : SearchResponse → List ℕ
-search_response_text v =
+abbrev pub found_line : SearchResponse → List ℕ
+found_line v =
     start_text kinds.SearchResponse v.reference_id
     ++ numbers_text (v.result_count ∷ v.number_of_records_returned ∷ v.next_result_set_position ∷ [])
     ++ truth_text v.search_status ++ codes "\n"
-    ++ optional_records v.records
+
+abbrev pub search_response_text : SearchResponse → List ℕ
+search_response_text v = found_line v ++ optional_records v.records
 
 abbrev pub range_line : Range → List ℕ
 range_line r = codes "  range" ++ numbers_text (r.starting_position ∷ r.number_of_records ∷ []) ++ codes "\n"

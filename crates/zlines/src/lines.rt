@@ -1,7 +1,7 @@
 //! The lines of an APDU, as `show` prints them.
 ghost use Rattle.std.specs.Prelude.{◌≡◌, ◌++◌, OnOk, OnErr};
 ghost use Rattle.zlines.specs.Fields.{head_line};
-ghost use Rattle.zlines.specs.Lines.{apdu_text, init_request_text, init_response_text, search_response_text, present_request_text, range_line, range_lines, response_text, close_text, records_text, record_lines, record_line, nonsurrogate, default_line, diag_lines, diag_line, info_text};
+ghost use Rattle.zlines.specs.Lines.{apdu_text, init_request_text, init_response_text, found_line, search_response_text, present_request_text, range_line, range_lines, response_text, close_text, records_text, optional_records, record_lines, record_line, nonsurrogate, default_line, diag_lines, diag_line, info_text};
 
 use crate::fields::{put_bits, put_name, put_numbers, put_reference, put_start, put_truth};
 use crate::search::put_search_request;
@@ -78,12 +78,9 @@ fn put_init_response(
     text.extend_from_slice(b"\n")
 }
 
-fn put_search_response(
-    alloc: Global,
-    response: SearchResponse,
-    text: &mut Vec<u8>,
-) -> Result<(), AllocError>
-    ensures { OnOk result (text.new.items ≡ text.old.items ++ search_response_text response) }
+/// The line of a SearchResponse.
+fn put_found(alloc: Global, response: &SearchResponse, text: &mut Vec<u8>) -> Result<(), AllocError>
+    ensures { OnOk result (text.new.items ≡ text.old.items ++ found_line response.now) }
 {
     let numbers = [
         response.result_count,
@@ -93,12 +90,18 @@ fn put_search_response(
     put_start(alloc, Kind::SearchResponse, &response.reference_id, text)?;
     put_numbers(alloc, &numbers, text)?;
     put_truth(response.search_status, text)?;
-    text.extend_from_slice(b"\n")?;
-    let records = response.records;
-    match records {
-        None => Ok(()),
-        Some(records) => put_records(alloc, records, text),
-    }
+    text.extend_from_slice(b"\n")
+}
+
+fn put_search_response(
+    alloc: Global,
+    response: SearchResponse,
+    text: &mut Vec<u8>,
+) -> Result<(), AllocError>
+    ensures { OnOk result (text.new.items ≡ text.old.items ++ search_response_text response) }
+{
+    put_found(alloc, &response, text)?;
+    put_optional_records(alloc, response.records, text)
 }
 
 fn put_present_request(
@@ -160,7 +163,16 @@ fn put_response(
         &numbers,
         text,
     )?;
-    let records = response.records;
+    put_optional_records(alloc, response.records, text)
+}
+
+fn put_optional_records(
+    alloc: Global,
+    records: Option<Records>,
+    text: &mut Vec<u8>,
+) -> Result<(), AllocError>
+    ensures { OnOk result (text.new.items ≡ text.old.items ++ optional_records records) }
+{
     match records {
         None => Ok(()),
         Some(records) => put_records(alloc, records, text),

@@ -11,5 +11,5 @@ returns-clause-asks g c =
     let asked = subst (λ z. IfSome z (λ file. AsksFile (manner c.args.choice) c.args.mode file (Ok c.in_ok-finished.finished))) c.named-world.ensures.octets c.in_ok-finished.ensures.asked in
     concludes (AsksFile (manner c.args.choice) c.args.mode) (g.S.Folder.octets c.args.system.now c.args.paths.world.now) c.in_ok-finished.finished
     (option_map (λ path. path.now) c.args.paths.saved)
-    (held g.W.Write.contents c.args.output.now) (held g.W.Write.contents c.finish.new.output) (held g.E.Write.contents c.args.errors.now) (held g.E.Write.contents c.finish.new.errors)
-    c.finish.result asked c.finish.ensures
+    (held g.W.Write.contents c.args.output.now) (held g.W.Write.contents c.finish-answer.new.output) (held g.E.Write.contents c.args.errors.now) (held g.E.Write.contents c.finish-answer.new.errors)
+    c.finish-answer.result asked c.finish-answer.ensures

@@ -1,5 +1,4 @@
-use Rattle.std.proofs.Common.{◌≡◌, ◌∙◌, ◌∷◌, ◌++◌, subst, rules}
-use Rattle.std.specs.Option.{option_copied}
+use Rattle.std.proofs.Common.{◌≡◌, refl, ◌∙◌, [], ◌∷◌, rules}
 use Rattle.std.proofs.lemmas.Result.{err_from_is_err_and}
 use Rattle.zrecords.specs.Records.{records_octets, left_out}
 use Rattle.zcommands.specs.Devices.{held}
@@ -19,14 +18,12 @@ pub returns : goal.returns
 returns g c =
     let oid = c.in_ok-syntax.syntax in
     let facts = c.in_ok-knowledge.knowledge in
-    let start = c.new-octets.result.items in
-    let same : option_copied c.as_ref.result ≡ oid = search rules in
-    let put = subst (λ z. c.write_records.new.out.items ≡ start ++ records_octets z c.args.wanted.conflicts facts) same c.in_ok-left.ensures.ok in
-    let which = subst (λ z. c.in_ok-left.left ≡ left_out z c.args.wanted.conflicts facts) same c.in_ok-left.ensures.left in
+    let put : c.in_ok-octets.octets.items ≡ records_octets oid c.args.wanted.conflicts facts = search rules in
+    let which : c.in_ok-octets.left ≡ left_out oid c.args.wanted.conflicts facts = search rules in
     extracted (extract c.args.wanted) (g.F.Folder.octets c.args.files.now) (c.args.saved.first.now ∷ texts_of c.args.saved.others.now)
     (held g.W.Write.contents c.args.output.now) (held g.E.Write.contents c.args.errors.now)
-    facts c.in_ok-knowledge.field-0-1 oid c.as_slice.result.now c.as_slice-2.result.now start c.in_ok-left.left
-    c.in_ok-knowledge.ensures c.in_ok-syntax.ensures c.new-octets.ensures.items
+    facts c.in_ok-knowledge.field-0-1 oid c.as_slice.result.now c.as_slice-2.result.now [] c.in_ok-octets.left
+    c.in_ok-knowledge.ensures c.in_ok-syntax.ensures refl
     (c.as_slice.ensures.value ∙ put) which (c.as_slice-2.ensures.value ∙ c.in_ok-lines.ensures)
     (held g.W.Write.contents c.put_records.new.output) (held g.E.Write.contents c.put_records.new.errors)
     c.known_status-status.result c.known_status-status.ensures c.in_ok-put_records.ensures
