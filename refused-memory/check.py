@@ -13,6 +13,8 @@ import re
 import subprocess
 import sys
 import tempfile
+import threading
+from concurrent.futures import ThreadPoolExecutor
 
 ROOT = os.path.dirname(os.path.dirname(os.path.abspath(__file__)))
 ZMETA = os.path.join(ROOT, "crates/zmeta/out/zmeta")
@@ -39,11 +41,13 @@ RUNS = [
     (["ask", "--help"], None),
 ]
 TESTS = [
-    ("zencodings", "pieces::a_session_goes_on_where_memory_was_refused"),
+    ("zelements", "pieces::a_session_goes_on_where_memory_was_refused"),
     ("zholdings", "known::what_is_known_grows_where_memory_was_refused"),
     ("zvectors", "pool::memory::a_session_goes_on_where_memory_was_refused"),
     ("zvectors", "failing::a_talk_tells_where_memory_was_refused"),
 ]
+# as many runs at a time as there are processors
+POOL = ThreadPoolExecutor(len(os.sched_getaffinity(0)))
 # the last of all allocations
 ALL = (1 << 64) - 1
 # what a test says that could not make itself ready: `Unread` is what reading its rows says
@@ -52,21 +56,21 @@ WANTS = re.compile(r"error: (Unread|AllocError|AllocFailed|Memory|OutOfMemory|Pq
 
 def run(room, words, file, first, last):
     """Runs a program with allocations refused (none where the last is 0): its status, both outputs, and its allocations."""
-    count = os.path.join(room, "count")
+    count = os.path.join(room, f"count-{threading.get_ident()}")
     surroundings = dict(os.environ, LD_PRELOAD=os.path.join(room, "refuse.so"), REFUSE=str(first), LAST=str(last), COUNT=count)
     with open(os.path.join(ROOT, file) if file else os.devnull, "rb") as given:
-        ran = subprocess.run(words, stdin=given, capture_output=True, env=surroundings, cwd=ROOT, timeout=60)
+        ran = subprocess.run(words, stdin=given, capture_output=True, env=surroundings, cwd=ROOT, timeout=60, close_fds=False)
     with open(count) as it:
         return (ran.returncode, ran.stdout, ran.stderr), int(it.read())
 
 
 def look_at_run(room, words, file):
     ample, count = run(room, [ZMETA, *words], file, 1, 0)
-    for number in range(1, count + 1):
-        for last in (number, number + 1, ALL):
-            answer, _ = run(room, [ZMETA, *words], file, number, last)
-            if answer != ample and (answer[:2] != (4, b"") or not answer[2].endswith(b"out of memory\n")):
-                return f"zmeta {' '.join(words)}: allocations {number} to {last} of {count} refused: {answer}"
+    refused = [(number, last) for number in range(1, count + 1) for last in (number, number + 1, ALL)]
+    answers = POOL.map(lambda it: run(room, [ZMETA, *words], file, *it), refused)
+    for (number, last), (answer, _) in zip(refused, answers):
+        if answer != ample and (answer[:2] != (4, b"") or not answer[2].endswith(b"out of memory\n")):
+            return f"zmeta {' '.join(words)}: allocations {number} to {last} of {count} refused: {answer}"
     print(f"zmeta {' '.join(words)}: each of {count} allocations refused, with the next, and with all that follow")
     return None
 
@@ -77,8 +81,8 @@ def look_at_test(room, crate, name):
     if ample[0]:
         return f"{name}: fails with ample memory: {ample}"
     passed = 0
-    for number in range(1, count + 1):
-        answer, _ = run(room, [tests, name], None, number, number)
+    answers = POOL.map(lambda it: run(room, [tests, name], None, it, it), range(1, count + 1))
+    for number, (answer, _) in enumerate(answers, 1):
         wants = WANTS.match(answer[2].decode(errors="replace"))
         if answer[0] and (passed or not wants):
             return f"{name}: allocation {number} of {count} refused: {answer}"

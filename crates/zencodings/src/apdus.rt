@@ -1,17 +1,17 @@
 // APDUs in octets, worked out by hand from Z39.50-2003, 4.1, and X.690, each tag of each production in one of them; and
 // what they stand for. Of each kind one has all parts that may be absent, and one has none.
 use crate::boxes::{apdu_node, apdu_of};
-use crate::encodings::{PRESENT_RESPONSE, PRESENT_RESPONSE_INDEFINITE};
 use crate::parts::Line;
 use crate::plain::apdu_copy;
 use crate::printed::put_apdu;
-use crate::rows::{each_row, element, encoding, message, octets, pair, spells};
-use crate::unread::Unread;
 use std::alloc::{AllocError, Global};
 use std::process::Abort;
 use std::test::Fail;
 use zapdu::{Apdu, PresentResponse, Record, Records, print_record};
 use zber::{Body, Node};
+use zelements::encodings::{PRESENT_RESPONSE, PRESENT_RESPONSE_INDEFINITE};
+use zelements::rows::{each_row, element, encoding, message, octets, pair, spells};
+use zelements::unread::{Unread, read};
 
 // Canonical encodings, and the fields.
 pub(crate) const APDUS: &str =
@@ -47,7 +47,7 @@ b90d9801009901009b0105bf814d00 presentResponse - 0 0 5 many -
 "#;
 
 fn apdu_encoding(alloc: Global, apdu: &Apdu) -> Result<String, Unread> {
-    let node = apdu_node(alloc, apdu)?;
+    let node = read(apdu_node(alloc, apdu))?;
     Ok(encoding(alloc, &node)?)
 }
 

@@ -1,10 +1,10 @@
 //! Calls of the layers below that tests of several crates make, without their contracts and with large values in boxes:
 //! no test needs the contracts, and what is proved of a function is dear where it owns a large value.
-use crate::rows::element;
-use crate::unread::Unread;
 use std::alloc::{AllocError, Global};
 use zapdu::{Apdu, BuildError, DiagRec, Record};
 use zber::Node;
+use zelements::rows::element;
+use zelements::unread::{Unread, read};
 use zquery::Query;
 
 /// A value in a box.
@@ -14,7 +14,7 @@ pub fn boxed<T: Drop>(alloc: Global, value: T) -> Result<Box<T>, AllocError> {
 
 /// The query of a text in prefix notation.
 pub fn parse(alloc: Global, text: &[u8]) -> Result<Box<Query>, Unread> {
-    let query = zquery::parse_pqf(alloc, text)?;
+    let query = read(zquery::parse_pqf(alloc, text))?;
     Ok(boxed(alloc, query)?)
 }
 
@@ -25,7 +25,7 @@ pub fn apdu_node(alloc: Global, apdu: &Apdu) -> Result<Node, BuildError> {
 
 /// The APDU of an element.
 pub fn apdu_of(alloc: Global, node: &Node) -> Result<Box<Apdu>, Unread> {
-    let apdu = zapdu::from_node(alloc, node)?;
+    let apdu = read(zapdu::from_node(alloc, node))?;
     Ok(boxed(alloc, apdu)?)
 }
 

@@ -1,10 +1,10 @@
 // The encodings of all tables as one table, with one on each row.
 use crate::apdus::{APDUS, LENGTHS};
 use crate::queries::READ;
-use crate::rows::{pair, parted};
 use crate::servers::SENT;
 use crate::{misfits, records, segments, structures};
 use std::alloc::{AllocError, Global};
+use zelements::rows::{pair, parted};
 
 // Where an encoding stands in a row: its first word, its second one, its last one, or what is behind the equals sign.
 #[derive(Clone, Copy)]

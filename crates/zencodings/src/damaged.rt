@@ -1,17 +1,17 @@
 // Encodings that are cut off, and encodings of which one octet is another.
 use crate::boxes::diag_node;
 use crate::collected::encodings;
-use crate::framing::answers;
 use crate::plain::{apdu_refusal, diag_of, is_diag, is_query, is_record};
 use crate::queries::inner;
-use crate::rows::{LIMIT, cut, each_row, element, encoding, held, octets, pair, tells};
 use crate::segments::{apdu_encoding, query_encoding, record_encoding};
-use crate::unread::Unread;
 use std::alloc::Global;
 use std::process::Abort;
 use std::test::Fail;
 use zapdu::ApduError;
 use zber::{FaultKind, FrameError, Framer, Node};
+use zelements::rows::{LIMIT, cut, each_row, element, encoding, held, octets, pair, tells};
+use zelements::scripts::answers;
+use zelements::unread::{Unread, read};
 
 // Whether the first so many octets are told to be cut off there.
 fn is_truncated(alloc: Global, digits: &str, at: usize) -> Result<bool, Unread> {
@@ -59,7 +59,7 @@ fn own_encoding(alloc: Global, node: &Node) -> Result<String, Unread> {
 
 fn diag_encoding(alloc: Global, node: &Node) -> Result<String, Unread> {
     let diag = diag_of(alloc, node)?;
-    let node = diag_node(alloc, &diag)?;
+    let node = read(diag_node(alloc, &diag))?;
     Ok(encoding(alloc, &node)?)
 }
 

@@ -7,9 +7,6 @@ use crate::boxes::{diag_node, record_node};
 use crate::parts::{Line, put_node, put_number, put_word};
 use crate::plain::{diag_copy, diag_of, query_copy, record_copy, record_of};
 use crate::queries::printed;
-use crate::rows::digits;
-use crate::unread::Unread;
-use crate::values::bit_digits;
 use bytes::Bytes;
 use std::alloc::{AllocError, Global};
 use zapdu::{
@@ -17,6 +14,9 @@ use zapdu::{
     RecordComposition, Records, SearchQuery,
 };
 use zber::{Bits, Node, Oid};
+use zelements::rows::digits;
+use zelements::shown::bit_digits;
+use zelements::unread::{Unread, read};
 use zquery::Query;
 
 pub(crate) fn put_some_number(alloc: Global, number: &Option<i64>, out: &mut Line) {
@@ -123,7 +123,7 @@ fn put_default_diag(alloc: Global, diag: &DefaultDiag, out: &mut Line) {
 
 // The diagnostic that a diagnostic's element stands for.
 fn again_diag(alloc: Global, diag: &DiagRec) -> Result<Box<DiagRec>, Unread> {
-    let node = diag_node(alloc, diag)?;
+    let node = read(diag_node(alloc, diag))?;
     diag_of(alloc, &node)
 }
 
@@ -158,7 +158,7 @@ fn put_body(alloc: Global, body: &RecordBody, out: &mut Line) {
 
 // The record that a record's element stands for.
 fn again_record(alloc: Global, record: &Record) -> Result<Box<Record>, Unread> {
-    let node = record_node(alloc, record)?;
+    let node = read(record_node(alloc, record))?;
     record_of(alloc, &node)
 }
 

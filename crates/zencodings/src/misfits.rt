@@ -1,10 +1,10 @@
 // Elements that are no APDUs, and where they misfit, worked out from Z39.50-2003, 4.1.
 use crate::plain::apdu_refusal;
-use crate::rows::{each_row, element, pair, tells};
-use crate::unread::Unread;
 use std::alloc::Global;
 use std::process::Abort;
 use std::test::Fail;
+use zelements::rows::{each_row, element, pair, tells};
+use zelements::unread::Unread;
 
 // Elements and their refusals; a line with `#` says what is wrong with those below it.
 pub(crate) const REFUSED: &str = "\

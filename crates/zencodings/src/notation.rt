@@ -2,13 +2,13 @@
 use crate::boxes::{boxed, parse};
 use crate::plain::{print, query_copy};
 use crate::queries::{is_printed, refusal};
-use crate::rows::{each_row, halves, held, tells, unescaped};
-use crate::unread::Unread;
 use bytes::Bytes;
 use std::alloc::{AllocError, Global};
 use std::process::Abort;
 use std::test::Fail;
 use zber::{Node, Oid, Seq, Tag};
+use zelements::rows::{each_row, halves, held, tells, unescaped};
+use zelements::unread::{Unread, read};
 use zquery::{Attr, AttrValue, PrintError, Query, Rpn, TermValue, tokens};
 
 // Texts, and what their queries are printed as.
@@ -186,7 +186,7 @@ fn texts_are_refused_at_their_faults(rt: HostRuntime) -> Result<(), Fail> {
 // Tokens with their places, each on a line, quoted ones in quotes.
 fn listed(alloc: Global, text: &[u8]) -> Result<Vec<u8>, Unread> {
     let mut out = Vec::new(alloc);
-    for token in tokens(alloc, text)?.iter() {
+    for token in read(tokens(alloc, text))?.iter() {
         let place = token.at.to_string(alloc)?;
         out.extend_from_slice(place.as_bytes())?;
         out.extend_from_slice(if token.quoted { b" q " } else { b" - " })?;

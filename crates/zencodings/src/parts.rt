@@ -1,12 +1,12 @@
 //! Lines of parts, each with a space before it.
 ghost use Rattle.std.specs.Prelude.{◌≡◌, ◌↔◌, ◌++◌, [], None, Some, IsTrue, IfSome, IsSomeAnd, IfOk, OnErr};
 
-use crate::rows::encoding;
-use crate::unread::Unread;
 use std::alloc::{AllocError, Global};
 use std::marker::Model;
 use zapdu::quote;
 use zber::Node;
+use zelements::rows::encoding;
+use zelements::unread::Unread;
 
 /// A line that parts are put to. Once memory was refused for one, it is not whole.
 #[derive(Drop)]

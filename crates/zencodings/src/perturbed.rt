@@ -1,14 +1,14 @@
 // APDUs of which one element is changed, and where each is refused, worked out from Z39.50-2003, 4.1.
 use crate::boxes::apdu_of;
 use crate::plain::apdu_refusal;
-use crate::rows::{each_row, element, pair, tells};
-use crate::unread::Unread;
 use bytes::Bytes;
 use std::alloc::{AllocError, Global};
 use std::process::Abort;
 use std::test::Fail;
 use zapdu::{Apdu, ApduError, Kind};
 use zber::{Body, Node, Tag};
+use zelements::rows::{each_row, element, pair, tells};
+use zelements::unread::Unread;
 
 // Kinds and APDUs, and for each change and each element how many elements stand before the fault, in base 36; a dot
 // where none is at fault. In order each element is dropped, doubled, swapped with the next one (the last one stays),

@@ -1,9 +1,9 @@
 //! Further calls of the layers below, without their contracts and with large values in boxes.
 use crate::boxes::boxed;
-use crate::unread::Unread;
 use std::alloc::{AllocError, Global};
 use zapdu::{Apdu, ApduError, BuildError, DiagRec, Record};
 use zber::Node;
+use zelements::unread::Unread;
 use zquery::{PqfError, PrintError, Query};
 
 pub(crate) fn parse_refusal(alloc: Global, text: &[u8]) -> Option<PqfError> {

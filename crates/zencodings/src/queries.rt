@@ -1,12 +1,12 @@
 // Queries in the prefix notation and in octets, worked out from Z39.50-2003, 4.1, and X.690.
 use crate::boxes::parse;
 use crate::plain::{parse_refusal, print, query_node, query_of};
-use crate::rows::{each_row, element, encoding, halves, held, spells, tells, unescaped};
-use crate::unread::Unread;
 use std::alloc::{AllocError, Global};
 use std::process::Abort;
 use std::test::Fail;
 use zber::{Body, Node, Tag};
+use zelements::rows::{each_row, element, encoding, halves, held, spells, tells, unescaped};
+use zelements::unread::{self, Unread};
 use zquery::Query;
 
 // Texts, what their queries are printed as, and the element `[21]` around the query.
@@ -55,7 +55,7 @@ pub(crate) const READ: &str =
 
 // The element in a SearchRequest's place for a query.
 fn wrapped(alloc: Global, query: &Query) -> Result<Node, Unread> {
-    let node = query_node(alloc, query)?;
+    let node = unread::read(query_node(alloc, query))?;
     let nodes = vec![in alloc; node]?;
     Ok(Node::cons(Tag::context(21), nodes))
 }
@@ -82,7 +82,7 @@ fn read(alloc: Global, digits: &str) -> Result<Box<Query>, Unread> {
 
 pub(crate) fn printed(alloc: Global, query: &Query) -> Result<Vec<u8>, Unread> {
     let mut text = Vec::new(alloc);
-    print(alloc, query, &mut text)?;
+    unread::read(print(alloc, query, &mut text))?;
     Ok(text)
 }
 

@@ -1,15 +1,15 @@
 // Records and diagnostics by themselves, worked out from Z39.50-2003, 4.1 (NamePlusRecord, DiagRec), and X.690, 8.18
 // (EXTERNAL): elements that are none, the texts of records, and fragments that are made by hand.
 use crate::boxes::{boxed, record_node};
-use crate::headers::nested;
 use crate::plain::{is_diag, is_record, record_of, record_text};
-use crate::rows::{each_row, element, encoding, halves, pair, parted, spells, tells};
-use crate::unread::Unread;
 use std::alloc::{AllocError, Global};
 use std::process::Abort;
 use std::test::Fail;
 use zapdu::{BuildError, Record, RecordBody};
 use zber::{Node, Tag};
+use zelements::nested::nested;
+use zelements::rows::{each_row, element, encoding, halves, pair, parted, spells, tells};
+use zelements::unread::Unread;
 
 // Elements that are no record, or no diagnostic; a line with `#` says what is wrong with those below it.
 pub(crate) const OTHERS: &str = "\

@@ -5,14 +5,14 @@ ghost use Rattle.std.specs.Prelude.{◌<◌};
 use crate::apdus::{APDUS, put_indefinite};
 use crate::boxes::{apdu_node, apdu_of, record_node};
 use crate::plain::{query_node, query_of, record_of};
-use crate::rows::{each_row, element, encoding, held, message, pair, tells};
-use crate::unread::Unread;
-use crate::values::string;
 use bytes::Bytes;
 use std::alloc::{AllocError, Global};
 use std::process::Abort;
 use std::test::Fail;
 use zber::{Body, Node, Oid, Tag, ValueError};
+use zelements::rows::{each_row, element, encoding, held, message, pair, tells};
+use zelements::shown::string;
+use zelements::unread::{Unread, read};
 
 // Elements, and the octets of the strings that they are, or why they are none; a line with `#` says what those below it
 // have.
@@ -63,7 +63,7 @@ fn strings_are_the_octets_of_their_segments(rt: HostRuntime) -> Result<(), Fail>
 
 pub(crate) fn apdu_encoding(alloc: Global, node: &Node) -> Result<String, Unread> {
     let apdu = apdu_of(alloc, node)?;
-    let node = apdu_node(alloc, &apdu)?;
+    let node = read(apdu_node(alloc, &apdu))?;
     Ok(encoding(alloc, &node)?)
 }
 
@@ -251,7 +251,7 @@ fn each_string_of_an_apdu_has_either_form(rt: HostRuntime) -> Result<(), Fail> {
 
 pub(crate) fn query_encoding(alloc: Global, node: &Node) -> Result<String, Unread> {
     let query = query_of(alloc, node)?;
-    let node = query_node(alloc, &query)?;
+    let node = read(query_node(alloc, &query))?;
     Ok(encoding(alloc, &node)?)
 }
 
@@ -315,7 +315,7 @@ fn streamed(alloc: Global, node: &Node) -> Result<Node, Unread> {
 
 pub(crate) fn record_encoding(alloc: Global, node: &Node) -> Result<String, Unread> {
     let record = record_of(alloc, node)?;
-    let node = record_node(alloc, &record)?;
+    let node = read(record_node(alloc, &record))?;
     Ok(encoding(alloc, &node)?)
 }
 

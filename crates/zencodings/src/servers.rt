@@ -1,10 +1,10 @@
 // APDUs as servers send them, worked out from Z39.50-2003, 4.1, and X.690.
 use crate::apdus::is_line;
-use crate::rows::{each_row, octets, pair};
-use crate::unread::Unread;
 use std::alloc::Global;
 use std::process::Abort;
 use std::test::Fail;
+use zelements::rows::{each_row, octets, pair};
+use zelements::unread::Unread;
 
 // What is sent, its canonical encoding, and its fields; a line with `#` says what the one below it is.
 pub(crate) const SENT: &str =

@@ -3,13 +3,13 @@ use crate::boxes::boxed;
 use crate::notation::{complex, has_no_text, near, other};
 use crate::plain::{is_query, query_copy, query_node, query_of};
 use crate::queries::{is_printed, unwrapped};
-use crate::rows::{each_row, element, encoding, held, pair, tells};
-use crate::unread::Unread;
 use bytes::Bytes;
 use std::alloc::{AllocError, Global};
 use std::process::Abort;
 use std::test::Fail;
 use zber::{Node, Oid, Tag};
+use zelements::rows::{each_row, element, encoding, held, pair, tells};
+use zelements::unread::{Unread, read};
 use zquery::{BuildError, Query, Rpn};
 
 // Elements of queries that have no text; a line with `#` says what those below it have.
@@ -94,7 +94,7 @@ a11f06072a8648ce130301a014bf6611bf2c0a31089f7801019f7901049f2d0161
 ";
 
 fn is_written_as(alloc: Global, query: &Query, digits: &str) -> Result<bool, Unread> {
-    let node = query_node(alloc, query)?;
+    let node = read(query_node(alloc, query))?;
     Ok(tells(encoding(alloc, &node), digits))
 }
 

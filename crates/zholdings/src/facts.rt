@@ -7,10 +7,10 @@ use crate::shown::{put_counts, put_facts, put_known};
 use std::alloc::{AllocError, Global};
 use zapdu::{DiagRec, Record, diag_of, record_of};
 use zber::Node;
+use zelements::rows::{element, pair};
+use zelements::unread::Unread;
 use zencodings::boxes::boxed;
 use zencodings::parts::Line;
-use zencodings::rows::{element, pair};
-use zencodings::unread::Unread;
 use zknow::{Fact, Knowledge};
 
 // The element that a word names: digits; or of two octets, a record of them in the syntax 1.2.840.10003.5.10 with the

@@ -5,8 +5,8 @@ use crate::shown::{has_list, is_listed};
 use std::alloc::{AllocError, Global};
 use std::process::Abort;
 use std::test::Fail;
-use zencodings::rows::{each_row, halves, held, pair, spells, unescaped};
-use zencodings::unread::Unread;
+use zelements::rows::{each_row, halves, held, pair, spells, unescaped};
+use zelements::unread::Unread;
 use zknow::{Knowledge, Mode};
 
 // What a search and two requests for records gave, the first for the positions 1 to 3, the second for 2 to 4.

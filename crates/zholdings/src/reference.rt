@@ -2,10 +2,10 @@
 use crate::facts::fact;
 use std::alloc::{AllocError, Global};
 use zapdu::{DiagRec, Record, print_diag, print_record, quote};
+use zelements::rows::encoding;
+use zelements::unread::{Unread, read};
 use zencodings::boxes::{boxed, diag_node, record_node};
 use zencodings::parts::Line;
-use zencodings::rows::encoding;
-use zencodings::unread::{Unread, read};
 use zknow::Fact;
 
 /// A fact, and the text by which facts stand in fact order.
@@ -16,12 +16,12 @@ pub(crate) struct Noted {
 }
 
 fn record_digits(alloc: Global, record: &Record) -> Result<String, Unread> {
-    let node = record_node(alloc, record)?;
+    let node = read(record_node(alloc, record))?;
     Ok(encoding(alloc, &node)?)
 }
 
 fn diag_digits(alloc: Global, diag: &DiagRec) -> Result<String, Unread> {
-    let node = diag_node(alloc, diag)?;
+    let node = read(diag_node(alloc, diag))?;
     Ok(encoding(alloc, &node)?)
 }
 

@@ -5,9 +5,9 @@ use std::alloc::{AllocError, Global};
 use std::process::Abort;
 use std::test::Fail;
 use zber::Seq;
+use zelements::rows::{each_row, held, octets, pair, spells};
+use zelements::unread::{Unread, read};
 use zencodings::boxes::boxed;
-use zencodings::rows::{each_row, held, octets, pair, spells};
-use zencodings::unread::{Unread, read};
 use zknow::{Knowledge, LoadError, Names, SaveError, load, save};
 
 fn saved(alloc: Global, knowledge: &Knowledge, names: &Names) -> Result<Vec<u8>, Unread> {

@@ -7,9 +7,9 @@ use crate::shown::has_list;
 use std::alloc::{AllocError, Global};
 use std::process::Abort;
 use std::test::Fail;
-use zencodings::dice::Dice;
-use zencodings::rows::each_row;
-use zencodings::unread::Unread;
+use zelements::dice::Dice;
+use zelements::rows::each_row;
+use zelements::unread::Unread;
 use zknow::{Knowledge, Mode};
 
 // Records: three with the octets of one syntax, one of them twice in different lengths; a surrogate diagnostic, a

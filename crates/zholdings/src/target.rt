@@ -12,9 +12,9 @@ use std::process::Abort;
 use std::test::Fail;
 use zapdu::Apdu;
 use zber::{Oid, Seq};
+use zelements::rows::{encoding, pair, parted, tells, unescaped};
+use zelements::unread::{Unread, read};
 use zencodings::boxes::{apdu, apdu_node, boxed};
-use zencodings::rows::{encoding, pair, parted, tells, unescaped};
-use zencodings::unread::{Unread, read};
 use zquery::Query;
 use ztarget::{Database, Entry, Field, MatchError, Target, TargetError, TargetSettings};
 
@@ -135,7 +135,7 @@ fn release(alloc: Global, target: &mut Target, k: usize) -> Result<Box<Option<Ap
 
 // The octets of an APDU.
 fn spelled(alloc: Global, apdu: &Apdu) -> Result<String, Unread> {
-    let node = apdu_node(alloc, apdu)?;
+    let node = read(apdu_node(alloc, apdu))?;
     Ok(encoding(alloc, &node)?)
 }
 

@@ -9,8 +9,8 @@ use zcommands::fault::Status;
 use zcommands::files::Folder;
 use zcommands::input::Input;
 use zcommands::output::Output;
-use zencodings::rows::{halves, parted, unescaped};
-use zencodings::unread::Unread;
+use zelements::rows::{halves, parted, unescaped};
+use zelements::unread::Unread;
 use zencodings::worlds::{REFUSING_LIST, SHORT_LIST, WORLD_LIST};
 
 /// What a command answered, printed and told.

@@ -10,8 +10,8 @@ use zcommands::commands::run;
 use zcommands::fault::{Fault, Status};
 use zcommands::input::Input;
 use zcommands::output::Output;
-use zencodings::rows::{each_row, halves, pair, unescaped};
-use zencodings::unread::Unread;
+use zelements::rows::{each_row, halves, pair, unescaped};
+use zelements::unread::Unread;
 
 // Each line, the call at which its input, its output or its errors fail, none being 0, and what is told, unless the
 // errors fail.

@@ -4,7 +4,7 @@ use crate::shelf::{COUNT, HOSTS, RECORD, WORLD};
 use std::fs;
 use std::process::Abort;
 use std::test::Fail;
-use zencodings::unread::Unread;
+use zelements::unread::Unread;
 use zencodings::worlds::{REFUSING, SHORT};
 
 // A folder opens, and a read of it fails.

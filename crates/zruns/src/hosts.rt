@@ -9,8 +9,8 @@ use std::os::fd::{AsRawFd, RawFd};
 use std::test::Fail;
 use std::time::{Clock, Duration};
 use zcommands::files::Folder;
-use zencodings::rows::each_row;
-use zencodings::unread::Unread;
+use zelements::rows::each_row;
+use zelements::unread::Unread;
 
 // Init and a search accepted, one record found and shown, and Close.
 const ONE: &[u8] =

@@ -4,8 +4,8 @@ use crate::shelf::{COUNT, MORE, UNLIKE};
 use std::alloc::Global;
 use std::process::Abort;
 use std::test::Fail;
-use zencodings::rows::each_row;
-use zencodings::unread::{Unread, read};
+use zelements::rows::each_row;
+use zelements::unread::{Unread, read};
 use zknow::{Knowledge, Names, load, save};
 
 fn saved(alloc: Global, knowledge: &Knowledge, names: &Names) -> Result<Vec<u8>, Unread> {

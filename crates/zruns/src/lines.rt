@@ -6,8 +6,8 @@ use std::io::ErrorKind;
 use std::process::Abort;
 use std::test::Fail;
 use zcommands::fault::Status;
-use zencodings::rows::{each_row, halves, pair, unescaped};
-use zencodings::unread::Unread;
+use zelements::rows::{each_row, halves, pair, unescaped};
+use zelements::unread::Unread;
 
 const CLOSE: &[u8] = b"BF 30 05 9F 81 53 01 00";
 

@@ -4,7 +4,7 @@ use crate::shelf::SHELF;
 use std::alloc::{AllocError, Global};
 use std::process::Abort;
 use std::test::Fail;
-use zencodings::rows::each_row;
+use zelements::rows::each_row;
 
 const QUERIES: &str = "\
 zmeta|pqf|@attr 1=4 dune => 0 > @attr 1=4 \

@@ -5,7 +5,7 @@ use std::alloc::{AllocError, Global};
 use std::process::Abort;
 use std::test::Fail;
 use zcommands::fault::Status;
-use zencodings::rows::each_row;
+use zelements::rows::each_row;
 
 // The digits of messages, and what is answered, printed and told.
 const MESSAGES: &str = "\

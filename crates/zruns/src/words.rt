@@ -3,8 +3,8 @@ use crate::answers::words_of;
 use std::alloc::Global;
 use std::process::Abort;
 use std::test::Fail;
-use zencodings::rows::{each_row, halves};
-use zencodings::unread::{Unread, read};
+use zelements::rows::{each_row, halves};
+use zelements::unread::{Unread, read};
 use zwords::parse;
 
 const ASKED: &str = "\

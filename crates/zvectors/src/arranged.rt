@@ -6,8 +6,8 @@ use bytes::Bytes;
 use std::alloc::{AllocError, Global};
 use std::process::Abort;
 use std::test::Fail;
-use zencodings::rows::{each_row, halves, unescaped};
-use zencodings::unread::Unread;
+use zelements::rows::{each_row, halves, unescaped};
+use zelements::unread::Unread;
 use zworld::fitness::Arrangement;
 use zworld::world::{WorldError, read_world};
 

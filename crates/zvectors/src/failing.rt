@@ -4,8 +4,8 @@ ghost use Rattle.std.specs.Prelude.{◌<◌, length};
 use crate::talks::{Case, asked, has, reads_of, sink_of, source_of, whole, writes_of};
 use std::alloc::Global;
 use std::test::Fail;
-use zencodings::rows::{held, octets};
-use zencodings::unread::Unread;
+use zelements::rows::{held, octets};
+use zelements::unread::Unread;
 use zoom::{Meta, Reason, State};
 use ztalk::{TalkError, talk};
 

@@ -2,9 +2,9 @@
 use std::alloc::{AllocError, Global};
 use std::process::Abort;
 use std::test::Fail;
+use zelements::rows::{digits, each_row, held, octets, pair, parted, tells};
+use zelements::unread::Unread;
 use zencodings::boxes::boxed;
-use zencodings::rows::{digits, each_row, held, octets, pair, parted, tells};
-use zencodings::unread::Unread;
 use zoom::Host;
 use ztarget::{Target, TargetSettings};
 

@@ -9,9 +9,9 @@ use std::alloc::{AllocError, Global};
 use std::process::Abort;
 use std::test::Fail;
 use zber::Seq;
+use zelements::rows::{digits, each_row, held, octets, pair, tells};
+use zelements::unread::{Unread, read};
 use zencodings::boxes::{boxed, parse};
-use zencodings::rows::{digits, each_row, held, octets, pair, tells};
-use zencodings::unread::{Unread, read};
 use zoom::{Meta, MetaSettings, Question};
 use zorigin::Range;
 

@@ -4,9 +4,9 @@ use crate::wants::Want;
 use crate::written::{put_entry, put_question, put_settings, put_target};
 use std::alloc::{AllocError, Global};
 use std::process::Abort;
-use zencodings::dice::Dice;
-use zencodings::rows::held;
-use zencodings::unread::Unread;
+use zelements::dice::Dice;
+use zelements::rows::held;
+use zelements::unread::Unread;
 use zoom::Move;
 
 const NAMES: [&str; 4] = ["a", "b", "c", "d"];

@@ -5,8 +5,8 @@ use crate::written::{put_entry, put_question, put_settings, put_target};
 use std::alloc::{AllocError, Global};
 use std::process::Abort;
 use std::test::Fail;
-use zencodings::rows::held;
-use zencodings::unread::Unread;
+use zelements::rows::held;
+use zelements::unread::Unread;
 use zencodings::worlds::{SHORT_LIST, WORLD_LIST};
 
 const STEPS: [u64; 3] = [1, 3, 1000];

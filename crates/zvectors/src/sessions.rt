@@ -11,9 +11,9 @@ use std::process::Abort;
 use std::test::Fail;
 use zapdu::Apdu;
 use zber::{Oid, Seq};
+use zelements::rows::{cut, held, pair, parted};
+use zelements::unread::Unread;
 use zencodings::boxes::{apdu, boxed, parse};
-use zencodings::rows::{cut, held, pair, parted};
-use zencodings::unread::Unread;
 use zoom::Call;
 use zorigin::{Ask, CallRefused, Origin, Range, Refused, Sent, Settings, Taken};
 

@@ -10,9 +10,9 @@ use std::io::{ErrorKind, Read, Write};
 use std::process::Abort;
 use std::test::Fail;
 use zber::Seq;
+use zelements::rows::{digits, each_row, octets, pair, parted, tells};
+use zelements::unread::Unread;
 use zencodings::boxes::{boxed, parse};
-use zencodings::rows::{digits, each_row, octets, pair, parted, tells};
-use zencodings::unread::Unread;
 use zoom::{Meta, MetaSettings, Question};
 use ztalk::{Device, answer, talk};
 

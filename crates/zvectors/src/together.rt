@@ -6,9 +6,9 @@ use bytes::Bytes;
 use std::alloc::Global;
 use std::test::Fail;
 use zber::Seq;
+use zelements::rows::{held, octets};
+use zelements::unread::Unread;
 use zencodings::boxes::boxed;
-use zencodings::rows::{held, octets};
-use zencodings::unread::Unread;
 use zoom::{Meta, MetaSettings, Reason, State};
 use ztalk::{Device, Ends, Failed, Polled, Unwatched, talk_at_once};
 

@@ -1,6 +1,6 @@
 // What questions of no kind in particular want.
 use std::alloc::{AllocError, Global};
-use zencodings::dice::Dice;
+use zelements::dice::Dice;
 
 // The positions from the first to the last.
 #[derive(Drop)]

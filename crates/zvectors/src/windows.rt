@@ -5,9 +5,9 @@ use std::alloc::Global;
 use std::process::Abort;
 use std::test::Fail;
 use zapdu::Apdu;
+use zelements::rows::{held, tells};
+use zelements::unread::Unread;
 use zencodings::boxes::apdu;
-use zencodings::rows::{held, tells};
-use zencodings::unread::Unread;
 use zorigin::{Origin, Refused, Taken};
 
 // An association with concurrent operations, and a set of 100 records.

@@ -4,9 +4,9 @@ use crate::target::{database, found};
 use std::alloc::{AllocError, Global};
 use std::process::Abort;
 use std::test::Fail;
-use zencodings::dice::Dice;
-use zencodings::rows::held;
-use zencodings::unread::Unread;
+use zelements::dice::Dice;
+use zelements::rows::held;
+use zelements::unread::Unread;
 use zquery::{Attr, AttrValue, Query, Rpn, TermValue};
 use ztarget::{Database, Entry, Target};
 

@@ -5,8 +5,8 @@ use bytes::Bytes;
 use std::alloc::{AllocError, Global};
 use std::process::Abort;
 use std::test::Fail;
-use zencodings::rows::{each_row, halves, parted};
-use zencodings::unread::Unread;
+use zelements::rows::{each_row, halves, parted};
+use zelements::unread::Unread;
 use zquery::Query;
 use ztarget::{MatchError, Target};
 

@@ -5,9 +5,9 @@ use std::alloc::Global;
 use std::process::Abort;
 use std::test::Fail;
 use zber::{Oid, Seq};
+use zelements::rows::{each_row, halves, parted, unescaped};
+use zelements::unread::Unread;
 use zencodings::boxes::{boxed, parse};
-use zencodings::rows::{each_row, halves, parted, unescaped};
-use zencodings::unread::Unread;
 use zquery::{Attr, AttrValue, Query, Rpn, TermValue};
 use ztarget::{Target, TargetSettings};
 

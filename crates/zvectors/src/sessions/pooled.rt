@@ -4,8 +4,8 @@ use crate::sessions::is_due;
 use std::alloc::{AllocError, Global};
 use std::process::Abort;
 use std::test::Fail;
-use zencodings::rows::{held, pair, parted};
-use zencodings::unread::Unread;
+use zelements::rows::{held, pair, parted};
+use zelements::unread::Unread;
 use zoom::Pool;
 
 // The words of an origin for an answer of a pool.

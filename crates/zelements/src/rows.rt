@@ -8,7 +8,7 @@ use std::test::Fail;
 use zber::{Framer, Node};
 
 /// The longest message that is read.
-pub(crate) const LIMIT: u32 = 2_097_152;
+pub const LIMIT: u32 = 2_097_152;
 
 /// Fails with the first row of a table that does not hold, or of which that cannot be told; a row that begins with `#`
 /// says what those below it are.
@@ -93,7 +93,7 @@ pub fn digits(alloc: Global, octets: &[u8]) -> Result<String, AllocError> {
 }
 
 /// The first message of octets.
-pub(crate) fn message(alloc: Global, octets: &[u8]) -> Result<Node, Unread> {
+pub fn message(alloc: Global, octets: &[u8]) -> Result<Node, Unread> {
     let mut framer = Framer::new(alloc, LIMIT);
     framer.feed(octets)?;
     let node = framer.next()?.ok_or(Unread)?;

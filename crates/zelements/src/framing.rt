@@ -1,67 +1,12 @@
 // Messages and faults of a stream of octets, worked out from X.690, 8.1.
 use crate::encodings::PRESENT_RESPONSE;
 use crate::rows::{LIMIT, each_row, element, encoding, held, octets, pair, parted, tells};
+use crate::scripts::{answers, put_next};
 use crate::unread::Unread;
 use std::alloc::{AllocError, Global};
 use std::process::Abort;
 use std::test::Fail;
-use zber::{Body, Framer, Node};
-
-// Appends a message's form, and how many octets or elements it has.
-fn put_form(node: &Node, trace: &mut String) -> Result<(), AllocError> {
-    match &node.body {
-        Body::Prim(contents) => write!(trace, "primitive {};", contents.len()),
-        Body::Cons(nodes) => write!(trace, "elements {};", nodes.len()),
-    }
-}
-
-// Appends what is next: nothing, a message, or a fault and its place.
-fn next(framer: &mut Framer, trace: &mut String) -> Result<(), AllocError> {
-    match framer.next() {
-        Ok(None) => trace.push_str("nothing;"),
-        Ok(Some(node)) => put_form(&node, trace),
-        Err(error) => write!(trace, "{error};"),
-    }
-}
-
-fn finish(framer: &Framer, trace: &mut String) -> Result<(), AllocError> {
-    match framer.finish() {
-        Ok(whole) => write!(trace, "{whole};"),
-        Err(error) => write!(trace, "{error};"),
-    }
-}
-
-// A word of a script: octets to feed, the question what is next, or the question what is left.
-fn step(alloc: Global, framer: &mut Framer, word: &str, trace: &mut String) -> Result<(), Unread> {
-    match word {
-        "next" => Ok(next(framer, trace)?),
-        "finish" => Ok(finish(framer, trace)?),
-        digits => {
-            let octets = octets(alloc, digits)?;
-            Ok(framer.feed(octets.as_slice())?)
-        }
-    }
-}
-
-fn play(
-    alloc: Global,
-    framer: &mut Framer,
-    script: &str,
-    trace: &mut String,
-) -> Result<(), Unread> {
-    for word in script.split_whitespace() {
-        step(alloc, framer, word, trace)?;
-    }
-    Ok(())
-}
-
-// What a framer of this limit answers in a script.
-pub(crate) fn answers(alloc: Global, limit: u32, script: &str) -> Result<String, Unread> {
-    let mut trace = String::new(alloc);
-    let mut framer = Framer::new(alloc, limit);
-    play(alloc, &mut framer, script, &mut trace)?;
-    Ok(trace)
-}
+use zber::{Framer, Node};
 
 // What octets show, with the fault decided by the very last of them.
 pub(crate) const FAULTS: &str = "\
@@ -115,7 +60,7 @@ fn comes_after(alloc: Global, digits: &str, due: &str) -> Result<bool, Unread> {
 fn feed_each(framer: &mut Framer, octets: &[u8], trace: &mut String) -> Result<(), AllocError> {
     for octet in octets {
         framer.feed(&[*octet])?;
-        next(framer, trace)?;
+        put_next(framer, trace)?;
     }
     Ok(())
 }

@@ -2,9 +2,7 @@
 use hex::FromHexError;
 use std::alloc::{AllocError, AllocFailed};
 use std::num::ParseIntError;
-use zapdu::{ApduError, BuildError};
 use zber::{EncodeError, FrameError, OidError, ValueError};
-use zquery::{PqfError, PrintError};
 
 /// What a row is to say does not stand in it, or was refused, or there is no memory for it.
 #[derive(Debug, Drop)]
@@ -54,30 +52,6 @@ impl From<OidError> for Unread {
 
 impl From<ValueError> for Unread {
     fn from(_error: ValueError) -> Unread {
-        Unread
-    }
-}
-
-impl From<BuildError> for Unread {
-    fn from(_error: BuildError) -> Unread {
-        Unread
-    }
-}
-
-impl From<PqfError> for Unread {
-    fn from(_error: PqfError) -> Unread {
-        Unread
-    }
-}
-
-impl From<PrintError> for Unread {
-    fn from(_error: PrintError) -> Unread {
-        Unread
-    }
-}
-
-impl From<ApduError> for Unread {
-    fn from(_error: ApduError) -> Unread {
         Unread
     }
 }

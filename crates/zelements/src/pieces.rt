@@ -1,6 +1,7 @@
 // Octets in pieces: a cut changes no answer, and each octet is looked at once (X.690, 8.1).
-use crate::framing::{FAULTS, answers};
+use crate::framing::FAULTS;
 use crate::rows::{LIMIT, cut, each_row, held, octets, pair, parted, tells};
+use crate::scripts::answers;
 use crate::unread::Unread;
 use std::alloc::Global;
 use std::process::Abort;

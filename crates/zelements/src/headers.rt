@@ -1,4 +1,5 @@
 // Canonical encodings of elements made by hand, worked out from X.690, 8.1.
+use crate::nested::nested;
 use crate::rows::{LIMIT, cut, digits, each_row, encoding, held, pair, tells};
 use crate::unread::Unread;
 use bytes::Bytes;
@@ -43,17 +44,6 @@ fn is_close(alloc: Global, row: &str) -> Result<bool, Unread> {
 #[test]
 fn a_close_is_encoded_up_to_its_length(rt: HostRuntime) -> Result<(), Fail> {
     each_row(rt.alloc(), LIMITS, &is_close)
-}
-
-// So many constructed elements within one another, and an empty primitive one in the innermost.
-pub(crate) fn nested(alloc: Global, levels: u32) -> Result<Node, AllocError> {
-    let mut node = Node::of_null(Tag::context(0));
-    for _ in 0..levels {
-        let mut nodes = Vec::new(alloc);
-        nodes.push(node)?;
-        node = Node::cons(Tag::universal(16), nodes);
-    }
-    Ok(node)
 }
 
 // Whether octets are one message and no more.

@@ -1,11 +1,12 @@
 // Values in contents octets, worked out from X.690, 8.2, 8.3, 8.6 to 8.8 and 8.19.
 use crate::rows::{digits, each_row, octets, pair, tells};
+use crate::shown::{bit_digits, refusal, string};
 use crate::unread::Unread;
 use bytes::Bytes;
 use std::alloc::{AllocError, Global};
 use std::process::Abort;
 use std::test::Fail;
-use zber::{Bits, Body, Node, Oid, OidError, Tag, ValueError};
+use zber::{Bits, Body, Node, Oid, OidError, Tag};
 
 // Types, contents and values: integers next to each power of 256 and its half, the first bits of 10111011 10111011 1.
 const VALUES: &str = "\
@@ -132,10 +133,6 @@ fn contents(alloc: Global, node: &Node) -> Result<String, Unread> {
     }
 }
 
-fn refusal(alloc: Global, error: ValueError) -> Result<String, AllocError> {
-    format!(in alloc; "{error:?}")
-}
-
 fn integer(alloc: Global, node: &Node) -> Result<String, AllocError> {
     match node.as_int() {
         Ok(number) => number.to_string(alloc),
@@ -157,33 +154,11 @@ fn null(alloc: Global, node: &Node) -> Result<String, AllocError> {
     }
 }
 
-pub(crate) fn string(alloc: Global, node: &Node) -> Result<String, AllocError> {
-    match node.as_octets(alloc) {
-        Ok(octets) => digits(alloc, octets.as_slice()),
-        Err(error) => refusal(alloc, error),
-    }
-}
-
 fn identifier(alloc: Global, node: &Node) -> Result<String, AllocError> {
     match node.as_oid(alloc) {
         Ok(oid) => oid.text(alloc),
         Err(error) => refusal(alloc, error),
     }
-}
-
-// The first so many bits, as digits; and a plus sign where the one past the end is set.
-pub(crate) fn bit_digits(alloc: Global, bits: &Bits, count: usize) -> Result<String, AllocError> {
-    let mut text = String::new(alloc);
-    for i in 0..count {
-        text.push(if bits.bit(i) { '1' } else { '0' })?;
-    }
-    if count == 0 {
-        text.push('-')?;
-    }
-    if bits.bit(bits.len()) {
-        text.push('+')?;
-    }
-    Ok(text)
 }
 
 fn bits(alloc: Global, node: &Node) -> Result<String, AllocError> {
