@@ -3,12 +3,10 @@ use Rattle.std.proofs.Common.{◌≡◌, ℕ, List, Option, Some, None, Result, 
 use Rattle.zcommands.specs.Devices.{Device}
 use Rattle.zcommands.specs.Finished.{Prints, PutsFinished, IsOfSaving, Finishes, Concludes}
 use Rattle.zworld.specs.declared.world.World.{World}
-use Rattle.zworld.specs.declared.world.NamedTarget.{NamedTarget}
 use Rattle.zworld.specs.Worlds.{IsWorld}
-use Rattle.zworld.specs.Fitness.{target_named}
-use Rattle.zcommands.specs.Serve.{HasTarget}
+use Rattle.zcommands.specs.Serve.{Serves, ServesWorld, EndsOf}
 use Rattle.zcommands.specs.declared.fault.Fault.{Fault}
-use Rattle.zcommands.specs.declared.fault.Fault.TheVariants.{Write, Memory}
+use Rattle.zcommands.specs.declared.fault.Fault.TheVariants.{Write, Serve, Memory}
 use Rattle.zcommands.specs.declared.fault.Status.{Status}
 use Rattle.zcommands.specs.declared.finished.Finished.{Finished}
 
@@ -59,8 +57,23 @@ concludes says (Some octets) r saved output printed errors told answer h f =
 
 -- ---- a target that is served
 
-pub has_target : (name : List ℕ) (file : Option (List ℕ)) (world : World) (target : NamedTarget)
-    → IfSome file (λ octets. IsWorld octets world) → target_named name world.targets ≡ Some target
-    → IfSome file (HasTarget name)
-has_target name None world target says found = tt
-has_target name (Some octets) world target says found = (world, target, says, found)
+serves_at : (name octets : List ℕ) (world : World) (answer : Result (Unit {0}) Fault)
+    → IsWorld octets world → ServesWorld name world answer → Serves name octets answer
+serves_at name octets world (Ok _) says (target, found) = (world, target, says, found)
+serves_at name octets world (Err Serve) says told = (world, says)
+serves_at name octets world (Err Memory) says told = tt
+serves_at name octets world (Err f) says told = absurd told
+
+-- where a file says the world
+pub serves_told : (name : List ℕ) (file : Option (List ℕ)) (world : World) (answer : Result (Unit {0}) Fault)
+    → IfSome file (λ octets. IsWorld octets world) → ServesWorld name world answer
+    → IfSome file (λ octets. Serves name octets answer)
+serves_told name None world answer says told = tt
+serves_told name (Some octets) world answer says told = serves_at name octets world answer says told
+
+pub ends_told : (name path : List ℕ) (world : World) (answer : Result (Unit {0}) Fault)
+    → ServesWorld name world answer → EndsOf path answer
+ends_told name path world (Ok _) told = tt
+ends_told name path world (Err Serve) told = tt
+ends_told name path world (Err Memory) told = tt
+ends_told name path world (Err f) told = absurd told

@@ -25,6 +25,13 @@ Serves name file (Err Serve) = (world : World) × IsWorld file world
 Serves name file (Err Memory) = Unit {0}
 Serves name file (Err _) = ⊥
 
+-- what an answer of serving the target of a name says of the world
+abbrev pub ServesWorld : List ℕ → World → Result (Unit {0}) Fault → Type 0
+ServesWorld name world (Ok _) = (target : NamedTarget) × (target_named name world.targets ≡ Some target)
+ServesWorld name world (Err Serve) = Unit {0}
+ServesWorld name world (Err Memory) = Unit {0}
+ServesWorld name world (Err _) = ⊥
+
 -- a fault of serving a target of the file at a path
 abbrev pub IsOfService : List ℕ → Fault → Type 0
 IsOfService path (Read told) = told.now ≡ path

@@ -49,10 +49,12 @@ fn join_files<'a, 'o: 'a, F: Folder, W: Write>(
     ensures { Joins mode (F.octets files.now) (first.entry.now ∷ texts_of others.now)
         (held W.contents output.old) (held W.contents output.new) result }
 {
-    let (knowledge, names) = load_all(alloc, files, first, others)?;
-    let status = known_status(&knowledge);
+    let known = load_all(alloc, files, first, others)?;
+    let status = known_status(&known.0);
     let mut text = Vec::new(alloc);
-    print_list(alloc, &knowledge, &names, mode, &mut text)?;
+    let printed = print_list(alloc, &known.0, &known.1, mode, &mut text);
+    drop(known);
+    printed?;
     put_list(output, text.as_slice(), status)
 }
 
@@ -122,11 +124,14 @@ fn absorb_named<'a, F: Folder>(
 ) -> Result<(), Fault<'a>>
     ensures { Absorbs (F.octets files.now) names.now path.entry.now knowledge.old knowledge.new result }
 {
-    let (other, others) = load_named(alloc, files, path)?;
-    if !are_same(names, &others) {
+    let other = load_named(alloc, files, path)?;
+    if !are_same(names, &other.1) {
+        drop(other);
         return Err(Fault::NamesDiffer);
     }
-    knowledge.absorb(&other)?;
+    let absorbed = knowledge.absorb(&other.0);
+    drop(other);
+    absorbed?;
     knowledge.lawful();
     Ok(())
 }

@@ -1,8 +1,9 @@
 //! The command `serve`: a target of a world file answers clients over TCP.
 
 ghost use Rattle.std.specs.Prelude.{IfSome};
+ghost use Rattle.zworld.specs.Fitness.{IsFit};
 ghost use Rattle.zcommands.specs.Devices.{held};
-ghost use Rattle.zcommands.specs.Serve.{Serves, EndsOf, DoesServe};
+ghost use Rattle.zcommands.specs.Serve.{Serves, ServesWorld, EndsOf, DoesServe};
 
 use crate::fault::{Fault, Status};
 use crate::files::{Folder, named};
@@ -13,6 +14,7 @@ use std::io::Write;
 use std::net::{Net, TcpListener};
 use std::time::Clock;
 use znet::serve;
+use zworld::world::World;
 
 /// Which target of which world file is served, at which address, and how many connections are taken.
 #[derive(Clone, Copy)]
@@ -57,6 +59,21 @@ fn serve_target<'a, S: Folder + Net + Clock>(
 {
     let mut file = named(system, service.world);
     let world = world_in(alloc, &mut file)?;
+    let served = serve_world(alloc, system, service, &world);
+    drop(world);
+    served
+}
+
+/// Serves a target of the world.
+fn serve_world<'a, S: Net + Clock>(
+    alloc: Global,
+    system: &'a S,
+    service: Service<'a>,
+    world: &World,
+) -> Result<(), Fault<'a>>
+    requires { IsFit world.now }
+    ensures { ServesWorld service.entry.name.now world.now result }
+{
     let Some(target) = world.target(service.name.as_bytes()) else {
         return Err(Fault::Serve);
     };

@@ -28,14 +28,35 @@ pub fn print_apdu(alloc: Global, apdu: Apdu, text: &mut Vec<u8>) -> Result<(), A
 fn put_apdu(alloc: Global, apdu: Apdu, text: &mut Vec<u8>) -> Result<(), AllocError>
     ensures { OnOk result (text.new.items ≡ text.old.items ++ apdu_text apdu) }
 {
+    // what is only looked at is dropped by one call, so that its drops are not written out here
     match apdu {
-        Apdu::InitRequest(request) => put_init_request(alloc, &request, text),
-        Apdu::InitResponse(response) => put_init_response(alloc, &response, text),
-        Apdu::SearchRequest(request) => put_search_request(alloc, &request, text),
+        Apdu::InitRequest(request) => {
+            let told = put_init_request(alloc, &request, text);
+            drop(request);
+            told
+        }
+        Apdu::InitResponse(response) => {
+            let told = put_init_response(alloc, &response, text);
+            drop(response);
+            told
+        }
+        Apdu::SearchRequest(request) => {
+            let told = put_search_request(alloc, &request, text);
+            drop(request);
+            told
+        }
         Apdu::SearchResponse(response) => put_search_response(alloc, response, text),
-        Apdu::PresentRequest(request) => put_present_request(alloc, &request, text),
+        Apdu::PresentRequest(request) => {
+            let told = put_present_request(alloc, &request, text);
+            drop(request);
+            told
+        }
         Apdu::PresentResponse(response) => put_response(alloc, response, text),
-        Apdu::Close(close) => put_close(alloc, &close, text),
+        Apdu::Close(close) => {
+            let told = put_close(alloc, &close, text);
+            drop(close);
+            told
+        }
     }
 }
 

@@ -44,7 +44,9 @@ pub fn ask_at_once<N: Net + Clock, V: Watch>(
     let mut meta = Meta::new(alloc, Seq::from_vec(questions), settings)?;
     let lines = open_all(alloc, net, &mut meta, addresses)?;
     let mut ends = ends_of(alloc, lines)?;
-    talk_at_once(alloc, &mut meta, &mut ends, ROUNDS, watch)?;
+    let talked = talk_at_once(alloc, &mut meta, &mut ends, ROUNDS, watch);
+    drop(ends);
+    talked?;
     Ok(meta)
 }
 

@@ -71,7 +71,11 @@ pub(crate) fn heed(
     ensures grows { Grows knowledge.old knowledge.new }
 {
     match from_node(alloc, node) {
-        Ok(reply) => heed_reply(alloc, origin, target, knowledge, &reply),
+        Ok(reply) => {
+            let told = heed_reply(alloc, origin, target, knowledge, &reply);
+            drop(reply);
+            told
+        }
         Err(error) => match error {
             ApduError::Memory => Err(TakeError::Memory),
             _ => Err(TakeError::Decode(error)),

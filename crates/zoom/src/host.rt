@@ -198,6 +198,7 @@ impl Host {
         let put = put_reply(self.alloc, &mut self.waiting, &reply);
         self.stopped = is_unput(&put);
         self.closed = has_closed(self.closed, self.stopped, &reply);
+        drop(reply);
         put
     }
 

@@ -132,7 +132,11 @@ impl Meta {
             return Ok(Turn::Rests);
         }
         match self.drivers[c as usize].next_call(state)? {
-            Some(call) => self.issue(c, &call),
+            Some(call) => {
+                let turn = self.issue(c, &call);
+                drop(call);
+                turn
+            }
             None => Ok(Turn::Rests),
         }
     }

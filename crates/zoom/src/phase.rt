@@ -78,12 +78,12 @@ fn search_call(alloc: Global, ask: &Ask) -> Result<Call, AllocError>
         set: 1,
         ask: Ask {
             databases: ask.databases.duplicate(alloc)?,
-            query: ask.query.copy(alloc)?,
             syntax: ask.syntax.duplicate(alloc)?,
             elements: ask.elements.duplicate(alloc)?,
             small: ask.small,
             large: ask.large,
             medium: ask.medium,
+            query: ask.query.copy(alloc)?,
         },
     })
 }

@@ -35,7 +35,11 @@ fn receive_message(alloc: Global, target: &mut Target, node: &Node) -> Result<bo
     ensures { ReceivesMessage node.now result target.old target.new }
 {
     match from_node(alloc, node) {
-        Ok(apdu) => receive_apdu(target, &apdu),
+        Ok(apdu) => {
+            let taken = receive_apdu(target, &apdu);
+            drop(apdu);
+            taken
+        }
         Err(error) => match error {
             ApduError::Memory => Err(AllocError),
             _ => Ok(false),

@@ -64,7 +64,9 @@ impl ResultSet {
         ensures size { length pool.new.connections ≡ length pool.old.connections }
     {
         let call = present_call(op, self.set, start, n);
-        pool.call(self.c, &call)
+        let answer = pool.call(self.c, &call);
+        drop(call);
+        answer
     }
 
     /// Asks for its records at the positions of all ranges, in their order, by a call with the operation's number `op`;
@@ -83,6 +85,8 @@ impl ResultSet {
         ensures size { length pool.new.connections ≡ length pool.old.connections }
     {
         let call = ranges_call(op, self.set, ranges);
-        pool.call(self.c, &call)
+        let answer = pool.call(self.c, &call);
+        drop(call);
+        answer
     }
 }

@@ -58,8 +58,13 @@ impl Origin {
             return Err(reason);
         }
         let sent = self.init_sent()?;
-        self.admit_init()?;
-        Ok(sent)
+        match self.admit_init() {
+            Ok(()) => Ok(sent),
+            Err(_) => {
+                drop(sent);
+                Err(CallRefused::Memory)
+            }
+        }
     }
 
     fn make_search(&mut self, op: u32, set: u32, ask: &Ask) -> Result<Sent, CallRefused>
@@ -72,8 +77,13 @@ impl Origin {
             return Err(reason);
         }
         let sent = self.search_sent(op, set, ask)?;
-        self.admit_search(op, set, ask)?;
-        Ok(sent)
+        match self.admit_search(op, set, ask) {
+            Ok(()) => Ok(sent),
+            Err(_) => {
+                drop(sent);
+                Err(CallRefused::Memory)
+            }
+        }
     }
 
     fn make_present(&mut self, op: u32, set: u32, ranges: &[Range]) -> Result<Sent, CallRefused>
@@ -86,8 +96,13 @@ impl Origin {
             return Err(reason);
         }
         let sent = self.present_sent(op, set, ranges)?;
-        self.admit_present(op, set, ranges)?;
-        Ok(sent)
+        match self.admit_present(op, set, ranges) {
+            Ok(()) => Ok(sent),
+            Err(_) => {
+                drop(sent);
+                Err(CallRefused::Memory)
+            }
+        }
     }
 
     fn make_close(&mut self) -> Result<Sent, CallRefused>

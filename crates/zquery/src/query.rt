@@ -101,6 +101,7 @@ impl TermValue {
 
 impl Rpn {
     /// An equal tree, or the refusal of the memory for it.
+    #[cycle(copy)]
     pub(crate) fn copy(&self, alloc: Global) -> Result<Rpn, AllocError>
         ensures { IfOk result (λ r. seen r ≡ seen self.now) }
     {
@@ -116,24 +117,29 @@ impl Rpn {
                 name: name.clone()?,
                 attrs: Seq::from_vec(copies(alloc, attrs.as_slice())?),
             }),
-            Rpn::And(left, right) => Ok(Rpn::And(
-                Box::new(alloc, left.copy(alloc)?)?,
-                Box::new(alloc, right.copy(alloc)?)?,
-            )),
-            Rpn::Or(left, right) => Ok(Rpn::Or(
-                Box::new(alloc, left.copy(alloc)?)?,
-                Box::new(alloc, right.copy(alloc)?)?,
-            )),
-            Rpn::Not(left, right) => Ok(Rpn::Not(
-                Box::new(alloc, left.copy(alloc)?)?,
-                Box::new(alloc, right.copy(alloc)?)?,
-            )),
+            Rpn::And(left, right) => {
+                Ok(Rpn::And(left.boxed_copy(alloc)?, right.boxed_copy(alloc)?))
+            }
+            Rpn::Or(left, right) => {
+                Ok(Rpn::Or(left.boxed_copy(alloc)?, right.boxed_copy(alloc)?))
+            }
+            Rpn::Not(left, right) => {
+                Ok(Rpn::Not(left.boxed_copy(alloc)?, right.boxed_copy(alloc)?))
+            }
             Rpn::Prox(node, left, right) => Ok(Rpn::Prox(
                 node.copy(alloc)?,
-                Box::new(alloc, left.copy(alloc)?)?,
-                Box::new(alloc, right.copy(alloc)?)?,
+                left.boxed_copy(alloc)?,
+                right.boxed_copy(alloc)?,
             )),
         }
+    }
+
+    /// The same in a box.
+    #[cycle(copy)]
+    fn boxed_copy(&self, alloc: Global) -> Result<Box<Rpn>, AllocError>
+        ensures { IfOk result (λ b. seen b.value ≡ seen self.now) }
+    {
+        Ok(Box::new(alloc, self.copy(alloc)?)?)
     }
 }
 

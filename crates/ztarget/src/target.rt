@@ -192,7 +192,7 @@ impl Target {
         match self.sets.put(name, set) {
             Ok(()) => Ok(()),
             Err(error) => {
-                let _ = self.pending.pop_back();
+                drop(self.pending.pop_back());
                 Err(error)
             }
         }

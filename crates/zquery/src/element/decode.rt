@@ -104,17 +104,15 @@ fn operator(alloc: Global, node: &Node) -> Result<Joint, PartError>
 }
 
 /// Two structures joined.
-fn join(alloc: Global, joint: Joint, left: Rpn, right: Rpn) -> Result<Rpn, AllocError>
-    ensures { IfOk result (λ r. seen r ≡ of_joint joint (seen left) (seen right)) }
+fn join(joint: Joint, left: Box<Rpn>, right: Box<Rpn>) -> Rpn
+    ensures { seen result ≡ of_joint joint (seen left.value) (seen right.value) }
 {
-    let left = Box::new(alloc, left)?;
-    let right = Box::new(alloc, right)?;
-    Ok(match joint {
+    match joint {
         Joint::Logical(Operator::And) => Rpn::And(left, right),
         Joint::Logical(Operator::Or) => Rpn::Or(left, right),
         Joint::Logical(Operator::Not) => Rpn::Not(left, right),
         Joint::Proximity(operator) => Rpn::Prox(operator, left, right),
-    })
+    }
 }
 
 /// Two structures and an operator.
@@ -124,10 +122,10 @@ fn joined(alloc: Global, nodes: &[Node]) -> Result<Rpn, PartError>
 {
     match nodes {
         [left, right, last] => {
-            let left = structure(alloc, left)?;
-            let right = structure(alloc, right)?;
+            let left = Box::new(alloc, structure(alloc, left)?)?;
+            let right = Box::new(alloc, structure(alloc, right)?)?;
             let joint = operator(alloc, last)?;
-            Ok(join(alloc, joint, left, right)?)
+            Ok(join(joint, left, right))
         }
         _ => Err(PartError::Misfit),
     }

@@ -184,17 +184,22 @@ fn set_of(name: &Bytes, attrs: Vec<Attr>) -> Result<Rpn, AllocError>
     }
 }
 
-fn joined(alloc: Global, operator: Operator, left: Rpn, right: Rpn) -> Result<Rpn, PqfError>
-    ensures ok { IfOk result (λ r. seen r ≡ Of operator (seen left) (seen right)) }
-    ensures err { IfErr result (λ e. e ≡ memory) }
+fn joined(operator: Operator, left: Box<Rpn>, right: Box<Rpn>) -> Rpn
+    ensures { seen result ≡ Of operator (seen left.value) (seen right.value) }
 {
-    let left = Box::new(alloc, left)?;
-    let right = Box::new(alloc, right)?;
-    Ok(match operator {
+    match operator {
         Operator::And => Rpn::And(left, right),
         Operator::Or => Rpn::Or(left, right),
         Operator::Not => Rpn::Not(left, right),
-    })
+    }
+}
+
+/// A tree in a box.
+fn boxed(alloc: Global, tree: Rpn) -> Result<Box<Rpn>, PqfError>
+    ensures ok { IfOk result (λ b. b.value ≡ tree) }
+    ensures err { IfErr result (λ e. e ≡ memory) }
+{
+    Ok(Box::new(alloc, tree)?)
 }
 
 /// A query on a level, below the attributes and the type of term of others.
@@ -225,10 +230,11 @@ fn query(
             if level > DEEPEST {
                 return Err(error_of(token, PqfErrorKind::TooDeep));
             }
-            let left = query(alloc, cursor, end, own, attrs.as_slice(), kind, level + 1)?;
-            let right = query(alloc, cursor, end, own, attrs.as_slice(), kind, level + 1)?;
-            let both = joined(alloc, operator, left, right)?;
-            Ok(both)
+            let first = query(alloc, cursor, end, own, attrs.as_slice(), kind, level + 1)?;
+            let left = boxed(alloc, first)?;
+            let second = query(alloc, cursor, end, own, attrs.as_slice(), kind, level + 1)?;
+            let right = boxed(alloc, second)?;
+            Ok(joined(operator, left, right))
         }
         Word::NamedSet => {
             if level > DEEPEST {

@@ -186,7 +186,10 @@ impl Reader {
         ensures world { OnOk result (world_of self.new
             ≡ record (world_of self.old) { questions = self.old.questions.items ++ inquiry ∷ [] }) }
     {
-        add_name(&mut self.asked_names, &inquiry.name)?;
+        if add_name(&mut self.asked_names, &inquiry.name).is_err() {
+            drop(inquiry);
+            return Err(AllocError);
+        }
         self.questions.push(inquiry)?;
         Ok(())
     }

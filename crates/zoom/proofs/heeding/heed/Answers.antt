@@ -6,7 +6,7 @@ use Rattle.zoom.proofs.heeding.heed.Goals as goal
 
 pub returns-in-Ok-clause-part : goal.returns-in-Ok-clause-part
 returns-in-Ok-clause-part c = λ p a e. told_part c.args.target p c.args.node.now (Message c.in-Ok.reply) _ _
-    c.in-Ok.ensures (c.heed_reply.ensures.part p a e)
+    c.in-Ok.ensures (c.heed_reply-told.ensures.part p a e)
 
 pub returns-in_default : goal.returns-in_default
 returns-in_default c = record {

@@ -32,13 +32,13 @@ returns-in-Some-clause-after c =
       pool = c.self.inside.pool;
       drivers = slice_set c.self.inside.drivers.items c.args.c c.next_call.new.self;
     } in
-    rw (← c.self.view_is) (issued_to _ c.one_hearing.ensures c.args.c old mid c.issue.new.self c.state-state.result
-    c.index_mut.result.now c.next_call.new.self c.in-Some.call c.issue.result lt c.state-state.ensures
+    rw (← c.self.view_is) (issued_to _ c.one_hearing.ensures c.args.c old mid c.issue-turn.new.self c.state-state.result
+    c.index_mut.result.now c.next_call.new.self c.in-Some.call c.issue-turn.result lt c.state-state.ensures
     (sym c.is_stopped.ensures ∙ c.if-is_stopped.false) refl
     (driver_at old.drivers old.pool.connections c.args.c _ c.index_mut.result.now c.self.invariant lt c.index_mut.ensures.value)
     refl c.next_call.ensures.stays
     (subst (λ z. GivesNext c.state-state.result z c.next_call.new.self) c.in-Some.is c.in_ok-call.ensures.ok)
-    c.issue.ensures.after)
+    c.issue-turn.ensures.after)
 
 pub returns-in-None-clause-after : goal.returns-in-None-clause-after
 returns-in-None-clause-after c =

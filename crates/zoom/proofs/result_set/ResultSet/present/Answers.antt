@@ -9,4 +9,4 @@ pub returns-clause-answer : goal.returns-clause-answer
 returns-clause-answer c =
     let asks : call_of c.present_call-call.result ≡ Present c.args.op c.args.self.set (one_range c.args.start c.args.n) =
     search rules in
-    subst (λ z. IsCallAnswer c.args.self.c z c.args.pool.now c.call.result) asks c.call.ensures.answer
+    subst (λ z. IsCallAnswer c.args.self.c z c.args.pool.now c.call-answer.result) asks c.call-answer.ensures.answer

@@ -7,4 +7,4 @@ use Rattle.zoom.proofs.result_set.ResultSet.present_ranges.Goals as goal
 pub returns-clause-answer : goal.returns-clause-answer
 returns-clause-answer c =
     let asks : call_of c.ranges_call-call.result ≡ Present c.args.op c.args.self.set c.args.ranges = search rules in
-    subst (λ z. IsCallAnswer c.args.self.c z c.args.pool.now c.call.result) asks c.call.ensures.answer
+    subst (λ z. IsCallAnswer c.args.self.c z c.args.pool.now c.call-answer.result) asks c.call-answer.ensures.answer

@@ -21,12 +21,12 @@ returns-in_err-sent-clause-after c =
     let ready = ready_init c.args.self.now (search rules) in
     rw is (λ m. (unsent c.args.self.now Init _ c.in_err-sent.field-0.0 ready (search rules) m).new)
 
-pub returns-clause-answer : goal.returns-clause-answer
-returns-clause-answer c =
+pub returns-in-Ok-clause-answer : goal.returns-in-Ok-clause-answer
+returns-in-Ok-clause-answer c =
     let ready = ready_init c.args.self.now (search rules) in
     λ _. (sent_so c.args.self.now Init _ c.in_ok-sent.sent ready (search rules)).answer
 
-pub returns-clause-after : goal.returns-clause-after
-returns-clause-after c =
+pub returns-in-Ok-clause-after : goal.returns-in-Ok-clause-after
+returns-in-Ok-clause-after c =
     let ready = ready_init c.args.self.now (search rules) in
     λ _. (search rules) ∙ (sent_so c.args.self.now Init _ c.in_ok-sent.sent ready (search rules)).new

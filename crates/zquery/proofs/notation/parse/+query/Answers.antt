@@ -1,18 +1,19 @@
-use Rattle.std.proofs.Common.{◌≡◌, ◌∙◌, sym, ap, subst, ◌∷◌, arith}
+use Rattle.std.proofs.Common.{◌≡◌, ◌∙◌, sym, ap, ap₂, subst, ◌∷◌, arith}
 use Rattle.zquery.specs.declared.notation.word.Word.TheVariants.{Op, NamedSet, Plain}
-use Rattle.zquery.specs.Trees.{Tree}
+use Rattle.zquery.specs.Trees.{Tree, Of}
+use Rattle.zquery.specs.QueryTrees.{seen}
 use Rattle.zquery.specs.Notation.Words.{word}
 use Rattle.zquery.specs.Notation.Reading.{IsRead}
 use Rattle.zquery.proofs.NotationTheory.Leading.{read-term, read-set, read-both}
 use Rattle.zquery.proofs.notation.parse.+query.Goals as goal
 
-pub returns-in_ok-both-in-Op-clause-ok : goal.returns-in_ok-both-in-Op-clause-ok
-returns-in_ok-both-in-Op-clause-ok t c = λ xs e.
+pub returns-in_ok-right-in-Op-clause-ok : goal.returns-in_ok-right-in-Op-clause-ok
+returns-in_ok-right-in-Op-clause-ok t c = λ xs e.
     let l = c.in_ok-kind.ensures.ok xs (c.in_ok-attrs.ensures ∙ e) in
     let w : word c.in-Some.token.now ≡ Op c.in-Op.operator = sym c.in-Op.ensures in
-    let left = c.in_ok-left-in-Op.ensures.ok l.below (c.as_slice.ensures.value ∙ l.forces) in
-    let right = c.in_ok-right-in-Op.ensures.ok l.below (c.as_slice-in-Op.ensures.value ∙ l.forces) in
-    subst (λ (q : Tree). IsRead c.args.own.now xs c.args.kind c.args.level c.args.cursor.now c.query-in-Op.new.cursor q) (sym c.in_ok-both-in-Op.ensures.ok)
+    let left = c.in_ok-first-in-Op.ensures.ok l.below (c.as_slice.ensures.value ∙ l.forces) in
+    let right = c.in_ok-second-in-Op.ensures.ok l.below (c.as_slice-in-Op.ensures.value ∙ l.forces) in
+    subst (λ (q : Tree). IsRead c.args.own.now xs c.args.kind c.args.level c.args.cursor.now c.query-in-Op.new.cursor q) (sym (c.joined.ensures ∙ ap₂ (λ a b. Of c.in-Op.operator (seen a) (seen b)) c.in_ok-left-in-Op.ensures.ok c.in_ok-right-in-Op.ensures.ok))
     (read-both _ _ _ _ _ _ c.in-Some.token.now c.in-Op.operator _ _ _ _ c.args.level _ _ l c.in-Some.ensures.some w left right)
 
 pub returns-in_ok-set-in-NamedSet-clause-ok : goal.returns-in_ok-set-in-NamedSet-clause-ok
