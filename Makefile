@@ -41,6 +41,7 @@ wrong-bodies:
 # reserves more, and lets processors idle; and more checks than processors keep the longest chain of them waiting.
 test:
 	RT_JOBS=$(checks) rt ci
+	python3 program/check.py
 	python3 refused-memory/check.py
 
 # It builds nothing: make show does.

@@ -1,10 +1,19 @@
-//! The printed texts of numbers and object identifiers.
+//! The printed texts of numbers and object identifiers, and how octets are printed.
 ghost use Rattle.std.specs.Prelude.{◌≡◌, ◌++◌, OnOk, OnErr};
 ghost use Rattle.std.specs.Fmt.{signed_decimal};
 ghost use Rattle.zber.specs.Dotted.{dotted};
 
 use crate::oid::Oid;
 use std::alloc::{AllocError, Global};
+
+/// How the octets of a record are printed.
+#[derive(Clone, Copy, Debug, PartialEq, Eq, Drop)]
+pub enum Mode {
+    /// In quotes.
+    Text,
+    /// In hexadecimal.
+    Hex,
+}
 
 /// Appends the number in decimal, with a minus where it is negative. Where no memory is found,
 /// nothing is appended.

@@ -5,7 +5,7 @@ use Rattle.std.specs.Borrow.{Bor}
 use Rattle.std.proofs.KnownBytes.{Keeps-refl}
 use Rattle.std.proofs.lemmas.List.{take_more, take-append-drop, map-append}
 use Rattle.zknow.specs.declared.fact.Fact.{Fact}
-use Rattle.zknow.specs.declared.fact.Mode.{Mode}
+use Rattle.zber.specs.declared.text.Mode.{Mode}
 use Rattle.zknow.specs.Facts.{AreFacts}
 use Rattle.zknow.specs.Tables.Join.{IsUnion}
 use Rattle.zknow.specs.List.Listing.{listing}

@@ -6,10 +6,10 @@ use Rattle.zasn.specs.declared.error.BuildError.TheVariants as builds
 use Rattle.zasn.specs.Answers.{IsWritten, Makes}
 use Rattle.zquery.specs.declared.notation.print.PrintError.{PrintError}
 use Rattle.zquery.specs.declared.notation.print.PrintError.TheVariants as prints
-use Rattle.zquery.specs.Trees.{RpnQuery}
+use Rattle.zrpn.specs.Trees.{RpnQuery}
 use Rattle.zquery.specs.Notation.Printing.{printable}
-use Rattle.zquery.specs.Element.Type1.{WritesQuery}
-use Rattle.zquery.specs.Element.Type1Reading.{query_spelt}
+use Rattle.zrpn.specs.Element.Type1.{WritesQuery}
+use Rattle.zrpn.specs.Element.Type1Reading.{query_spelt}
 use Rattle.zquery.specs.Notation.Laws.{TextPrintable, TextSpellable}
 use Rattle.zcommands.specs.Pqf.{IsQueryOf}
 

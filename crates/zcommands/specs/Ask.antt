@@ -1,6 +1,6 @@
 -- What `ask` prints of a world file, what it tells, and how it ends.
 use Rattle.std.specs.Prelude.{◌≡◌, ◌⊎◌, ℕ, List, Option, Result, Ok, Err}
-use Rattle.zknow.specs.declared.fact.Mode.{Mode}
+use Rattle.zber.specs.declared.text.Mode.{Mode}
 use Rattle.zworld.specs.declared.world.World.{World}
 use Rattle.zworld.specs.declared.enquiry.Enquiry.{Enquiry}
 use Rattle.zworld.specs.Worlds.{IsWorld, IsRefused}

@@ -2,7 +2,7 @@
 use Rattle.std.specs.Prelude.{◌≡◌, ◌⊎◌, ℕ, ◌+◌, ◌<◌, ◌^◌, Bool, true, false, not, ◌||◌, List, [], ◌∷◌, ◌++◌, length}
 use Rattle.std.specs.Prelude.{codes, slice_get, Option, Some, None, Result, Ok, Err, IfSome}
 use Rattle.zapdu.specs.Text.{quoted}
-use Rattle.zknow.specs.declared.fact.Mode.{Mode}
+use Rattle.zber.specs.declared.text.Mode.{Mode}
 use Rattle.zknow.specs.Known.{HasFailed}
 use Rattle.zknow.specs.List.Listing.{listing}
 use Rattle.zknow.specs.Saved.Saved.{IsSaved}

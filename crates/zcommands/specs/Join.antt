@@ -1,7 +1,7 @@
 -- What `join` prints of saved files.
 use Rattle.std.specs.Prelude.{◌≡◌, ◌≢◌, ℕ, List, [], ◌∷◌, ◌++◌, Contains, Option, IfSome, Result, Ok, Err, MatchResult}
 use Rattle.zknow.specs.declared.fact.Fact.{Fact}
-use Rattle.zknow.specs.declared.fact.Mode.{Mode}
+use Rattle.zber.specs.declared.text.Mode.{Mode}
 use Rattle.zknow.specs.Facts.{AreFacts}
 use Rattle.zknow.specs.Tables.Join.{IsUnion}
 use Rattle.zknow.specs.Known.{HasFailed}

@@ -1,6 +1,6 @@
 -- What `loop` prints of a world file, what it tells, and how it ends.
 use Rattle.std.specs.Prelude.{ℕ, List, Option, Result, Ok, Err}
-use Rattle.zknow.specs.declared.fact.Mode.{Mode}
+use Rattle.zber.specs.declared.text.Mode.{Mode}
 use Rattle.zworld.specs.declared.fitness.Arrangement.{Arrangement}
 use Rattle.zcommands.specs.Devices.{Device}
 use Rattle.zcommands.specs.declared.fault.Fault.{Fault}

@@ -4,11 +4,11 @@ use Rattle.hex.specs.Hex.{encode_lower}
 use Rattle.zber.specs.AsnTags.{context}
 use Rattle.zber.specs.Elements.{Element, cons}
 use Rattle.zber.specs.Canonical.{canonical}
-use Rattle.zquery.specs.Trees.{RpnQuery, height}
+use Rattle.zrpn.specs.Trees.{RpnQuery, height}
 use Rattle.zquery.specs.Notation.Texts.{IsText, IsFault}
 use Rattle.zquery.specs.Notation.Printing.{query_text}
-use Rattle.zquery.specs.Element.Type1.{WritesQuery}
-use Rattle.zquery.specs.Element.Type1Reading.{query_spelt}
+use Rattle.zrpn.specs.Element.Type1.{WritesQuery}
+use Rattle.zrpn.specs.Element.Type1Reading.{query_spelt}
 use Rattle.zcommands.specs.Faults.{answer_status}
 use Rattle.zcommands.specs.Devices.{Device, Stays, Gains, Stops, TellsAnswer}
 use Rattle.zcommands.specs.declared.fault.Fault.{Fault}

@@ -12,7 +12,8 @@ use zapdu::{ApduError, Kind};
 use zber::{FaultKind, FrameError};
 use zknow::LoadError;
 use znet::ServeError;
-use zquery::{BuildError, PqfError, PqfErrorKind, PrintError};
+use zquery::{PqfError, PqfErrorKind, PrintError};
+use zrpn::BuildError;
 use zworld::world::WorldError;
 
 /// How a command ends. Where several hold, `Memory` comes before `Refused`, and that before `Failed`.

@@ -2,8 +2,8 @@
 ghost use Rattle.std.specs.Prelude.{◌≡◌, ℕ, List, ◌++◌, Some, OnOk, IfOk, IfErr};
 ghost use Rattle.zber.specs.Elements.{Element};
 ghost use Rattle.zquery.specs.Notation.Printing.{query_text};
-ghost use Rattle.zquery.specs.Element.Type1.{WritesQuery};
-ghost use Rattle.zquery.specs.Element.Type1Reading.{query_spelt};
+ghost use Rattle.zrpn.specs.Element.Type1.{WritesQuery};
+ghost use Rattle.zrpn.specs.Element.Type1Reading.{query_spelt};
 ghost use Rattle.zcommands.specs.Pqf.{IsQueryOf, element_text, PutsQuery, TellsQuery, PrintsQuery, DoesPqf};
 ghost use Rattle.zcommands.specs.Devices.{held};
 
@@ -14,10 +14,11 @@ use std::io::Write;
 use zapdu::put_node;
 use zber::{Node, Tag};
 use zquery::laws::{text_printable, text_spellable};
-use zquery::{BuildError, PrintError, Query, parse_pqf, print_pqf, to_node};
+use zquery::{PrintError, parse_pqf, print_pqf};
+use zrpn::{BuildError, Query, to_node};
 
 /// Prints the query of a text in the prefix notation, and in hexadecimal the element `[21]` that a SearchRequest holds
-/// it in, as `zquery::to_node` makes it; or tells on standard error why the text is no query. Nothing is printed then.
+/// it in, as `zrpn::to_node` makes it; or tells on standard error why the text is no query. Nothing is printed then.
 pub fn pqf<W: Write, E: Write>(
     alloc: Global,
     text: &str,

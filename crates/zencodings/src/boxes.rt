@@ -1,22 +1,11 @@
 //! Calls of the layers below that tests of several crates make, without their contracts and with large values in boxes:
 //! no test needs the contracts, and what is proved of a function is dear where it owns a large value.
-use std::alloc::{AllocError, Global};
+use std::alloc::Global;
 use zapdu::{Apdu, BuildError, DiagRec, Record};
 use zber::Node;
 use zelements::rows::element;
 use zelements::unread::{Unread, read};
-use zquery::Query;
-
-/// A value in a box.
-pub fn boxed<T: Drop>(alloc: Global, value: T) -> Result<Box<T>, AllocError> {
-    Ok(Box::new(alloc, value)?)
-}
-
-/// The query of a text in prefix notation.
-pub fn parse(alloc: Global, text: &[u8]) -> Result<Box<Query>, Unread> {
-    let query = read(zquery::parse_pqf(alloc, text))?;
-    Ok(boxed(alloc, query)?)
-}
+pub use zqueries::plain::{boxed, parse};
 
 /// The element of an APDU.
 pub fn apdu_node(alloc: Global, apdu: &Apdu) -> Result<Node, BuildError> {

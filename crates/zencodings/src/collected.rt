@@ -1,10 +1,10 @@
 // The encodings of all tables as one table, with one on each row.
 use crate::apdus::{APDUS, LENGTHS};
-use crate::queries::READ;
 use crate::servers::SENT;
-use crate::{misfits, records, segments, structures};
+use crate::{misfits, records, segments};
 use std::alloc::{AllocError, Global};
 use zelements::rows::{pair, parted};
+use zqueries::rows::{KEPT, LONG, OTHERS, READ};
 
 // Where an encoding stands in a row: its first word, its second one, its last one, or what is behind the equals sign.
 #[derive(Clone, Copy)]
@@ -51,9 +51,9 @@ pub(crate) fn encodings(alloc: Global) -> Result<String, AllocError> {
         (LENGTHS, Place::Second),
         (SENT, Place::First),
         (SENT, Place::Second),
-        (structures::KEPT, Place::First),
-        (structures::OTHERS, Place::First),
-        (structures::LONG, Place::First),
+        (KEPT, Place::First),
+        (OTHERS, Place::First),
+        (LONG, Place::First),
         (READ, Place::Last),
         (segments::STRINGS, Place::First),
         (segments::SPELLED, Place::First),

@@ -1,8 +1,7 @@
 // Encodings that are cut off, and encodings of which one octet is another.
 use crate::boxes::diag_node;
 use crate::collected::encodings;
-use crate::plain::{apdu_refusal, diag_of, is_diag, is_query, is_record};
-use crate::queries::inner;
+use crate::plain::{apdu_refusal, diag_of, is_diag, is_record};
 use crate::segments::{apdu_encoding, query_encoding, record_encoding};
 use std::alloc::Global;
 use std::process::Abort;
@@ -12,6 +11,7 @@ use zber::{FaultKind, FrameError, Framer, Node};
 use zelements::rows::{LIMIT, cut, each_row, element, encoding, held, octets, pair, tells};
 use zelements::scripts::answers;
 use zelements::unread::{Unread, read};
+use zqueries::plain::{inner, is_query};
 
 // Whether the first so many octets are told to be cut off there.
 fn is_truncated(alloc: Global, digits: &str, at: usize) -> Result<bool, Unread> {

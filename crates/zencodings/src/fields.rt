@@ -5,8 +5,7 @@
 //! that comes back from its element. So where the text is the due one, both are equal to what was there.
 use crate::boxes::{diag_node, record_node};
 use crate::parts::{Line, put_node, put_number, put_word};
-use crate::plain::{diag_copy, diag_of, query_copy, record_copy, record_of};
-use crate::queries::printed;
+use crate::plain::{diag_copy, diag_of, record_copy, record_of};
 use bytes::Bytes;
 use std::alloc::{AllocError, Global};
 use zapdu::{
@@ -17,7 +16,8 @@ use zber::{Bits, Node, Oid};
 use zelements::rows::digits;
 use zelements::shown::bit_digits;
 use zelements::unread::{Unread, read};
-use zquery::Query;
+use zqueries::plain::{printed, query_copy};
+use zrpn::Query;
 
 pub(crate) fn put_some_number(alloc: Global, number: &Option<i64>, out: &mut Line) {
     match number {

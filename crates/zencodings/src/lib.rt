@@ -1,4 +1,4 @@
-//! Octets from outside, each with what it stands for: queries, records and APDUs. And what tests of them and the crates
+//! Octets from outside, each with what it stands for: records and APDUs. And what tests of them and the crates
 //! of tests above have in common.
 #![tactic(auto)]
 
@@ -13,8 +13,6 @@ mod damaged;
 mod fields;
 #[cfg(test)]
 mod misfits;
-#[cfg(test)]
-mod notation;
 pub mod parts;
 #[cfg(test)]
 mod perturbed;
@@ -23,13 +21,8 @@ mod plain;
 #[cfg(test)]
 mod printed;
 #[cfg(test)]
-mod queries;
-#[cfg(test)]
 mod records;
 #[cfg(test)]
 mod segments;
 #[cfg(test)]
 mod servers;
-#[cfg(test)]
-mod structures;
-pub mod worlds;

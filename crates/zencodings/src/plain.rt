@@ -1,37 +1,9 @@
 //! Further calls of the layers below, without their contracts and with large values in boxes.
 use crate::boxes::boxed;
 use std::alloc::{AllocError, Global};
-use zapdu::{Apdu, ApduError, BuildError, DiagRec, Record};
+use zapdu::{Apdu, ApduError, DiagRec, Record};
 use zber::Node;
 use zelements::unread::Unread;
-use zquery::{PqfError, PrintError, Query};
-
-pub(crate) fn parse_refusal(alloc: Global, text: &[u8]) -> Option<PqfError> {
-    zquery::parse_pqf(alloc, text).err()
-}
-
-pub(crate) fn print(alloc: Global, query: &Query, out: &mut Vec<u8>) -> Result<(), PrintError> {
-    zquery::print_pqf(alloc, query, out)
-}
-
-pub(crate) fn query_node(alloc: Global, query: &Query) -> Result<Node, BuildError> {
-    zquery::to_node(alloc, query)
-}
-
-pub(crate) fn query_of(alloc: Global, node: &Node) -> Result<Box<Query>, Unread> {
-    let query = zquery::from_node(alloc, node)?.ok_or(Unread)?;
-    Ok(boxed(alloc, query)?)
-}
-
-pub(crate) fn is_query(alloc: Global, node: &Node) -> Result<bool, AllocError> {
-    let absent = zquery::from_node(alloc, node)?.ok_or(()).err();
-    Ok(absent.is_none())
-}
-
-pub(crate) fn query_copy(alloc: Global, query: &Query) -> Result<Box<Query>, AllocError> {
-    let copy = query.copy(alloc)?;
-    boxed(alloc, copy)
-}
 
 pub(crate) fn apdu_refusal(alloc: Global, node: &Node) -> Option<ApduError> {
     zapdu::from_node(alloc, node).err()

@@ -4,7 +4,7 @@ ghost use Rattle.std.specs.Prelude.{◌<◌};
 
 use crate::apdus::{APDUS, put_indefinite};
 use crate::boxes::{apdu_node, apdu_of, record_node};
-use crate::plain::{query_node, query_of, record_of};
+use crate::plain::record_of;
 use bytes::Bytes;
 use std::alloc::{AllocError, Global};
 use std::process::Abort;
@@ -13,6 +13,7 @@ use zber::{Body, Node, Oid, Tag, ValueError};
 use zelements::rows::{each_row, element, encoding, held, message, pair, tells};
 use zelements::shown::string;
 use zelements::unread::{Unread, read};
+use zqueries::plain::{query_node, query_of};
 
 // Elements, and the octets of the strings that they are, or why they are none; a line with `#` says what those below it
 // have.

@@ -16,7 +16,8 @@ fn saved(alloc: Global, knowledge: &Knowledge, names: &Names) -> Result<Vec<u8>,
     Ok(out)
 }
 
-// Files: nothing known; a name, and two; a count; the highest target; two counts of a set; a record; a diagnostic.
+// Files: nothing known; a name, and two; a count; the highest target; two counts of a set; a failure; a record; a
+// diagnostic; a count and a failure; a record, a surrogate diagnostic and a fragment.
 const FILES: &str = "\
 a400
 a403800161
@@ -27,6 +28,8 @@ a400a009800100810101820103a009800100810101820104
 a400a106800103810100
 a400a21e8001008101018201013013a111a10f280d06072a8648ce13050a81027231
 a400a319800101810100820100300e06072a8648ce13040102010d1a00
+a403800161a009800100810101820105a106800100810102
+a403800161a21e8001008101018201013013a111a10f280d06072a8648ce13050a81027232a21f8001008101018201023014a112a210300e06072a8648ce13040102010e1a00a2138001008101018201033008a106a30404027233
 ";
 
 // What a file says, or why it says nothing.

@@ -15,7 +15,7 @@ use zber::{Oid, Seq};
 use zelements::rows::{encoding, pair, parted, tells, unescaped};
 use zelements::unread::{Unread, read};
 use zencodings::boxes::{apdu, apdu_node, boxed};
-use zquery::Query;
+use zrpn::Query;
 use ztarget::{Database, Entry, Field, MatchError, Target, TargetError, TargetSettings};
 
 // USmarc.

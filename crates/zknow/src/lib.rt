@@ -10,10 +10,11 @@ mod list;
 mod saved;
 mod tables;
 
-pub use fact::{Fact, Known, Mode, Names};
+pub use fact::{Fact, Known, Names};
 pub use knowledge::Knowledge;
 pub use list::print_list;
 pub use saved::loading::{LoadError, load};
 pub use saved::saving::{SaveError, save};
 pub use tables::join::Join;
 pub use tables::keys::RowKey;
+pub use zber::Mode;

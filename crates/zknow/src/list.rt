@@ -12,7 +12,7 @@ ghost use Rattle.zknow.specs.Tables.Tables.{AreLawful, KnowsLawfully};
 
 pub mod list_keys;
 
-use crate::fact::{Known, Mode, Names};
+use crate::fact::{Known, Names};
 use crate::knowledge::Knowledge;
 use crate::list::list_keys::{block_keys, row_keys};
 use crate::tables::Tables;
@@ -22,6 +22,7 @@ use crate::tables::keys::{Mark, RowKey, SetKey};
 use crate::tables::table::Table;
 use std::alloc::{AllocError, Global};
 use zapdu::{DiagRec, Record, print_diag, print_record, quote};
+use zber::Mode;
 use zber::text::put_number;
 
 fn put_natural(alloc: Global, number: u32, out: &mut Vec<u8>) -> Result<(), AllocError>

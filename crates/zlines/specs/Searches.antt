@@ -5,9 +5,9 @@ use Rattle.hex.specs.Hex.{encode_lower}
 use Rattle.zber.specs.Elements.{Element}
 use Rattle.zber.specs.Canonical.{canonical}
 use Rattle.zber.specs.Dotted.{dotted}
-use Rattle.zquery.specs.Trees.{RpnQuery}
+use Rattle.zrpn.specs.Trees.{RpnQuery}
 use Rattle.zquery.specs.Notation.Printing.{printable, query_text}
-use Rattle.zquery.specs.Element.Type1Reading.{query_spelt}
+use Rattle.zrpn.specs.Element.Type1Reading.{query_spelt}
 use Rattle.zapdu.specs.Text.{quoted}
 use Rattle.zapdu.specs.declared.apdu.Kind.TheVariants as kinds
 use Rattle.zapdu.specs.declared.productions.search_query.SearchQuery.{SearchQuery}

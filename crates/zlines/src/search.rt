@@ -1,6 +1,6 @@
 //! The lines of a SearchRequest.
 ghost use Rattle.std.specs.Prelude.{◌≡◌, ◌++◌, Some, OnOk};
-ghost use Rattle.zquery.specs.Element.Type1Reading.{query_spelt};
+ghost use Rattle.zrpn.specs.Element.Type1Reading.{query_spelt};
 ghost use Rattle.zlines.specs.Searches.{search_request_text, database_line, database_lines, optional_syntax, search_line, spelling_text, type_1_text, sought_text, query_line};
 
 use crate::fields::{put_numbers, put_start, put_truth};
@@ -8,7 +8,8 @@ use bytes::Bytes;
 use std::alloc::{AllocError, Global};
 use zapdu::{Kind, SearchQuery, SearchRequest, put_node, quote};
 use zber::{Node, Oid};
-use zquery::{BuildError, PrintError, Query, print_pqf, to_node};
+use zquery::{PrintError, print_pqf};
+use zrpn::{BuildError, Query, to_node};
 
 /// Appends the lines of a SearchRequest.
 pub(crate) fn put_search_request(

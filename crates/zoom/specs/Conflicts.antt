@@ -2,7 +2,7 @@
 use Rattle.std.specs.Prelude.{◌≢◌, ◌↔◌, ◌≤◌, ℕ, ℤ, List, length, Contains}
 use Rattle.zapdu.specs.declared.productions.record.Record.{Record}
 use Rattle.zknow.specs.declared.fact.Fact.TheVariants.{Seen}
-use Rattle.zknow.specs.declared.fact.Mode.{Mode}
+use Rattle.zber.specs.declared.text.Mode.{Mode}
 use Rattle.zknow.specs.Known.{records_at}
 use Rattle.zknow.specs.List.Listing.{is_hex, listing}
 use Rattle.zknow.specs.List.ListLaws.{StandsIn, conflict_text}

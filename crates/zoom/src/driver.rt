@@ -38,7 +38,7 @@ pub(crate) struct Driver {
 impl Model for Driver {
     ghost use Rattle.std.specs.Prelude.{◌<◌};
     ghost use Rattle.std.specs.Coded.{codes};
-    ghost use Rattle.zquery.specs.Coding.{coded_query};
+    ghost use Rattle.zrpn.specs.Coding.{coded_query};
     ghost use Rattle.zplan.specs.Ranges.{AreWanted, positions};
     ghost use Rattle.zoom.specs.Drivers.{DriverState, left_in};
 

@@ -100,7 +100,7 @@ pub struct Host {
 impl Model for Host {
     ghost use Rattle.std.specs.Coded.{codes};
     ghost use Rattle.zber.specs.Coding.{coded_element};
-    ghost use Rattle.zquery.specs.Coding.{coded_query};
+    ghost use Rattle.zrpn.specs.Coding.{coded_query};
     ghost use Rattle.zoom.specs.Hosts.{HostState};
 
     ghost Value = { HostState };

@@ -49,7 +49,7 @@ impl Model for Meta {
     ghost use Rattle.std.specs.Prelude.{◌≡◌, length};
     ghost use Rattle.std.specs.Coded.{codes};
     ghost use Rattle.zber.specs.Coding.{coded_element};
-    ghost use Rattle.zquery.specs.Coding.{coded_query};
+    ghost use Rattle.zrpn.specs.Coding.{coded_query};
     ghost use Rattle.zknow.specs.contracts.fact.Fact as fact;
     ghost use Rattle.zoom.specs.Metas.{MetaLinks};
 

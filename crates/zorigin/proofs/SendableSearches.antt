@@ -10,7 +10,7 @@ use Rattle.zber.proofs.ElementSizes.{run_len}
 use Rattle.zproductions.specs.Meanings.{oid_spelt}
 use Rattle.zproductions.specs.Table.{Fields, fields}
 use Rattle.zproductions.specs.Within.{around}
-use Rattle.zquery.specs.Trees.{RpnQuery}
+use Rattle.zrpn.specs.Trees.{RpnQuery}
 use Rattle.zapdu.specs.declared.productions.search_query.SearchQuery.TheVariants.{Rpn}
 use Rattle.zapdu.specs.declared.productions.search_request.SearchRequest.{SearchRequest}
 use Rattle.zapdu.specs.Productions.ElementSets.{element_set_names}

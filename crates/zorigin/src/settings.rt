@@ -2,7 +2,7 @@
 
 use bytes::Bytes;
 use zber::{Oid, Seq};
-use zquery::Query;
+use zrpn::Query;
 
 /// What holds for one connection.
 #[derive(Drop)]

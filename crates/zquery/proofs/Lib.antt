@@ -2,5 +2,4 @@ pub mod Heights
 pub mod InForceKept
 pub mod InForceLemmas
 pub mod PutLemmas
-pub mod ElementTheory
 pub mod NotationTheory

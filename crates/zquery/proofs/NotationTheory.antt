@@ -9,6 +9,7 @@ pub mod OneAnswers
 pub mod OneLexing
 pub mod Opening
 pub mod PairLemmas
+pub mod PlainSpelled
 pub mod PrintedNumbers
 pub mod PrintedPhrases
 pub mod PrintedTexts

@@ -1,13 +1,13 @@
 // The attributes in force.
-ghost use Rattle.std.specs.Prelude.{◌≡◌, None, IfOk, OnOk, OnErr, position};
-ghost use Rattle.zquery.specs.declared.query.Attr.{Attr};
+ghost use Rattle.std.specs.Prelude.{◌≡◌, None, OnOk, OnErr, position};
+ghost use Rattle.zrpn.specs.declared.query.Attr.{Attr};
 ghost use Rattle.zquery.specs.InForce.{alike, same_set};
 ghost use Rattle.zquery.specs.Notation.Grammar.{kept_set};
 ghost use Rattle.zquery.specs.Notation.Reading.{put_in};
 
-use crate::query::{Attr, AttrValue};
-use std::alloc::{AllocError, Global};
+use std::alloc::AllocError;
 use zber::Oid;
+use zrpn::Attr;
 
 /// The set that an attribute keeps: none where it names the query's own.
 pub(crate) fn kept(own: &Oid, set: Oid) -> Option<Oid>
@@ -54,36 +54,4 @@ pub(crate) fn put(attrs: &mut Vec<Attr>, attr: Attr) -> Result<(), AllocError>
         None => attrs.push(attr)?,
     }
     Ok(())
-}
-
-impl Attr {
-    /// An equal attribute, or the refusal of the memory for it.
-    pub(crate) fn copy(&self, alloc: Global) -> Result<Attr, AllocError>
-        ensures { IfOk result (λ a. a ≡ self.now) }
-    {
-        let attr_set = match &self.attr_set {
-            None => None,
-            Some(set) => Some(set.copy(alloc)?),
-        };
-        let value = match &self.value {
-            AttrValue::Number(number) => AttrValue::Number(*number),
-            AttrValue::Complex(node) => AttrValue::Complex(node.copy(alloc)?),
-        };
-        Ok(Attr {
-            attr_set,
-            kind: self.kind,
-            value,
-        })
-    }
-}
-
-/// Equal attributes.
-pub(crate) fn copies(alloc: Global, attrs: &[Attr]) -> Result<Vec<Attr>, AllocError>
-    ensures { IfOk result (λ v. v.items ≡ attrs.now) }
-{
-    let mut copies = Vec::new(alloc);
-    for attr in attrs {
-        copies.push(attr.copy(alloc)?)?;
-    }
-    Ok(copies)
 }

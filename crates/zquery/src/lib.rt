@@ -1,15 +1,10 @@
-//! Type-1 queries: as elements, and in the prefix notation.
+//! Type-1 queries in the prefix notation (YAZ's prefix query format): texts read as queries, and queries printed.
 #![tactic(auto)]
 
 mod attribute;
-mod element;
-pub mod element_laws;
 pub mod laws;
 mod notation;
-mod query;
 
-pub use element::decode::from_node;
-pub use element::encode::to_node;
 pub use notation::error::{PqfError, PqfErrorKind};
 pub use notation::lexer::tokens;
 pub use notation::number::number;
@@ -17,5 +12,4 @@ pub use notation::parse::parse_pqf;
 pub use notation::print::{PrintError, print_pqf};
 pub use notation::token::Token;
 pub use notation::value::oid_named;
-pub use query::{Attr, AttrValue, Query, Rpn, TermValue};
-pub use zasn::BuildError;
+pub use zrpn::{Attr, AttrValue, BuildError, Query, Rpn, TermValue, from_node, to_node};

@@ -3,7 +3,7 @@
 use bytes::Bytes;
 use zber::{Oid, Seq};
 use zorigin::Range;
-use zquery::Query;
+use zrpn::Query;
 
 /// What one catalogue is asked: one search, and records of its result set (Z39.50-2003, 3.2.2.1 and 3.2.3.1).
 #[derive(Drop)]

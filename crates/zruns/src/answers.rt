@@ -11,7 +11,6 @@ use zcommands::input::Input;
 use zcommands::output::Output;
 use zelements::rows::{halves, parted, unescaped};
 use zelements::unread::Unread;
-use zencodings::worlds::{REFUSING_LIST, SHORT_LIST, WORLD_LIST};
 
 /// What a command answered, printed and told.
 #[derive(Drop)]
@@ -79,33 +78,9 @@ pub(crate) fn ran_line<S: Folder + Net + Clock>(
     Ok(ran(alloc, system, Ok(words.as_slice()), input))
 }
 
-/// What is printed of the worlds on the shelf.
-const HEX_LIST: &str = "\
-target \"a\" set 1 count 0
-target \"b\" set 1 count 1
-target \"c\" set 1 count 7
-1 \"b\" 1 rec 1.2.840.10003.5.10 \"d\" 6231
-1 \"c\" 1 rec 1.2.840.10003.5.10 \"d\" 6331
-2 \"c\" 1 rec 1.2.840.10003.5.10 \"d\" 6332
-5 \"c\" 1 rec 1.2.840.10003.5.10 \"d\" 6335
-6 \"c\" 1 rec 1.2.840.10003.5.10 \"d\" 6336
-7 \"c\" 1 rec 1.2.840.10003.5.10 \"d\" 6337
-";
-
-// What a text of a row stands for.
-fn meant(text: &str) -> &str {
-    match text {
-        "-" => "",
-        "SHORT_LIST" => SHORT_LIST,
-        "WORLD_LIST" => WORLD_LIST,
-        "HEX_LIST" => HEX_LIST,
-        "REFUSING_LIST" => REFUSING_LIST,
-        text => text,
-    }
-}
-
+// The octets that a text of a row stands for: `-` stands for none.
 fn text(alloc: Global, text: &str) -> Result<Vec<u8>, Unread> {
-    unescaped(alloc, meant(text))
+    unescaped(alloc, if text == "-" { "" } else { text })
 }
 
 fn is_text(alloc: Global, found: &[u8], due: &str) -> Result<bool, Unread> {
@@ -123,36 +98,18 @@ pub(crate) fn is_due(alloc: Global, ran: &Outcome, due: &str) -> Result<bool, Un
     Ok(is_status && is_printed && is_told)
 }
 
-/// Whether the words of a line do on these files what is due.
-pub(crate) fn does<S: Folder + Net + Clock>(
-    alloc: Global,
-    system: &S,
-    line: &str,
-    input: &str,
-    due: &str,
-) -> Result<bool, Unread> {
-    let input = text(alloc, input)?;
-    let ran = ran_line(alloc, system, line, input.as_slice())?;
-    is_due(alloc, &ran, due)
-}
-
-/// A row of a line, and what is due of it.
+/// Whether the words of a line do on these files what is due of it in its row.
 pub(crate) fn is_done_in<S: Folder + Net + Clock>(
     alloc: Global,
     system: &S,
     row: &str,
 ) -> Result<bool, Unread> {
     let (line, due) = halves(row);
-    does(alloc, system, line, "-", due)
+    let ran = ran_line(alloc, system, line, b"")?;
+    is_due(alloc, &ran, due)
 }
 
 /// The same on the shelf.
 pub(crate) fn is_done(alloc: Global, row: &str) -> Result<bool, Unread> {
     is_done_in(alloc, &SHELF, row)
-}
-
-/// A row of the input of `show`, and what is due of it.
-pub(crate) fn is_shown(alloc: Global, row: &str) -> Result<bool, Unread> {
-    let (input, due) = halves(row);
-    does(alloc, &SHELF, "zmeta|show", input, due)
 }

@@ -10,18 +10,10 @@ mod devices;
 #[cfg(test)]
 mod faults;
 #[cfg(test)]
-mod folders;
-#[cfg(test)]
 mod hosts;
-#[cfg(test)]
-mod joined;
 #[cfg(test)]
 mod lines;
 #[cfg(test)]
-mod queries;
-#[cfg(test)]
 mod shelf;
-#[cfg(test)]
-mod shown;
 #[cfg(test)]
 mod words;

@@ -1,4 +1,4 @@
-// What words ask for, and which are wrong or ask for help.
+// What words ask for.
 use crate::answers::words_of;
 use std::alloc::Global;
 use std::process::Abort;
@@ -39,57 +39,4 @@ fn is_asked(alloc: Global, row: &str) -> Result<bool, Unread> {
 #[test]
 fn shows(rt: HostRuntime) -> Result<(), Fail> {
     each_row(rt.alloc(), ASKED, &is_asked)
-}
-
-// Words, and the status of their refusal; help has 0.
-const REFUSED: &str = "\
-zmeta => 2
-zmeta|shew => 2
-zmeta|show|x => 2
-zmeta|show|--hex => 2
-zmeta|pqf => 2
-zmeta|pqf|a|b => 2
-zmeta|pqf|-h => 0
-zmeta|join|-a|b => 2
-zmeta|join|a => 2
-zmeta|join|a|b|--save|c => 2
-zmeta|run => 2
-zmeta|run|w|--save => 2
-zmeta|run|w|x => 2
-zmeta|ask => 2
-zmeta|ask|w|--save => 2
-zmeta|ask|w|--only => 2
-zmeta|run|w|--only|a => 2
-zmeta|run|w|--at-once => 2
-zmeta|records => 2
-zmeta|records|a|--syntax => 2
-zmeta|records|a|--syntax|1.2|--syntax|1.3 => 2
-zmeta|join|a|b|--conflicts => 2
-zmeta|serve|h:1|a|w => 2
-zmeta|serve|h:1|a|w|x => 2
-zmeta|serve|h:1|a|w|-1 => 2
-zmeta|serve|h:1|a|w|1000001 => 2
-zmeta|serve|h:1|a|w|1|--hex => 2
-zmeta|--version => 2
-zmeta|--help => 0
-zmeta|help|show => 0
-zmeta|show|-h => 0
-";
-
-fn refusal(alloc: Global, line: &str) -> Result<i32, Unread> {
-    let words = words_of(alloc, line)?;
-    match parse(alloc, words.as_slice()) {
-        Ok(_) => Err(Unread),
-        Err(error) => Ok(error.exit_code()),
-    }
-}
-
-fn is_refused(alloc: Global, row: &str) -> Result<bool, Unread> {
-    let (line, status) = halves(row);
-    Ok(refusal(alloc, line)? == status.parse::<i32>()?)
-}
-
-#[test]
-fn refuses_other_words(rt: HostRuntime) -> Result<(), Fail> {
-    each_row(rt.alloc(), REFUSED, &is_refused)
 }

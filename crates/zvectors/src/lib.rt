@@ -1,5 +1,5 @@
-//! Sessions of origins, pools, hosts and driven connections, step by step, and worlds in memory that are read and run:
-//! the tests that cross the crates above what is known.
+//! Sessions of origins, pools, hosts and driven connections, step by step, and world files that are read: the tests that
+//! cross the crates above what is known.
 #![tactic(auto)]
 
 #[cfg(test)]
@@ -17,13 +17,7 @@ mod moves;
 #[cfg(test)]
 mod pool;
 #[cfg(test)]
-mod random_worlds;
-#[cfg(test)]
 mod refusals;
-#[cfg(test)]
-mod runs;
-#[cfg(test)]
-mod schedules;
 #[cfg(test)]
 mod sessions;
 #[cfg(test)]
@@ -31,10 +25,6 @@ mod talks;
 #[cfg(test)]
 mod together;
 #[cfg(test)]
-mod wants;
-#[cfg(test)]
 mod windows;
 #[cfg(test)]
 mod worlds;
-#[cfg(test)]
-mod written;

@@ -61,8 +61,8 @@ fn step(text: &str) -> Result<Move, Unread> {
     }
 }
 
-/// The moves of a row, each by its word, the number of a connection and a number; `-` stands for none.
-pub(crate) fn moves(alloc: Global, row: &str) -> Result<Vec<Move>, Unread> {
+// The moves of a row, each by its word, the number of a connection and a number; `-` stands for none.
+fn moves(alloc: Global, row: &str) -> Result<Vec<Move>, Unread> {
     let mut moves = Vec::new(alloc);
     if row == "-" {
         return Ok(moves);

@@ -4,8 +4,8 @@ use Rattle.std.specs.Option.{option_map}
 use Rattle.std.specs.Str.Parse.{digits_value, without_leading_plus}
 use Rattle.clap.specs.Words.{first_value, one_text, matched_of, raw_values}
 use Rattle.clap.specs.declared.parser.matches.Found.{Found}
-use Rattle.zknow.specs.declared.fact.Mode.{Mode}
-use Rattle.zknow.specs.declared.fact.Mode.TheVariants as modes
+use Rattle.zber.specs.declared.text.Mode.{Mode}
+use Rattle.zber.specs.declared.text.Mode.TheVariants as modes
 use Rattle.zwords.specs.declared.words.Words.{Words}
 use Rattle.zwords.specs.declared.words.Words.TheVariants.{Show, Pqf, Join, Records, Run, Ask, Loop, Serve}
 use Rattle.zwords.specs.Texts.{texts_of, now_of}

@@ -374,7 +374,13 @@ pub(crate) fn command<'a>(alloc: Global) -> Result<Command<'a>, AllocError> {
         .after_help(ADVICE)
         .subcommand_required(true);
     for form in &FORMS {
-        command = command.subcommand(subcommand(alloc, form)?)?;
+        match subcommand(alloc, form) {
+            Ok(subcommand) => command = command.subcommand(subcommand)?,
+            Err(error) => {
+                drop(command);
+                return Err(error);
+            }
+        }
     }
     Ok(command)
 }

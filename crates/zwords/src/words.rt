@@ -8,9 +8,9 @@ ghost use Rattle.zwords.specs.Words.{AreFor, Asks, GivesAny, HasMode};
 
 use crate::forms::command;
 use clap::error::ErrorKind;
-use clap::{ArgMatches, Error};
+use clap::{ArgMatches, Command, Error};
 use std::alloc::{AllocError, Global};
-use zknow::Mode;
+use zber::Mode;
 
 /// What the words ask for.
 #[derive(Debug, Drop)]
@@ -71,6 +71,19 @@ pub fn parse<'a>(alloc: Global, words: &'a [String]) -> Result<Words<'a>, Error>
     ensures asks { IfOk result (AreFor (map string_bytes words.now)) }
 {
     let mut command = command(alloc)?;
+    let asked = asked_by(alloc, &mut command, words);
+    drop(command);
+    asked
+}
+
+/// What the words ask for, by the commands and what each reads.
+fn asked_by<'a>(
+    alloc: Global,
+    command: &mut Command<'a>,
+    words: &'a [String],
+) -> Result<Words<'a>, Error>
+    ensures asks { IfOk result (AreFor (map string_bytes words.now)) }
+{
     let matches = command.try_get_matches_from_mut(words)?;
     if let Some((_, found)) = matches.subcommand()
         && let Some(asked) = asked_of(alloc, words, found)?

@@ -1,7 +1,7 @@
 -- A world that was read can be run.
 use Rattle.std.proofs.Common.{◌≡◌, ◌∙◌, sym, ap, subst, refl, ℕ, ◌+◌, ◌<◌, ◌≤◌, ◌^◌, Bool, true, false, if◌then◌else◌, List, [], ◌∷◌, ◌++◌, length, Option, Some, None, arith}
 use Rattle.std.specs.Option.{option_map}
-use Rattle.zquery.specs.Trees.{RpnQuery}
+use Rattle.zrpn.specs.Trees.{RpnQuery}
 use Rattle.zquestions.specs.Askable.{AreAskable, IsAskable, HasArcs}
 use Rattle.zworld.specs.Finding.{questions_of}
 use Rattle.zworld.specs.Fitness.{IsFit}

@@ -9,7 +9,7 @@ use Rattle.zquery.specs.Notation.Faults.{memory}
 use Rattle.zquery.specs.Notation.Laws.{OneLexing, OneAnswer}
 use Rattle.zquery.specs.Notation.Texts.{IsFault}
 use Rattle.zquery.specs.Notation.Tokens.{AreTokens, IsOpenAt}
-use Rattle.zquery.specs.Trees.{RpnQuery}
+use Rattle.zrpn.specs.Trees.{RpnQuery}
 use Rattle.zworld.specs.World.{Answers}
 use Rattle.zworld.specs.WorldLines.{line_of, words}
 use Rattle.zworld.specs.WorldReading.{IsSaid, Says, HasQuery, fault_of, Follows, Gives, MakesOr, IsSound, world_of}

@@ -4,7 +4,7 @@ use Rattle.zquery.specs.declared.notation.error.PqfErrorKind.{PqfErrorKind}
 use Rattle.zquery.specs.declared.notation.error.PqfErrorKind.TheVariants as kinds
 use Rattle.zquery.specs.declared.notation.token.Token.{Token}
 use Rattle.zquery.specs.Notation.Tokens.{AreTokens}
-use Rattle.zquery.specs.Trees.{RpnQuery}
+use Rattle.zrpn.specs.Trees.{RpnQuery}
 use Rattle.zworld.specs.declared.world.World.{World}
 use Rattle.zworld.specs.declared.world.WorldError.{WorldError}
 use Rattle.zworld.specs.declared.world.WorldError.TheVariants as errors

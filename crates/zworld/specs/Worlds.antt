@@ -6,7 +6,7 @@ use Rattle.std.specs.Str.{bytes_eq}
 use Rattle.zquery.specs.declared.notation.token.Token.{Token}
 use Rattle.zquery.specs.Notation.Tokens.{AreTokens}
 use Rattle.zquery.specs.Notation.Texts.{IsText}
-use Rattle.zquery.specs.Trees.{RpnQuery, height}
+use Rattle.zrpn.specs.Trees.{RpnQuery, height}
 use Rattle.ztarget.specs.declared.database.Database.{Database}
 use Rattle.ztarget.specs.declared.database.Entry.{Entry}
 use Rattle.ztarget.specs.declared.database.Field.{Field}

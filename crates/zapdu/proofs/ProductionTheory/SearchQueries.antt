@@ -5,8 +5,8 @@ use Rattle.zproductions.specs.Within.{found, sequence_of, any_at}
 use Rattle.zproductions.specs.Reading.{option_map}
 use Rattle.zasn.specs.declared.error.PartError.{PartError}
 use Rattle.zasn.specs.Answers.{Means}
-use Rattle.zquery.specs.Element.AnyQueries.{any_query, any_query_at, query_within}
-use Rattle.zquery.proofs.ElementTheory.AnyQueryPlaces.{alone_says}
+use Rattle.zrpn.specs.Element.AnyQueries.{any_query, any_query_at, query_within}
+use Rattle.zrpn.proofs.ElementTheory.AnyQueryPlaces.{alone_says}
 use Rattle.zapdu.specs.declared.productions.search_query.SearchQuery.{SearchQuery}
 use Rattle.zapdu.specs.Productions.SearchQueries.{of_sum}
 

@@ -6,9 +6,9 @@ use Rattle.zber.specs.Elements.{Element}
 use Rattle.zproductions.specs.Place.{Place}
 use Rattle.zproductions.specs.Choice.{Choice, finally, Pick, picked}
 use Rattle.zasn.specs.Places.{lawful, of_choice}
-use Rattle.zquery.specs.Trees.{RpnQuery}
-use Rattle.zquery.specs.Element.AnyQueries.{WritesWithin, query_within, within_spelt}
-use Rattle.zquery.proofs.ElementTheory.AnyQueryPlaces.{any_query_place, any_query_spelled}
+use Rattle.zrpn.specs.Trees.{RpnQuery}
+use Rattle.zrpn.specs.Element.AnyQueries.{WritesWithin, query_within, within_spelt}
+use Rattle.zrpn.proofs.ElementTheory.AnyQueryPlaces.{any_query_place, any_query_spelled}
 use Rattle.zapdu.specs.declared.productions.search_query.SearchQuery.{SearchQuery}
 use Rattle.zapdu.specs.declared.productions.search_query.SearchQuery.TheVariants.{Rpn, Other}
 

@@ -7,7 +7,7 @@ use std::test::Fail;
 use zelements::dice::Dice;
 use zelements::rows::held;
 use zelements::unread::Unread;
-use zquery::{Attr, AttrValue, Query, Rpn, TermValue};
+use zrpn::{Attr, AttrValue, Query, Rpn, TermValue};
 use ztarget::{Database, Entry, Target};
 
 // The words of octets, in lower case, with one space before each and one behind the last.

@@ -7,7 +7,7 @@ use std::process::Abort;
 use std::test::Fail;
 use zelements::rows::{each_row, halves, parted};
 use zelements::unread::Unread;
-use zquery::Query;
+use zrpn::Query;
 use ztarget::{MatchError, Target};
 
 // Queries, the databases that are named, and the condition of the diagnostic and what it names.

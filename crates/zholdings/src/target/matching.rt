@@ -8,7 +8,7 @@ use zber::{Oid, Seq};
 use zelements::rows::{each_row, halves, parted, unescaped};
 use zelements::unread::Unread;
 use zencodings::boxes::{boxed, parse};
-use zquery::{Attr, AttrValue, Query, Rpn, TermValue};
+use zrpn::{Attr, AttrValue, Query, Rpn, TermValue};
 use ztarget::{Target, TargetSettings};
 
 // Queries, the fields of an entry, and whether it is matched.

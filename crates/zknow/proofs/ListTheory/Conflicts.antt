@@ -9,7 +9,7 @@ use Rattle.std.specs.Fmt.{decimal, signed_decimal}
 use Rattle.zapdu.specs.declared.productions.record.Record.{Record}
 use Rattle.zknow.specs.declared.fact.Fact.{Fact}
 use Rattle.zknow.specs.declared.fact.Fact.TheVariants.{Seen}
-use Rattle.zknow.specs.declared.fact.Mode.{Mode}
+use Rattle.zber.specs.declared.text.Mode.{Mode}
 use Rattle.zknow.specs.declared.tables.keys.RowKey.{RowKey}
 use Rattle.zknow.specs.Tables.DistinctLaws.{in_cons, in_head, none_in_nil}
 use Rattle.zknow.specs.Tables.Keys.{set_cmp, row_cmp, row_total, row_exact}

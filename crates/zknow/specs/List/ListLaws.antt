@@ -8,7 +8,7 @@ use Rattle.zapdu.specs.declared.productions.record.Record.{Record}
 use Rattle.zapdu.specs.Text.{record_text}
 use Rattle.zknow.specs.declared.fact.Fact.{Fact}
 use Rattle.zknow.specs.declared.fact.Fact.TheVariants.{Count, Seen}
-use Rattle.zknow.specs.declared.fact.Mode.{Mode}
+use Rattle.zber.specs.declared.text.Mode.{Mode}
 use Rattle.zknow.specs.declared.tables.keys.SetKey.{SetKey}
 use Rattle.zknow.specs.declared.tables.keys.RowKey.{RowKey}
 use Rattle.zknow.specs.Facts.{AreFacts}

@@ -8,8 +8,8 @@ use Rattle.zapdu.specs.declared.productions.record.Record.{Record}
 use Rattle.zapdu.specs.Text.{quoted, record_text, diag_text}
 use Rattle.zknow.specs.declared.fact.Fact.{Fact}
 use Rattle.zknow.specs.declared.fact.Fact.TheVariants.{Count, Failed, Seen, Diag}
-use Rattle.zknow.specs.declared.fact.Mode.{Mode}
-use Rattle.zknow.specs.declared.fact.Mode.TheVariants.{Text, Hex}
+use Rattle.zber.specs.declared.text.Mode.{Mode}
+use Rattle.zber.specs.declared.text.Mode.TheVariants.{Text, Hex}
 use Rattle.zknow.specs.declared.tables.keys.SetKey.{SetKey}
 use Rattle.zknow.specs.declared.tables.keys.RowKey.{RowKey}
 use Rattle.zknow.specs.Tables.Keys.{set_cmp, row_cmp}

@@ -10,16 +10,16 @@ use Rattle.std.proofs.lemmas.Bool.{and_parts, and_from, or_parts, or_from, not-t
 use Rattle.zber.specs.Oids.{IsOid}
 use Rattle.zquery.specs.declared.notation.word.TermKind.{TermKind}
 use Rattle.zquery.specs.declared.notation.word.TermKind.TheVariants.{GeneralTerm, NumericTerm, TextTerm}
-use Rattle.zquery.specs.declared.query.Attr.{Attr}
-use Rattle.zquery.specs.declared.query.AttrValue.{AttrValue}
-use Rattle.zquery.specs.declared.query.TermValue.{TermValue}
-use Rattle.zquery.specs.declared.query.TermValue.TheVariants.{General, Numeric, Text}
+use Rattle.zrpn.specs.declared.query.Attr.{Attr}
+use Rattle.zrpn.specs.declared.query.AttrValue.{AttrValue}
+use Rattle.zrpn.specs.declared.query.TermValue.{TermValue}
+use Rattle.zrpn.specs.declared.query.TermValue.TheVariants.{General, Numeric, Text}
 use Rattle.zquery.specs.Notation.Numbers.{is_numeral, number_of, positive, negative, has_minus, integer_of}
 use Rattle.zquery.specs.Notation.Values.{is_equals, most, pair_of, numbers_of, value_of}
 use Rattle.zquery.specs.Notation.Sets.{bib1, set_of}
 use Rattle.zquery.specs.InForce.{alike, in_force}
 use Rattle.zquery.specs.Notation.Reading.{put_in}
-use Rattle.zquery.specs.Trees.{Tree}
+use Rattle.zrpn.specs.Trees.{Tree}
 use Rattle.zquery.specs.Notation.Grammar.{Phrase, One, Named, Attributed, InSet, Typed, Joined, Reads, attr, kept_set, set_tree, Whole, Bare, InAttrSet, ReadsWhole}
 use Rattle.zquery.specs.Notation.Printing.{in_range, names, plain_value, plain_attr, plain_attrs, plain_term, plain_tree}
 use Rattle.zquery.specs.Lawful.{IsLawfulSet, AreLawful, IsLawfulTerm, IsLawfulTree}

@@ -1,30 +1,30 @@
 // Queries from tokens, by descent.
 ghost use Rattle.std.specs.Prelude.{◌≡◌, ℕ, ◌≤◌, length, [], ◌∷◌, List, Bool, Option, Some, Err, IfOk, IfErr, OnOk, ◌⊎◌};
-ghost use Rattle.zquery.specs.declared.query.Attr.{Attr};
-ghost use Rattle.zquery.specs.declared.query.TermValue.{TermValue};
+ghost use Rattle.zrpn.specs.declared.query.Attr.{Attr};
+ghost use Rattle.zrpn.specs.declared.query.TermValue.{TermValue};
 ghost use Rattle.zquery.specs.declared.notation.token.Token.{Token};
 ghost use Rattle.zquery.specs.declared.notation.word.Word.TheVariants.{Plain};
 ghost use Rattle.zquery.specs.Notation.Values.{most, value_of};
 ghost use Rattle.zquery.specs.InForce.{in_force};
-ghost use Rattle.zquery.specs.Trees.{OfTerm, Of, height};
-ghost use Rattle.zquery.specs.QueryTrees.{seen};
+ghost use Rattle.zrpn.specs.Trees.{OfTerm, Of, height};
+ghost use Rattle.zrpn.specs.QueryTrees.{seen};
 ghost use Rattle.zquery.specs.Notation.Grammar.{attr, set_tree, IsQuery};
 ghost use Rattle.zquery.specs.Notation.Table.{Expected, Operand, walk, fault, below_limit, operand, error_at, refusal};
 ghost use Rattle.zquery.specs.Notation.Faults.{memory, missing, Refuses};
 ghost use Rattle.zquery.specs.Notation.Reading.{Takes, numbers_at, attribute_at, kind_at, own_at, opened_at, NoPrefix, Leads, IsRead};
 ghost use Rattle.zquery.specs.Notation.Texts.{IsText, IsFault};
 
-use crate::attribute::{copies, kept, put};
+use crate::attribute::{kept, put};
 use crate::notation::cursor::Cursor;
 use crate::notation::error::{PqfError, PqfErrorKind};
 use crate::notation::lexer::tokens;
 use crate::notation::token::Token;
 use crate::notation::value::{bib_1, has_equals, kind, numbers, set_named, value};
-use crate::notation::word::{Operator, TermKind, Word, word_of};
-use crate::query::{Attr, AttrValue, Query, Rpn};
+use crate::notation::word::{TermKind, Word, word_of};
 use bytes::Bytes;
 use std::alloc::{AllocError, Global};
 use zber::{Oid, Seq};
+use zrpn::{Attr, AttrValue, Operator, Query, Rpn, copies};
 
 /// The lowest level on which an operand or operator may stand.
 const DEEPEST: u32 = 32;

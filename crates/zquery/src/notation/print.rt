@@ -4,18 +4,17 @@ ghost use Rattle.std.specs.Fmt.{signed_decimal};
 ghost use Rattle.std.specs.List.{flat_map};
 ghost use Rattle.zber.specs.Oids.{IsOid};
 ghost use Rattle.zquery.specs.declared.notation.print.PrintError.TheVariants.{NotPrintable, Memory};
-ghost use Rattle.zquery.specs.QueryTrees.{seen};
+ghost use Rattle.zrpn.specs.QueryTrees.{seen};
 ghost use Rattle.zquery.specs.Notation.Texts.{IsText};
 ghost use Rattle.zquery.specs.Notation.Printing.{escaped, in_quotes, set_text, value_text, attr_text, term_text, operator_text, tree_text, opening_text, query_text, printable};
 
 use crate::notation::printable::is_printable;
 use crate::notation::value::BIB_1;
-use crate::notation::word::Operator;
-use crate::query::{Attr, AttrValue, Query, Rpn, TermValue};
 use std::alloc::{AllocError, Global};
 use thiserror::Error;
 use zber::Oid;
 use zber::text::{put_number, put_oid};
+use zrpn::{Attr, AttrValue, Operator, Query, Rpn, TermValue};
 
 /// Why a query is not printed.
 #[derive(Clone, Copy, Debug, PartialEq, Eq, Error)]

@@ -2,18 +2,18 @@
 ghost use Rattle.std.specs.Prelude.{◌≡◌, ◌∷◌, List, true, not, nat_le, IfOk, OnOk};
 ghost use Rattle.std.specs.List.{list_any};
 ghost use Rattle.std.specs.Option.{option_map};
-ghost use Rattle.zquery.specs.declared.query.Attr.{Attr};
+ghost use Rattle.zrpn.specs.declared.query.Attr.{Attr};
 ghost use Rattle.zquery.specs.InForce.{alike};
-ghost use Rattle.zquery.specs.Trees.{height};
-ghost use Rattle.zquery.specs.QueryTrees.{seen};
+ghost use Rattle.zrpn.specs.Trees.{height};
+ghost use Rattle.zrpn.specs.QueryTrees.{seen};
 ghost use Rattle.zquery.specs.Notation.Printing.{in_range, names, plain_value, plain_attr, plain_attrs, plain_term, plain_tree, printable};
 ghost use Rattle.zquery.specs.Notation.Apart.{AreKeysOf};
 ghost use Rattle.zquery.specs.Lawful.{IsLawfulSet, AreLawful, IsLawfulTerm, IsLawfulTree};
 
-use crate::query::{Attr, AttrValue, Query, Rpn, TermValue};
 use std::alloc::{AllocError, Global};
 use std::collections::BTreeSet;
 use zber::Oid;
+use zrpn::{Attr, AttrValue, Query, Rpn, TermValue};
 
 /// The height of a query that the notation has at most.
 const HIGHEST: u32 = 32;

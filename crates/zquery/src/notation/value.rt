@@ -5,10 +5,10 @@ ghost use Rattle.zquery.specs.Notation.Sets.{bib1, oid_of, set_of};
 
 use crate::notation::number::{integer, number};
 use crate::notation::word::TermKind;
-use crate::query::TermValue;
 use bytes::Bytes;
 use std::alloc::{AllocError, Global};
 use zber::{Oid, OidError};
+use zrpn::TermValue;
 
 /// The greatest type and the greatest value of an attribute.
 const MOST: u64 = 2_147_483_647;

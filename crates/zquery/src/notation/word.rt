@@ -3,14 +3,7 @@ ghost use Rattle.std.specs.Prelude.{◌≡◌};
 ghost use Rattle.zquery.specs.Notation.Words.{word};
 
 use crate::notation::token::Token;
-
-/// What joins two queries.
-#[derive(Clone, Copy, Debug, PartialEq, Eq)]
-pub(crate) enum Operator {
-    And,
-    Or,
-    Not,
-}
+use zrpn::Operator;
 
 /// How a term is written.
 #[derive(Clone, Copy, Debug, PartialEq, Eq)]

@@ -17,8 +17,8 @@ use bytes::Bytes;
 use indexmap::IndexSet;
 use std::alloc::{AllocError, Global};
 use zber::Seq;
-use zquery::Query;
 use zquestions::{Move, Question};
+use zrpn::Query;
 use ztarget::TargetSettings;
 
 /// What was read so far.

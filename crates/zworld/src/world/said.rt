@@ -6,7 +6,8 @@ use crate::world::fault::LineFault;
 use crate::world::line::{Line, line_of};
 use std::alloc::Global;
 use zquery::laws::{one_answer, one_lexing};
-use zquery::{PqfError, PqfErrorKind, Query, parse_pqf, tokens};
+use zquery::{PqfError, PqfErrorKind, parse_pqf, tokens};
+use zrpn::Query;
 
 /// A text at fault is refused.
 fn fault_of(error: PqfError) -> LineFault

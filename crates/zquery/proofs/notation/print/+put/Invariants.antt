@@ -1,6 +1,6 @@
 use Rattle.std.proofs.Common.{◌+◌, ◌*◌, max}
-use Rattle.zquery.specs.Trees.{height}
-use Rattle.zquery.specs.QueryTrees.{seen}
+use Rattle.zrpn.specs.Trees.{height}
+use Rattle.zrpn.specs.QueryTrees.{seen}
 use Rattle.zquery.proofs.notation.print.+put.Given as goal
 
 abbrev pub decreases-put_both : goal.decreases-put_both

@@ -1,0 +1,11 @@
+use Rattle.std.proofs.Common.{◌+◌, ◌*◌}
+use Rattle.std.specs.Prelude.{max}
+use Rattle.zrpn.specs.Trees.{height}
+use Rattle.zrpn.specs.QueryTrees.{seen}
+use Rattle.zrpn.proofs.element.encode.+structure.Given as goal
+
+abbrev pub decreases-structure : goal.decreases-structure
+decreases-structure l = 2 * height (seen l.rpn.now)
+
+abbrev pub decreases-joined : goal.decreases-joined
+decreases-joined l = 2 * max (height (seen l.left.now)) (height (seen l.right.now)) + 1

@@ -1,0 +1,4 @@
+pub mod Coding
+pub mod Trees
+pub mod QueryTrees
+pub mod Element
