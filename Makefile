@@ -1,7 +1,7 @@
 # make quick: prints the records of an example by a build that nothing was proved of, in about two minutes.
 # make show: proves and builds zmeta, and prints them. make demo: serves two catalogues on this machine, and asks both.
 # make test: passes the tests. make interop: asks the servers of others, and lets their clients ask, where they are there.
-# make hostile: sends it what strangers may send, a million times; nothing of the tests.
+# make hostile: sends it what strangers may send, a million messages and a million replies; nothing of the tests.
 # make wrong-bodies: tries the wrong bodies that the tests leave out, in some hours.
 # make install: puts what make show built, its man page and its completions below PREFIX, and DESTDIR before that.
 # make uninstall: takes them away again.
@@ -37,7 +37,7 @@ hostile:
 wrong-bodies:
 	scripts/wrong-bodies
 
-# As many checks at a time as there are processors, and three at most: each takes 6.5 GB at most, of 24. Left to itself rt ci
+# As many checks at a time as there are processors, and three at most: each takes 5 GB at most, of 24. Left to itself rt ci
 # reserves more, and lets processors idle; and more checks than processors keep the longest chain of them waiting.
 test:
 	RT_JOBS=$(checks) rt ci
