@@ -77,7 +77,7 @@ complete -c zmeta -n '__zmeta_in records; and __zmeta_lacks --syntax' -l syntax 
     -a '1.2.840.10003.5.10 1.2.840.10003.5.1 1.2.840.10003.5.109.10' \
     -d 'Writes just the records of this record syntax'
 complete -c zmeta -n '__zmeta_in records; and __zmeta_lacks --conflicts' -l conflicts \
-    -d 'Writes all records of a place for which several are known'
+    -d 'Writes all records of a position for which several are known'
 
 complete -c zmeta -n '__zmeta_at 1 ask run loop join records' -F
 complete -c zmeta -n '__zmeta_in join records; and not __zmeta_at 1 join records' -F

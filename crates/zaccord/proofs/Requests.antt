@@ -9,8 +9,6 @@ use Rattle.zplan.proofs.Cuts.{in_left, in_right, in_either}
 use Rattle.zorigin.specs.declared.settings.Settings.{Settings}
 use Rattle.zorigin.specs.declared.range.Range.{Range}
 use Rattle.zorigin.specs.declared.settings.Ask.{Ask}
-use Rattle.zorigin.specs.declared.answer.What.{What}
-use Rattle.zorigin.specs.declared.answer.What.TheVariants as what
 use Rattle.zorigin.specs.declared.answer.Asked.{Asked}
 use Rattle.zorigin.specs.declared.answer.Answer.{Answer}
 use Rattle.zorigin.specs.declared.answer.Taken.{Taken}

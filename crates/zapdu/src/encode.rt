@@ -11,7 +11,8 @@ use std::alloc::Global;
 use zasn::{BuildError, Tagged, write_within};
 use zber::{Node, Tag};
 
-fn built(alloc: Global, apdu: &Apdu) -> Result<Node, BuildError>
+/// The element of an APDU, under the tag of its kind.
+fn write_apdu(alloc: Global, apdu: &Apdu) -> Result<Node, BuildError>
     ensures { Makes (apdu_spelt apdu.now) result }
 {
     match apdu {
@@ -35,7 +36,7 @@ pub fn to_node(alloc: Global, apdu: &Apdu) -> Result<Node, BuildError>
     ensures exact { Makes (apdu_spelt apdu.now) result }
     ensures written { IsWritten (Writes apdu.now) result }
 {
-    built(alloc, apdu)
+    write_apdu(alloc, apdu)
 }
 
 fn element_of<T: Tagged>(alloc: Global, value: &T) -> Result<Node, BuildError>

@@ -29,9 +29,9 @@ pub(crate) enum Finished {
 pub(crate) struct Window {
     /// Its end, so far behind the first octet of the message.
     pub end: usize,
-    /// What it is to pass that end.
+    /// The fault where a header, or the contents that it announces, pass that end.
     pub past: FaultKind,
-    /// Whether an element of indefinite length ends here by a mark.
+    /// Whether an element of indefinite length ends here, by the end-of-contents octets (X.690, 8.1.5).
     pub marked: bool,
 }
 

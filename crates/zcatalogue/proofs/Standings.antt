@@ -61,9 +61,6 @@ given offers = record { named = offers.named; three = true; size = size_given of
 abbrev pub response : TargetSettings → Settings → InitResponse
 response offers settings = init_response offers (init_value settings)
 
-pub given_terms : (offers : TargetSettings) (settings : Settings) → terms offers (init_value settings) ≡ given offers
-given_terms offers settings = refl
-
 -- ---- lists of calls
 
 abbrev pub is_search_call : Call → Bool
@@ -192,17 +189,6 @@ opened_state_of : (offers : TargetSettings) (settings : Settings) → offers.ref
 opened_state_of offers settings e =
     ap (λ (b : Bool). if b then Open (terms offers (init_value settings)) else Ended) (accepts offers settings e)
 
--- the terms are those that it gives
-pub open_terms : (offers : TargetSettings) (settings : Settings) (begun closing : Bool) (t : Terms)
-    → expected offers settings begun closing ≡ Open t → t ≡ given offers
-open_terms offers settings begun true t e = absurd cc
-open_terms offers settings false false t e = absurd cc
-open_terms offers settings true false t e = by ((response offers settings).result) e
-  where
-    by : (b : Bool) → (if b then Open (terms offers (init_value settings)) else Ended) ≡ Open t → t ≡ given offers
-    by true f = let x : terms offers (init_value settings) ≡ t = cc in sym x
-    by false f = absurd cc
-
 -- what is in force then
 abbrev pub force_of : TargetSettings → InForce
 force_of offers = record {
@@ -214,14 +200,7 @@ force_of offers = record {
       offers.named;
 }
 
-pub given_force : (offers : TargetSettings) (settings : Settings)
-    → force_in (response offers settings) ≡ force_of offers
-given_force offers settings = refl
-
 module _ (databases : List Database) (offers : TargetSettings) (settings : Settings) (ask : Ask) where
-  abbrev pub names : List (List ℕ)
-  names = ask.databases
-
   abbrev pub found : List Found
   found = result_set databases ask.databases ask.query.root
 

@@ -3,26 +3,16 @@ use Rattle.std.proofs.Common.{◌≡◌, ◌∙◌, ap, subst, refl, ℕ, List, 
 use Rattle.zknow.specs.declared.fact.Fact.{Fact}
 use Rattle.zrecords.specs.declared.left_out.LeftOut.{LeftOut}
 use Rattle.zrecords.specs.Records.{records_octets, left_out}
-use Rattle.zcommands.specs.Devices.{Device, Gains, Stops}
+use Rattle.zcommands.specs.Devices.{Device, Gains}
 use Rattle.zcommands.specs.Finished.{TellsLines}
 use Rattle.zcommands.specs.Join.{AreJoined, IsRefusedAmong, IsKnownStatus}
-use Rattle.zcommands.specs.Records.{Wanted, ReadsSyntax, IsSyntax, left_text, PutsRecords, Extracts}
+use Rattle.zcommands.specs.Records.{Wanted, IsSyntax, left_text, PutsRecords, Extracts}
 use Rattle.zcommands.specs.declared.fault.Fault.{Fault}
 use Rattle.zcommands.specs.declared.fault.Fault.TheVariants.{Read, Write, NotKnowledge, NotCanonical, NamesDiffer, NotOid, Memory}
 use Rattle.zcommands.specs.declared.fault.Status.{Status}
 use Rattle.zcommands.proofs.Joining.{kept, no_write}
 
 module _ (e : Wanted) (octets : List ℕ → Option (List ℕ)) (paths : List (List ℕ)) (output errors : Device) where
-  -- the syntax is none
-  no_syntax : (f : Fault) → ReadsSyntax e.syntax (Err f) → Extracts e octets paths output output errors errors (Err f)
-  no_syntax (NotOid told) h = (h, kept output, refl)
-  no_syntax Memory h = (kept output, refl)
-  no_syntax f h = absurd h
-
-  pub syntax_refused : (g f : Fault) (r : Result Status Fault) → r ≡ Err f → f ≡ g → ReadsSyntax e.syntax (Err g)
-      → Extracts e octets paths output output errors errors r
-  syntax_refused g f r is of h = rw (is, of) (no_syntax g h)
-
   -- a file is refused
   no_file : (f : Fault) → IsRefusedAmong octets paths f → Extracts e octets paths output output errors errors (Err f)
   no_file (Write told) h = absurd (no_write octets paths (Write told) h)
@@ -38,11 +28,6 @@ module _ (e : Wanted) (octets : List ℕ → Option (List ℕ)) (paths : List (L
       → Extracts e octets paths output output errors errors r
   files_refused g f r is of h = rw (is, of) (no_file g h)
 
-  -- memory ran out
-  pub no_memory : (f : Fault) (r : Result Status Fault) → r ≡ Err f → f ≡ Memory
-      → Extracts e octets paths output output errors errors r
-  no_memory f r is of = rw (is, of) (kept output, refl)
-
   module _ (facts : List Fact) (names : List (List ℕ)) (oid : Option (List ℕ)) (text lines start : List ℕ)
       (left : LeftOut) (joined : AreJoined octets names paths facts) (syntax : IsSyntax e.syntax oid)
       (none : start ≡ []) (put : text ≡ start ++ records_octets oid e.conflicts facts)
@@ -52,23 +37,6 @@ module _ (e : Wanted) (octets : List ℕ → Option (List ℕ)) (paths : List (L
 
     all_told : lines ≡ left_text (left_out oid e.conflicts facts)
     all_told = told ∙ ap left_text which
-
-    -- the octets were not written
-    unwritten : (f : Fault) → PutsRecords text lines output printed errors said (Err f)
-        → Extracts e octets paths output printed errors said (Err f)
-    unwritten (Write path) h = (
-      facts,
-      oid,
-      record { names = names; joined = joined; syntax = syntax },
-      h.0,
-      subst (λ z. Stops output printed z) whole h.1,
-      h.2,
-    )
-    unwritten f h = absurd h
-
-    pub put_refused : (g f : Fault) (r : Result Status Fault) → r ≡ Err f → f ≡ g
-        → PutsRecords text lines output printed errors said (Err g) → Extracts e octets paths output printed errors said r
-    put_refused g f r is of h = rw (is, of) (unwritten g h)
 
     pub extracted : (status : Status) → IsKnownStatus facts status
         → PutsRecords text lines output printed errors said (Ok tt)

@@ -1,20 +1,18 @@
 -- What saved files say together.
-use Rattle.std.proofs.Common.{◌≡◌, ◌∙◌, ℕ, zero, suc, ◌+◌, ◌<◌, Bool, false, List, [], ◌∷◌, ◌++◌, take, drop, length, get_or, append_assoc, Option, Some, None, Result, Ok, Err, IsTrue, refl, ap, sym, subst, arith}
-use Rattle.std.specs.Prelude.{IfSome, IfErr, Contains, slice_index_or}
+use Rattle.std.proofs.Common.{◌≡◌, ◌∙◌, ℕ, zero, suc, ◌+◌, ◌<◌, List, [], ◌∷◌, ◌++◌, take, drop, length, get_or, append_assoc, Option, Some, None, Result, Ok, Err, refl, ap, sym, subst, arith}
+use Rattle.std.specs.Prelude.{IfSome, slice_index_or}
 use Rattle.std.specs.Borrow.{Bor}
 use Rattle.std.proofs.KnownBytes.{Keeps-refl}
 use Rattle.std.proofs.lemmas.List.{take_more, take-append-drop, map-append}
 use Rattle.zknow.specs.declared.fact.Fact.{Fact}
 use Rattle.zber.specs.declared.text.Mode.{Mode}
-use Rattle.zknow.specs.Facts.{AreFacts}
-use Rattle.zknow.specs.Tables.Join.{IsUnion}
 use Rattle.zknow.specs.List.Listing.{listing}
 use Rattle.zknow.specs.declared.saved.loading.LoadError.{LoadError}
 use Rattle.zknow.specs.declared.saved.loading.LoadError.TheVariants as loads
 use Rattle.zknow.specs.Saved.Loaded.{IsFault}
 use Rattle.zcommands.specs.Faults.{of_load}
 use Rattle.zwords.specs.Texts.{texts_of}
-use Rattle.zcommands.specs.Join.{Loads, IsOfFile, IsSavedAt, IsFaultAt, LoadsAt, HasOtherNames, Absorbs, AreJoined, IsRefusedAmong, AbsorbsAll, LoadsAll, IsListOf, IsKnownStatus, PutsList, Joins}
+use Rattle.zcommands.specs.Join.{Loads, IsSavedAt, IsFaultAt, Absorbs, AreJoined, IsRefusedAmong, AbsorbsAll, LoadsAll, IsListOf, IsKnownStatus, PutsList, Joins}
 use Rattle.zcommands.specs.Join.AreJoined.{one, more}
 use Rattle.zcommands.specs.Join.IsRefusedAmong.{first, later, differs}
 use Rattle.zcommands.specs.Devices.{Device, Stays}
@@ -37,51 +35,7 @@ load_refused None octets e f r is of whole fault = tt
 load_refused (Some file) octets e f r is of whole fault =
     rw (is, of) (refused file e (subst (λ l. IsFault l e) whole fault))
 
-fault_at : (octets : List ℕ → Option (List ℕ)) (path : List ℕ) (k : Option (List ℕ)) (f : Fault) → k ≡ octets path
-    → IfSome k (λ file. Loads file (Err f)) → IsOfFile path f → IsFaultAt octets path f
-fault_at octets path k (Read told) same loaded of = of
-fault_at octets path k (NotKnowledge at) same loaded of = subst (λ z. IfSome z (λ file. Loads file (Err (NotKnowledge at)))) same loaded
-fault_at octets path k (NotCanonical at) same loaded of = subst (λ z. IfSome z (λ file. Loads file (Err (NotCanonical at)))) same loaded
-fault_at octets path k Memory same loaded of = tt
-fault_at octets path k f same loaded of = absurd of
-
--- the file at a path
-pub loads_at : (octets : List ℕ → Option (List ℕ)) (path told : List ℕ) (k : Option (List ℕ))
-    (r : Result (List Fact × List (List ℕ)) Fault) → k ≡ octets path → told ≡ path
-    → IfSome k (λ file. Loads file r) → IfErr r (λ f. IsOfFile told f) → LoadsAt octets path r
-loads_at octets path told k (Ok r) same at loaded of = subst (λ z. IfSome z (λ file. Loads file (Ok r))) same loaded
-loads_at octets path told k (Err f) same at loaded of =
-    fault_at octets path k f same loaded (subst (λ z. IsOfFile z f) at of)
-
 -- ---- one file more
-
-absorbs_not : (octets : List ℕ → Option (List ℕ)) (names : List (List ℕ)) (path : List ℕ) (old new : List Fact) (f : Fault)
-    → IsFaultAt octets path f → Absorbs octets names path old new (Err f)
-absorbs_not octets names path old new (Read told) h = h
-absorbs_not octets names path old new (NotKnowledge at) h = h
-absorbs_not octets names path old new (NotCanonical at) h = h
-absorbs_not octets names path old new Memory h = h
-absorbs_not octets names path old new f h = absurd h
-
--- it is refused
-pub absorb_refused : (octets : List ℕ → Option (List ℕ)) (names : List (List ℕ)) (path : List ℕ) (old new : List Fact)
-    (g f : Fault) (r : Result (Unit {0}) Fault) → r ≡ Err f → f ≡ g → IsFaultAt octets path g
-    → Absorbs octets names path old new r
-absorb_refused octets names path old new g f r is of h = rw (is, of) (absorbs_not octets names path old new g h)
-
--- it has other names
-pub names_differ : (octets : List ℕ → Option (List ℕ)) (names others : List (List ℕ)) (path : List ℕ) (theirs : List Fact)
-    (same : Bool) → IsSavedAt octets path others theirs → (names ≡ others → IsTrue same) → same ≡ false
-    → HasOtherNames octets names path
-names_differ octets names others path theirs same saved test is =
-    record { others = others; facts = theirs; saved = saved; differ = λ e. let passed = test e in absurd cc }
-
--- it has the same names
-pub absorbed : (octets : List ℕ → Option (List ℕ)) (names others : List (List ℕ)) (path : List ℕ) (old theirs new : List Fact)
-    → IsSavedAt octets path others theirs → names ≡ others → AreFacts new
-    → IsUnion (Contains old) (Contains theirs) (Contains new) → Absorbs octets names path old new (Ok tt)
-absorbed octets names others path old theirs new saved same ordered union =
-    (theirs, subst (λ z. IsSavedAt octets path z theirs) (sym same) saved, ordered, union)
 
 -- ---- all files
 

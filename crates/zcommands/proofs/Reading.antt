@@ -8,7 +8,7 @@ use Rattle.std.proofs.lemmas.List.Elements.{All-head, All-tail}
 use Rattle.hex.specs.Hex.{hex_digit_value, is_hex_digit, pair_value, decode_pairs}
 use Rattle.hex.specs.declared.error.FromHexError.{FromHexError}
 use Rattle.hex.proofs.Pairs.{prepend, cons_byte, decode_pairs-ok_pair}
-use Rattle.hex.proofs.HexLemmas.{decode_pairs-ok, decode_of-ok, decode_of-even}
+use Rattle.hex.proofs.HexLemmas.{decode_pairs-ok, decode_of-even}
 use Rattle.zcommands.specs.declared.digits.TheConstants.{VALUES}
 use Rattle.zcommands.specs.Digits.{digits, octets_of, digit_value, IsOctetOf, BeginsWithNoSpace, BeginsWith, StandsForNone}
 
@@ -40,9 +40,6 @@ pub digit_small : (c v : ℕ) → hex_digit_value c ≡ Some v → digit_value c
 unfolding digit_value
 digit_small c v h = let e = value_of (hex_digit_value c) (is_ascii_whitespace c) v h in let lt = small c v h in omega (arith, e, lt)
 
-pub no_space : (c v : ℕ) → hex_digit_value c ≡ Some v → is_ascii_whitespace c ≡ false
-no_space c v h = grind (arith)
-
 pub octet_is : (high low first second octet : ℕ) → first ≡ digit_value high → second ≡ digit_value low → first < 16 → second < 16 → octet ≡ first * 16 + second → IsOctetOf high low octet
 octet_is high low first second octet p q m n e = record { first = first; second = second; high_is = digit_some high first p m; low_is = digit_some low second q n; octet_is = e }
 
@@ -55,28 +52,6 @@ no_low high low second octet p m s = let lt = digit_small low s.second s.low_is 
 -- white space is left out
 pub kept : (x : ℕ) (xs : List ℕ) → is_ascii_whitespace x ≡ false → digits (x ∷ xs) ≡ x ∷ digits xs
 kept x xs h = rw h refl
-
-pub passed : (x : ℕ) (xs : List ℕ) → is_ascii_whitespace x ≡ true → digits (x ∷ xs) ≡ digits xs
-passed x xs h = rw h refl
-
-high_kept : (high low octet : ℕ) (xs : List ℕ) → IsOctetOf high low octet → digits (high ∷ xs) ≡ high ∷ digits xs
-high_kept high low octet xs s = kept high xs (no_space high s.first s.high_is)
-
-low_kept : (high low octet : ℕ) (xs : List ℕ) → IsOctetOf high low octet → digits (low ∷ xs) ≡ low ∷ digits xs
-low_kept high low octet xs s = kept low xs (no_space low s.second s.low_is)
-
-pub begins_apart : (text behind rest : List ℕ) (high low octet : ℕ) → digits (high ∷ behind) ≡ digits text → length (high ∷ behind) ≤ length text
-    → digits (low ∷ rest) ≡ digits behind → length (low ∷ rest) ≤ length behind → IsOctetOf high low octet → BeginsWith text octet rest
-begins_apart text behind rest high low octet p m q n s = record {
-  high = high;
-  low = low;
-  cut = sym p ∙ high_kept high low octet behind s ∙ ap (λ z. high ∷ z) (sym q ∙ low_kept high low octet rest s);
-  spell = s;
-  shorter = omega arith;
-}
-
-pub begins_here : (rest : List ℕ) (high low octet : ℕ) → IsOctetOf high low octet → BeginsWith (high ∷ low ∷ rest) octet rest
-begins_here rest high low octet s = begins_apart (high ∷ low ∷ rest) (low ∷ rest) rest high low octet refl (omega arith) refl (omega arith) s
 
 -- texts that stand for no octets
 some_value : (o : Option ℕ) → is_some o ≡ true → (v : ℕ) × (o ≡ Some v)
@@ -135,16 +110,9 @@ pub record IsRead (text octets rest : List ℕ) : Type 0 where
   pub at : ℕ
   pub same : decode_pairs 0 (digits text) ≡ prepend octets (decode_pairs at (digits rest))
 
-prepend_none : (r : Result (List ℕ) FromHexError) → r ≡ prepend [] r
-prepend_none (Ok ys) = refl
-prepend_none (Err e) = refl
-
 prepend_more : (xs : List ℕ) (x : ℕ) (r : Result (List ℕ) FromHexError) → prepend xs (cons_byte x r) ≡ prepend (xs ++ x ∷ []) r
 prepend_more xs x (Ok ys) = ap Ok (sym (append_assoc xs (x ∷ []) ys))
 prepend_more xs x (Err e) = refl
-
-pub read_none : (text : List ℕ) → IsRead text [] text
-read_none text = record { at = 0; same = prepend_none (decode_pairs 0 (digits text)) }
 
 pair_is : (high low octet i : ℕ) → IsOctetOf high low octet → pair_value high low i ≡ Ok octet
 pair_is high low octet i s = rw (s.high_is, s.low_is) (ap Ok (sym s.octet_is))
@@ -166,14 +134,3 @@ read_all text octets rest h e =
     let whole = h.same ∙ all_read octets h.at (digits rest) e in
     let len = (decode_pairs-ok 0 (digits text) octets whole).1 in
     decode_of-even (digits text) (omega (arith, len)) ∙ whole
-
-rest_read : (octets xs : List ℕ) (r : Result (List ℕ) FromHexError) → prepend octets r ≡ Ok xs → (ys : List ℕ) × (r ≡ Ok ys)
-rest_read octets xs (Ok ys) h = (ys, refl)
-rest_read octets xs (Err e) h = cc h
-
-pub read_refused : (text octets rest : List ℕ) → IsRead text octets rest → StandsForNone rest → (xs : List ℕ) → octets_of text ≡ Ok xs → ⊥
-read_refused text octets rest h none xs is =
-    let even = (decode_of-ok (digits text) xs is).0 in
-    let whole = sym h.same ∙ sym (decode_of-even (digits text) even) ∙ is in
-    let left = rest_read octets xs (decode_pairs h.at (digits rest)) whole in
-    none h.at left.0 left.1

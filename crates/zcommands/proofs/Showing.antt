@@ -33,9 +33,6 @@ pub record HasShown (xs rest old now : List ℕ) : Type 0 where
   pub written : now ≡ old ++ text
   pub goes_on : (t : List ℕ) (end : Result (Unit {0}) Fault) → Shown rest t end → Shown xs (text ++ t) end
 
-pub shown_none : (xs old : List ℕ) → HasShown xs xs old old
-shown_none xs old = record { text = []; written = sym (append-nil old); goes_on = λ t end s. s }
-
 pub shown_more : (xs rest left old now then : List ℕ) (e : Element) (v : Apdu) → HasShown xs rest old now → Begins limit rest e left → Writes v e → then ≡ now ++ apdu_text v → HasShown xs left old then
 shown_more xs rest left old now then e v h b w q = record {
   text = h.text ++ apdu_text v;

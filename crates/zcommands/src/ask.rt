@@ -11,7 +11,7 @@ ghost use Rattle.zcommands.specs.Ask.{Enquires, CanBeAsked, AsksEnquiry, AsksFil
 
 use crate::choice::{Choice, addresses_of};
 use crate::fault::{Fault, Status};
-use crate::files::{Folder, named};
+use crate::files::{Folder, file_at};
 use crate::finished::{Finished, NAME, Paths, finish};
 use crate::input::Input;
 use crate::output::Output;
@@ -74,7 +74,7 @@ fn ask_paths<'a, 'o: 'a, S: Folder + Net + Clock, W: Write, E: Write, P: Write +
     ensures paths { IsOfPaths paths.entry.world.now (option_map (λ path. path.now) paths.entry.saved)
         (held W.contents output.new) result }
 {
-    let mut world = named(system, paths.world);
+    let mut world = file_at(system, paths.world);
     let finished = ask_file(alloc, system, &mut world, choice, mode, screen)?;
     let answer = finish(alloc, system, &finished, paths.saved, output, errors);
     drop(finished);

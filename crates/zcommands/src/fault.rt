@@ -21,7 +21,7 @@ use zworld::world::WorldError;
 pub enum Status {
     /// All was done.
     Done,
-    /// A connection failed; the rest was done.
+    /// A search, an association or a connection failed, or a question was not asked; the rest was done.
     Failed,
     /// The words of the command are wrong.
     Words,

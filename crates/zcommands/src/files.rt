@@ -72,7 +72,7 @@ impl<F: Folder> Read for NamedFile<'_, F> {
 }
 
 /// The file at a path, as a stream. It is not opened yet.
-pub(crate) fn named<'a, F: Folder>(files: &'a F, path: &'a str) -> Input<'a, NamedFile<'a, F>>
+pub(crate) fn file_at<'a, F: Folder>(files: &'a F, path: &'a str) -> Input<'a, NamedFile<'a, F>>
     ensures path { result.path ≡ path.entry }
     ensures octets { opened_left F.File.remaining (F.octets result.reader.files.now result.reader.path.now)
         result.reader.file ≡ F.octets files.now path.now }

@@ -7,7 +7,7 @@ ghost use Rattle.zcommands.specs.declared.fault.Fault.{Fault};
 ghost use Rattle.zcommands.specs.declared.fault.Status.{Status};
 
 use crate::fault::{Fault, Status};
-use crate::files::{Folder, named};
+use crate::files::{Folder, file_at};
 use crate::input::Input;
 use crate::output::Output;
 use std::alloc::Global;
@@ -144,7 +144,7 @@ fn load_named<'a, F: Folder>(
 ) -> Result<(Knowledge, Names), Fault<'a>>
     ensures { LoadsAt (F.octets files.now) path.entry.now result }
 {
-    let mut file = named(files, path);
+    let mut file = file_at(files, path);
     load_file(alloc, &mut file)
 }
 

@@ -10,7 +10,7 @@ ghost use Rattle.zcommands.specs.Run.{IsRunOf};
 ghost use Rattle.zcommands.specs.Serve.{IsOfService};
 
 use crate::fault::{Fault, Status};
-use crate::files::{Folder, named};
+use crate::files::{Folder, file_at};
 use crate::finished::{Finished, Paths, finish};
 use crate::input::Input;
 use crate::output::Output;
@@ -58,7 +58,7 @@ fn loop_paths<'a, 'o: 'a, S: Folder + Net, W: Write, E: Write>(
     ensures paths { IsOfPaths paths.entry.world.now (option_map (λ path. path.now) paths.entry.saved)
         (held W.contents output.new) result }
 {
-    let mut world = named(system, paths.world);
+    let mut world = file_at(system, paths.world);
     let finished = loop_file(alloc, system, &mut world, mode)?;
     let answer = finish(alloc, system, &finished, paths.saved, output, errors);
     drop(finished);

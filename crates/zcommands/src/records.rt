@@ -36,7 +36,7 @@ pub struct SavedFiles<'a, 'w> {
 }
 
 /// Writes the octets of the records that saved files know together, one after the other in the order of the list, and
-/// tells on standard error how many were left out. Or tells which file is refused and why, or that the syntax is none.
+/// tells on standard error how many were left out. Or tells why a file is refused, or that the syntax is none.
 ///
 /// The status is that of `join_named`: `Failed` where a search or an association failed.
 pub fn records_named<'a, 'o: 'a, F: Folder, W: Write, E: Write>(

@@ -8,7 +8,7 @@ ghost use Rattle.zworld.specs.Fitness.{IsArrangement};
 ghost use Rattle.zcommands.specs.Run.{Arranges, IsWholeRunOf, RunsFile, Runs, DoesRun};
 
 use crate::fault::{Fault, Status};
-use crate::files::{Folder, named};
+use crate::files::{Folder, file_at};
 use crate::finished::{Finished, NAME, Paths, finish};
 use crate::input::Input;
 use crate::output::Output;
@@ -60,7 +60,7 @@ fn run_paths<'a, 'o: 'a, F: Folder, W: Write, E: Write>(
     ensures paths { IsOfPaths paths.entry.world.now (option_map (λ path. path.now) paths.entry.saved)
         (held W.contents output.new) result }
 {
-    let mut world = named(files, paths.world);
+    let mut world = file_at(files, paths.world);
     let finished = run_file(alloc, &mut world, mode)?;
     let answer = finish(alloc, files, &finished, paths.saved, output, errors);
     drop(finished);
@@ -92,7 +92,7 @@ pub(crate) fn arrange_file<'a, R: Read>(
 {
     let world = world_in(alloc, file)?;
     let name = Bytes::copy_from_slice(alloc, NAME)?;
-    Ok(world.arranged(alloc, name)?)
+    Ok(world.arrange(alloc, name)?)
 }
 
 /// Runs a world, and makes its list.

@@ -6,7 +6,7 @@ ghost use Rattle.zcommands.specs.Devices.{held};
 ghost use Rattle.zcommands.specs.Serve.{Serves, ServesWorld, EndsOf, DoesServe};
 
 use crate::fault::{Fault, Status};
-use crate::files::{Folder, named};
+use crate::files::{Folder, file_at};
 use crate::output::Output;
 use crate::worlds::world_in;
 use std::alloc::Global;
@@ -57,7 +57,7 @@ fn serve_target<'a, S: Folder + Net + Clock>(
         (λ octets. Serves service.entry.name.now octets result) }
     ensures path { EndsOf service.entry.world.now result }
 {
-    let mut file = named(system, service.world);
+    let mut file = file_at(system, service.world);
     let world = world_in(alloc, &mut file)?;
     let served = serve_world(alloc, system, service, &world);
     drop(world);

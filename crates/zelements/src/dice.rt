@@ -14,7 +14,7 @@ impl Dice {
     }
 
     /// A number below this one; 0 where there is none.
-    pub fn below(&mut self, bound: u64) -> u64 {
+    pub fn number_below(&mut self, bound: u64) -> u64 {
         self.state = self
             .state
             .wrapping_mul(6364136223846793005)
@@ -24,7 +24,7 @@ impl Dice {
 
     /// One of these texts; the empty one where there is none.
     pub fn one(&mut self, texts: &[&'static str]) -> &'static str {
-        let at = self.below(texts.len() as u64);
+        let at = self.number_below(texts.len() as u64);
         texts.get(at as usize).copied().unwrap_or("")
     }
 
@@ -32,7 +32,7 @@ impl Dice {
     pub fn order(&mut self, alloc: Global, count: usize) -> Result<Vec<usize>, AllocError> {
         let mut order: Vec<usize> = (0..count).collect(alloc)?;
         for at in 0..order.len() {
-            let other = self.below(count as u64) as usize;
+            let other = self.number_below(count as u64) as usize;
             if other < order.len() && at < order.len() {
                 order.swap(at, other);
             }

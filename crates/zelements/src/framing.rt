@@ -1,6 +1,6 @@
 // Messages and faults of a stream of octets, worked out from X.690, 8.1.
 use crate::encodings::PRESENT_RESPONSE;
-use crate::rows::{LIMIT, each_row, element, encoding, held, octets, pair, parted, tells};
+use crate::rows::{LIMIT, each_row, element, encoding, is_true, octets, pair, split_row, tells};
 use crate::scripts::{answers, put_next};
 use crate::unread::Unread;
 use std::alloc::{AllocError, Global};
@@ -84,9 +84,9 @@ fn comes_last(alloc: Global, digits: &str, due: &str) -> Result<bool, Unread> {
 fn is_fault(alloc: Global, row: &str) -> Result<bool, Unread> {
     let (digits, due) = pair(row);
     Ok(
-        held(stays(alloc, digits, due))
-            && held(comes_last(alloc, digits, due))
-            && held(comes_after(alloc, digits, due)),
+        is_true(stays(alloc, digits, due))
+            && is_true(comes_last(alloc, digits, due))
+            && is_true(comes_after(alloc, digits, due)),
     )
 }
 
@@ -113,7 +113,7 @@ b9268204000000029801019901029b0100bc1530 - finish next - finish: false;nothing;T
 ";
 
 fn is_accepted(alloc: Global, row: &str) -> Result<bool, Unread> {
-    let (script, due) = parted(row, ": ");
+    let (script, due) = split_row(row, ": ");
     Ok(tells(answers(alloc, LIMIT, script), due))
 }
 
@@ -123,7 +123,7 @@ fn lawful_octets_are_messages(rt: HostRuntime) -> Result<(), Fail> {
 }
 
 // What so many constructed elements of indefinite length within one another show, octets within them, and so many ends.
-fn nested(alloc: Global, opens: usize, within: &str, ends: usize) -> Result<String, Unread> {
+fn nesting_trace(alloc: Global, opens: usize, within: &str, ends: usize) -> Result<String, Unread> {
     let opens = "3080".repeat(alloc, opens)?;
     let ends = "0000".repeat(alloc, ends)?;
     let script = format!(in alloc; "{opens} {within} {ends} next")?;
@@ -142,7 +142,7 @@ fn is_nested(alloc: Global, row: &str) -> Result<bool, Unread> {
     let (opens, rest) = pair(row);
     let (within, rest) = pair(rest);
     let (ends, due) = pair(rest);
-    let trace = nested(
+    let trace = nesting_trace(
         alloc,
         opens.parse::<usize>()?,
         within,
@@ -165,18 +165,18 @@ fn a_message_ends_at_the_limit(rt: HostRuntime) -> Result<(), Fail> {
 }
 
 // A copy of the message that digits spell, which is gone by then.
-fn copied(alloc: Global, digits: &str) -> Result<Node, Unread> {
+fn copy_of(alloc: Global, digits: &str) -> Result<Node, Unread> {
     let node = element(alloc, digits)?;
     Ok(node.copy(alloc)?)
 }
 
 fn is_copied(alloc: Global, digits: &str) -> Result<bool, Unread> {
-    let copy = copied(alloc, digits)?;
+    let copy = copy_of(alloc, digits)?;
     Ok(tells(encoding(alloc, &copy), digits))
 }
 
 #[test]
 fn a_copy_is_kept_apart(rt: HostRuntime) -> Result<(), Fail> {
-    assert!(rt; held(is_copied(rt.alloc(), PRESENT_RESPONSE)));
+    assert!(rt; is_true(is_copied(rt.alloc(), PRESENT_RESPONSE)));
     Ok(())
 }

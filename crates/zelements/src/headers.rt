@@ -1,6 +1,6 @@
 // Canonical encodings of elements made by hand, worked out from X.690, 8.1.
-use crate::nested::nested;
-use crate::rows::{LIMIT, cut, digits, each_row, encoding, held, pair, tells};
+use crate::nested::nest_elements;
+use crate::rows::{LIMIT, digits, each_row, encoding, is_true, pair, split_text, tells};
 use crate::unread::Unread;
 use bytes::Bytes;
 use std::alloc::{AllocError, Global};
@@ -9,7 +9,7 @@ use std::test::Fail;
 use zber::{Framer, Node, Tag};
 
 // What an element is encoded as under a limit, behind an octet that is there before; a refusal leaves that alone.
-fn encoded(alloc: Global, node: &Node, limit: u32) -> Result<String, AllocError> {
+fn encode_within(alloc: Global, node: &Node, limit: u32) -> Result<String, AllocError> {
     let mut out = Vec::from_slice(alloc, &[0xaa])?;
     let refused = node.encode(alloc, limit, &mut out).err();
     let text = digits(alloc, out.as_slice())?;
@@ -20,7 +20,7 @@ fn encoded(alloc: Global, node: &Node, limit: u32) -> Result<String, AllocError>
 }
 
 fn is_encoded(alloc: Global, node: &Node, limit: u32, due: &str) -> bool {
-    tells(encoded(alloc, node, limit), due)
+    tells(encode_within(alloc, node, limit), due)
 }
 
 // A Close, reason finished.
@@ -61,13 +61,13 @@ fn is_read_again(alloc: Global, node: &Node) -> Result<bool, Unread> {
 }
 
 fn are_read_again(alloc: Global, levels: u32) -> Result<bool, Unread> {
-    let node = nested(alloc, levels)?;
+    let node = nest_elements(alloc, levels)?;
     is_read_again(alloc, &node)
 }
 
 #[test]
 fn sixty_four_levels_are_encoded(rt: HostRuntime) -> Result<(), Fail> {
-    assert!(rt; held(are_read_again(rt.alloc(), 64)));
+    assert!(rt; is_true(are_read_again(rt.alloc(), 64)));
     Ok(())
 }
 
@@ -81,7 +81,7 @@ const LEVELS: &str = "\
 fn is_refused(alloc: Global, row: &str) -> Result<bool, Unread> {
     let (levels, rest) = pair(row);
     let (limit, due) = pair(rest);
-    let node = nested(alloc, levels.parse::<u32>()?)?;
+    let node = nest_elements(alloc, levels.parse::<u32>()?)?;
     Ok(is_encoded(alloc, &node, limit.parse::<u32>()?, due))
 }
 
@@ -92,7 +92,7 @@ fn more_levels_or_octets_are_refused(rt: HostRuntime) -> Result<(), Fail> {
 
 #[test]
 fn any_number_of_levels_has_a_canonical_encoding(rt: HostRuntime) -> Result<(), Fail> {
-    let digits = encoding(rt.alloc(), &nested(rt.alloc(), 200)?)?;
+    let digits = encoding(rt.alloc(), &nest_elements(rt.alloc(), 200)?)?;
     assert!(rt; digits.as_str().starts_with("308202"));
     Ok(())
 }
@@ -115,7 +115,7 @@ const HEADERS: &str = "\
 ";
 
 // An element of so many octets 55.
-fn filled(alloc: Global, number: &str, count: usize) -> Result<Node, Unread> {
+fn fill_element(alloc: Global, number: &str, count: usize) -> Result<Node, Unread> {
     let tag = Tag::context(number.parse::<u32>()?);
     let octets = vec![in alloc; 0x55; count]?;
     Ok(Node::prim(tag, Bytes::from_vec(octets)?))
@@ -123,8 +123,8 @@ fn filled(alloc: Global, number: &str, count: usize) -> Result<Node, Unread> {
 
 // What encodings of elements of so many octets have before the octets and behind the octet that was there.
 fn has_header(alloc: Global, node: &Node, count: usize, header: &str) -> Result<bool, Unread> {
-    let text = encoded(alloc, node, LIMIT)?;
-    let (front, back) = cut(text.as_str(), header.len().saturating_add(2));
+    let text = encode_within(alloc, node, LIMIT)?;
+    let (front, back) = split_text(text.as_str(), header.len().saturating_add(2));
     Ok(front.strip_prefix("aa") == Some(header) && back.len() == count.saturating_mul(2))
 }
 
@@ -139,11 +139,11 @@ fn is_header(alloc: Global, row: &str) -> Result<bool, Unread> {
     let (number, rest) = pair(row);
     let (count, header) = pair(rest);
     let count = count.parse::<u32>()?;
-    let node = filled(alloc, number, count as usize)?;
+    let node = fill_element(alloc, number, count as usize)?;
     let length = count.saturating_add(header.len().min(20) as u32 / 2);
     Ok(
-        held(has_header(alloc, &node, count as usize, header))
-            && held(is_as_long(alloc, &node, length)),
+        is_true(has_header(alloc, &node, count as usize, header))
+            && is_true(is_as_long(alloc, &node, length)),
     )
 }
 

@@ -1,5 +1,5 @@
 // Texts of object identifiers, worked out from X.690, 8.19, and X.660.
-use crate::rows::{each_row, pair, parted, tells};
+use crate::rows::{each_row, pair, split_row, tells};
 use crate::unread::Unread;
 use std::alloc::{AllocError, Global};
 use std::process::Abort;
@@ -54,7 +54,7 @@ OidFirst 3.1
 OidFirst 4294967295.1.1
 ";
 
-fn told(alloc: Global, oid: Result<Oid, OidError>) -> Result<String, AllocError> {
+fn error_of(alloc: Global, oid: Result<Oid, OidError>) -> Result<String, AllocError> {
     match oid {
         Ok(_) => String::from_str(alloc, "none"),
         Err(error) => format!(in alloc; "{error:?}"),
@@ -63,7 +63,7 @@ fn told(alloc: Global, oid: Result<Oid, OidError>) -> Result<String, AllocError>
 
 fn is_refused(alloc: Global, row: &str) -> Result<bool, Unread> {
     let (due, text) = pair(row);
-    let refused = told(alloc, Oid::parse_dotted(alloc, text.as_bytes()));
+    let refused = error_of(alloc, Oid::parse_dotted(alloc, text.as_bytes()));
     Ok(tells(refused, due))
 }
 
@@ -90,9 +90,9 @@ fn arcs(alloc: Global, row: &str) -> Result<Vec<u32>, Unread> {
 }
 
 fn are_arcs(alloc: Global, row: &str) -> Result<bool, Unread> {
-    let (row, due) = parted(row, ": ");
+    let (row, due) = split_row(row, ": ");
     let arcs = arcs(alloc, row)?;
-    Ok(tells(told(alloc, Oid::from_arcs(alloc, arcs.as_slice())), due))
+    Ok(tells(error_of(alloc, Oid::from_arcs(alloc, arcs.as_slice())), due))
 }
 
 #[test]

@@ -3,7 +3,7 @@ use std::alloc::{AllocError, Global};
 use zber::{Node, Tag};
 
 /// So many constructed elements within one another, and an empty primitive one in the innermost.
-pub fn nested(alloc: Global, levels: u32) -> Result<Node, AllocError> {
+pub fn nest_elements(alloc: Global, levels: u32) -> Result<Node, AllocError> {
     let mut node = Node::of_null(Tag::context(0));
     for _ in 0..levels {
         let mut nodes = Vec::new(alloc);

@@ -1,6 +1,6 @@
 // Octets in pieces: a cut changes no answer, and each octet is looked at once (X.690, 8.1).
 use crate::framing::FAULTS;
-use crate::rows::{LIMIT, cut, each_row, held, octets, pair, parted, tells};
+use crate::rows::{LIMIT, each_row, is_true, octets, pair, split_row, split_text, tells};
 use crate::scripts::answers;
 use crate::unread::Unread;
 use std::alloc::Global;
@@ -56,12 +56,12 @@ b9808204000000029801019901029b0100bc803015a113a1112882000d06072a8648ce13050a8102
 ";
 
 fn is_counted(alloc: Global, row: &str) -> Result<bool, Unread> {
-    let (octets, due) = parted(row, ": ");
+    let (octets, due) = split_row(row, ": ");
     let stream = stream(alloc, octets)?;
     let mut framer = Framer::new(alloc, LIMIT);
     let ends = ends(alloc, &mut framer, stream.as_slice())?;
     let is_one = ends.as_slice() == [stream.len().saturating_sub(1)].as_slice();
-    Ok(is_one && held(has_counts(&framer, due)))
+    Ok(is_one && is_true(has_counts(&framer, due)))
 }
 
 #[test]
@@ -84,18 +84,18 @@ fn come_in_one_piece(alloc: Global, row: &str, count: u32) -> Result<bool, Unrea
     let stream = stream(alloc, row)?;
     let mut framer = Framer::new(alloc, LIMIT);
     framer.feed(stream.as_slice())?;
-    Ok(held(gives(&mut framer, count)))
+    Ok(is_true(gives(&mut framer, count)))
 }
 
 #[test]
 fn many_messages_come_in_one_piece(rt: HostRuntime) -> Result<(), Fail> {
-    assert!(rt; held(come_in_one_piece(rt.alloc(), "- 250000 bf30059f81530100", 250_000)));
+    assert!(rt; is_true(come_in_one_piece(rt.alloc(), "- 250000 bf30059f81530100", 250_000)));
     Ok(())
 }
 
 // Whether it comes with the second of two pieces, the first of which has so many digits.
 fn comes_behind(alloc: Global, digits: &str, due: &str, place: usize) -> Result<bool, Unread> {
-    let (first, second) = cut(digits, place);
+    let (first, second) = split_text(digits, place);
     let script = format!(in alloc; "{first} next {second} next")?;
     let due = format!(in alloc; "nothing;{due};")?;
     Ok(tells(answers(alloc, LIMIT, script.as_str()), due.as_str()))
@@ -104,7 +104,7 @@ fn comes_behind(alloc: Global, digits: &str, due: &str, place: usize) -> Result<
 fn comes_behind_each_cut(alloc: Global, row: &str) -> Result<bool, Unread> {
     let (digits, due) = pair(row);
     for place in 0..digits.len() {
-        if place % 2 == 0 && !held(comes_behind(alloc, digits, due, place)) {
+        if place % 2 == 0 && !is_true(comes_behind(alloc, digits, due, place)) {
             return Ok(false);
         }
     }

@@ -20,7 +20,7 @@ pub fn each_row<F: Fn(Global, &str) -> Result<bool, Unread>>(
     requires { F.IsAlwaysCallable holds.now }
 {
     for row in rows.lines() {
-        if !row.starts_with('#') && !held(holds(alloc, row)) {
+        if !row.starts_with('#') && !is_true(holds(alloc, row)) {
             return Err(Fail::new(row));
         }
     }
@@ -28,12 +28,12 @@ pub fn each_row<F: Fn(Global, &str) -> Result<bool, Unread>>(
 }
 
 /// The two parts of a row, which a mark divides; the second is empty where there is none.
-pub fn parted<'a>(row: &'a str, mark: &str) -> (&'a str, &'a str) {
+pub fn split_row<'a>(row: &'a str, mark: &str) -> (&'a str, &'a str) {
     row.split_once(mark).unwrap_or((row, ""))
 }
 
 /// The first so many octets of a text, and the others.
-pub fn cut(text: &str, at: usize) -> (&str, &str) {
+pub fn split_text(text: &str, at: usize) -> (&str, &str) {
     text.split_at_checked(at).unwrap_or((text, ""))
 }
 
@@ -44,11 +44,11 @@ pub fn pair(row: &str) -> (&str, &str) {
 
 /// The two parts of a row, which an arrow divides.
 pub fn halves(row: &str) -> (&str, &str) {
-    parted(row, " => ")
+    split_row(row, " => ")
 }
 
 /// Whether it was found to hold: not where it could not be told.
-pub fn held<E: Drop>(answer: Result<bool, E>) -> bool
+pub fn is_true<E: Drop>(answer: Result<bool, E>) -> bool
     ensures { IsTrue result ↔ (answer ≡ Ok true) }
 {
     answer.unwrap_or(false)
@@ -114,11 +114,11 @@ pub fn encoding(alloc: Global, node: &Node) -> Result<String, AllocError> {
 }
 
 /// The octets of a text in which `%` and two digits stand for one octet.
-pub fn unescaped(alloc: Global, text: &str) -> Result<Vec<u8>, Unread> {
+pub fn unescape(alloc: Global, text: &str) -> Result<Vec<u8>, Unread> {
     let mut out = Vec::new(alloc);
     let mut digits = 0u8;
     for part in text.split('%') {
-        let (escaped, plain) = cut(part, digits as usize);
+        let (escaped, plain) = split_text(part, digits as usize);
         put_octets(alloc, escaped, &mut out)?;
         out.extend_from_slice(plain.as_bytes())?;
         digits = 2;

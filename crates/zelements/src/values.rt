@@ -115,7 +115,7 @@ oid () WrongForm
 ";
 
 // An element with these contents.
-fn held(alloc: Global, digits: &str) -> Result<Node, Unread> {
+fn node_of(alloc: Global, digits: &str) -> Result<Node, Unread> {
     if digits == "()" {
         return Ok(Node::cons(Tag::context(1), Vec::new(alloc)));
     }
@@ -183,7 +183,7 @@ fn read(alloc: Global, kind: &str, node: &Node) -> Result<String, AllocError> {
 fn is_read(alloc: Global, row: &str) -> Result<bool, Unread> {
     let (kind, rest) = pair(row);
     let (digits, value) = pair(rest);
-    let node = held(alloc, digits)?;
+    let node = node_of(alloc, digits)?;
     Ok(tells(read(alloc, kind, &node), value))
 }
 
@@ -239,7 +239,7 @@ fn write_oid(alloc: Global, value: &str) -> Result<Node, Unread> {
 }
 
 // The element of a value.
-fn written(alloc: Global, kind: &str, value: &str) -> Result<Node, Unread> {
+fn write_value(alloc: Global, kind: &str, value: &str) -> Result<Node, Unread> {
     match kind {
         "integer" => write_integer(alloc, value),
         "boolean" => Ok(Node::of_bool(Tag::context(1), value == "true")),
@@ -253,7 +253,7 @@ fn written(alloc: Global, kind: &str, value: &str) -> Result<Node, Unread> {
 fn is_written(alloc: Global, row: &str) -> Result<bool, Unread> {
     let (kind, rest) = pair(row);
     let (digits, value) = pair(rest);
-    let node = written(alloc, kind, value)?;
+    let node = write_value(alloc, kind, value)?;
     Ok(tells(contents(alloc, &node), digits))
 }
 
@@ -270,7 +270,7 @@ const FIRST: &str = "\
 
 fn are_first(alloc: Global, row: &str) -> Result<bool, Unread> {
     let (digits, due) = pair(row);
-    let bits = held(alloc, digits)?.as_bits(alloc)?;
+    let bits = node_of(alloc, digits)?.as_bits(alloc)?;
     Ok(tells(bit_digits(alloc, &bits, 20), due))
 }
 

@@ -5,7 +5,7 @@ use zapdu::{Apdu, BuildError, DiagRec, Record};
 use zber::Node;
 use zelements::rows::element;
 use zelements::unread::{Unread, read};
-pub use zqueries::plain::{boxed, parse};
+pub use zqueries::plain::{box_value, parse};
 
 /// The element of an APDU.
 pub fn apdu_node(alloc: Global, apdu: &Apdu) -> Result<Node, BuildError> {
@@ -15,7 +15,7 @@ pub fn apdu_node(alloc: Global, apdu: &Apdu) -> Result<Node, BuildError> {
 /// The APDU of an element.
 pub fn apdu_of(alloc: Global, node: &Node) -> Result<Box<Apdu>, Unread> {
     let apdu = read(zapdu::from_node(alloc, node))?;
-    Ok(boxed(alloc, apdu)?)
+    Ok(box_value(alloc, apdu)?)
 }
 
 /// The APDU that digits spell.

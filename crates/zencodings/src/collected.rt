@@ -3,7 +3,7 @@ use crate::apdus::{APDUS, LENGTHS};
 use crate::servers::SENT;
 use crate::{misfits, records, segments};
 use std::alloc::{AllocError, Global};
-use zelements::rows::{pair, parted};
+use zelements::rows::{pair, split_row};
 use zqueries::rows::{KEPT, LONG, OTHERS, READ};
 
 // Where an encoding stands in a row: its first word, its second one, its last one, or what is behind the equals sign.
@@ -22,18 +22,18 @@ fn last(row: &str) -> &str {
     }
 }
 
-fn at(row: &str, place: Place) -> &str {
+fn word_at(row: &str, place: Place) -> &str {
     match place {
         Place::First => pair(row).0,
         Place::Second => pair(pair(row).1).0,
         Place::Last => last(row),
-        Place::Marked => parted(row, "=").1,
+        Place::Marked => split_row(row, "=").1,
     }
 }
 
 fn put(rows: &str, place: Place, out: &mut String) -> Result<(), AllocError> {
     for row in rows.lines() {
-        let word = at(row, place);
+        let word = word_at(row, place);
         if !row.starts_with('#') && !word.is_empty() {
             out.push_str(word)?;
             out.push_str("\n")?;

@@ -8,14 +8,16 @@ use std::process::Abort;
 use std::test::Fail;
 use zapdu::ApduError;
 use zber::{FaultKind, FrameError, Framer, Node};
-use zelements::rows::{LIMIT, cut, each_row, element, encoding, held, octets, pair, tells};
+use zelements::rows::{
+    LIMIT, each_row, element, encoding, is_true, octets, pair, split_text, tells,
+};
 use zelements::scripts::answers;
 use zelements::unread::{Unread, read};
 use zqueries::plain::{inner, is_query};
 
 // Whether the first so many octets are told to be cut off there.
 fn is_truncated(alloc: Global, digits: &str, at: usize) -> Result<bool, Unread> {
-    let (first, _) = cut(digits, at.saturating_mul(2));
+    let (first, _) = split_text(digits, at.saturating_mul(2));
     let script = format!(in alloc; "{first} next finish")?;
     let due = format!(in alloc; "nothing;Truncated at {at};")?;
     Ok(tells(answers(alloc, LIMIT, script.as_str()), due.as_str()))
@@ -26,7 +28,7 @@ fn is_waiting(framer: &mut Framer) -> bool {
 }
 
 // How many octets stand before the one with which a message or a fault comes, of octets that are fed one by one.
-fn waited(alloc: Global, digits: &str) -> Result<usize, Unread> {
+fn octets_before_answer(alloc: Global, digits: &str) -> Result<usize, Unread> {
     let octets = octets(alloc, digits)?;
     let mut framer = Framer::new(alloc, LIMIT);
     for (before, octet) in octets.iter().enumerate() {
@@ -39,8 +41,8 @@ fn waited(alloc: Global, digits: &str) -> Result<usize, Unread> {
 }
 
 fn is_truncated_anywhere(alloc: Global, digits: &str) -> Result<bool, Unread> {
-    for before in 0..waited(alloc, digits)? {
-        if !held(is_truncated(alloc, digits, before.saturating_add(1))) {
+    for before in 0..octets_before_answer(alloc, digits)? {
+        if !is_true(is_truncated(alloc, digits, before.saturating_add(1))) {
             return Ok(false);
         }
     }
@@ -99,11 +101,11 @@ fn is_diag_or_none(alloc: Global, node: &Node) -> Result<bool, Unread> {
 
 // Whether an element is read back, and so is all that it can be taken for.
 fn is_told(alloc: Global, node: &Node) -> bool {
-    held(is_read_back(alloc, node, &own_encoding))
-        && held(is_apdu_or_none(alloc, node))
-        && held(is_query_or_none(alloc, node))
-        && held(is_record_or_none(alloc, node))
-        && held(is_diag_or_none(alloc, node))
+    is_true(is_read_back(alloc, node, &own_encoding))
+        && is_true(is_apdu_or_none(alloc, node))
+        && is_true(is_query_or_none(alloc, node))
+        && is_true(is_record_or_none(alloc, node))
+        && is_true(is_diag_or_none(alloc, node))
 }
 
 // The same of an element and of the first one within it, as a query stands in an element around it.
@@ -148,7 +150,7 @@ fn flip(octets: &mut [u8], at: usize, mask: u8) {
 fn is_answered_changed(alloc: Global, octets: &mut [u8], at: usize) -> Result<bool, Unread> {
     for mask in [0x01, 0x02, 0x20, 0x40, 0x80, 0xff_u8] {
         flip(octets, at, mask);
-        if !held(is_answered(alloc, octets)) {
+        if !is_true(is_answered(alloc, octets)) {
             return Ok(false);
         }
         flip(octets, at, mask);
@@ -159,7 +161,7 @@ fn is_answered_changed(alloc: Global, octets: &mut [u8], at: usize) -> Result<bo
 fn is_answered_changed_anywhere(alloc: Global, digits: &str) -> Result<bool, Unread> {
     let mut octets = octets(alloc, digits)?;
     for at in 0..octets.len() {
-        if !held(is_answered_changed(alloc, octets.as_mut_slice(), at)) {
+        if !is_true(is_answered_changed(alloc, octets.as_mut_slice(), at)) {
             return Ok(false);
         }
     }
@@ -236,7 +238,7 @@ b9808204000000029801019901029b0100bc803015a113a1112882000d06072a8648ce13050a8102
 bf30208201079f8153010283017884072a8648ce130301a506280481026869bf814900 346 2938 103 1660 3878 70448
 ";
 
-fn counted(alloc: Global, digits: &str) -> Result<Tally, Unread> {
+fn tally_changes(alloc: Global, digits: &str) -> Result<Tally, Unread> {
     let mut octets = octets(alloc, digits)?;
     let mut tally = Tally {
         fronts: 0,
@@ -254,7 +256,7 @@ fn counted(alloc: Global, digits: &str) -> Result<Tally, Unread> {
 
 fn has_tally(alloc: Global, row: &str) -> Result<bool, Unread> {
     let (digits, due) = pair(row);
-    let of = counted(alloc, digits)?;
+    let of = tally_changes(alloc, digits)?;
     let told = format!(in alloc;
         "{} {} {} {} {} {}",
         of.fronts, of.apdus, of.others, of.malformed, of.faults, of.places

@@ -16,7 +16,7 @@ use zber::{Bits, Node, Oid};
 use zelements::rows::digits;
 use zelements::shown::bit_digits;
 use zelements::unread::{Unread, read};
-use zqueries::plain::{printed, query_copy};
+use zqueries::plain::{query_copy, query_text};
 use zrpn::Query;
 
 pub(crate) fn put_some_number(alloc: Global, number: &Option<i64>, out: &mut Line) {
@@ -31,7 +31,7 @@ pub(crate) fn put_truth(value: bool, out: &mut Line) {
 }
 
 pub(crate) fn put_text(alloc: Global, text: &Bytes, out: &mut Line) {
-    out.quoted(alloc, text.as_slice())
+    out.add_quoted(alloc, text.as_slice())
 }
 
 pub(crate) fn put_some_text(alloc: Global, text: &Option<Bytes>, out: &mut Line) {
@@ -46,13 +46,13 @@ pub(crate) fn put_reference(alloc: Global, octets: &Option<Bytes>, out: &mut Lin
         None => put_word("-", out),
         Some(octets) => {
             put_word("#", out);
-            out.joined(digits(alloc, octets.as_slice()))
+            out.add_text(digits(alloc, octets.as_slice()))
         }
     }
 }
 
 pub(crate) fn put_bits(alloc: Global, bits: &Bits, out: &mut Line) {
-    out.told(bit_digits(alloc, bits, bits.len()))
+    out.add_word(bit_digits(alloc, bits, bits.len()))
 }
 
 pub(crate) fn put_some_node(alloc: Global, node: &Option<Node>, out: &mut Line) {
@@ -68,7 +68,7 @@ fn oid_text(alloc: Global, oid: &Oid) -> Result<String, AllocError> {
 }
 
 fn put_oid(alloc: Global, oid: &Oid, out: &mut Line) {
-    out.told(oid_text(alloc, oid))
+    out.add_word(oid_text(alloc, oid))
 }
 
 pub(crate) fn put_some_oid(alloc: Global, oid: &Option<Oid>, out: &mut Line) {
@@ -267,12 +267,12 @@ pub(crate) fn put_ranges(alloc: Global, ranges: &[Range], out: &mut Line) {
 
 fn copy_text(alloc: Global, query: &Query) -> Result<Vec<u8>, Unread> {
     let copy = query_copy(alloc, query)?;
-    printed(alloc, &copy)
+    query_text(alloc, &copy)
 }
 
 fn put_rpn(alloc: Global, query: &Query, out: &mut Line) {
     put_word("query ", out);
-    out.given(copy_text(alloc, query))
+    out.add_octets(copy_text(alloc, query))
 }
 
 pub(crate) fn put_query(alloc: Global, query: &SearchQuery, out: &mut Line) {

@@ -57,7 +57,7 @@ impl Line {
     }
 
     /// Appends a word that there was memory for.
-    pub fn told(&mut self, word: Result<String, AllocError>) {
+    pub fn add_word(&mut self, word: Result<String, AllocError>) {
         match word {
             Ok(word) => self.word(word.as_str()),
             Err(_) => self.fail(),
@@ -65,7 +65,7 @@ impl Line {
     }
 
     /// Appends a text that there was memory for, with no space before it.
-    pub fn joined(&mut self, text: Result<String, AllocError>) {
+    pub fn add_text(&mut self, text: Result<String, AllocError>) {
         match text {
             Ok(text) => self.put(text.as_bytes()),
             Err(_) => self.fail(),
@@ -73,7 +73,7 @@ impl Line {
     }
 
     /// Appends octets that are there, with no space before them.
-    pub fn given<E: Drop>(&mut self, octets: Result<Vec<u8>, E>) {
+    pub fn add_octets<E: Drop>(&mut self, octets: Result<Vec<u8>, E>) {
         match octets {
             Ok(octets) => self.put(octets.as_slice()),
             Err(_) => self.fail(),
@@ -81,7 +81,7 @@ impl Line {
     }
 
     /// Appends octets in quotes.
-    pub fn quoted(&mut self, alloc: Global, octets: &[u8]) {
+    pub fn add_quoted(&mut self, alloc: Global, octets: &[u8]) {
         self.put(b" ");
         if quote(alloc, octets, &mut self.octets).is_err() {
             self.fail();
@@ -115,15 +115,15 @@ pub fn put_word(word: &str, out: &mut Line) {
 
 /// Appends a number in decimal.
 pub fn put_number(alloc: Global, number: i64, out: &mut Line) {
-    out.told(number.to_string(alloc))
+    out.add_word(number.to_string(alloc))
 }
 
-fn copied(alloc: Global, node: &Node) -> Result<String, AllocError> {
+fn encode_copy(alloc: Global, node: &Node) -> Result<String, AllocError> {
     let copy = node.copy(alloc)?;
     encoding(alloc, &copy)
 }
 
 /// Appends the digits of the canonical encoding of an element's copy.
 pub fn put_node(alloc: Global, node: &Node, out: &mut Line) {
-    out.told(copied(alloc, node))
+    out.add_word(encode_copy(alloc, node))
 }

@@ -136,7 +136,7 @@ fn change(
 }
 
 // The mark of the change at a place.
-fn changed(
+fn mark_of_change(
     alloc: Global,
     tag: Tag,
     nodes: &[Node],
@@ -160,7 +160,7 @@ fn marks(
 ) -> Result<String, Unread> {
     let mut out = String::new(alloc);
     for at in 0..nodes.len() {
-        out.push(changed(alloc, tag, nodes, at, number, kind)?)?;
+        out.push(mark_of_change(alloc, tag, nodes, at, number, kind)?)?;
     }
     Ok(out)
 }

@@ -1,5 +1,5 @@
 //! Further calls of the layers below, without their contracts and with large values in boxes.
-use crate::boxes::boxed;
+use crate::boxes::box_value;
 use std::alloc::{AllocError, Global};
 use zapdu::{Apdu, ApduError, DiagRec, Record};
 use zber::Node;
@@ -11,12 +11,12 @@ pub(crate) fn apdu_refusal(alloc: Global, node: &Node) -> Option<ApduError> {
 
 pub(crate) fn apdu_copy(alloc: Global, apdu: &Apdu) -> Result<Box<Apdu>, AllocError> {
     let copy = apdu.copy(alloc)?;
-    boxed(alloc, copy)
+    box_value(alloc, copy)
 }
 
 pub(crate) fn record_of(alloc: Global, node: &Node) -> Result<Box<Record>, Unread> {
     let record = zapdu::record_of(alloc, node)?.ok_or(Unread)?;
-    Ok(boxed(alloc, record)?)
+    Ok(box_value(alloc, record)?)
 }
 
 pub(crate) fn is_record(alloc: Global, node: &Node) -> Result<bool, AllocError> {
@@ -36,12 +36,12 @@ pub(crate) fn record_text(
 
 pub(crate) fn record_copy(alloc: Global, record: &Record) -> Result<Box<Record>, AllocError> {
     let copy = record.copy(alloc)?;
-    boxed(alloc, copy)
+    box_value(alloc, copy)
 }
 
 pub(crate) fn diag_of(alloc: Global, node: &Node) -> Result<Box<DiagRec>, Unread> {
     let diag = zapdu::diag_of(alloc, node)?.ok_or(Unread)?;
-    Ok(boxed(alloc, diag)?)
+    Ok(box_value(alloc, diag)?)
 }
 
 pub(crate) fn is_diag(alloc: Global, node: &Node) -> Result<bool, AllocError> {
@@ -51,5 +51,5 @@ pub(crate) fn is_diag(alloc: Global, node: &Node) -> Result<bool, AllocError> {
 
 pub(crate) fn diag_copy(alloc: Global, diag: &DiagRec) -> Result<Box<DiagRec>, AllocError> {
     let copy = diag.copy(alloc)?;
-    boxed(alloc, copy)
+    box_value(alloc, copy)
 }

@@ -1,14 +1,14 @@
 // Records and diagnostics by themselves, worked out from Z39.50-2003, 4.1 (NamePlusRecord, DiagRec), and X.690, 8.18
 // (EXTERNAL): elements that are none, the texts of records, and fragments that are made by hand.
-use crate::boxes::{boxed, record_node};
+use crate::boxes::{box_value, record_node};
 use crate::plain::{is_diag, is_record, record_of, record_text};
 use std::alloc::{AllocError, Global};
 use std::process::Abort;
 use std::test::Fail;
 use zapdu::{BuildError, Record, RecordBody};
 use zber::{Node, Tag};
-use zelements::nested::nested;
-use zelements::rows::{each_row, element, encoding, halves, pair, parted, spells, tells};
+use zelements::nested::nest_elements;
+use zelements::rows::{each_row, element, encoding, halves, pair, spells, split_row, tells};
 use zelements::unread::Unread;
 
 // Elements that are no record, or no diagnostic; a line with `#` says what is wrong with those below it.
@@ -158,9 +158,9 @@ pub(crate) const MADE: &str = "\
 ";
 
 fn fragment(alloc: Global, tag: u32, levels: u32) -> Result<Box<Record>, AllocError> {
-    let nodes = vec![in alloc; nested(alloc, levels)?]?;
+    let nodes = vec![in alloc; nest_elements(alloc, levels)?]?;
     let body = RecordBody::Fragment(Node::cons(Tag::context(tag), nodes));
-    boxed(alloc, Record { name: None, body })
+    box_value(alloc, Record { name: None, body })
 }
 
 // The digits of the record's element, and nothing where it has none.
@@ -181,7 +181,7 @@ fn is_spelt(alloc: Global, record: &Record, due: &str) -> Result<bool, Unread> {
 }
 
 fn is_made(alloc: Global, row: &str) -> Result<bool, Unread> {
-    let (place, due) = parted(row, "=");
+    let (place, due) = split_row(row, "=");
     let (tag, levels) = pair(place);
     let record = fragment(alloc, tag.parse::<u32>()?, levels.parse::<u32>()?)?;
     is_spelt(alloc, &record, due)

@@ -10,7 +10,7 @@ use std::alloc::{AllocError, Global};
 use std::process::Abort;
 use std::test::Fail;
 use zber::{Body, Node, Oid, Tag, ValueError};
-use zelements::rows::{each_row, element, encoding, held, message, pair, tells};
+use zelements::rows::{each_row, element, encoding, is_true, message, pair, tells};
 use zelements::shown::string;
 use zelements::unread::{Unread, read};
 use zqueries::plain::{query_node, query_of};
@@ -117,7 +117,7 @@ fn one(alloc: Global, node: Node) -> Result<Vec<Node>, AllocError> {
     Ok(nodes)
 }
 
-fn formed(alloc: Global, tag: Tag, octets: &Bytes, form: Form) -> Result<Node, AllocError> {
+fn form_string(alloc: Global, tag: Tag, octets: &Bytes, form: Form) -> Result<Node, AllocError> {
     let nodes = match form {
         Form::One => one(alloc, segment(octets.clone()?))?,
         Form::Three => three(alloc, octets)?,
@@ -130,13 +130,18 @@ fn formed(alloc: Global, tag: Tag, octets: &Bytes, form: Form) -> Result<Node, A
 
 // A copy with the string at a place in another form; the element itself has place 0, and each the next one as it
 // begins.
-fn changed(alloc: Global, node: &Node, place: &mut usize, form: Form) -> Result<Node, AllocError> {
+fn change_string(
+    alloc: Global,
+    node: &Node,
+    place: &mut usize,
+    form: Form,
+) -> Result<Node, AllocError> {
     let here = *place == 0;
     *place = place.wrapping_sub(1);
     match &node.body {
         Body::Prim(octets) => {
             if here {
-                formed(alloc, node.tag, octets, form)
+                form_string(alloc, node.tag, octets, form)
             } else {
                 node.copy(alloc)
             }
@@ -144,7 +149,7 @@ fn changed(alloc: Global, node: &Node, place: &mut usize, form: Form) -> Result<
         Body::Cons(nodes) => {
             let mut copies = Vec::new(alloc);
             for node in nodes {
-                copies.push(changed(alloc, node, place, form)?)?;
+                copies.push(change_string(alloc, node, place, form)?)?;
             }
             Ok(Node::cons(node.tag, copies))
         }
@@ -152,7 +157,7 @@ fn changed(alloc: Global, node: &Node, place: &mut usize, form: Form) -> Result<
 }
 
 // The encoding of what an element says with the string at a place in another form.
-fn said<F: Fn(Global, &Node) -> Result<String, Unread>>(
+fn encode_changed<F: Fn(Global, &Node) -> Result<String, Unread>>(
     alloc: Global,
     node: &Node,
     place: usize,
@@ -162,7 +167,7 @@ fn said<F: Fn(Global, &Node) -> Result<String, Unread>>(
     requires { F.IsAlwaysCallable says.now }
 {
     let mut place = place;
-    let node = changed(alloc, node, &mut place, form)?;
+    let node = change_string(alloc, node, &mut place, form)?;
     says(alloc, &node)
 }
 
@@ -177,12 +182,13 @@ fn is_one_value<F: Fn(Global, &Node) -> Result<String, Unread>>(
 {
     let due = encoding(alloc, node)?;
     for form in [Form::One, Form::Three, Form::Nested] {
-        if !tells(said(alloc, node, place, form, says), due.as_str()) {
+        if !tells(encode_changed(alloc, node, place, form, says), due.as_str()) {
             return Ok(false);
         }
     }
-    let none = said(alloc, node, place, Form::Bare, says)?;
-    Ok(tells(said(alloc, node, place, Form::Empty, says), none.as_str()))
+    let none = encode_changed(alloc, node, place, Form::Bare, says)?;
+    let empty = encode_changed(alloc, node, place, Form::Empty, says);
+    Ok(tells(empty, none.as_str()))
 }
 
 // The same of all places in a text; `-` stands for none.
@@ -197,7 +203,7 @@ fn are_one_value<F: Fn(Global, &Node) -> Result<String, Unread>>(
     let node = element(alloc, digits)?;
     if places != "-" {
         for place in places.split(' ') {
-            if !held(is_one_value(alloc, &node, place.parse::<usize>()?, says)) {
+            if !is_true(is_one_value(alloc, &node, place.parse::<usize>()?, says)) {
                 return Ok(false);
             }
         }
@@ -243,7 +249,7 @@ fn each_string_of_an_apdu_has_either_form(rt: HostRuntime) -> Result<(), Fail> {
     for (row, places) in APDUS.lines().zip(PLACES.lines()) {
         let (digits, _) = pair(row);
         assert!(rt;
-            held(are_one_value(rt.alloc(), digits, places, &apdu_encoding)),
+            is_true(are_one_value(rt.alloc(), digits, places, &apdu_encoding)),
             "{row}"
         );
     }
@@ -276,7 +282,7 @@ fn each_string_of_a_query_has_either_form(rt: HostRuntime) -> Result<(), Fail> {
 }
 
 // So many octets.
-fn counted(alloc: Global, count: u32) -> Result<Bytes, Unread> {
+fn make_octets(alloc: Global, count: u32) -> Result<Bytes, Unread> {
     let mut octets = Vec::new(alloc);
     for number in 0..count {
         octets.push((number % 251) as u8)?;
@@ -308,7 +314,7 @@ fn record(alloc: Global, content: Node) -> Result<Node, Unread> {
 }
 
 // The same element in indefinite lengths, as it is read.
-fn streamed(alloc: Global, node: &Node) -> Result<Node, Unread> {
+fn stream_element(alloc: Global, node: &Node) -> Result<Node, Unread> {
     let mut out = Vec::new(alloc);
     put_indefinite(alloc, node, &mut out)?;
     message(alloc, out.as_slice())
@@ -326,7 +332,7 @@ fn cut_encoding(alloc: Global, octets: &[u8], size: usize) -> Result<String, Unr
 {
     let nodes = parts(alloc, octets, size)?;
     let cut = record(alloc, Node::cons(Tag::context(1), nodes))?;
-    record_encoding(alloc, &streamed(alloc, &cut)?)
+    record_encoding(alloc, &stream_element(alloc, &cut)?)
 }
 
 fn whole_encoding(alloc: Global, octets: Bytes) -> Result<String, Unread> {
@@ -338,19 +344,19 @@ fn whole_encoding(alloc: Global, octets: Bytes) -> Result<String, Unread> {
 fn is_streamed(alloc: Global, count: u32, size: usize) -> Result<bool, Unread>
     requires { 0 < size }
 {
-    let octets = counted(alloc, count)?;
+    let octets = make_octets(alloc, count)?;
     let found = cut_encoding(alloc, octets.as_slice(), size)?;
     Ok(tells(whole_encoding(alloc, octets), found.as_str()))
 }
 
 #[test]
 fn a_record_of_100000_octets_is_read_in_segments_of_1000(rt: HostRuntime) -> Result<(), Fail> {
-    assert!(rt; held(is_streamed(rt.alloc(), 100_000, 1000)));
+    assert!(rt; is_true(is_streamed(rt.alloc(), 100_000, 1000)));
     Ok(())
 }
 
 // The elements within so many that are segments within one another.
-fn nested(alloc: Global, nodes: Vec<Node>, levels: u32) -> Result<Node, AllocError> {
+fn nest_segments(alloc: Global, nodes: Vec<Node>, levels: u32) -> Result<Node, AllocError> {
     let mut node = Node::cons(Tag::universal(4), nodes);
     for _ in 1..levels {
         node = Node::cons(Tag::universal(4), one(alloc, node)?);
@@ -370,14 +376,14 @@ fn is_joined(alloc: Global, octets: &Bytes, size: usize, levels: u32) -> Result<
     requires { 0 < size }
 {
     let nodes = parts(alloc, octets.as_slice(), size)?;
-    let node = nested(alloc, nodes, levels)?;
+    let node = nest_segments(alloc, nodes, levels)?;
     Ok(is_same(node.as_octets(alloc), octets))
 }
 
 #[test]
 fn segments_of_one_octet_are_joined_60_deep(rt: HostRuntime) -> Result<(), Fail> {
-    let octets = counted(rt.alloc(), 200_000)?;
-    assert!(rt; held(is_joined(rt.alloc(), &octets, 1, 1)));
-    assert!(rt; held(is_joined(rt.alloc(), &octets, 1, 60)));
+    let octets = make_octets(rt.alloc(), 200_000)?;
+    assert!(rt; is_true(is_joined(rt.alloc(), &octets, 1, 1)));
+    assert!(rt; is_true(is_joined(rt.alloc(), &octets, 1, 60)));
     Ok(())
 }

@@ -28,9 +28,6 @@ use Rattle.zorigin.proofs.Members.{contained, among}
 use Rattle.zorigin.proofs.Proper.{answer_in, verdict_found}
 use Rattle.zexchange.specs.Exchange.{got_in}
 
-no_some : {A : Type 0} {x : A} → Some x ≡ None → ⊥
-no_some e = cc
-
 -- ---- what was taken
 
 -- each APDU that was got was taken

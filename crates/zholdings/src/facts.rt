@@ -9,7 +9,7 @@ use zapdu::{DiagRec, Record, diag_of, record_of};
 use zber::Node;
 use zelements::rows::{element, pair};
 use zelements::unread::Unread;
-use zencodings::boxes::boxed;
+use zencodings::boxes::box_value;
 use zencodings::parts::Line;
 use zknow::{Fact, Knowledge};
 
@@ -27,7 +27,7 @@ fn digits_of(alloc: Global, word: &str) -> Result<String, AllocError> {
     }
 }
 
-fn named(alloc: Global, word: &str) -> Result<Node, Unread> {
+fn node_of(alloc: Global, word: &str) -> Result<Node, Unread> {
     let digits = digits_of(alloc, word)?;
     element(alloc, digits.as_str())
 }
@@ -44,7 +44,7 @@ fn record_in(alloc: Global, node: &Node) -> Result<Record, Unread>
 fn record(alloc: Global, word: &str) -> Result<Record, Unread>
     ensures { IfOk result IsSpellable }
 {
-    let node = named(alloc, word)?;
+    let node = node_of(alloc, word)?;
     record_in(alloc, &node)
 }
 
@@ -145,17 +145,17 @@ fn add_all(alloc: Global, knowledge: &mut Knowledge, rows: &str) -> Result<(), U
 
 /// Nothing known.
 pub(crate) fn nothing(alloc: Global) -> Result<Box<Knowledge>, AllocError> {
-    boxed(alloc, Knowledge::new(alloc))
+    box_value(alloc, Knowledge::new(alloc))
 }
 
 /// A copy of what is known.
-pub(crate) fn copied(alloc: Global, knowledge: &Knowledge) -> Result<Box<Knowledge>, AllocError> {
+pub(crate) fn copy_of(alloc: Global, knowledge: &Knowledge) -> Result<Box<Knowledge>, AllocError> {
     let copy = knowledge.copy()?;
-    boxed(alloc, copy)
+    box_value(alloc, copy)
 }
 
 /// The knowledge of all facts of a table.
-pub(crate) fn known(alloc: Global, rows: &str) -> Result<Box<Knowledge>, Unread> {
+pub(crate) fn knowledge_of(alloc: Global, rows: &str) -> Result<Box<Knowledge>, Unread> {
     let mut knowledge = nothing(alloc)?;
     add_all(alloc, &mut knowledge, rows)?;
     Ok(knowledge)

@@ -1,11 +1,11 @@
 // What is known: facts in every order, twice, absorbed and copied; two values at one place; the printed list.
-use crate::facts::{add, copied, has_facts, is_at, is_count, known, nothing};
+use crate::facts::{add, copy_of, has_facts, is_at, is_count, knowledge_of, nothing};
 use crate::reference::{Noted, list, note};
 use crate::shown::{has_list, is_listed};
 use std::alloc::{AllocError, Global};
 use std::process::Abort;
 use std::test::Fail;
-use zelements::rows::{each_row, halves, held, pair, spells, unescaped};
+use zelements::rows::{each_row, halves, is_true, pair, spells, unescape};
 use zelements::unread::Unread;
 use zknow::{Knowledge, Mode};
 
@@ -100,7 +100,7 @@ fn is_list_of(alloc: Global, rows: &[&str], places: &[usize], due: &str) -> Resu
     add_in_order(alloc, &mut knowledge, rows, places)?;
     Ok(
         is_listed(alloc, &knowledge, "a", Mode::Text, due)
-            && held(is_noted(alloc, rows, places, due)),
+            && is_true(is_noted(alloc, rows, places, due)),
     )
 }
 
@@ -119,7 +119,7 @@ fn is_list_in_order(
 fn orders(alloc: Global, rows: &[&str], count: usize, due: &str) -> usize {
     let mut same = 0usize;
     for number in 0..count {
-        if held(is_list_in_order(alloc, rows, number, due)) {
+        if is_true(is_list_in_order(alloc, rows, number, due)) {
             same = same.saturating_add(1);
         }
     }
@@ -147,7 +147,7 @@ fn records_that_differ_have_one_list_in_every_order(rt: HostRuntime) -> Result<(
 
 // Whether a copy has the list.
 fn is_copied(alloc: Global, knowledge: &Knowledge, due: &str) -> Result<bool, Unread> {
-    let copy = copied(alloc, knowledge)?;
+    let copy = copy_of(alloc, knowledge)?;
     Ok(is_listed(alloc, &copy, "a", Mode::Text, due))
 }
 
@@ -159,7 +159,7 @@ fn absorbs(
     due: &str,
 ) -> Result<bool, Unread> {
     knowledge.absorb(other)?;
-    let once = held(is_copied(alloc, knowledge, due));
+    let once = is_true(is_copied(alloc, knowledge, due));
     knowledge.absorb(other)?;
     Ok(once && is_listed(alloc, knowledge, "a", Mode::Text, due))
 }
@@ -170,12 +170,12 @@ fn absorbs_rows(
     rows: &str,
     due: &str,
 ) -> Result<bool, Unread> {
-    let other = known(alloc, rows)?;
+    let other = knowledge_of(alloc, rows)?;
     absorbs(alloc, knowledge, &other, due)
 }
 
 fn is_joined(alloc: Global, first: &str, second: &str, due: &str) -> Result<bool, Unread> {
-    let mut knowledge = known(alloc, first)?;
+    let mut knowledge = knowledge_of(alloc, first)?;
     absorbs_rows(alloc, &mut knowledge, second, due)
 }
 
@@ -189,15 +189,15 @@ fn is_joined_either_way(
     let left = format!(in alloc; "{SEARCH}\n{first}")?;
     let right = format!(in alloc; "{SEARCH}\n{second}")?;
     Ok(
-        held(is_joined(alloc, left.as_str(), right.as_str(), due))
-            && held(is_joined(alloc, right.as_str(), left.as_str(), due)),
+        is_true(is_joined(alloc, left.as_str(), right.as_str(), due))
+            && is_true(is_joined(alloc, right.as_str(), left.as_str(), due)),
     )
 }
 
 #[test]
 fn joined_either_way_the_list_is_the_same(rt: HostRuntime) -> Result<(), Fail> {
-    assert!(rt; held(is_joined_either_way(rt.alloc(), FIRST, SECOND, AGREED)));
-    assert!(rt; held(is_joined_either_way(rt.alloc(), FIRST, OTHER, CONFLICT)));
+    assert!(rt; is_true(is_joined_either_way(rt.alloc(), FIRST, SECOND, AGREED)));
+    assert!(rt; is_true(is_joined_either_way(rt.alloc(), FIRST, OTHER, CONFLICT)));
     Ok(())
 }
 
@@ -217,7 +217,7 @@ fn unites(alloc: Global, knowledge: &mut Knowledge, other: &Knowledge, due: &str
 // facts are known then; and to absorb them once more adds none.
 #[test]
 fn what_is_known_grows_where_memory_was_refused(rt: HostRuntime) -> Result<(), Fail> {
-    let other = known(rt.alloc(), OTHER)?;
+    let other = knowledge_of(rt.alloc(), OTHER)?;
     let mut knowledge = nothing(rt.alloc())?;
     assert!(rt; adds(rt.alloc(), &mut knowledge, SEARCH));
     for row in FIRST.lines() {
@@ -265,7 +265,7 @@ fn is_record(alloc: Global, knowledge: &Knowledge, row: &str, due: &str) -> Resu
 }
 
 fn is_list(alloc: Global, knowledge: &Knowledge, names: &str, due: &str) -> Result<bool, Unread> {
-    let due = unescaped(alloc, due)?;
+    let due = unescape(alloc, due)?;
     Ok(has_list(alloc, knowledge, names, Mode::Text, due.as_slice()))
 }
 
@@ -288,7 +288,7 @@ fn is_answered(alloc: Global, row: &str) -> Result<bool, Unread> {
     let (facts, rest) = halves(row);
     let (question, due) = halves(rest);
     let rows = facts.replace(alloc, ";", "\n")?;
-    let knowledge = known(alloc, rows.as_str())?;
+    let knowledge = knowledge_of(alloc, rows.as_str())?;
     is_answer(alloc, &knowledge, question, due)
 }
 
@@ -353,20 +353,20 @@ fn are_listed(
     mode: Mode,
     due: &str,
 ) -> Result<bool, Unread> {
-    let knowledge = known(alloc, rows)?;
+    let knowledge = knowledge_of(alloc, rows)?;
     Ok(is_listed(alloc, &knowledge, names, mode, due))
 }
 
 #[test]
 fn each_kind_of_fact_has_its_line(rt: HostRuntime) -> Result<(), Fail> {
-    assert!(rt; held(are_listed(rt.alloc(), MIXED, "a b%22%5c", Mode::Text, LINES)));
+    assert!(rt; is_true(are_listed(rt.alloc(), MIXED, "a b%22%5c", Mode::Text, LINES)));
     Ok(())
 }
 
 #[test]
 fn octets_are_quoted_or_in_hexadecimal(rt: HostRuntime) -> Result<(), Fail> {
-    assert!(rt; held(are_listed(rt.alloc(), OCTETS, "a", Mode::Text, QUOTED)));
-    assert!(rt; held(are_listed(rt.alloc(), OCTETS, "a", Mode::Hex, DIGITS)));
+    assert!(rt; is_true(are_listed(rt.alloc(), OCTETS, "a", Mode::Text, QUOTED)));
+    assert!(rt; is_true(are_listed(rt.alloc(), OCTETS, "a", Mode::Hex, DIGITS)));
     Ok(())
 }
 
@@ -375,12 +375,12 @@ const SORTED: &str =
     " count 0 1 7 count 0 2 3 failed 0 1 failed 2 0 seen 0 1 1 3013a111a10f280d06072a8648ce13050a81020aff seen 0 1 2 300ca10aa1082806020105810161 seen 0 1 3 3016800164a111a10f280d06072a8648ce13050a8102225c seen 0 2 1 301a800164a115a213301106072a8648ce130401020200ee1b02225c seen 1 1 1 3005a103830161 seen 2 1 3 3014800164a10fa10d280b06072a8648ce13050a8100 diag 0 1 0 28048102686a diag 0 1 0 301006072a8648ce13040102010e1a026869 diag 0 1 4 301006072a8648ce13040102010d1b026869 diag 1 1 0 300e06072a8648ce13040102010d1a00";
 
 fn are_facts(alloc: Global, rows: &str, due: &str) -> Result<bool, Unread> {
-    let knowledge = known(alloc, rows)?;
+    let knowledge = knowledge_of(alloc, rows)?;
     has_facts(alloc, &knowledge, due)
 }
 
 #[test]
 fn facts_of_all_kinds_stand_in_order(rt: HostRuntime) -> Result<(), Fail> {
-    assert!(rt; held(are_facts(rt.alloc(), MIXED, SORTED)));
+    assert!(rt; is_true(are_facts(rt.alloc(), MIXED, SORTED)));
     Ok(())
 }

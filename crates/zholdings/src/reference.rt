@@ -4,7 +4,7 @@ use std::alloc::{AllocError, Global};
 use zapdu::{DiagRec, Record, print_diag, print_record, quote};
 use zelements::rows::encoding;
 use zelements::unread::{Unread, read};
-use zencodings::boxes::{boxed, diag_node, record_node};
+use zencodings::boxes::{box_value, diag_node, record_node};
 use zencodings::parts::Line;
 use zknow::Fact;
 
@@ -78,7 +78,7 @@ fn place(facts: &[Noted], order: &str) -> usize {
 fn noted_of(alloc: Global, row: &str) -> Result<Noted, Unread> {
     let fact = fact(alloc, row)?;
     let order = order_of(alloc, &fact)?;
-    let fact = boxed(alloc, fact)?;
+    let fact = box_value(alloc, fact)?;
     Ok(Noted { order, fact })
 }
 
@@ -166,8 +166,8 @@ fn name(alloc: Global, text: &str) -> Result<Vec<u8>, AllocError> {
 // The name, or # and the number of a target that has none.
 fn put_name(alloc: Global, names: &[&str], target: u32, out: &mut Line) {
     match names.get(target as usize) {
-        Some(text) => out.given(name(alloc, text)),
-        None => out.joined(format!(in alloc; "#{target}")),
+        Some(text) => out.add_octets(name(alloc, text)),
+        None => out.add_text(format!(in alloc; "#{target}")),
     }
 }
 
@@ -186,12 +186,12 @@ fn record_text(alloc: Global, record: &Record) -> Result<Vec<u8>, AllocError> {
 // The line of a fact of a set, behind the set.
 fn put_tail(alloc: Global, fact: &Fact, out: &mut Line) {
     match fact {
-        Fact::Count { count, .. } => out.joined(format!(in alloc; " count {count}\n")),
+        Fact::Count { count, .. } => out.add_text(format!(in alloc; " count {count}\n")),
         Fact::Failed { .. } => out.put(b" failed\n"),
         Fact::Seen { .. } => {}
         Fact::Diag { place, diag, .. } => {
-            out.joined(format!(in alloc; " diag {place} "));
-            out.given(diag_text(alloc, diag));
+            out.add_text(format!(in alloc; " diag {place} "));
+            out.add_octets(diag_text(alloc, diag));
             out.put(b"\n")
         }
     }
@@ -202,7 +202,7 @@ fn put_block(alloc: Global, names: &[&str], facts: &[Noted], key: (u32, u32), ou
         if block_of(&noted.fact) == Some(key) {
             out.put(b"target ");
             put_name(alloc, names, key.0, out);
-            out.joined(format!(in alloc; " set {}", key.1));
+            out.add_text(format!(in alloc; " set {}", key.1));
             put_tail(alloc, &noted.fact, out);
         }
     }
@@ -229,7 +229,7 @@ fn count_of(facts: &[Noted], key: (i64, u32, u32)) -> u32 {
 fn put_record(alloc: Global, fact: &Fact, before: &str, out: &mut Line) {
     if let Some((_, record)) = row_of(fact) {
         out.put(before.as_bytes());
-        out.given(record_text(alloc, record));
+        out.add_octets(record_text(alloc, record));
         out.put(b"\n");
     }
 }
@@ -245,14 +245,14 @@ fn put_records(alloc: Global, facts: &[Noted], key: (i64, u32, u32), before: &st
 
 fn put_row(alloc: Global, names: &[&str], facts: &[Noted], key: (i64, u32, u32), out: &mut Line) {
     let (position, target, set) = key;
-    out.joined(format!(in alloc; "{position} "));
+    out.add_text(format!(in alloc; "{position} "));
     put_name(alloc, names, target, out);
-    out.joined(format!(in alloc; " {set}"));
+    out.add_text(format!(in alloc; " {set}"));
     let count = count_of(facts, key);
     if count == 1 {
         put_records(alloc, facts, key, " ", out)
     } else {
-        out.joined(format!(in alloc; " conflict {count}\n"));
+        out.add_text(format!(in alloc; " conflict {count}\n"));
         put_records(alloc, facts, key, "  ", out)
     }
 }

@@ -1,16 +1,16 @@
 // Saved files, worked out by hand and by a reader of another kind: what is read and written alike, and what is refused.
-use crate::facts::known;
+use crate::facts::knowledge_of;
 use bytes::Bytes;
 use std::alloc::{AllocError, Global};
 use std::process::Abort;
 use std::test::Fail;
 use zber::Seq;
-use zelements::rows::{each_row, held, octets, pair, spells};
+use zelements::rows::{each_row, is_true, octets, pair, spells};
 use zelements::unread::{Unread, read};
-use zencodings::boxes::boxed;
+use zencodings::boxes::box_value;
 use zknow::{Knowledge, LoadError, Names, SaveError, load, save};
 
-fn saved(alloc: Global, knowledge: &Knowledge, names: &Names) -> Result<Vec<u8>, Unread> {
+fn save_octets(alloc: Global, knowledge: &Knowledge, names: &Names) -> Result<Vec<u8>, Unread> {
     let mut out = Vec::new(alloc);
     read(save(alloc, knowledge, names, &mut out))?;
     Ok(out)
@@ -35,21 +35,21 @@ a403800161a21e8001008101018201013013a111a10f280d06072a8648ce13050a81027232a21f80
 // What a file says, or why it says nothing.
 type Loaded = Result<(Knowledge, Names), LoadError>;
 
-fn loaded(alloc: Global, file: &[u8]) -> Result<Box<Loaded>, AllocError> {
-    boxed(alloc, load(alloc, file))
+fn load_octets(alloc: Global, file: &[u8]) -> Result<Box<Loaded>, AllocError> {
+    box_value(alloc, load(alloc, file))
 }
 
 // Whether the file of what a file says is that file.
 fn is_written(alloc: Global, loaded: &Loaded, file: &[u8]) -> bool {
     match loaded {
-        Ok((knowledge, names)) => spells(saved(alloc, knowledge, names), file),
+        Ok((knowledge, names)) => spells(save_octets(alloc, knowledge, names), file),
         Err(_) => false,
     }
 }
 
 fn is_file(alloc: Global, row: &str) -> Result<bool, Unread> {
     let file = octets(alloc, row)?;
-    let loaded = loaded(alloc, file.as_slice())?;
+    let loaded = load_octets(alloc, file.as_slice())?;
     Ok(is_written(alloc, &loaded, file.as_slice()))
 }
 
@@ -111,7 +111,7 @@ fn is_for(loaded: &Loaded, due: LoadError) -> bool {
 // Whether a file is refused for this.
 fn is_refused(alloc: Global, file: &str, due: LoadError) -> Result<bool, Unread> {
     let file = octets(alloc, file)?;
-    let loaded = loaded(alloc, file.as_slice())?;
+    let loaded = load_octets(alloc, file.as_slice())?;
     Ok(is_for(&loaded, due))
 }
 
@@ -184,7 +184,7 @@ impl Tally {
     fn put_loaded(&mut self, alloc: Global, loaded: &Loaded, file: &[u8]) -> Result<(), Unread> {
         match loaded {
             Ok((knowledge, names)) => {
-                let saved = saved(alloc, knowledge, names)?;
+                let saved = save_octets(alloc, knowledge, names)?;
                 self.put_file(saved.as_slice(), file);
                 Ok(())
             }
@@ -193,7 +193,7 @@ impl Tally {
     }
 
     fn put(&mut self, alloc: Global, file: &[u8]) -> Result<(), Unread> {
-        let loaded = loaded(alloc, file)?;
+        let loaded = load_octets(alloc, file)?;
         self.put_loaded(alloc, &loaded, file)
     }
 }
@@ -212,7 +212,7 @@ fn put_others(alloc: Global, tally: &mut Tally, file: &[u8], at: usize) -> Resul
     Ok(())
 }
 
-fn counted(alloc: Global, digits: &str) -> Result<Tally, Unread> {
+fn tally_of(alloc: Global, digits: &str) -> Result<Tally, Unread> {
     let file = octets(alloc, digits)?;
     let mut tally = Tally {
         files: 0,
@@ -235,12 +235,12 @@ fn each_changed_octet_is_told(rt: HostRuntime) -> Result<(), Fail> {
         not_canonical: 259,
         places: 58550,
     };
-    assert_eq!(rt; counted(rt.alloc(), WHOLE)?, due);
+    assert_eq!(rt; tally_of(rt.alloc(), WHOLE)?, due);
     Ok(())
 }
 
 /// A record whose fragment has so many constructed elements within one another.
-fn nested(alloc: Global, levels: usize) -> Result<String, AllocError> {
+fn nested_row(alloc: Global, levels: usize) -> Result<String, AllocError> {
     let opens = "3080".repeat(alloc, levels)?;
     let ends = "0000".repeat(alloc, levels)?;
     format!(in alloc; "seen 0 1 1 3080a180a380{opens}{ends}000000000000")
@@ -254,17 +254,17 @@ fn put_behind(alloc: Global, knowledge: &Knowledge) -> Result<usize, SaveError> 
     Ok(out.len())
 }
 
-fn appended(alloc: Global, levels: usize) -> Result<Result<usize, SaveError>, Unread> {
-    let row = nested(alloc, levels)?;
-    let knowledge = known(alloc, row.as_str())?;
+fn save_levels(alloc: Global, levels: usize) -> Result<Result<usize, SaveError>, Unread> {
+    let row = nested_row(alloc, levels)?;
+    let knowledge = knowledge_of(alloc, row.as_str())?;
     Ok(put_behind(alloc, &knowledge))
 }
 
 // The fact is one element more: 60 of them are 64 with it, the record and its parts.
 #[test]
 fn more_than_64_levels_are_not_saved(rt: HostRuntime) -> Result<(), Fail> {
-    assert!(rt; matches!(appended(rt.alloc(), 60), Ok(Ok(len)) if len > 64));
-    assert!(rt; matches!(appended(rt.alloc(), 61), Ok(Err(SaveError::TooDeep))));
+    assert!(rt; matches!(save_levels(rt.alloc(), 60), Ok(Ok(len)) if len > 64));
+    assert!(rt; matches!(save_levels(rt.alloc(), 61), Ok(Err(SaveError::TooDeep))));
     Ok(())
 }
 
@@ -277,7 +277,7 @@ fn one_name(alloc: Global, len: usize) -> Result<Names, AllocError> {
 }
 
 /// The octets appended to none for names alone.
-fn named(alloc: Global, names: &Names) -> Result<Vec<u8>, SaveError> {
+fn save_names(alloc: Global, names: &Names) -> Result<Vec<u8>, SaveError> {
     let knowledge = Knowledge::new(alloc);
     let mut out = Vec::new(alloc);
     save(alloc, &knowledge, names, &mut out)?;
@@ -295,7 +295,7 @@ fn has_names(loaded: &Loaded, due: &Names) -> bool {
 }
 
 fn are_loaded(alloc: Global, file: &[u8], names: &Names) -> Result<bool, Unread> {
-    let loaded = loaded(alloc, file)?;
+    let loaded = load_octets(alloc, file)?;
     Ok(file.len() == 4_194_304 && has_names(&loaded, names))
 }
 
@@ -305,29 +305,32 @@ fn is_too_long(alloc: Global, file: &mut Vec<u8>) -> Result<bool, Unread> {
     for (octet, due) in file.iter_mut().zip(TOO_LONG) {
         *octet = due;
     }
-    let loaded = loaded(alloc, file.as_slice())?;
+    let loaded = load_octets(alloc, file.as_slice())?;
     Ok(is_for(&loaded, LoadError::NotKnowledge { at: 0 }))
 }
 
 fn is_longest(alloc: Global, len: usize) -> Result<bool, Unread> {
     let names = one_name(alloc, len)?;
-    let mut file = read(named(alloc, &names))?;
-    Ok(held(are_loaded(alloc, file.as_slice(), &names)) && held(is_too_long(alloc, &mut file)))
+    let mut file = read(save_names(alloc, &names))?;
+    Ok(
+        is_true(are_loaded(alloc, file.as_slice(), &names))
+            && is_true(is_too_long(alloc, &mut file)),
+    )
 }
 
 #[test]
 fn an_element_of_4194304_octets_is_saved_and_loaded(rt: HostRuntime) -> Result<(), Fail> {
-    assert!(rt; held(is_longest(rt.alloc(), 4_194_294)));
+    assert!(rt; is_true(is_longest(rt.alloc(), 4_194_294)));
     Ok(())
 }
 
 fn is_longer(alloc: Global, len: usize) -> Result<bool, Unread> {
     let names = one_name(alloc, len)?;
-    Ok(matches!(named(alloc, &names), Err(SaveError::TooLong)))
+    Ok(matches!(save_names(alloc, &names), Err(SaveError::TooLong)))
 }
 
 #[test]
 fn an_element_of_4194305_octets_is_not_saved(rt: HostRuntime) -> Result<(), Fail> {
-    assert!(rt; held(is_longer(rt.alloc(), 4_194_295)));
+    assert!(rt; is_true(is_longer(rt.alloc(), 4_194_295)));
     Ok(())
 }

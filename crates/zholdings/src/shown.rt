@@ -3,14 +3,14 @@ use bytes::Bytes;
 use std::alloc::Global;
 use zapdu::{DiagRec, Record};
 use zber::Seq;
-use zelements::rows::{spells, unescaped};
+use zelements::rows::{spells, unescape};
 use zelements::unread::Unread;
 use zencodings::boxes::{diag_node, record_node};
 use zencodings::parts::{Line, put_node, put_number, put_word};
 use zknow::{Fact, Knowledge, Known, Mode, Names, print_list};
 
 fn name(alloc: Global, text: &str) -> Result<Bytes, Unread> {
-    let octets = unescaped(alloc, text)?;
+    let octets = unescape(alloc, text)?;
     Ok(Bytes::from_vec(octets)?)
 }
 

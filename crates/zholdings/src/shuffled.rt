@@ -33,10 +33,10 @@ const DIAGS: [&str; 4] = [
 
 // The row of a fact.
 fn row(alloc: Global, dice: &mut Dice) -> Result<String, AllocError> {
-    let target = dice.below(3);
-    let set = dice.below(2);
-    let number = dice.below(3).saturating_add(1);
-    match dice.below(6) {
+    let target = dice.number_below(3);
+    let set = dice.number_below(2);
+    let number = dice.number_below(3).saturating_add(1);
+    match dice.number_below(6) {
         0 => format!(in alloc; "count {target} {set} {number}"),
         1 => format!(in alloc; "failed {target} {set} -"),
         2 => format!(in alloc; "diag {target} {set} {number} {}", dice.one(&DIAGS)),
@@ -53,7 +53,7 @@ fn table(alloc: Global, dice: &mut Dice, count: usize) -> Result<String, AllocEr
     Ok(table)
 }
 
-fn joined(
+fn join_two(
     first: Box<Knowledge>,
     second: Box<Knowledge>,
     is_turned: bool,
@@ -84,7 +84,7 @@ fn known_of_parts(
     let mut whole = nothing(alloc)?;
     for places in order.chunks(size.max(1)) {
         let part = part(alloc, rows, places)?;
-        whole = joined(whole, part, dice.below(2) == 0)?;
+        whole = join_two(whole, part, dice.number_below(2) == 0)?;
     }
     Ok(whole)
 }

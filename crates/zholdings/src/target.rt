@@ -12,9 +12,9 @@ use std::process::Abort;
 use std::test::Fail;
 use zapdu::Apdu;
 use zber::{Oid, Seq};
-use zelements::rows::{encoding, pair, parted, tells, unescaped};
+use zelements::rows::{encoding, pair, split_row, tells, unescape};
 use zelements::unread::{Unread, read};
-use zencodings::boxes::{apdu, apdu_node, boxed};
+use zencodings::boxes::{apdu, apdu_node, box_value};
 use zrpn::Query;
 use ztarget::{Database, Entry, Field, MatchError, Target, TargetError, TargetSettings};
 
@@ -34,7 +34,7 @@ c3 | 4 dune
 const FOURTH: &str = "thirty octets of one record  . | 4 Dune messiah | 1003 Herbert";
 
 fn text(alloc: Global, text: &str) -> Result<Bytes, Unread> {
-    let octets = unescaped(alloc, text)?;
+    let octets = unescape(alloc, text)?;
     Ok(Bytes::from_vec(octets)?)
 }
 
@@ -56,7 +56,7 @@ fn fields(alloc: Global, row: &str) -> Result<Seq<Field>, Unread> {
 
 // `OCTETS | FIELD | FIELD ..`
 fn entry(alloc: Global, row: &str) -> Result<Entry, Unread> {
-    let (octets, others) = parted(row, " | ");
+    let (octets, others) = split_row(row, " | ");
     Ok(Entry {
         syntax: Oid::from_arcs(alloc, &SYNTAX)?,
         octets: text(alloc, octets)?,
@@ -72,7 +72,7 @@ pub(crate) fn database(alloc: Global, name: &str, rows: &str) -> Result<Box<Data
     }
     let name = text(alloc, name)?;
     let entries = Seq::from_vec(entries);
-    Ok(boxed(alloc, Database { name, entries })?)
+    Ok(box_value(alloc, Database { name, entries })?)
 }
 
 // A target of these two databases, which are small.
@@ -87,7 +87,7 @@ pub(crate) fn target_of(
     }
     let databases = vec![in alloc; Box::into_inner(first), Box::into_inner(second)]?;
     let target = Target::new(alloc, databases, settings)?;
-    Ok(boxed(alloc, target)?)
+    Ok(box_value(alloc, target)?)
 }
 
 // `LIBRARY SIZE OPTIONS`: of the options `c` offers concurrent operations, `n` named result sets, and `r` refuses each
@@ -116,7 +116,11 @@ pub(crate) fn matches(
 }
 
 // The places that are found.
-pub(crate) fn found(target: &Target, names: &[Bytes], query: &Query) -> Result<Vec<u32>, Unread> {
+pub(crate) fn places_found(
+    target: &Target,
+    names: &[Bytes],
+    query: &Query,
+) -> Result<Vec<u32>, Unread> {
     read(matches(target, names, query))
 }
 
@@ -130,24 +134,24 @@ fn pending(target: &Target) -> usize {
 
 fn release(alloc: Global, target: &mut Target, k: usize) -> Result<Box<Option<Apdu>>, AllocError> {
     let reply = target.release(k);
-    boxed(alloc, reply)
+    box_value(alloc, reply)
 }
 
 // The octets of an APDU.
-fn spelled(alloc: Global, apdu: &Apdu) -> Result<String, Unread> {
+fn apdu_digits(alloc: Global, apdu: &Apdu) -> Result<String, Unread> {
     let node = read(apdu_node(alloc, apdu))?;
     Ok(encoding(alloc, &node)?)
 }
 
-fn released(alloc: Global, target: &mut Target, k: usize) -> Result<String, Unread> {
+fn release_reply(alloc: Global, target: &mut Target, k: usize) -> Result<String, Unread> {
     let reply = release(alloc, target, k)?;
     match reply.as_ref() {
-        Some(apdu) => spelled(alloc, apdu),
+        Some(apdu) => apdu_digits(alloc, apdu),
         None => Ok(String::from_str(alloc, "none")?),
     }
 }
 
-fn received(alloc: Global, target: &mut Target, digits: &str) -> Result<String, Unread> {
+fn receive_request(alloc: Global, target: &mut Target, digits: &str) -> Result<String, Unread> {
     let request = apdu(alloc, digits)?;
     match receive(target, &request) {
         Ok(()) => Ok(String::from_str(alloc, "taken")?),
@@ -156,10 +160,10 @@ fn received(alloc: Global, target: &mut Target, digits: &str) -> Result<String, 
 }
 
 // The reply to a request that is the only one pending.
-fn asked(alloc: Global, target: &mut Target, digits: &str) -> Result<String, Unread> {
-    let answer = received(alloc, target, digits)?;
+fn reply_to(alloc: Global, target: &mut Target, digits: &str) -> Result<String, Unread> {
+    let answer = receive_request(alloc, target, digits)?;
     if answer.as_str() == "taken" && pending(target) == 1 {
-        released(alloc, target, 0)
+        release_reply(alloc, target, 0)
     } else {
         Ok(answer)
     }
@@ -168,9 +172,9 @@ fn asked(alloc: Global, target: &mut Target, digits: &str) -> Result<String, Unr
 fn answer(alloc: Global, target: &mut Target, step: &str) -> Result<String, Unread> {
     let (word, row) = pair(step);
     match word {
-        "ask" => asked(alloc, target, row),
-        "receive" => received(alloc, target, row),
-        "release" => released(alloc, target, row.parse::<usize>()?),
+        "ask" => reply_to(alloc, target, row),
+        "receive" => receive_request(alloc, target, row),
+        "release" => release_reply(alloc, target, row.parse::<usize>()?),
         "pending" => Ok(format!(in alloc; "{}", pending(target))?),
         _ => Err(Unread),
     }
@@ -178,7 +182,7 @@ fn answer(alloc: Global, target: &mut Target, step: &str) -> Result<String, Unre
 
 // Whether the step answers as it is told.
 fn goes(alloc: Global, target: &mut Target, row: &str) -> Result<bool, Unread> {
-    let (step, due) = parted(row, " = ");
+    let (step, due) = split_row(row, " = ");
     let answer = answer(alloc, target, step);
     Ok(tells(answer, due))
 }

@@ -10,4 +10,3 @@ pub mod InSections
 pub mod FactsInOrder
 pub mod KnownFacts
 pub mod AtKeys
-pub mod FactPushes

@@ -77,11 +77,6 @@ talking_alike {s = s} {c = c} {h = h} k e (was_stopped {more = more} reason f fo
     was_stopped reason (follows_alike k e f) for
     (λ is. cut_alike s c (more ++ h) (more ++ k) (behind c more h k e) (cut is))
 
-pub talks_alike : (q : List Question) (s : MetaSettings) (at_once : Bool) (c : ℕ) (h k more : History) (reached : Bool)
-    → only c h ≡ only c k → TalksIf q s at_once c h reached more → TalksIf q s at_once c k reached more
-talks_alike q s at_once c h k more true e t = talking_alike k e t
-talks_alike q s at_once c h k more false e t = t
-
 -- ---- they are none of another's
 
 pub others_opening : {q : List Question} {s : MetaSettings} {c : ℕ} {h more : History} {reached : Bool} (i : ℕ)

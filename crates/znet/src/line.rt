@@ -73,8 +73,8 @@ impl<'a, C: Clock, S: OpenStream + Drop> Line<'a, C, S> {
         let begun = Instant::now(clock)?;
         let other = stream.try_clone()?;
         Ok(Line {
-            source: limited(clock, begun, stream),
-            sink: limited(clock, begun, other),
+            source: timed_device(clock, begun, stream),
+            sink: timed_device(clock, begun, other),
         })
     }
 }
@@ -88,7 +88,7 @@ pub(crate) fn set_limits<S: OpenStream>(stream: &S) -> io::Result<()> {
 }
 
 /// A stream as a device of which no call failed yet, with the hour that began then.
-fn limited<C, S>(clock: &C, begun: Instant, stream: S) -> Device<Timed<'_, C, S>>
+fn timed_device<C, S>(clock: &C, begun: Instant, stream: S) -> Device<Timed<'_, C, S>>
     ensures stream { result.inner.stream ≡ stream }
     ensures begun { result.inner.begun ≡ begun }
     ensures sound { result.failures ≡ 0 }

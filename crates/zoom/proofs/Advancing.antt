@@ -414,9 +414,6 @@ Drove c n k old now =
     (questions : List Question) (s : MetaSettings) (h : History) → MetaAfter questions s h old
     → Progress questions s c h n now × (left_at now c + k ≤ left_at old c)
 
-pub drove_none : OneHearing → (c : ℕ) (old : MetaLinks) → Drove c 0 0 old old
-drove_none hearing c old questions s h a = (progress_none hearing questions s c h old a, omega arith)
-
 pub drove_admitted : (E : Type 0) → (c n k : ℕ) (old mid new : MetaLinks) → Drove c n k old mid
     → AdvancesTo {E = E} c (Ok turns.Admitted) mid new → Drove c (n + 1) (k + 1) old new
 drove_admitted E c n k old mid new d adv questions s h a =
@@ -441,13 +438,6 @@ drove_rests E c n k old mid new d adv questions s h a =
     let y = adv questions s (made c x.0.calls ++ h) x.0.after in
     let e : n + 0 ≡ n = omega arith in
     subst (λ m. Drives questions s c h m new) e (drives_join questions s c h n 0 mid new x.0 y)
-
-pub drove_part : (E : Type 0) → (c n k : ℕ) (old mid new : MetaLinks) (error other : E) → Drove c n k old mid
-    → AdvancesTo c (Err error) mid new → DrivesTo c (Err other) old new
-drove_part E c n k old mid new error other d adv questions s h a =
-    let x = d questions s h a in
-    let y = adv questions s (made c x.0.calls ++ h) x.0.after in
-    (n + 0, progress_join questions s c h n 0 mid new x.0 y)
 
 few_in : (e : Errand) (settings : Settings) (log : Log) (o : Option DriverState)
     → ((d : DriverState) → o ≡ Some d → IsDriver e settings log d) → left_of o ≤ 3 + e.window

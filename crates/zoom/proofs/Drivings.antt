@@ -5,7 +5,6 @@ use Rattle.std.proofs.lemmas.Grind.{flat_map-append}
 use Rattle.std.proofs.lemmas.Map.Keys.{IsDistinct-head, IsDistinct-tail}
 use Rattle.std.specs.Prelude.{Contains, slice_index_or, nat_eq}
 use Rattle.std.specs.List.{AllByRecursion, IsDistinct}
-use Rattle.zplan.specs.Plan as plan
 use Rattle.zplan.specs.Plan.{Operation, Event, Reply, same, number, asked_in, replies_in, count_in, IsDriven}
 use Rattle.zplan.specs.Positions.{IsIn, IsWanted, up_to}
 use Rattle.zplan.specs.Laws.{BoundLaws}

@@ -96,17 +96,6 @@ module _ (framer later : Stream) (e : Element) (old new : TargetState) where
         then = (is.0, met_message r.rest later.octets e is.0 begins is.1, is.2);
       }
 
-  -- memory was wanting
-  pub next_none : new ≡ old → Leads (Follows framer) Anywhere old new
-  next_none same holdings stream released received pending r = record {
-    now = r.now;
-    rest = r.rest;
-    target_is = subst (λ z. TargetAfter holdings.databases holdings.settings r.now released z) (sym same) r.target_is;
-    messages = r.messages;
-    replies = subst (λ z. ArePutLast holdings received pending r.now z) (sym (ap (λ z. z.pending) same)) r.replies;
-    then = tt;
-  }
-
 -- what is reached leads to the same, where something else is behind it
 led : (Before Behind : Holdings → List Apdu → List ℕ → Type 0) (target : TargetState)
     → ((holdings : Holdings) (received : List Apdu) (rest : List ℕ) → Before holdings received rest → Behind holdings received rest) → Leads Before Behind target target
@@ -167,9 +156,6 @@ piece_follows framer fed piece target w = led (FollowsPiece framer piece) (Follo
       limited = is.1 ∙ f.2.limited;
       sound = is.2 ∙ f.2.sound;
     })
-
-pub piece_none : (framer : Stream) (piece : List ℕ) (target : TargetState) → Leads (FollowsPiece framer piece) Anywhere target target
-piece_none framer piece target = led (FollowsPiece framer piece) Anywhere target (λ holdings received rest f. tt)
 
 -- one step after another
 pub then_leads : (A B C : Holdings → List Apdu → List ℕ → Type 0) (old mid new : TargetState) → Leads A B old mid → Leads B C mid new → Leads A C old new

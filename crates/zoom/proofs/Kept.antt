@@ -5,7 +5,7 @@ use Rattle.std.specs.List.{list_any, find, flat_map}
 use Rattle.std.proofs.lemmas.Grind.{flat_map-append}
 use Rattle.zapdu.specs.declared.apdu.Apdu.{Apdu}
 use Rattle.zplan.specs.Plan as plan
-use Rattle.zplan.specs.Plan.{Operation, Event, Sends, Closes, IsDue, IsDriven, asked_in, replies_in, outstanding_in, start_of, number}
+use Rattle.zplan.specs.Plan.{Operation, Event, Sends, Closes, IsDue, IsDriven, asked_in, replies_in, outstanding_in, start_of}
 use Rattle.zplan.specs.Positions.{IsIn, IsFrom, Ascends, IsWanted, first_of, up_to}
 use Rattle.zplan.specs.Agenda.{Agenda, IsAgenda, IsSent, SameAgenda, whole_agenda}
 use Rattle.zplan.specs.Laws.{AgendaLaws, NumberLaw}
@@ -582,9 +582,6 @@ unsearched ask settings log unsent = none (past settings log).admitted (λ q i. 
     none (origin.Search op set a ∷ calls) h = absurd (unsent (h (search_asked op set) (inl refl)))
     none (origin.Present op set ranges ∷ calls) h = none calls (λ q i. h q (inr i))
     none (origin.Close ∷ calls) h = none calls h
-
-init_due : (e : Errand) (settings : Settings) (log : Log) (call : origin.Call) → IsNextCall e settings log origin.Init → IsDue e.wanted e.step (events_at e settings log) plan.Init
-init_due e settings log call n = n.next.0
 
 -- what stands first is what is next
 first_is : (e : Errand) (events : List Event) (a b : Agenda) (l : List ℕ) → IsAgenda e.wanted e.step events a → (s : IsSent a b)

@@ -1,5 +1,5 @@
 -- One event more of connections that are driven.
-use Rattle.std.proofs.Common.{◌≡◌, ℕ, zero, suc, ◌+◌, ◌<◌, ◌≤◌, ◌==◌, Bool, true, false, cond}
+use Rattle.std.proofs.Common.{◌≡◌, ℕ, zero, suc, ◌<◌, ◌≤◌, ◌==◌, Bool, true, false, cond}
 use Rattle.std.proofs.Common.{List, [], ◌∷◌, ◌++◌, length, slice_get, slice_set, Option, None, Some}
 use Rattle.std.proofs.Common.{Result, Ok, Err, refl, sym, ap, subst, ◌∙◌, arith, true≢false}
 use Rattle.std.specs.Prelude.{is_some, ◌||◌}
@@ -32,9 +32,9 @@ use Rattle.zoom.specs.History.{History, only, Stands, After, AfterUpTo}
 use Rattle.zquestions.specs.Askable.{IsAskable, AreFit, AreAskable}
 use Rattle.zoom.specs.Steering.{Errand, errand_with, errand_of}
 use Rattle.zoom.specs.Drivers.{DriverState, IsDriver, KnowsTold, RefusedLaw}
-use Rattle.zoom.specs.Metas.{MetaLinks, settings_of, AreDriven, MetaAfter, MetaAfterUpTo, MetaTook, MetaKeeps, KnowsTake, LearnsTold, StandFor, Tells}
+use Rattle.zoom.specs.Metas.{MetaLinks, settings_of, AreDriven, MetaAfter, MetaAfterUpTo, MetaTook, KnowsTake, LearnsTold, StandFor, Tells}
 use Rattle.zoom.specs.Laws.{OneMeeting, OneHearing, UpToLaw}
-use Rattle.zoom.specs.Befalling.{IsStateAt, IsToldAnswer, Took, Keeps}
+use Rattle.zoom.specs.Befalling.{IsStateAt, IsToldAnswer, Took}
 use Rattle.zoom.proofs.Pools.{only_same, only_other, get_same}
 
 -- ---- what stopped a connection
@@ -317,16 +317,6 @@ refused_meta meeting hearing law c old new error told done took lt ds size =
           (λ d is. (d, is, knows_other law (Err error) d (λ taken e. absurd (cc)))));
       size = size ∙ a.size;
     }
-
-pub keeps_meta : (c : ℕ) (old new : MetaLinks) → Keeps c old.pool new.pool → new.drivers ≡ old.drivers
-    → length new.pool.connections ≡ length old.pool.connections → MetaKeeps c old new
-keeps_meta c old new keeps ds size = λ questions s h a. record {
-  fit = a.fit;
-  askable = a.askable;
-  pool = keeps (settings_of s) h a.pool;
-  driven = subst (AreDriven questions s h) (sym ds) a.driven;
-  size = size ∙ a.size;
-}
 
 -- ---- at first
 

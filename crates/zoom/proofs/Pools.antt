@@ -31,7 +31,6 @@ use Rattle.zoom.specs.declared.answer.TakeError.{TakeError}
 use Rattle.zoom.specs.Coming.{Met, Stopped, Message, Foreign, Fault, Rest, Nothing}
 use Rattle.zoom.specs.Heard.{Deed, Takes, Heard, Meets, state_at, heed, end_by, stop_by, truncated}
 use Rattle.zoom.specs.Heard.{take_at, news_at, facts_told, IsNews, hears_call, hears_piece, past_of, silence, given}
-use Rattle.zoom.specs.Heard.{sent}
 use Rattle.zoom.specs.States.{is_stopped}
 use Rattle.zoom.specs.Leaving.{Matches, AreReadBack, Leaves}
 use Rattle.zoom.specs.Steps.{TakesTo, Gains}

@@ -1,5 +1,5 @@
 -- What a host served, with one event more.
-use Rattle.std.proofs.Common.{◌≡◌, inl, inr, ℕ, Bool, true, false, List, [], ◌∷◌, ◌++◌, None, Some, Result, Ok, Err, refl, sym, ap, subst, ◌∙◌, append_assoc, append-nil, true≢false}
+use Rattle.std.proofs.Common.{◌≡◌, inr, ℕ, Bool, true, false, List, [], ◌∷◌, ◌++◌, None, Some, Result, Ok, Err, refl, sym, ap, subst, ◌∙◌, append_assoc, append-nil, true≢false}
 use Rattle.std.proofs.Math.Bool.{or-false}
 use Rattle.std.specs.Prelude.{remove, not, ◌&&◌, ◌||◌}
 use Rattle.std.specs.List.{flat_map, list_any}
@@ -13,7 +13,7 @@ use Rattle.ztarget.specs.declared.settings.TargetSettings.{TargetSettings}
 use Rattle.ztarget.specs.Receiving.{TargetState, new_target, is_close, without, Releases, After as TargetAfter}
 use Rattle.ztarget.proofs.Histories.{at_first}
 use Rattle.zoom.specs.Coming.{limit}
-use Rattle.zoom.specs.Hosts.{HostState, Holdings, holdings_of, Event, Fed, FedPart, Released, Lost, HandedOut, Served, unserved, nothing, EndsAt, IsDue, IsShort, IsAt, Waits, HostAfter, Underwent, ReleasesAs, handed_out}
+use Rattle.zoom.specs.Hosts.{HostState, Holdings, holdings_of, Event, Fed, FedPart, Released, Lost, Served, unserved, nothing, EndsAt, IsDue, IsShort, IsAt, Waits, HostAfter, Underwent, ReleasesAs, handed_out}
 use Rattle.zoom.specs.Heard.{joined}
 use Rattle.zoom.specs.HostSteps.{Reaches, Leads, FollowsPiece, Rests, Anywhere, KeepsPut, PutsReply, is_unput}
 use Rattle.zoom.proofs.Hosts.{messages_longer}
@@ -163,32 +163,6 @@ module _ (holdings : Holdings) (events : List Event) (old new : HostState) (a : 
         closed = closed ∙ a.closed;
         framer = λ g. absurd (true≢false g);
       }
-
--- a stopped host ignores what is fed
-pub piece_ignored : (holdings : Holdings) (events : List Event) (host : HostState) (piece : List ℕ) → host.stopped ≡ true → HostAfter holdings events host → HostAfter holdings (Fed piece ∷ events) host
-piece_ignored holdings events host piece stopped a = record {
-  served = a.served;
-  happened = (a.served, a.happened, inl (sym a.stopped ∙ stopped, refl));
-  target = a.target;
-  pending = a.pending;
-  waiting = a.waiting;
-  stopped = a.stopped;
-  closed = a.closed;
-  framer = a.framer;
-}
-
--- what waited was handed out
-pub handed : (holdings : Holdings) (events : List Event) (host : HostState) → HostAfter holdings events host → HostAfter holdings (HandedOut host.waiting ∷ events) (record host { waiting = [] })
-handed holdings events host a = record {
-  served = a.served;
-  happened = (a.served, a.happened, refl);
-  target = a.target;
-  pending = a.pending;
-  waiting = append-nil (handed_out events ++ host.waiting) ∙ a.waiting;
-  stopped = a.stopped;
-  closed = a.closed;
-  framer = a.framer;
-}
 
 -- a reply was released
 pub released_as : {E : Type 0} (k : ℕ) (reply : Apdu) (answer : Result Bool E) (old new : HostState) (ws now : List (List ℕ)) → old.stopped ≡ false → old.waiting ≡ joined ws → new.waiting ≡ joined now

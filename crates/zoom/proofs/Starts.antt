@@ -5,7 +5,6 @@ use Rattle.zplan.specs.Positions.{IsWanted}
 use Rattle.zplan.specs.Ranges.{AreWanted}
 use Rattle.zplan.specs.Ranges as plans
 use Rattle.zorigin.specs.declared.settings.Settings.{Settings}
-use Rattle.zorigin.specs.Ranges.{positions}
 use Rattle.zquestions.specs.declared.question.Question.{Question}
 use Rattle.zoom.specs.declared.phase.Phase.TheVariants as phases
 use Rattle.zquestions.specs.Askable.{HasArcs, plan_range}

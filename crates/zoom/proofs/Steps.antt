@@ -19,11 +19,6 @@ use Rattle.zoom.specs.Heard.{Heard, Meets, state_at, past_of, told_of, took_as}
 use Rattle.zoom.specs.Laws.{OneMeeting, Waits, TakeLaws}
 use Rattle.zoom.proofs.Meetings.{none_begins}
 
--- the step in an answer
-abbrev step_in : Result Step TakeError → Step
-step_in (Ok step) = step
-step_in (Err e) = steps.Opened
-
 told_step : (v : Result Taken Refused) (s : Step) → (s ≡ steps.Nothing) ⊎ (s ≡ steps.Stopped) → told_of v ≡ Ok s → ⊥
 told_step (Ok (taken.Opened a)) s (inl q) e = absurd (cc)
 told_step (Ok (taken.Rejected a)) s (inl q) e = absurd (cc)

@@ -32,9 +32,6 @@ kept_longer : (rest octets piece : List ℕ) (held : Option Element) → IsKept 
 kept_longer rest octets piece None k = ap (λ z. z ++ piece) k
 kept_longer rest octets piece (Some e) k = begins_longer rest octets piece e k
 
-longer : Heard → List ℕ → Heard
-longer p piece = record p { stream = p.stream ++ piece }
-
 pub frames_longer : (laws : StreamLaws) (p : Heard) (held : Option Element) (s t : Stream) (piece : List ℕ) (b : Bool)
     → Frames p held s → t ≡ record s { octets = s.octets ++ piece; asked = b }
     → Frames (record p { stream = p.stream ++ piece }) held t

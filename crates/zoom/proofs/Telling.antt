@@ -10,7 +10,7 @@ use Rattle.zapdu.specs.declared.productions.init_response.InitResponse.{InitResp
 use Rattle.zapdu.specs.declared.productions.search_response.SearchResponse.{SearchResponse}
 use Rattle.zapdu.specs.declared.productions.present_response.PresentResponse.{PresentResponse}
 use Rattle.zplan.specs.Plan as plan
-use Rattle.zplan.specs.Plan.{Operation, Event, Sends, Receives, Reply, Opens, Finds, Shows, IsDue, IsDriven, asked_in, replies_in, outstanding_in, number, same}
+use Rattle.zplan.specs.Plan.{Operation, Event, Sends, Receives, Reply, Opens, Finds, Shows, IsDue, IsDriven, asked_in, replies_in, outstanding_in, number}
 use Rattle.zplan.specs.Positions.{IsIn, IsWanted, first_of}
 use Rattle.zplan.specs.Agenda.{Agenda, IsAgenda, IsAnswered, HasWaiting, without}
 use Rattle.zplan.specs.Laws.{AgendaLaws, NumberLaw}
@@ -170,9 +170,6 @@ counted_some : (status present : Bool) (n : ℤ) (count : ℕ) → counted (stat
 counted_some true true n count q = (refl, refl, (let e : natural n ≡ count = cc in e))
 counted_some true false n count q = absurd (no_some (sym q))
 counted_some false present n count q = absurd (no_some (sym q))
-
-opens_by : (a : Answer) (w : What) → a.asked.what ≡ w → opens a ≡ is_init w
-opens_by a w q = ap is_init q
 
 -- ---- which phase it was
 

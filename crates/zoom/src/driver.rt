@@ -152,7 +152,7 @@ impl Driver {
     }
 
     /// The origin admitted the call that was given. It takes no memory.
-    pub(crate) fn sent(&mut self, call: &Call)
+    pub(crate) fn note_sent(&mut self, call: &Call)
         ensures { KnowsSent (call_of call.now) self.old self.new }
     {
         agenda_laws();
@@ -165,7 +165,7 @@ impl Driver {
 
     /// The origin refused the call that was given, though memory was there: it was the search, which is skipped. It
     /// takes no memory.
-    pub(crate) fn refused(&mut self)
+    pub(crate) fn note_refused(&mut self)
         ensures { KnowsRefused self.old self.new }
     {
         self.phase = Phase::Done;
@@ -173,7 +173,7 @@ impl Driver {
     }
 
     /// The origin took a reply. It takes no memory.
-    pub(crate) fn told(&mut self, taken: &Taken)
+    pub(crate) fn note_reply(&mut self, taken: &Taken)
         ensures { KnowsTold taken.now self.old self.new }
     {
         agenda_laws();

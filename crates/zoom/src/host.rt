@@ -19,7 +19,7 @@ use ztarget::Target;
 const MESSAGE_LIMIT: u32 = 2_097_152;
 
 /// The octets of a reply; `None` where they are more than a message may have.
-fn encoded(alloc: Global, reply: &Apdu) -> Result<Option<Bytes>, AllocError>
+fn encode_reply(alloc: Global, reply: &Apdu) -> Result<Option<Bytes>, AllocError>
     requires { HasElement reply.now }
     ensures { EncodesReply reply.now result }
 {
@@ -47,7 +47,7 @@ fn put_reply(alloc: Global, waiting: &mut Vec<Bytes>, reply: &Apdu) -> Result<bo
     ensures { PutsReply reply.now result waiting.old.items waiting.new.items }
 {
     waiting.reserve(1)?;
-    match encoded(alloc, reply)? {
+    match encode_reply(alloc, reply)? {
         Some(octets) => {
             put(waiting, octets);
             Ok(true)

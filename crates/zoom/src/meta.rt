@@ -23,7 +23,7 @@ use zorigin::CallRefused;
 use zorigin::laws::sent_requests;
 use zquestions::{MetaSettings, Question};
 
-/// The most calls of one drive: an Init, a search, a Close, and so many Presents as may wait, and one look more.
+/// More than the calls of one drive: an Init, a search, a Close, the 64 Presents that may wait, and one look more.
 const MOST_TURNS: u32 = 70;
 
 /// What looking for the next call came to.
@@ -152,13 +152,13 @@ impl Meta {
         sent_requests();
         match self.pool.call(c, call) {
             Ok(()) => {
-                self.drivers[c as usize].sent(call);
+                self.drivers[c as usize].note_sent(call);
                 Ok(Turn::Admitted)
             }
             Err(reason) => match reason {
                 CallRefused::Memory => Err(AllocError),
                 _ => {
-                    self.drivers[c as usize].refused();
+                    self.drivers[c as usize].note_refused();
                     Ok(Turn::Skipped)
                 }
             },
@@ -191,7 +191,7 @@ impl Meta {
         one_meeting();
         one_hearing();
         refused_law();
-        match self.pool.told(c) {
+        match self.pool.take_told(c) {
             Ok(told) => {
                 know_take(&mut self.drivers[c as usize], &told);
                 Ok(step_told(&told))
@@ -276,7 +276,7 @@ fn know_take(driver: &mut Driver, told: &Told)
     ensures { LearnsTold told.now driver.old driver.new }
 {
     if let Told::Took(taken) = told {
-        driver.told(taken);
+        driver.note_reply(taken);
     }
 }
 

@@ -198,7 +198,7 @@ fn send_first(schedule: &mut Schedule)
     ensures { schedule.old.ready ≡ true → IsSent schedule.old schedule.new }
 {
     if schedule.is_ready() {
-        schedule.sent();
+        schedule.note_sent();
     }
 }
 
@@ -259,7 +259,7 @@ fn answer_list(schedule: &mut Schedule, first: u32, records: usize)
     ensures { HasWaiting first schedule.old → IsAnswered first records schedule.old schedule.new }
 {
     if schedule.is_waiting(first) {
-        schedule.answered(first, records);
+        schedule.note_answered(first, records);
     }
 }
 

@@ -123,14 +123,14 @@ impl Pool {
         ensures waiting { waiting_at self.new c ≡ waiting_at self.old c }
         ensures size { length self.new.connections ≡ length self.old.connections }
     {
-        match self.told(c) {
+        match self.take_told(c) {
             Ok(told) => Ok(step_told(&told)),
             Err(error) => Err(error),
         }
     }
 
     /// Takes one message of a connection, as `take` does, and tells what the origin took.
-    pub(crate) fn told(&mut self, c: u32) -> Result<Told, TakeError>
+    pub(crate) fn take_told(&mut self, c: u32) -> Result<Told, TakeError>
         requires { c < length self.old.connections }
         ensures answer { IsToldAnswer c self.old result }
         ensures after { IsDone result → Took c self.old self.new }

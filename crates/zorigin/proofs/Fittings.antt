@@ -15,10 +15,6 @@ use Rattle.zorigin.specs.Fitting.{records_in, diagnostics_in, is_empty, has_frag
 
 -- ---- the rows
 
-empty_so : {X : Type 0} (xs : List X) → is_empty xs ≡ true → xs ≡ []
-empty_so [] h = refl
-empty_so (x ∷ xs) h = absurd (true≢false (sym h))
-
 some_so : {X : Type 0} (xs : List X) → is_empty xs ≡ false → xs ≢ []
 some_so [] h e = true≢false h
 some_so (x ∷ xs) h e = cc

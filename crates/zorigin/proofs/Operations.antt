@@ -84,10 +84,6 @@ module _ {X : Type 0} where
   all_push P [] a h x = (x, tt)
   all_push P (q ∷ qs) a h x = (h.0, all_push P qs a h.1 x)
 
-  pub all_both : (P Q : X → Type 0) (qs : List X) → AllByRecursion P qs → AllByRecursion Q qs → AllByRecursion (λ q. P q × Q q) qs
-  all_both P Q [] h k = tt
-  all_both P Q (q ∷ qs) h k = ((h.0, k.0), all_both P Q qs h.1 k.1)
-
   pub any_none : (P : X → Type 0) (t : X → Bool) (xs : List X) → ((x : X) → P x → t x ≡ true → ⊥) → AllByRecursion P xs → list_any t xs ≡ false
   any_none P t [] w h = refl
   any_none P t (x ∷ xs) w h =

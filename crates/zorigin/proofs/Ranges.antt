@@ -60,10 +60,6 @@ length_left ranges i x l e =
     ap length (left_more ranges i x l e) ∙ length-append (positions_of x) (positions (drop (i + 1) ranges))
     ∙ ap (λ k. k + length (positions (drop (i + 1) ranges))) (length-range_with_len (natural x.start) (natural x.n))
 
-pub follow_more : (last : ℤ) (ranges : List Range) (i : ℕ) (x : Range) → i < length ranges → x ≡ get_or ranges i x
-    → follow last (drop i ranges) ≡ (is_range x && int_lt last x.start && follow (last_of x) (drop (i + 1) ranges))
-follow_more last ranges i x l e = at_drop_more (follow last) ranges i x l ∙ ap (λ y. follow last (y ∷ drop (i + 1) ranges)) (sym e)
-
 -- ---- past a count
 
 pub past_more : (count : ℤ) (ranges : List Range) (i : ℕ) (x : Range) → i < length ranges → x ≡ get_or ranges i x
@@ -98,13 +94,6 @@ range_beyond count r h some =
     let n = natural_so r.n (omega (arith, ints)) in
     let have = natural_low r.n some in
     beyond count (natural r.start) (natural r.n) (omega arith) (subst (λ k. (count +ℤ pos 1) <ℤ (pos (natural r.start) +ℤ k)) (sym n) h)
-
-pub range_empty : (count : ℤ) (r : Range) → r.n <ℤ pos 1 → is_past count (positions_of r) ≡ false
-range_empty count r h = ap (λ k. is_past count (range_with_len (natural r.start) k)) (none r.n h)
-  where
-    none : (z : ℤ) → z <ℤ pos 1 → natural z ≡ 0
-    none (pos n) h = omega (arith, ints)
-    none (negsuc n) h = refl
 
 -- ---- the first
 

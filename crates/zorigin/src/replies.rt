@@ -114,7 +114,7 @@ impl Origin {
     }
 
     /// The outstanding operation that a reference id names.
-    fn named<'a>(&'a self, id: &Option<Bytes>) -> Option<&'a Asked>
+    fn operation_of<'a>(&'a self, id: &Option<Bytes>) -> Option<&'a Asked>
         ensures { option_map (λ r. r.now) result ≡ named self.now id.now }
     {
         match id {
@@ -136,7 +136,7 @@ impl Origin {
     fn against(&self, id: &Option<Bytes>, reply: &Apdu) -> Result<Asked, Refused>
         ensures { JudgesBy (against (named self.now id.now) reply.now) reply.now result }
     {
-        let Some(asked) = self.named(id) else {
+        let Some(asked) = self.operation_of(id) else {
             return Err(Refused::UnknownReference);
         };
         if let Some(reason) = fault_of(&asked.what, reply) {
@@ -150,7 +150,7 @@ impl Origin {
 
     /// The operation that an APDU answers, none for a Close; or why it is not accepted.
     #[tactic(auto, unfolding(crate::specs::Replies::verdict))]
-    fn judged(&self, reply: &Apdu) -> Result<Option<Asked>, Refused>
+    fn judge(&self, reply: &Apdu) -> Result<Option<Asked>, Refused>
         ensures { Judges (verdict self.now reply.now) reply.now result }
     {
         if !is_open(self.state) {
@@ -175,7 +175,7 @@ impl Origin {
         ensures answer { Tells (verdict self.now reply.now) result }
         ensures showable { IfOk result (HasShowable reply.now) }
     {
-        match self.judged(reply) {
+        match self.judge(reply) {
             Ok(None) => Ok(Taken::Closed),
             Ok(Some(asked)) => match reply.copy(self.alloc) {
                 Ok(reply) => Ok(taken_as(Answer { asked, reply })),
@@ -186,7 +186,7 @@ impl Origin {
     }
 
     /// The operation is outstanding no more.
-    fn answered(&mut self, op: u32)
+    fn remove_operation(&mut self, op: u32)
         ensures { self.new ≡ without self.old op }
     {
         self.outstanding.shift_remove(&op);
@@ -207,15 +207,15 @@ impl Origin {
     {
         match taken {
             Taken::Opened(answer) => {
-                self.answered(answer.asked.op);
+                self.remove_operation(answer.asked.op);
                 self.open(&answer.reply);
             }
             Taken::Rejected(answer) => {
-                self.answered(answer.asked.op);
+                self.remove_operation(answer.asked.op);
                 self.state = State::Closed;
             }
             Taken::Answered(answer) => {
-                self.answered(answer.asked.op);
+                self.remove_operation(answer.asked.op);
                 note(&mut self.searches, &answer.asked, outcome_in(&answer.reply));
             }
             Taken::Closed => self.state = State::Closed,

@@ -13,7 +13,7 @@ use zber::{EncodeError, Node};
 const LIMIT: u32 = 2_097_152;
 
 /// The octets of an element.
-fn encoded(alloc: Global, node: &Node) -> Result<Bytes, CallRefused>
+fn encode(alloc: Global, node: &Node) -> Result<Bytes, CallRefused>
     ensures exact { Encodes node.now result }
     ensures framed { IfOk result (IsFramed node.now) }
 {
@@ -34,7 +34,7 @@ pub(crate) fn send(alloc: Global, apdu: Apdu) -> Result<Sent, CallRefused>
 {
     match to_node(alloc, &apdu) {
         Ok(node) => {
-            let octets = encoded(alloc, &node)?;
+            let octets = encode(alloc, &node)?;
             Ok(Sent { apdu, octets })
         }
         Err(BuildError::NotSpellable) => Err(CallRefused::Unsendable),

@@ -60,10 +60,6 @@ pub after_some : (p : ℕ) (ls : List (List ℕ)) → ((l : List ℕ) → IsIn l
 after_some p [] h = tt
 after_some p (l ∷ ls) h = (h l (inl refl), after_some p ls (λ m i. h m (inr i)))
 
-pub before_append : (p : ℕ) (ks ls : List (List ℕ)) → AllBefore p ks → AllBefore p ls → AllBefore p (ks ++ ls)
-before_append p [] ls h g = g
-before_append p (k ∷ ks) ls h g = (h.0, before_append p ks ls h.1 g)
-
 pub after_append : (p : ℕ) (ks ls : List (List ℕ)) → AllAfter p ks → AllAfter p ls → AllAfter p (ks ++ ls)
 after_append p [] ls h g = g
 after_append p (k ∷ ks) ls h g = (h.0, after_append p ks ls h.1 g)

@@ -106,11 +106,6 @@ some_deal three last m [] = tt
 some_deal three last zero (p ∷ ps) = some_put false p _ (some_deal three last last ps)
 some_deal three last (suc m) (p ∷ ps) = some_put (three || follows p ps) p _ (some_deal three last m ps)
 
-pub some_in : (l : List ℕ) (ls : List (List ℕ)) → AllSome ls → IsIn l ls → 0 < length l
-some_in l [] h i = absurd i
-some_in l (m ∷ ls) h (inl e) = subst (λ x. 0 < length x) (sym e) h.0
-some_in l (m ∷ ls) h (inr i) = some_in l ls h.1 i
-
 -- the wanted positions ascend
 from_filter : (low : ℕ) (t : ℕ → Bool) (ps : List ℕ) → IsFrom low ps → IsFrom low (filter t ps)
 from_filter low t [] h = tt

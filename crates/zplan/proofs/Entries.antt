@@ -2,7 +2,7 @@
 use Rattle.std.proofs.Common.{◌≡◌, inl, inr, ℕ, zero, suc, ◌+◌, ◌-◌, ◌<◌, ◌≤◌, Bool, true, false, cond, not, ◌==◌, List, [], ◌∷◌, ◌++◌, length, take, drop, refl, sym, ap, subst, ◌∙◌, arith, length-append, length-drop, true≢false}
 use Rattle.std.proofs.lemmas.Bool.Decides.{nat_tests}
 use Rattle.std.specs.Prelude.{◌&&◌, ◌||◌, slice_index_or, slice_set, nat_lt}
-use Rattle.std.specs.List.{remove, range_with_len}
+use Rattle.std.specs.List.{range_with_len}
 use Rattle.std.proofs.lemmas.List.FromFn.{length-range_with_len}
 use Rattle.zplan.specs.declared.entry.Entry.{Entry}
 use Rattle.zplan.specs.Positions.{IsIn, first_of}
@@ -26,11 +26,6 @@ pub set_at : {X : Type 0} (es : List X) (at : ℕ) (x : X) → at < length es �
 set_at [] at x lt = absurd (omega arith)
 set_at (y ∷ es) zero x lt = refl
 set_at (y ∷ es) (suc at) x lt = ap (λ l. y ∷ l) (set_at es at x (omega arith))
-
-pub remove_at : {X : Type 0} (es : List X) (at : ℕ) → at < length es → remove es at ≡ take at es ++ drop (suc at) es
-remove_at [] at lt = absurd (omega arith)
-remove_at (y ∷ es) zero lt = refl
-remove_at (y ∷ es) (suc at) lt = ap (λ l. y ∷ l) (remove_at es at (omega arith))
 
 -- ---- what is due and what waits, part by part
 
@@ -192,10 +187,6 @@ begun_some (r ∷ rs) h =
 pub begun_have : (list : List Span) → 0 < length list → AllHave list → IsBegun list
 begun_have [] lt h = absurd (omega (arith, lt))
 begun_have (r ∷ rs) lt h = h
-
-pub have_begun : (list : List Span) → IsBegun list → AllHave list
-have_begun [] h = absurd h
-have_begun (r ∷ rs) h = h
 
 pub some_listed : (three : Bool) (es : List Entry) → AllListed three es → AllSome (lists_of es)
 some_listed three [] h = tt

@@ -192,9 +192,6 @@ module _ (es : List Entry) (u : Uncut) (at : ℕ) (x : Entry) (is : x ≡ slice_
   split : at < length es → es ≡ take at es ++ x ∷ drop (suc at) es
   split lt = split_at es at x lt is
 
-  pub due_fits : IsDueAt es at → at < length es
-  due_fits h = (due_split es at x h is).0
-
   pub sound_sent : (y : Entry) → IsSound es u → IsDueAt es at → y.sent ≡ true → y.list.items ≡ x.list.items → IsSound (slice_set es at y) u
   sound_sent y h d t e =
       let r = due_split es at x d is in

@@ -1,8 +1,7 @@
 -- A list loses its first positions.
-use Rattle.std.proofs.Common.{length-append, subst, ◌≡◌, ℕ, zero, suc, ◌+◌, ◌-◌, ◌^◌, ◌<◌, ◌≤◌, List, [], ◌∷◌, ◌++◌, length, drop, refl, sym, ap, ◌∙◌, arith}
+use Rattle.std.proofs.Common.{subst, ◌≡◌, ℕ, zero, suc, ◌+◌, ◌-◌, ◌^◌, ◌<◌, ◌≤◌, List, [], ◌∷◌, ◌++◌, length, drop, sym, ap, ◌∙◌, arith}
 use Rattle.std.specs.List.{range_with_len, remove}
 use Rattle.std.specs.Prelude.{slice_index_or, slice_set}
-use Rattle.std.proofs.lemmas.List.FromFn.{length-range_with_len}
 use Rattle.zplan.specs.declared.span.Span.{Span}
 use Rattle.zplan.specs.Ranges.{places, AllHave, IsApart, IsBounded}
 use Rattle.zplan.proofs.Parts.{taken}
@@ -66,16 +65,3 @@ cut_at old k [] skip f h some e lt = absurd (omega (arith, some))
 cut_at old k (r ∷ rs) skip f h some e lt =
     subst (λ x. IsTrimming old k (record { start = x.start + skip; n = x.n - skip } ∷ rs) 0) (sym e)
     (trim_cut old k r rs skip h (subst (λ x. skip < x.n) e lt))
-
-pub starts_at : (old : List Span) (k : ℕ) (list : List Span) (skip : ℕ) (f : Span) → IsTrimming old k list skip → 0 < length list
-    → f ≡ slice_index_or list 0 f → f.start + f.n ≤ 2 ^ 31
-starts_at old k [] skip f h some e = absurd (omega (arith, some))
-starts_at old k (r ∷ rs) skip f h some e = subst (λ x. x.start + x.n ≤ 2 ^ 31) (sym e) h.bounded.0
-
--- a list that has no range has no position
-pub none_left : (list : List Span) → AllHave list → length (places list) ≡ 0 → length list ≡ 0
-none_left [] h e = refl
-none_left (s ∷ ss) h e =
-    let n : length (places (s ∷ ss)) ≡ s.n + length (places ss) =
-    length-append (range_with_len s.start s.n) (places ss) ∙ ap (λ k. k + length (places ss)) (length-range_with_len s.start s.n) in
-    let b = h.0 in absurd (omega (arith, n, e, b))

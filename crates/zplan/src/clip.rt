@@ -7,7 +7,7 @@ use crate::span::{Span, span_of};
 use std::alloc::{AllocError, Global};
 
 /// The ranges as far as the count.
-pub(crate) fn clipped(alloc: Global, wanted: &[Range], count: u64) -> Result<Vec<Span>, AllocError>
+pub(crate) fn clip(alloc: Global, wanted: &[Range], count: u64) -> Result<Vec<Span>, AllocError>
     requires { IsBounded (map span_of wanted.now) }
     ensures { IfOk result (λ v. v.items ≡ clip count (map span_of wanted.now)) }
 {

@@ -4,7 +4,7 @@ ghost use Rattle.zplan.specs.Positions.{up_to};
 ghost use Rattle.zplan.specs.Ranges.{AreWanted, positions};
 ghost use Rattle.zplan.specs.Agenda.{SameAgenda, IsFirstOf, IsSent, IsAnswered, HasWaiting, whole_agenda};
 
-use crate::clip::clipped;
+use crate::clip::clip;
 use crate::entry::{Entry, count_waiting, first_due, leave, place_of};
 use crate::part::Place;
 use crate::range::Range;
@@ -50,7 +50,7 @@ impl Schedule {
         requires step { 0 < step }
         ensures { IfOk result (λ s. s ≡ whole_agenda three step (up_to count (positions wanted.now))) }
     {
-        let ranges = clipped(alloc, wanted, count)?;
+        let ranges = clip(alloc, wanted, count)?;
         let uncut = Uncut {
             ranges,
             place: Place { at: 0, used: 0 },
@@ -105,7 +105,7 @@ impl Schedule {
     /// The Present of the list that is due with the least first position was sent: that list waits for its answer. It
     /// is the one that `next` gave, unless `answered` was called since then: call `next` anew behind `answered`. It
     /// requires that the list can be sent, which `is_ready` tells. It takes no memory.
-    pub fn sent(&mut self)
+    pub fn note_sent(&mut self)
         requires { self.old.ready ≡ true }
         ensures { IsSent self.old self.new }
     {
@@ -118,7 +118,7 @@ impl Schedule {
     /// the list has positions count as all. It waits no more; what is left of it where some of its records came and not
     /// all is due, and nothing where none came. It requires that such a list waits, which `is_waiting` tells. It takes
     /// no memory.
-    pub fn answered(&mut self, first: u32, records: usize)
+    pub fn note_answered(&mut self, first: u32, records: usize)
         requires { HasWaiting first self.old }
         ensures { IsAnswered first records self.old self.new }
     {

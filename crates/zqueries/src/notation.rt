@@ -1,12 +1,12 @@
 // Texts of the prefix notation, their tokens, and queries that no text stands for.
-use crate::plain::{boxed, parse, print, query_copy};
+use crate::plain::{box_value, parse, print, query_copy};
 use crate::queries::{is_printed, refusal};
 use bytes::Bytes;
 use std::alloc::{AllocError, Global};
 use std::process::Abort;
 use std::test::Fail;
 use zber::{Node, Oid, Seq, Tag};
-use zelements::rows::{each_row, halves, held, tells, unescaped};
+use zelements::rows::{each_row, halves, is_true, tells, unescape};
 use zelements::unread::{Unread, read};
 use zquery::{PrintError, tokens};
 use zrpn::{Attr, AttrValue, Query, Rpn, TermValue};
@@ -55,7 +55,7 @@ fn is_text(alloc: Global, text: &[u8], due: &[u8]) -> Result<bool, Unread> {
 
 fn is_row(alloc: Global, row: &str) -> Result<bool, Unread> {
     let (text, due) = halves(row);
-    let text = unescaped(alloc, text)?;
+    let text = unescape(alloc, text)?;
     is_text(alloc, text.as_slice(), due.as_bytes())
 }
 
@@ -174,7 +174,7 @@ Trailing at 4 => a"b c"
 
 fn is_refusal(alloc: Global, row: &str) -> Result<bool, Unread> {
     let (due, text) = halves(row);
-    let text = unescaped(alloc, text)?;
+    let text = unescape(alloc, text)?;
     Ok(tells(refusal(alloc, text.as_slice()), due))
 }
 
@@ -184,7 +184,7 @@ fn texts_are_refused_at_their_faults(rt: HostRuntime) -> Result<(), Fail> {
 }
 
 // Tokens with their places, each on a line, quoted ones in quotes.
-fn listed(alloc: Global, text: &[u8]) -> Result<Vec<u8>, Unread> {
+fn list_tokens(alloc: Global, text: &[u8]) -> Result<Vec<u8>, Unread> {
     let mut out = Vec::new(alloc);
     for token in read(tokens(alloc, text))?.iter() {
         let place = token.at.to_string(alloc)?;
@@ -198,7 +198,7 @@ fn listed(alloc: Global, text: &[u8]) -> Result<Vec<u8>, Unread> {
 
 #[test]
 fn tokens_have_their_places(rt: HostRuntime) -> Result<(), Fail> {
-    let found = listed(rt.alloc(), b"a \"b c\"")?;
+    let found = list_tokens(rt.alloc(), b"a \"b c\"")?;
     assert!(rt; found.as_slice() == b"0 - a;2 q b c;".as_slice());
     Ok(())
 }
@@ -215,7 +215,7 @@ pub(crate) fn has_no_text(alloc: Global, query: &Query) -> Result<bool, AllocErr
 }
 
 fn is_refused(alloc: Global, attr_set: Oid, root: Rpn) -> Result<bool, AllocError> {
-    let query = boxed(alloc, Query { attr_set, root })?;
+    let query = box_value(alloc, Query { attr_set, root })?;
     has_no_text(alloc, &query)
 }
 
@@ -244,7 +244,7 @@ fn high(alloc: Global, operators: u32) -> Result<Rpn, AllocError> {
     Ok(root)
 }
 
-pub(crate) fn near(alloc: Global, operator: Node) -> Result<Rpn, AllocError> {
+pub(crate) fn proximity_of(alloc: Global, operator: Node) -> Result<Rpn, AllocError> {
     let left = Box::new(alloc, numeric(alloc))?;
     let right = Box::new(alloc, numeric(alloc))?;
     Ok(Rpn::Prox(operator, left, right))
@@ -265,14 +265,14 @@ pub(crate) fn other(alloc: Global, node: Node) -> Rpn {
 }
 
 // A term with these attributes.
-fn with(attrs: Vec<Attr>) -> Rpn {
+fn term_with(attrs: Vec<Attr>) -> Rpn {
     Rpn::Term {
         attrs: Seq::from_vec(attrs),
         term: TermValue::Numeric(5),
     }
 }
 
-pub(crate) fn valued(attr_set: Option<Oid>, kind: i64, value: AttrValue) -> Attr {
+pub(crate) fn make_attr(attr_set: Option<Oid>, kind: i64, value: AttrValue) -> Attr {
     Attr {
         attr_set,
         kind,
@@ -282,27 +282,27 @@ pub(crate) fn valued(attr_set: Option<Oid>, kind: i64, value: AttrValue) -> Attr
 
 fn one(alloc: Global, attr: Attr) -> Result<Rpn, AllocError> {
     let attrs = vec![in alloc; attr]?;
-    Ok(with(attrs))
+    Ok(term_with(attrs))
 }
 
 fn plain(alloc: Global, kind: i64, value: i64) -> Result<Rpn, AllocError> {
-    one(alloc, valued(None, kind, AttrValue::Number(value)))
+    one(alloc, make_attr(None, kind, AttrValue::Number(value)))
 }
 
 pub(crate) fn complex(alloc: Global, node: Node) -> Result<Rpn, AllocError> {
-    one(alloc, valued(None, 1, AttrValue::Complex(node)))
+    one(alloc, make_attr(None, 1, AttrValue::Complex(node)))
 }
 
 // An attribute that names this set.
-fn named(alloc: Global, attr_set: Oid) -> Result<Rpn, AllocError> {
-    one(alloc, valued(Some(attr_set), 1, AttrValue::Number(4)))
+fn name_set(alloc: Global, attr_set: Oid) -> Result<Rpn, AllocError> {
+    one(alloc, make_attr(Some(attr_set), 1, AttrValue::Number(4)))
 }
 
 fn double(alloc: Global) -> Result<Rpn, AllocError> {
-    let first = valued(None, 1, AttrValue::Number(4));
-    let second = valued(None, 1, AttrValue::Number(4));
+    let first = make_attr(None, 1, AttrValue::Number(4));
+    let second = make_attr(None, 1, AttrValue::Number(4));
     let attrs = vec![in alloc; first, second]?;
-    Ok(with(attrs))
+    Ok(term_with(attrs))
 }
 
 // Whether a root under bib-1 has no text.
@@ -315,8 +315,8 @@ fn textless(alloc: Global, root: Result<Rpn, AllocError>) -> Result<bool, Unread
 #[test]
 fn some_numbers_have_no_text(rt: HostRuntime) -> Result<(), Fail> {
     let alloc = rt.alloc();
-    assert!(rt; held(textless(alloc, plain(alloc, -1, 4))));
-    assert!(rt; held(textless(alloc, plain(alloc, 1, 2_147_483_648))));
+    assert!(rt; is_true(textless(alloc, plain(alloc, -1, 4))));
+    assert!(rt; is_true(textless(alloc, plain(alloc, 1, 2_147_483_648))));
     assert!(rt; matches!(textless(alloc, plain(alloc, 1, 4)), Ok(false)));
     Ok(())
 }
@@ -324,25 +324,25 @@ fn some_numbers_have_no_text(rt: HostRuntime) -> Result<(), Fail> {
 #[test]
 fn some_attributes_have_no_text(rt: HostRuntime) -> Result<(), Fail> {
     let alloc = rt.alloc();
-    assert!(rt; held(textless(alloc, complex(alloc, opaque(alloc)))));
-    assert!(rt; held(textless(alloc, double(alloc))));
-    assert!(rt; held(textless(alloc, named(alloc, bib_1(alloc)?))));
+    assert!(rt; is_true(textless(alloc, complex(alloc, opaque(alloc)))));
+    assert!(rt; is_true(textless(alloc, double(alloc))));
+    assert!(rt; is_true(textless(alloc, name_set(alloc, bib_1(alloc)?))));
     Ok(())
 }
 
 #[test]
 fn some_roots_have_no_text(rt: HostRuntime) -> Result<(), Fail> {
     let alloc = rt.alloc();
-    assert!(rt; held(textless(alloc, Ok(without_attributes(alloc)))));
-    assert!(rt; held(textless(alloc, Ok(other(alloc, opaque(alloc))))));
-    assert!(rt; held(textless(alloc, near(alloc, opaque(alloc)))));
+    assert!(rt; is_true(textless(alloc, Ok(without_attributes(alloc)))));
+    assert!(rt; is_true(textless(alloc, Ok(other(alloc, opaque(alloc))))));
+    assert!(rt; is_true(textless(alloc, proximity_of(alloc, opaque(alloc)))));
     Ok(())
 }
 
 #[test]
 fn a_query_has_a_text_up_to_32_levels(rt: HostRuntime) -> Result<(), Fail> {
     let alloc = rt.alloc();
-    assert!(rt; held(textless(alloc, high(alloc, 32))));
+    assert!(rt; is_true(textless(alloc, high(alloc, 32))));
     assert!(rt; matches!(textless(alloc, high(alloc, 31)), Ok(false)));
     Ok(())
 }

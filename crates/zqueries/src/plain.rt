@@ -7,14 +7,14 @@ use zquery::{PqfError, PrintError};
 use zrpn::{BuildError, Query};
 
 /// A value in a box.
-pub fn boxed<T: Drop>(alloc: Global, value: T) -> Result<Box<T>, AllocError> {
+pub fn box_value<T: Drop>(alloc: Global, value: T) -> Result<Box<T>, AllocError> {
     Ok(Box::new(alloc, value)?)
 }
 
 /// The query of a text in prefix notation.
 pub fn parse(alloc: Global, text: &[u8]) -> Result<Box<Query>, Unread> {
     let query = unread::read(zquery::parse_pqf(alloc, text))?;
-    Ok(boxed(alloc, query)?)
+    Ok(box_value(alloc, query)?)
 }
 
 /// Why a text is refused.
@@ -35,7 +35,7 @@ pub fn query_node(alloc: Global, query: &Query) -> Result<Node, BuildError> {
 /// The query of an element, in a box.
 pub fn query_of(alloc: Global, node: &Node) -> Result<Box<Query>, Unread> {
     let query = zrpn::from_node(alloc, node)?.ok_or(Unread)?;
-    Ok(boxed(alloc, query)?)
+    Ok(box_value(alloc, query)?)
 }
 
 /// Whether an element is a query.
@@ -47,7 +47,7 @@ pub fn is_query(alloc: Global, node: &Node) -> Result<bool, AllocError> {
 /// An equal query, in a box.
 pub fn query_copy(alloc: Global, query: &Query) -> Result<Box<Query>, AllocError> {
     let copy = query.copy(alloc)?;
-    boxed(alloc, copy)
+    box_value(alloc, copy)
 }
 
 /// The element within the element that stands in a SearchRequest's place for a query.
@@ -59,7 +59,7 @@ pub fn inner(node: &Node) -> Option<&Node> {
 }
 
 /// The text of a query.
-pub fn printed(alloc: Global, query: &Query) -> Result<Vec<u8>, Unread> {
+pub fn query_text(alloc: Global, query: &Query) -> Result<Vec<u8>, Unread> {
     let mut text = Vec::new(alloc);
     unread::read(print(alloc, query, &mut text))?;
     Ok(text)

@@ -1,22 +1,22 @@
 // Queries in the prefix notation and in octets, worked out from Z39.50-2003, 4.1, and X.690.
-use crate::plain::{inner, parse, parse_refusal, printed, query_node, query_of};
+use crate::plain::{inner, parse, parse_refusal, query_node, query_of, query_text};
 use crate::rows::READ;
 use std::alloc::{AllocError, Global};
 use std::process::Abort;
 use std::test::Fail;
 use zber::{Node, Tag};
-use zelements::rows::{each_row, element, encoding, halves, held, spells, tells, unescaped};
+use zelements::rows::{each_row, element, encoding, halves, is_true, spells, tells, unescape};
 use zelements::unread::{self, Unread};
 use zrpn::Query;
 
 // The element in a SearchRequest's place for a query.
-fn wrapped(alloc: Global, query: &Query) -> Result<Node, Unread> {
+fn wrap_query(alloc: Global, query: &Query) -> Result<Node, Unread> {
     let node = unread::read(query_node(alloc, query))?;
     let nodes = vec![in alloc; node]?;
     Ok(Node::cons(Tag::context(21), nodes))
 }
 
-pub(crate) fn unwrapped(alloc: Global, node: &Node) -> Result<Box<Query>, Unread> {
+pub(crate) fn unwrap_query(alloc: Global, node: &Node) -> Result<Box<Query>, Unread> {
     match inner(node) {
         Some(node) => query_of(alloc, node),
         None => Err(Unread),
@@ -26,21 +26,21 @@ pub(crate) fn unwrapped(alloc: Global, node: &Node) -> Result<Box<Query>, Unread
 // The query of an element's digits.
 fn read(alloc: Global, digits: &str) -> Result<Box<Query>, Unread> {
     let node = element(alloc, digits)?;
-    unwrapped(alloc, &node)
+    unwrap_query(alloc, &node)
 }
 
 // Whether this is the query's text.
 pub(crate) fn is_printed(alloc: Global, query: &Query, due: &[u8]) -> bool {
-    spells(printed(alloc, query), due)
+    spells(query_text(alloc, query), due)
 }
 
-fn encoded(alloc: Global, query: &Query) -> Result<String, Unread> {
-    let node = wrapped(alloc, query)?;
+fn encode_query(alloc: Global, query: &Query) -> Result<String, Unread> {
+    let node = wrap_query(alloc, query)?;
     Ok(encoding(alloc, &node)?)
 }
 
 fn is_encoded(alloc: Global, query: &Query, digits: &str) -> bool {
-    tells(encoded(alloc, query), digits)
+    tells(encode_query(alloc, query), digits)
 }
 
 // Whether a query has this text and this element.
@@ -60,16 +60,16 @@ fn decodes(alloc: Global, due: &[u8], digits: &str) -> Result<bool, Unread> {
 
 // The text, the printed text and the element are one query's.
 fn are_one(alloc: Global, text: &[u8], due: &[u8], digits: &str) -> bool {
-    held(parses(alloc, text, due, digits))
-        && held(parses(alloc, due, due, digits))
-        && held(decodes(alloc, due, digits))
+    is_true(parses(alloc, text, due, digits))
+        && is_true(parses(alloc, due, due, digits))
+        && is_true(decodes(alloc, due, digits))
 }
 
 fn is_query(alloc: Global, row: &str) -> Result<bool, Unread> {
     let (text, rest) = halves(row);
     let (printed, digits) = halves(rest);
-    let text = unescaped(alloc, text)?;
-    let due = unescaped(alloc, printed)?;
+    let text = unescape(alloc, text)?;
+    let due = unescape(alloc, printed)?;
     Ok(are_one(alloc, text.as_slice(), due.as_slice(), digits))
 }
 
@@ -79,7 +79,12 @@ fn texts_are_queries_and_queries_octets(rt: HostRuntime) -> Result<(), Fail> {
 }
 
 // A text so many times, and then another one.
-fn after(alloc: Global, count: usize, text: &[u8], last: &[u8]) -> Result<Vec<u8>, AllocError> {
+fn repeat_before(
+    alloc: Global,
+    count: usize,
+    text: &[u8],
+    last: &[u8],
+) -> Result<Vec<u8>, AllocError> {
     let mut out = Vec::new(alloc);
     for _ in 0..count {
         out.extend_from_slice(text)?;
@@ -89,30 +94,30 @@ fn after(alloc: Global, count: usize, text: &[u8], last: &[u8]) -> Result<Vec<u8
 }
 
 // So many times one text, and then so many times another.
-fn twice(
+fn repeat_both(
     alloc: Global,
     count: usize,
     text: &[u8],
     more: usize,
     next: &[u8],
 ) -> Result<Vec<u8>, AllocError> {
-    let last = after(alloc, more, next, b"")?;
-    after(alloc, count, text, last.as_slice())
+    let last = repeat_before(alloc, more, next, b"")?;
+    repeat_before(alloc, count, text, last.as_slice())
 }
 
 // A query that comes back from its element.
-fn again(alloc: Global, query: &Query) -> Result<Box<Query>, Unread> {
-    let node = wrapped(alloc, query)?;
-    unwrapped(alloc, &node)
+fn read_back(alloc: Global, query: &Query) -> Result<Box<Query>, Unread> {
+    let node = wrap_query(alloc, query)?;
+    unwrap_query(alloc, &node)
 }
 
 fn has_text_of(alloc: Global, query: &Query, other: &Query) -> Result<bool, Unread> {
-    let text = printed(alloc, other)?;
+    let text = query_text(alloc, other)?;
     Ok(is_printed(alloc, query, text.as_slice()))
 }
 
 fn comes_back(alloc: Global, query: &Query) -> Result<bool, Unread> {
-    let again = again(alloc, query)?;
+    let again = read_back(alloc, query)?;
     has_text_of(alloc, &again, query)
 }
 
@@ -124,10 +129,10 @@ fn is_read(alloc: Global, text: &[u8]) -> Result<bool, Unread> {
 
 #[test]
 fn operands_stand_on_32_levels(rt: HostRuntime) -> Result<(), Fail> {
-    let highest = twice(rt.alloc(), 31, b"@and ", 32, b"x ")?;
-    assert!(rt; held(is_read(rt.alloc(), highest.as_slice())));
-    let longest = after(rt.alloc(), 31, b"@or x ", b"@attr 1=4 @set x")?;
-    assert!(rt; held(is_read(rt.alloc(), longest.as_slice())));
+    let highest = repeat_both(rt.alloc(), 31, b"@and ", 32, b"x ")?;
+    assert!(rt; is_true(is_read(rt.alloc(), highest.as_slice())));
+    let longest = repeat_before(rt.alloc(), 31, b"@or x ", b"@attr 1=4 @set x")?;
+    assert!(rt; is_true(is_read(rt.alloc(), longest.as_slice())));
     Ok(())
 }
 
@@ -140,7 +145,7 @@ pub(crate) fn refusal(alloc: Global, text: &[u8]) -> Result<String, AllocError> 
 
 #[test]
 fn the_33rd_level_is_refused(rt: HostRuntime) -> Result<(), Fail> {
-    let lower = twice(rt.alloc(), 32, b"@and ", 33, b"x ")?;
+    let lower = repeat_both(rt.alloc(), 32, b"@and ", 33, b"x ")?;
     assert!(rt; tells(refusal(rt.alloc(), lower.as_slice()), "TooDeep at 160"));
     Ok(())
 }
@@ -159,7 +164,7 @@ const LAST: &str = "\
 
 fn is_last(alloc: Global, row: &str) -> Result<bool, Unread> {
     let (last, due) = halves(row);
-    let text = after(alloc, 31, b"@or x ", last.as_bytes())?;
+    let text = repeat_before(alloc, 31, b"@or x ", last.as_bytes())?;
     Ok(tells(refusal(alloc, text.as_slice()), due))
 }
 

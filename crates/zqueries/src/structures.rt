@@ -1,14 +1,14 @@
 // Elements that are queries without a text, or no queries, worked out from Z39.50-2003, 4.1, and X.690.
-use crate::notation::{complex, has_no_text, near, other};
-use crate::plain::{boxed, is_query, query_copy, query_node, query_of};
-use crate::queries::{is_printed, unwrapped};
+use crate::notation::{complex, has_no_text, other, proximity_of};
+use crate::plain::{box_value, is_query, query_copy, query_node, query_of};
+use crate::queries::{is_printed, unwrap_query};
 use crate::rows::{KEPT, LONG, OTHERS};
 use bytes::Bytes;
 use std::alloc::{AllocError, Global};
 use std::process::Abort;
 use std::test::Fail;
 use zber::{Node, Oid, Tag};
-use zelements::rows::{each_row, element, encoding, held, pair, tells};
+use zelements::rows::{each_row, element, encoding, is_true, pair, tells};
 use zelements::unread::{Unread, read};
 use zrpn::{BuildError, Query, Rpn};
 
@@ -23,9 +23,9 @@ fn is_copied_as(alloc: Global, query: &Query, digits: &str) -> Result<bool, Unre
 }
 
 fn is_opaque(alloc: Global, query: &Query, digits: &str) -> bool {
-    held(is_written_as(alloc, query, digits))
-        && held(is_copied_as(alloc, query, digits))
-        && held(has_no_text(alloc, query))
+    is_true(is_written_as(alloc, query, digits))
+        && is_true(is_copied_as(alloc, query, digits))
+        && is_true(has_no_text(alloc, query))
 }
 
 fn query(alloc: Global, digits: &str) -> Result<Box<Query>, Unread> {
@@ -88,14 +88,14 @@ fn other_elements_are_no_queries(rt: HostRuntime) -> Result<(), Fail> {
     each_row(rt.alloc(), OTHERS, &is_none)
 }
 
-fn within(alloc: Global, digits: &str) -> Result<Box<Query>, Unread> {
+fn inner_query(alloc: Global, digits: &str) -> Result<Box<Query>, Unread> {
     let node = element(alloc, digits)?;
-    unwrapped(alloc, &node)
+    unwrap_query(alloc, &node)
 }
 
 #[test]
 fn other_lengths_say_the_same(rt: HostRuntime) -> Result<(), Fail> {
-    let query = within(rt.alloc(), LONG)?;
+    let query = inner_query(rt.alloc(), LONG)?;
     assert!(rt; is_printed(rt.alloc(), &query, b"@attr 1=4 \"dune\""));
     Ok(())
 }
@@ -128,14 +128,14 @@ fn is_spelt(alloc: Global, query: &Query) -> Result<bool, Unread> {
     }
 }
 
-fn over(alloc: Global, attr_set: Oid, root: Rpn) -> Result<Box<Query>, AllocError> {
-    boxed(alloc, Query { attr_set, root })
+fn make_query(alloc: Global, attr_set: Oid, root: Rpn) -> Result<Box<Query>, AllocError> {
+    box_value(alloc, Query { attr_set, root })
 }
 
 // The mark where the query of a root has an element, and a dot where it has none.
 fn mark(alloc: Global, root: Rpn, mark: char) -> Result<char, Unread> {
     let attr_set = Oid::from_arcs(alloc, &[1, 2, 840, 10003, 3, 1])?;
-    let query = over(alloc, attr_set, root)?;
+    let query = make_query(alloc, attr_set, root)?;
     Ok(if is_spelt(alloc, &query)? { mark } else { '.' })
 }
 
@@ -152,7 +152,7 @@ fn value_mark(alloc: Global, node: &Node) -> Result<char, Unread> {
 
 fn proximity_mark(alloc: Global, node: &Node) -> Result<char, Unread> {
     let node = node.copy(alloc)?;
-    let root = near(alloc, node)?;
+    let root = proximity_of(alloc, node)?;
     mark(alloc, root, 'p')
 }
 

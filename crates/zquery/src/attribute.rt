@@ -10,7 +10,7 @@ use zber::Oid;
 use zrpn::Attr;
 
 /// The set that an attribute keeps: none where it names the query's own.
-pub(crate) fn kept(own: &Oid, set: Oid) -> Option<Oid>
+pub(crate) fn set_unless_own(own: &Oid, set: Oid) -> Option<Oid>
     ensures { result ≡ kept_set own.now set }
 {
     if own.arcs() == set.arcs() {

@@ -75,9 +75,6 @@ calls_silent c (call ∷ calls) i =
 pub goes_same : (m : MetaLinks) → GoesOn m m
 goes_same m = record { on = λ q s h a. record { more = []; after = a; silent = λ i. (refl, refl) } }
 
-pub goes_is : (old new : MetaLinks) → new ≡ old → GoesOn old new
-goes_is old new e = subst (GoesOn old) (sym e) (goes_same old)
-
 pub goes_trans : (a b c : MetaLinks) → GoesOn a b → GoesOn b c → GoesOn a c
 goes_trans a b c f g = record {
   on = λ q s h x.

@@ -13,16 +13,6 @@ use Rattle.zrounds.specs.Run.{is_over}
 use Rattle.zrounds.specs.RunSteps.{StopsAt, Halted, Halts}
 use Rattle.zrounds.proofs.RunGoes.{all_silent, one_silent}
 
-pub halts_none : (m : MetaLinks) → Halts 0 m m
-halts_none m = record {
-  on = λ q s h a. record {
-    more = [];
-    after = a;
-    silent = λ i. (refl, refl);
-    over = λ i p lt heard. absurd (omega arith);
-  };
-}
-
 -- the connection that is next was finished
 was_over : (n : ℕ) (q : List Question) (s : MetaSettings) (h : History) (new : MetaLinks)
     → Halted q s n h new → Tells n new is_over true → Halted q s (n + 1) h new

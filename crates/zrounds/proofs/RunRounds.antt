@@ -131,12 +131,6 @@ module _ (hearing : OneHearing) (longer : LongerLaw) (old new : MetaLinks) (peer
         put_step same f qs s ts w q.0 t.0 q.1 t.1 (w.kept c q.0 t.0 (get_or peers c p) q.1 t.1 (at_peer peers c p lt));
   }
 
-pub stays_same : (meta : MetaLinks) (peers : List Peer) → WorldStays meta meta peers peers
-stays_same meta peers = record { on = λ qs s ts w. w }
-
-pub stays_trans : (a b c : MetaLinks) (x y z : List Peer) → WorldStays a b x y → WorldStays b c y z → WorldStays a c x z
-stays_trans a b c x y z f g = record { on = λ qs s ts w. g.on qs s ts (f.on qs s ts w) }
-
 -- ---- a round
 
 -- of the connections before this one so much is said, of the others so much
@@ -148,14 +142,6 @@ abbrev pub WentRound : ℕ → Bool → MetaLinks → MetaLinks → List Peer �
 WentRound c any old new was now =
     (n m : ℕ) (qs : List Question) (s : MetaSettings) (ts : List TargetState) → (any ≡ true → m ≡ suc n)
     → WorldFine (λ i. n) qs s ts old was → WorldFine (half c m n) qs s ts new now
-
-pub turned_none : (meta : MetaLinks) (peers : List Peer) → WentRound 0 false meta meta peers peers
-turned_none meta peers n m qs s ts is w =
-    world_as (λ i. n) (half 0 m n) qs s ts meta peers (λ i lt. sym (below i (nat_lt i 0) refl)) w
-  where
-    below : (i : ℕ) (b : Bool) → nat_lt i 0 ≡ b → half 0 m n i ≡ n
-    below i true e = absurd (let g : i < 0 = grind (arith, nat_tests) in omega (arith, g))
-    below i false e = rw e refl
 
 pub turned_all : (c : ℕ) (any : Bool) (old new : MetaLinks) (was now : List Peer) → length now ≤ c
     → WentRound c any old new was now → WorldRounds any old new was now
@@ -390,9 +376,6 @@ abbrev pub Grown : ℕ → MetaLinks → MetaLinks → List Peer → List Peer �
 Grown n old new was now =
     (qs : List Question) (s : MetaSettings) (ts : List TargetState)
     → WorldFine (λ i. 0) qs s ts old was → WorldFine (λ i. n) qs s ts new now
-
-pub grown_none : (meta : MetaLinks) (peers : List Peer) → Grown 0 meta meta peers peers
-grown_none meta peers qs s ts w = w
 
 pub grown_more : (n : ℕ) (old mid new : MetaLinks) (was now later : List Peer) → Grown n old mid was now
     → WorldGrows mid new now later → Grown (n + 1) old new was later

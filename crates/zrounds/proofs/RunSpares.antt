@@ -12,11 +12,6 @@ use Rattle.zrounds.specs.RunSound.{of, Adds, Spared, Spares}
 use Rattle.zrounds.specs.RunTurns.{AddsAt}
 use Rattle.zrounds.proofs.RunSound.{none_of}
 
-pub spares_same : (meta : MetaLinks) → Spares meta meta
-spares_same meta = record {
-  on = λ questions s h a. record { more = []; after = a; none = λ i p heard over. refl };
-}
-
 pub spares_trans : (a b c : MetaLinks) → Spares a b → Spares b c → Spares a c
 spares_trans a b c f g = record {
   on = λ questions s h x.

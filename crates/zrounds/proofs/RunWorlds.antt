@@ -58,9 +58,6 @@ carried_tied q s t c h new p r tie w = record {
 
 -- ---- worlds
 
-pub world_same : (meta : MetaLinks) (peers : List Peer) → WorldGoes meta meta peers peers
-world_same meta peers = record { on = λ q s ts w. w }
-
 pub world_trans : (a b c : MetaLinks) (x y z : List Peer) → WorldGoes a b x y → WorldGoes b c y z → WorldGoes a c x z
 world_trans a b c x y z f g = record { on = λ q s ts w. g.on q s ts (f.on q s ts w) }
 

@@ -9,7 +9,7 @@ use zcommands::fault::Status;
 use zcommands::files::Folder;
 use zcommands::input::Input;
 use zcommands::output::Output;
-use zelements::rows::{halves, parted, unescaped};
+use zelements::rows::{halves, split_row, unescape};
 use zelements::unread::Unread;
 
 /// What a command answered, printed and told.
@@ -80,7 +80,7 @@ pub(crate) fn ran_line<S: Folder + Net + Clock>(
 
 // The octets that a text of a row stands for: `-` stands for none.
 fn text(alloc: Global, text: &str) -> Result<Vec<u8>, Unread> {
-    unescaped(alloc, if text == "-" { "" } else { text })
+    unescape(alloc, if text == "-" { "" } else { text })
 }
 
 fn is_text(alloc: Global, found: &[u8], due: &str) -> Result<bool, Unread> {
@@ -90,8 +90,8 @@ fn is_text(alloc: Global, found: &[u8], due: &str) -> Result<bool, Unread> {
 
 /// Whether this was answered, printed and told: a status, and two texts.
 pub(crate) fn is_due(alloc: Global, ran: &Outcome, due: &str) -> Result<bool, Unread> {
-    let (status, texts) = parted(due, " > ");
-    let (printed, told) = parted(texts, " > ");
+    let (status, texts) = split_row(due, " > ");
+    let (printed, told) = split_row(texts, " > ");
     let is_status = ran.status.code() == status.parse::<u8>()?;
     let is_printed = is_text(alloc, ran.printed.as_slice(), printed)?;
     let is_told = is_text(alloc, ran.told.as_slice(), told)?;

@@ -10,7 +10,7 @@ use zcommands::commands::run;
 use zcommands::fault::{Fault, Status};
 use zcommands::input::Input;
 use zcommands::output::Output;
-use zelements::rows::{each_row, halves, pair, unescaped};
+use zelements::rows::{each_row, halves, pair, unescape};
 use zelements::unread::Unread;
 
 // Each line, the call at which its input, its output or its errors fail, none being 0, and what is told, unless the
@@ -66,13 +66,13 @@ fn status<'a, E: Write>(
     )
 }
 
-fn told(alloc: Global, words: &[String], calls: Breaks) -> (Status, Vec<u8>) {
+fn status_and_text(alloc: Global, words: &[String], calls: Breaks) -> (Status, Vec<u8>) {
     let mut told = Vec::new(alloc);
     let status = status(alloc, words, calls, &mut Output::new("-", &mut told));
     (status, told)
 }
 
-fn untold(alloc: Global, words: &[String], calls: Breaks) -> Status {
+fn status_untold(alloc: Global, words: &[String], calls: Breaks) -> Status {
     let teller = Full {
         calls: 0,
         fails_at: calls.tell,
@@ -82,10 +82,10 @@ fn untold(alloc: Global, words: &[String], calls: Breaks) -> Status {
 
 fn is_told(alloc: Global, words: &[String], calls: Breaks, due: &str) -> Result<bool, Unread> {
     if calls.tell > 0 {
-        return Ok(untold(alloc, words, calls) == Status::Refused);
+        return Ok(status_untold(alloc, words, calls) == Status::Refused);
     }
-    let due = unescaped(alloc, due)?;
-    let (status, told) = told(alloc, words, calls);
+    let due = unescape(alloc, due)?;
+    let (status, told) = status_and_text(alloc, words, calls);
     Ok(status == Status::Refused && told.as_slice() == due.as_slice())
 }
 
@@ -115,7 +115,7 @@ fn a_stream_that_fails_is_told(rt: HostRuntime) -> Result<(), Fail> {
 }
 
 // Whether so many octets, one a read, are read, and by how many reads.
-fn drained(alloc: Global, left: u32) -> (bool, u32) {
+fn read_drips(alloc: Global, left: u32) -> (bool, u32) {
     let mut source = Input::new("-", Drip { left, calls: 0 });
     let is_read = source.read_all(alloc).is_ok();
     (is_read, source.reader.calls)
@@ -128,7 +128,7 @@ fn is_given_up(alloc: Global, left: u32) -> bool {
 
 #[test]
 fn reads_no_more_than_a_million_times(rt: HostRuntime) {
-    assert_eq!(rt; drained(rt.alloc(), 999_999), (true, 1_000_000));
-    assert_eq!(rt; drained(rt.alloc(), 1_000_000), (false, 1_000_000));
+    assert_eq!(rt; read_drips(rt.alloc(), 999_999), (true, 1_000_000));
+    assert_eq!(rt; read_drips(rt.alloc(), 1_000_000), (false, 1_000_000));
     assert!(rt; is_given_up(rt.alloc(), 1_000_000));
 }

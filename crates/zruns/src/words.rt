@@ -25,7 +25,7 @@ zmeta|join|a|b => Join { first: \"a\", others: [\"b\"], mode: Text }
 zmeta|join|a|--hex|b|c => Join { first: \"a\", others: [\"b\", \"c\"], mode: Hex }
 ";
 
-fn asked(alloc: Global, line: &str) -> Result<String, Unread> {
+fn command_text(alloc: Global, line: &str) -> Result<String, Unread> {
     let words = words_of(alloc, line)?;
     let asked = read(parse(alloc, words.as_slice()))?;
     Ok(format!(in alloc; "{asked:?}")?)
@@ -33,7 +33,7 @@ fn asked(alloc: Global, line: &str) -> Result<String, Unread> {
 
 fn is_asked(alloc: Global, row: &str) -> Result<bool, Unread> {
     let (line, due) = halves(row);
-    Ok(asked(alloc, line)?.as_str() == due)
+    Ok(command_text(alloc, line)?.as_str() == due)
 }
 
 #[test]

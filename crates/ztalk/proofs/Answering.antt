@@ -182,23 +182,6 @@ on_handed old new octets l k k2 u went sound = record {
   writer = sound;
 }
 
--- nothing was read
-pub on_kept : (h : HostState) (l l2 k : DeviceState) → Keeps l.octets l2.octets → HasNoFailure l l2
-    → ExchangesOn same h h l l2 k k
-on_kept h l l2 k still sound = record {
-  on = λ holdings events reads source sink x. record {
-    more = x.more;
-    read = x.read;
-    written = x.written;
-    exchanges = x.exchanges;
-    after = x.after;
-    came = Consumes-kept source.octets l.octets l2.octets x.read x.came still;
-    went = x.went;
-  };
-  reader = sound;
-  writer = refl;
-}
-
 -- a write failed behind what went on
 pub on_unwritten : (old mid new : HostState) (l l2 k k2 k3 : DeviceState) → ExchangesOn suc old mid l l2 k k2
     → Unwritten mid new k2 k3 → PieceFails old new l l2 k k3

@@ -263,11 +263,6 @@ turned c turns.Nothing old mid new sink held one two = λ left.
 turned c turns.Over old mid new sink held one two = λ left.
     goes_trans c Due Listening Over same same old mid new left left left sink held held (one left) (two left held)
 
-pub unturned : (c : ℕ) (e : PushError) (old new : MetaLinks) (sink held : DeviceState) → Speaks c (Err e) old new sink held
-    → TakesTurn c (Err e) old new sink held
-unturned c pushes.Write old new sink held s = s
-unturned c pushes.Memory old new sink held s = s
-
 -- a turn failed behind others
 pub unsettled : (c : ℕ) (e : PushError) (old mid new : MetaLinks) (sink held then_held : DeviceState)
     → ((left : DeviceState) → GoesOn c Due Due same old mid left left sink held)

@@ -236,21 +236,6 @@ goes_trans see n m k turns x y z a b d one two = record {
   on = λ q s h first all. two.on q s h first (one.on q s h first all);
 }
 
--- counts that are the same
-goes_as : {E : Type 0} (see : E → Seen) (n m : ℕ → ℕ) (turns : ℕ) (x : List (Option E)) (a : MetaLinks)
-    → ((c : ℕ) → n c ≡ m c) → Goes see n m turns x x a a
-goes_as see n m turns x a same = record {
-  on = λ q s h first all. record {
-    now = all.now;
-    after = all.after;
-    each = λ c.
-        subst (λ z. Among see q s c h all.now z turns (ends_at first c) (ends_at x c)) (same c) (all.each c);
-  };
-}
-
-below_none : (n c : ℕ) → for_each n c ≡ one_more_below 0 n c
-below_none n c = grind (arith, nat_tests)
-
 below_here : (n c : ℕ) → one_more_below c n c ≡ n
 below_here n c = grind (arith, nat_tests)
 
@@ -262,11 +247,6 @@ below_others n c i far = grind (arith, nat_tests)
 
 below_all : (n i c : ℕ) → c < i → one_more_below i n c ≡ n + 1
 below_all n i c lt = grind (arith, nat_tests)
-
--- a round begins
-pub round_begins : {E : Type 0} (see : E → Seen) (n turns : ℕ) (x : List (Option E)) (a : MetaLinks)
-    → Goes see (for_each n) (one_more_below 0 n) turns x x a a
-round_begins see n turns x a = goes_as see (for_each n) (one_more_below 0 n) turns x a (below_none n)
 
 -- one connection takes part
 pub round_goes : {E : Type 0} (see : E → Seen) (c n turns : ℕ) (x ends : List (Option E)) (before last : Option E)
@@ -310,10 +290,6 @@ pub leave_goes : {E : Type 0} (see : E → Seen) (c n : ℕ) (x ends : List (Opt
 leave_goes see c n x ends before last a b d lt is goes steps =
     goes_trans see (for_each n) (for_each n) (for_each n) n x ends (slice_set ends c last) a b d goes
     (goes_step see c n n (for_each n) (for_each n) n ends before last b d lt is refl refl (λ i far. refl) steps)
-
-pub leave_begins : {E : Type 0} (see : E → Seen) (n : ℕ) (x : List (Option E)) (a : MetaLinks)
-    → Goes see (for_each n) (for_each n) n x x a a
-leave_begins see n x a = goes_as see (for_each n) (for_each n) n x a (λ c. refl)
 
 -- rounds, and one more
 pub rounds_go : {E : Type 0} (see : E → Seen) (n turns : ℕ) (x y z : List (Option E)) (a b d : MetaLinks)

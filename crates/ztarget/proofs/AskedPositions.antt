@@ -1,5 +1,5 @@
 -- The positions of ranges, step by step.
-use Rattle.std.proofs.Common.{◌≡◌, ℕ, zero, suc, ◌+◌, ◌-◌, ◌<◌, ◌≤◌, leb, ltb, Bool, true, false, cond, ◌&&◌, List, [], ◌∷◌, ◌++◌, length, map, take, drop, get_or, Option, Some, None, refl, sym, ap, ◌∙◌, true≢false, arith, length-append, length-drop, append_assoc}
+use Rattle.std.proofs.Common.{◌≡◌, ℕ, zero, suc, ◌+◌, ◌-◌, ◌<◌, ◌≤◌, leb, ltb, Bool, true, false, cond, ◌&&◌, List, [], ◌∷◌, ◌++◌, length, map, take, drop, get_or, Option, Some, None, refl, sym, ap, ◌∙◌, arith, length-append, length-drop, append_assoc}
 use Rattle.std.proofs.lemmas.Bool.Decides.{nat_tests}
 use Rattle.std.proofs.lemmas.Bool.{leb-true}
 use Rattle.std.proofs.lemmas.List.{at_drop_more, map-append, take_rest, length-take-le, length-map, take-map, drop-map}
@@ -102,11 +102,6 @@ fitting_both size used (x ∷ xs) ys =
 pub held_both : (size : ℕ) (xs ys : List Record) → 1 ≤ length xs → held size (xs ++ ys) ≡ held size xs ++ fitting_after size (used_by size xs) ys
 held_both size [] ys h = absurd (omega arith)
 held_both size (x ∷ xs) ys h = ap (λ l. x ∷ l) (fitting_both size (size_of x) xs ys)
-
-pub after_both : (size : ℕ) (used : Option ℕ) (xs ys : List Record) → (next : Option ℕ) → ((u : ℕ) → used ≡ Some u → next ≡ used_after size u xs) → (used ≡ None → next ≡ None)
-    → fitting_after size used (xs ++ ys) ≡ fitting_after size used xs ++ fitting_after size next ys
-after_both size None xs ys next some none = ap (λ o. fitting_after size o ys) (sym (none refl))
-after_both size (Some u) xs ys next some none = fitting_both size u xs ys ∙ ap (λ o. fitting size u xs ++ fitting_after size o ys) (sym (some u refl))
 
 -- ---- ranges in a set
 

@@ -111,7 +111,3 @@ lowered_runs ((b ∷ bs) ∷ parts) = ap (λ l. folded (b ∷ bs) ∷ l) (lowere
 pub lowered : (text : List ℕ) → runs (map to_ascii_lowercase text) ≡ words text
 unfolding words
 lowered text = ap (filter has_octets) (lowered_parts text) ∙ lowered_runs (slice_split is_between text)
-
-pub no_runs : (rest : List ℕ) → length rest ≡ 0 → runs rest ≡ []
-no_runs [] none = refl
-no_runs (b ∷ bs) none = absurd (omega (arith, none))

@@ -1,5 +1,5 @@
 -- The lists that are known while a criterion is evaluated: one more, and none at first.
-use Rattle.std.proofs.Common.{◌≡◌, refl, sym, ◌∙◌, ap, subst, ℕ, ℤ, List, [], Bool, true, false, cond, Some}
+use Rattle.std.proofs.Common.{◌≡◌, refl, sym, ◌∙◌, ap, ℕ, ℤ, List, [], Bool, true, false, cond, Some}
 use Rattle.std.proofs.lemmas.Map.Lookups.{exact_pairs, exact_signed, exact_bytes}
 use Rattle.std.specs.BTreeMap.{BTreeMap, is_at, Updates}
 use Rattle.std.specs.Cmp.{Equal-is}
@@ -29,12 +29,6 @@ same_sought s t same = ap (λ (p : ℤ × (Bool × List (List ℕ))). meets (Has
     (s.used, (s.truncated, s.asked.now)) (t.used, (t.truncated, t.asked.now)) same)
 
 module _ (entries : List Entry) where
-  pub no_lists : (lists : List (Sought × List ℕ)) → lists ≡ [] → AreLists entries lists
-  no_lists lists none s list found = absurd (Prim.cc (sym (ap (lookup (is_at (sought_cmp s))) none) ∙ found))
-
-  pub same_lists : (m n : List (Sought × List ℕ)) → n ≡ m → AreLists entries m → AreLists entries n
-  same_lists m n same are = subst (AreLists entries) (sym same) are
-
   pub list_more : (m n : BTreeMap Sought (List ℕ)) (s : Sought) (list : List ℕ) → Updates sought_cmp m n s (Some list) → IsListOf entries s list → AreLists entries m.entries → AreLists entries n.entries
   list_more m n s list updates is are t found at = by (is_at (sought_cmp s) t) refl
     where

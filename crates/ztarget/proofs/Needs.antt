@@ -68,9 +68,6 @@ module _ (a b : Entry → Bool) (entries : List Entry) where
       ∙ without_places (λ e. p e && a e) (λ e. (p e && a e) && b e) 0 entries
       ∙ places_same (λ e. (p e && a e) && not ((p e && a e) && b e)) (λ e. p e && (a e && not (b e))) (λ e. left_over (p e) (a e) (b e)) 0 entries
 
-  pub found_by_both : (kept found : List ℕ) → kept ≡ places_from a 0 entries → Narrows b entries kept found → found ≡ places_from (λ e. a e && b e) 0 entries
-  found_by_both kept found are second = second a are
-
   pub found_without : (kept dropped : List ℕ) → kept ≡ places_from a 0 entries → Narrows b entries kept dropped
       → merged (record { both = false; first = true; second = false }) kept dropped ≡ places_from (λ e. a e && not (b e)) 0 entries
   found_without kept dropped are second =

@@ -5,7 +5,7 @@ use Rattle.std.specs.List.{list_any}
 use Rattle.ztarget.specs.declared.database.Entry.{Entry}
 use Rattle.ztarget.specs.declared.index.Place.{Place}
 use Rattle.ztarget.specs.declared.needed.Needed.{Needed}
-use Rattle.ztarget.specs.Asking.{CriterionMeaning, HasPhrase, meets}
+use Rattle.ztarget.specs.Asking.{HasPhrase, meets}
 use Rattle.ztarget.specs.Indexing.{looks_at}
 use Rattle.ztarget.specs.Searching.{places_from}
 
@@ -13,9 +13,6 @@ use Rattle.ztarget.specs.Searching.{places_from}
 abbrev pub Narrows : (Entry → Bool) → List Entry → List ℕ → List ℕ → Type 0
 Narrows q entries among found =
     (p : Entry → Bool) → among ≡ places_from p 0 entries → found ≡ places_from (λ e. p e && q e) 0 entries
-
-abbrev pub NarrowsBy : CriterionMeaning → List Entry → List ℕ → List ℕ → Type 0
-NarrowsBy asked entries among found = Narrows (meets asked) entries among found
 
 -- the same, where the second list is that of the entries that pass the other test
 abbrev pub IsBoth : List ℕ → List ℕ → List ℕ → Type 0

@@ -107,7 +107,7 @@ impl<'a> Evaluation<'a> {
     }
 
     /// The same where there may be one, and few of the entries have it: else a walk over all its places costs no more.
-    fn needed(&self, criterion: &'a Criterion, may_need: bool) -> Option<Needed<'a>>
+    fn need_of(&self, criterion: &'a Criterion, may_need: bool) -> Option<Needed<'a>>
         ensures { IfSome result (IsNeeded (meets (asks criterion.now))) }
     {
         if !may_need {
@@ -139,7 +139,7 @@ impl<'a> Evaluation<'a> {
 
     /// Those of the places whose entries meet the criterion as well, in order.
     #[tactic(auto, using(crate::proofs::Needs::kept_by_both))]
-    fn narrowed(&mut self, criterion: &'a Criterion, among: &[u32]) -> Result<Vec<u32>, AllocError>
+    fn narrow(&mut self, criterion: &'a Criterion, among: &[u32]) -> Result<Vec<u32>, AllocError>
         ensures same { self.new ≡ self.old }
         ensures narrows { IfOk result (λ found. Narrows (meets (asks criterion.now)) self.old among.now found.items) }
     {
@@ -159,17 +159,17 @@ impl<'a> Evaluation<'a> {
             }
             Criterion::Never => Ok(Vec::new(alloc)),
             Criterion::And(left, right) => {
-                let kept = self.narrowed(left, among)?;
-                self.narrowed(right, &kept)
+                let kept = self.narrow(left, among)?;
+                self.narrow(right, &kept)
             }
             Criterion::Or(left, right) => {
-                let left = self.narrowed(left, among)?;
-                let right = self.narrowed(right, among)?;
+                let left = self.narrow(left, among)?;
+                let right = self.narrow(right, among)?;
                 merged(alloc, IN_EITHER, &left, &right)
             }
             Criterion::Not(left, right) => {
-                let kept = self.narrowed(left, among)?;
-                let dropped = self.narrowed(right, &kept)?;
+                let kept = self.narrow(left, among)?;
+                let dropped = self.narrow(right, &kept)?;
                 merged(alloc, IN_FIRST_ALONE, &kept, &dropped)
             }
         }
@@ -191,7 +191,7 @@ impl<'a> Evaluation<'a> {
             asked: needed.asked,
         };
         let among = self.list(sought)?;
-        self.narrowed(criterion, among.as_slice())
+        self.narrow(criterion, among.as_slice())
     }
 
     /// The places of the entries that meet the criterion, in order. Where there may be a rare word that each of them
@@ -219,14 +219,14 @@ impl<'a> Evaluation<'a> {
                 self.list(sought)
             }
             Criterion::Never => SharedPlaces::new(alloc, Vec::new(alloc)),
-            Criterion::And(left, right) => match self.needed(criterion, may_need) {
+            Criterion::And(left, right) => match self.need_of(criterion, may_need) {
                 Some(needed) => {
                     let found = self.found_among(needed, criterion)?;
                     SharedPlaces::new(alloc, found)
                 }
                 None => {
                     let kept = self.found_by(left, false)?;
-                    let found = self.narrowed(right, kept.as_slice())?;
+                    let found = self.narrow(right, kept.as_slice())?;
                     SharedPlaces::new(alloc, found)
                 }
             },
@@ -238,7 +238,7 @@ impl<'a> Evaluation<'a> {
             }
             Criterion::Not(left, right) => {
                 let left = self.found_by(left, may_need)?;
-                let right = self.narrowed(right, left.as_slice())?;
+                let right = self.narrow(right, left.as_slice())?;
                 let found = merged(alloc, IN_FIRST_ALONE, left.as_slice(), &right)?;
                 SharedPlaces::new(alloc, found)
             }
@@ -246,7 +246,7 @@ impl<'a> Evaluation<'a> {
     }
 
     /// The places of the entries that meet the criterion, in order.
-    pub(crate) fn found(&mut self, criterion: &'a Criterion) -> Result<SharedPlaces, AllocError>
+    pub(crate) fn evaluate(&mut self, criterion: &'a Criterion) -> Result<SharedPlaces, AllocError>
         ensures { IfOk result (λ places. places ≡ places_from (meets (asks criterion.now)) 0 self.old) }
     {
         self.found_by(criterion, true)

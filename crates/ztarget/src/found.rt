@@ -45,7 +45,7 @@ fn put_found(
     ensures { OnOk result (places.new.items ≡ places.old.items
         ++ places_from (meets (asks criterion.now)) first database.now.entries) }
 {
-    let found = database.found(alloc, criterion)?;
+    let found = database.evaluate(alloc, criterion)?;
     put_shifted(first, found.as_slice(), places)
 }
 
@@ -96,7 +96,7 @@ fn put_hits(
     requires { length numbered.database.now.entries < 2 ^ 32 }
     ensures { OnOk result (hits.new.items ≡ hits.old.items ++ hits_in (meets (asks criterion.now)) numbered.entry) }
 {
-    let found = numbered.database.found(alloc, criterion)?;
+    let found = numbered.database.evaluate(alloc, criterion)?;
     put_entries(numbered.number, found.as_slice(), hits)
 }
 

@@ -54,7 +54,7 @@ impl Indexed {
     }
 
     /// The places of the entries that meet the criterion, in order.
-    pub(crate) fn found(
+    pub(crate) fn evaluate(
         &self,
         alloc: Global,
         criterion: &Criterion,
@@ -62,7 +62,7 @@ impl Indexed {
         ensures { IfOk result (λ places. places ≡ places_from (meets (asks criterion.now)) 0 self.now.entries) }
     {
         let mut evaluation = Evaluation::new(alloc, &self.index, self.entries());
-        evaluation.found(criterion)
+        evaluation.evaluate(criterion)
     }
 }
 

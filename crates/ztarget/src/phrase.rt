@@ -24,7 +24,7 @@ fn compared_with_next(later: usize, number: usize) -> Ordering
 }
 
 /// How a place stands to the one behind another.
-fn compared(later: Place, place: Place) -> Ordering
+fn compare(later: Place, place: Place) -> Ordering
     ensures { result ≡ place_cmp later (next_place place) }
 {
     later
@@ -45,7 +45,7 @@ fn preceding(alloc: Global, places: &[Place], later: &[Place]) -> Result<Vec<Pla
         let [next, others @ ..] = right else {
             return Ok(found);
         };
-        match compared(*next, *place) {
+        match compare(*next, *place) {
             Ordering::Less => right = others,
             Ordering::Equal => {
                 found.push(*place)?;

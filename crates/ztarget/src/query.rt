@@ -75,7 +75,7 @@ fn result_set(
 
 /// What a search finds, in order.
 #[tactic(auto, using(crate::proofs::FewEntries::few_found))]
-pub(crate) fn found(
+pub(crate) fn find_hits(
     alloc: Global,
     databases: &[Indexed],
     request: &SearchRequest,

@@ -34,7 +34,7 @@ fn kept_fault(sets: &ResultSets, replaces: bool, name: &Bytes) -> Result<Option<
     ensures { (databases : List Database)
         → IfOk result (λ f. f ≡ kept_fault replaces name.now (set_named (sets_of databases sets.now) name.now)) }
 {
-    match sets.named(name) {
+    match sets.hits_of(name) {
         Some(_) if !replaces => Ok(Some(Fault {
             condition: 21,
             info: name.clone()?,

@@ -22,7 +22,7 @@ use crate::indexed::{Indexed, with_indexes};
 use crate::init::{init_response, is_accepted, terms};
 use crate::phase::{Phase, Terms};
 use crate::present::presented;
-use crate::query::{found, matching_places};
+use crate::query::{find_hits, matching_places};
 use crate::result_set::ResultSet;
 use crate::search::{search_failed, search_found};
 use crate::search_fault::search_fault;
@@ -220,7 +220,7 @@ impl Target {
             (found_by_query self.old.databases request.now request.now.query) None)) }
         ensures err { OnErr result (self.new ≡ self.old) }
     {
-        let found = found(self.alloc, &self.databases, request)?;
+        let found = find_hits(self.alloc, &self.databases, request)?;
         let response = search_found(self.alloc, terms.size, request, &self.databases, &found)?;
         let name = request.result_set_name.clone()?;
         self.keep(response, name, ResultSet::new(found))
@@ -249,7 +249,7 @@ impl Target {
             ≡ presented (terms_of terms) request.now (set_named self.now.standing.sets request.now.result_set_id)) }
         ensures element { IfOk result (λ response. HasElement (apdus.PresentResponse response)) }
     {
-        let found = self.sets.named(&request.result_set_id);
+        let found = self.sets.hits_of(&request.result_set_id);
         presented(self.alloc, terms, request, &self.databases, found)
     }
 

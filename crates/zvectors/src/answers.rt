@@ -78,7 +78,7 @@ facts b9348204000000029801009901009b0105bf814d21300e06072a8648ce13040102010d1a00
 ";
 
 // The facts of the reply, for target 7.
-fn told(alloc: Global, origin: &mut Origin, reply: &Apdu) -> Result<Vec<Fact>, Unread> {
+fn facts_told(alloc: Global, origin: &mut Origin, reply: &Apdu) -> Result<Vec<Fact>, Unread> {
     match origin.take(reply) {
         Ok(Taken::Rejected(answer)) => read(facts_of(alloc, 7, &answer)),
         Ok(Taken::Answered(answer)) => read(facts_of(alloc, 7, &answer)),
@@ -100,7 +100,7 @@ pub(crate) fn facts_row(
     digits: &str,
 ) -> Result<String, Unread> {
     let reply = apdu(alloc, digits)?;
-    let facts = told(alloc, origin, &reply)?;
+    let facts = facts_told(alloc, origin, &reply)?;
     text(alloc, facts.as_slice())
 }
 

@@ -6,7 +6,7 @@ use bytes::Bytes;
 use std::alloc::{AllocError, Global};
 use std::process::Abort;
 use std::test::Fail;
-use zelements::rows::{each_row, halves, unescaped};
+use zelements::rows::{each_row, halves, unescape};
 use zelements::unread::Unread;
 use zworld::fitness::Arrangement;
 use zworld::world::{WorldError, read_world};
@@ -28,7 +28,7 @@ ask a d - 1 emma
 to a 7";
 
 /// The world of a file of at most 1,000,000 octets, arranged for one who asks by the name `zmeta`.
-pub(crate) fn arranged(alloc: Global, file: &[u8]) -> Result<Arrangement, WorldError>
+pub(crate) fn arrange(alloc: Global, file: &[u8]) -> Result<Arrangement, WorldError>
     ensures { IfOk result IsArrangement }
 {
     if file.len() > 1_000_000 {
@@ -36,16 +36,16 @@ pub(crate) fn arranged(alloc: Global, file: &[u8]) -> Result<Arrangement, WorldE
     }
     let name = Bytes::copy_from_slice(alloc, b"zmeta")?;
     let world = read_world(alloc, file)?;
-    world.arranged(alloc, name)
+    world.arrange(alloc, name)
 }
 
 fn fault(alloc: Global, file: &[u8]) -> Option<WorldError> {
-    arranged(alloc, file).err()
+    arrange(alloc, file).err()
 }
 
 fn is_hosted(alloc: Global, row: &str) -> Result<bool, Unread> {
     let (file, line) = halves(row);
-    let file = unescaped(alloc, file)?;
+    let file = unescape(alloc, file)?;
     let line = line.parse::<u64>()?;
     Ok(fault(alloc, file.as_slice()) == Some(WorldError::Refused { line }))
 }
@@ -82,7 +82,7 @@ fn is_in_order(alloc: Global, world: &Arrangement) -> Result<bool, AllocError> {
 }
 
 fn is_arranged(alloc: Global) -> Result<bool, AllocError> {
-    match arranged(alloc, TWO) {
+    match arrange(alloc, TWO) {
         Ok(world) => is_in_order(alloc, &world),
         Err(_) => Ok(false),
     }

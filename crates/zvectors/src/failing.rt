@@ -1,10 +1,10 @@
 // A conversation over devices in memory of which one call fails, or for which memory is refused.
 ghost use Rattle.std.specs.Prelude.{◌<◌, length};
 
-use crate::talks::{Case, asked, has, reads_of, sink_of, source_of, whole, writes_of};
+use crate::talks::{Case, has, new_meta, reads_of, sink_of, source_of, whole, writes_of};
 use std::alloc::Global;
 use std::test::Fail;
-use zelements::rows::{held, octets};
+use zelements::rows::{is_true, octets};
 use zelements::unread::Unread;
 use zoom::{Meta, Reason, State};
 use ztalk::{TalkError, talk};
@@ -47,8 +47,8 @@ fn talk_on(alloc: Global, meta: &mut Meta, all: &[u8], read: usize, write: usize
     }
 }
 
-fn talked(alloc: Global, all: &[u8], read: usize, write: usize) -> Result<Ended, Unread> {
-    let mut meta = asked(alloc)?;
+fn talk_anew(alloc: Global, all: &[u8], read: usize, write: usize) -> Result<Ended, Unread> {
+    let mut meta = new_meta(alloc)?;
     has(&meta)?;
     Ok(talk_on(alloc, &mut meta, all, read, write))
 }
@@ -72,7 +72,7 @@ fn fails_at_read(
     ample: &Ended,
     read: usize,
 ) -> Result<bool, Unread> {
-    let ended = talked(alloc, all, read, 0)?;
+    let ended = talk_anew(alloc, all, read, 0)?;
     Ok(if read <= ample.reads {
         fails(&ended, Reason::Read, sent)
     } else {
@@ -87,7 +87,7 @@ fn fails_at_write(
     ample: &Ended,
     write: usize,
 ) -> Result<bool, Unread> {
-    let ended = talked(alloc, all, 0, write)?;
+    let ended = talk_anew(alloc, all, 0, write)?;
     Ok(if write <= ample.writes {
         fails(&ended, Reason::Write, sent)
     } else {
@@ -100,15 +100,15 @@ fn a_talk_ends_where_a_call_of_a_device_fails(rt: HostRuntime) -> Result<(), Fai
     let (digits, sent) = whole();
     let all = octets(rt.alloc(), digits)?;
     let sent = octets(rt.alloc(), sent)?;
-    let ample = talked(rt.alloc(), all.as_slice(), 0, 0)?;
+    let ample = talk_anew(rt.alloc(), all.as_slice(), 0, 0)?;
     assert!(rt; is_whole(&ample, sent.as_slice()) && ample.reads > 2 && ample.writes > 2);
     for call in 1..12 {
         assert!(rt;
-            held(fails_at_read(rt.alloc(), all.as_slice(), sent.as_slice(), &ample, call)),
+            is_true(fails_at_read(rt.alloc(), all.as_slice(), sent.as_slice(), &ample, call)),
             "{call}"
         );
         assert!(rt;
-            held(fails_at_write(rt.alloc(), all.as_slice(), sent.as_slice(), &ample, call)),
+            is_true(fails_at_write(rt.alloc(), all.as_slice(), sent.as_slice(), &ample, call)),
             "{call}"
         );
     }
@@ -122,8 +122,8 @@ fn a_talk_tells_where_memory_was_refused(rt: HostRuntime) -> Result<(), Fail> {
     let (digits, sent) = whole();
     let all = octets(rt.alloc(), digits)?;
     let sent = octets(rt.alloc(), sent)?;
-    let mut first = asked(rt.alloc())?;
-    let mut second = asked(rt.alloc())?;
+    let mut first = new_meta(rt.alloc())?;
+    let mut second = new_meta(rt.alloc())?;
     has(&first)?;
     has(&second)?;
     let ended = talk_on(rt.alloc(), &mut first, all.as_slice(), 0, 0);

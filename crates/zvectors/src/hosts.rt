@@ -2,9 +2,9 @@
 use std::alloc::{AllocError, Global};
 use std::process::Abort;
 use std::test::Fail;
-use zelements::rows::{digits, each_row, held, octets, pair, parted, tells};
+use zelements::rows::{digits, each_row, is_true, octets, pair, split_row, tells};
 use zelements::unread::Unread;
-use zencodings::boxes::boxed;
+use zencodings::boxes::box_value;
 use zoom::Host;
 use ztarget::{Target, TargetSettings};
 
@@ -32,7 +32,7 @@ pub(crate) fn host(alloc: Global) -> Result<Box<Host>, AllocError> {
         refuse: false,
     };
     let target = Target::new(alloc, Vec::new(alloc), settings)?;
-    boxed(alloc, Host::new(alloc, target))
+    box_value(alloc, Host::new(alloc, target))
 }
 
 fn feed(alloc: Global, host: &mut Host, digits: &str) -> Result<(), Unread> {
@@ -67,11 +67,11 @@ fn has(alloc: Global, host: &mut Host, due: &str) -> Result<bool, Unread> {
 fn answers(alloc: Global, host: &mut Host, row: &str) -> Result<bool, Unread> {
     let (count, due) = pair(row);
     let count = count.parse::<u32>()?;
-    Ok(held(releases(host, count)) && held(has(alloc, host, due)))
+    Ok(is_true(releases(host, count)) && is_true(has(alloc, host, due)))
 }
 
 fn is_fed(alloc: Global, row: &str) -> Result<bool, Unread> {
-    let (pieces, due) = parted(row, ": ");
+    let (pieces, due) = split_row(row, ": ");
     let (first, second) = pair(pieces);
     let mut host = host(alloc)?;
     feed(alloc, &mut host, first)?;

@@ -9,9 +9,9 @@ use std::alloc::{AllocError, Global};
 use std::process::Abort;
 use std::test::Fail;
 use zber::Seq;
-use zelements::rows::{digits, each_row, held, octets, pair, tells};
+use zelements::rows::{digits, each_row, is_true, octets, pair, tells};
 use zelements::unread::{Unread, read};
-use zencodings::boxes::{boxed, parse};
+use zencodings::boxes::{box_value, parse};
 use zoom::{Meta, MetaSettings, Question};
 use zorigin::Range;
 
@@ -41,7 +41,7 @@ const PARTED: &str = "\
 ";
 
 // Positions 1, 2 and 5 to 7, or the first ten.
-fn wanted(alloc: Global, is_parted: bool) -> Result<Vec<Range>, AllocError>
+fn ranges_wanted(alloc: Global, is_parted: bool) -> Result<Vec<Range>, AllocError>
     ensures wanted { IfOk result (λ v. AreWanted (map plan_range v.items)) }
     ensures few { IfOk result (λ v. length (positions v.items) ≤ 1000000) }
 {
@@ -57,7 +57,7 @@ fn question(alloc: Global, is_parted: bool) -> Result<Question, Unread>
 {
     let databases = vec![in alloc; Bytes::from_static(b"d")]?;
     let query = parse(alloc, b"@attr 1=4 dune")?;
-    let wanted = wanted(alloc, is_parted)?;
+    let wanted = ranges_wanted(alloc, is_parted)?;
     Ok(Question {
         databases: Seq::from_vec(databases),
         query: Box::into_inner(query),
@@ -67,7 +67,7 @@ fn question(alloc: Global, is_parted: bool) -> Result<Question, Unread>
     })
 }
 
-fn asked(alloc: Global, is_parted: bool) -> Result<Box<Meta>, Unread> {
+fn meta_of(alloc: Global, is_parted: bool) -> Result<Box<Meta>, Unread> {
     let question = question(alloc, is_parted)?;
     let questions = vec![in alloc; question]?;
     let settings = MetaSettings {
@@ -76,7 +76,7 @@ fn asked(alloc: Global, is_parted: bool) -> Result<Box<Meta>, Unread> {
         window: 4,
     };
     let meta = Meta::new(alloc, Seq::from_vec(questions), settings)?;
-    Ok(boxed(alloc, meta)?)
+    Ok(box_value(alloc, meta)?)
 }
 
 fn has(meta: &Meta) -> Result<(), Unread>
@@ -98,25 +98,25 @@ fn feed(alloc: Global, meta: &mut Meta, digits: &str) -> Result<(), Unread> {
     Ok(meta.feed(0, piece.as_slice())?)
 }
 
-fn taken(alloc: Global, meta: &mut Meta) -> Result<String, Unread> {
+fn take_step(alloc: Global, meta: &mut Meta) -> Result<String, Unread> {
     has(meta)?;
     let step = read(meta.take(0))?;
     Ok(format!(in alloc; "{step:?}")?)
 }
 
-fn driven(meta: &mut Meta) -> Result<u32, Unread> {
+fn drive_once(meta: &mut Meta) -> Result<u32, Unread> {
     has(meta)?;
     Ok(meta.drive(0)?)
 }
 
-fn sent(alloc: Global, meta: &mut Meta) -> Result<String, Unread> {
+fn outgoing_digits(alloc: Global, meta: &mut Meta) -> Result<String, Unread> {
     has(meta)?;
     let mut out = Vec::new(alloc);
     meta.outgoing(0, &mut out)?;
     Ok(digits(alloc, out.as_slice())?)
 }
 
-fn ended(alloc: Global, meta: &Meta) -> Result<String, Unread> {
+fn end_text(alloc: Global, meta: &Meta) -> Result<String, Unread> {
     has(meta)?;
     let skipped = meta.skipped(0);
     let complete = meta.complete(0);
@@ -127,16 +127,16 @@ fn ended(alloc: Global, meta: &Meta) -> Result<String, Unread> {
 // Whether the step answers as told.
 fn goes(alloc: Global, meta: &mut Meta, fed: &str, due: &str) -> Result<bool, Unread> {
     feed(alloc, meta, fed)?;
-    let step = taken(alloc, meta)?;
-    let count = driven(meta)?;
-    let sent = sent(alloc, meta)?;
+    let step = take_step(alloc, meta)?;
+    let count = drive_once(meta)?;
+    let sent = outgoing_digits(alloc, meta)?;
     Ok(tells(format!(in alloc; "{step} {count} {sent}"), due))
 }
 
 // A step, or the end.
 fn part(alloc: Global, meta: &mut Meta, part: &str) -> Result<bool, Unread> {
     if part.starts_with("true ") || part.starts_with("false ") {
-        return Ok(tells(ended(alloc, meta), part));
+        return Ok(tells(end_text(alloc, meta), part));
     }
     let (fed, due) = pair(part);
     goes(alloc, meta, fed, due)
@@ -144,7 +144,7 @@ fn part(alloc: Global, meta: &mut Meta, part: &str) -> Result<bool, Unread> {
 
 fn goes_through(alloc: Global, meta: &mut Meta, row: &str) -> Result<bool, Unread> {
     for text in row.split(" | ") {
-        if !held(part(alloc, meta, text)) {
+        if !is_true(part(alloc, meta, text)) {
             return Ok(false);
         }
     }
@@ -152,12 +152,12 @@ fn goes_through(alloc: Global, meta: &mut Meta, row: &str) -> Result<bool, Unrea
 }
 
 fn is_driven(alloc: Global, row: &str) -> Result<bool, Unread> {
-    let mut meta = asked(alloc, false)?;
+    let mut meta = meta_of(alloc, false)?;
     goes_through(alloc, &mut meta, row)
 }
 
 fn is_driven_in_parts(alloc: Global, row: &str) -> Result<bool, Unread> {
-    let mut meta = asked(alloc, true)?;
+    let mut meta = meta_of(alloc, true)?;
     goes_through(alloc, &mut meta, row)
 }
 

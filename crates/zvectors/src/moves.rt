@@ -2,13 +2,13 @@
 ghost use Rattle.std.specs.Prelude.{◌≡◌, length, IfOk};
 ghost use Rattle.zworld.specs.Fitness.{IsArrangement};
 
-use crate::arranged::arranged;
+use crate::arranged::arrange;
 use std::alloc::{AllocError, Global};
 use std::process::Abort;
 use std::test::Fail;
 use zelements::rows::{each_row, halves, pair};
 use zelements::unread::Unread;
-use zencodings::boxes::boxed;
+use zencodings::boxes::box_value;
 use zoom::{Meta, Move, Reason, State};
 use zrounds::peers::{Peer, peers_of};
 use zrounds::rounds::make_moves;
@@ -84,7 +84,7 @@ fn connection(alloc: Global, arrangement: Arrangement) -> Result<Box<Meta>, Allo
         moves: _,
     } = arrangement;
     let meta = Meta::new(alloc, questions, settings)?;
-    boxed(alloc, meta)
+    box_value(alloc, meta)
 }
 
 fn ends(alloc: Global, arrangement: Arrangement) -> Result<Vec<Peer>, AllocError>
@@ -116,8 +116,8 @@ fn drive(meta: &mut Meta) -> Result<(), Unread> {
 }
 
 // A connection, driven once.
-fn connected(alloc: Global) -> Result<Box<Meta>, Unread> {
-    let Ok(arrangement) = arranged(alloc, ONE) else {
+fn driven_connection(alloc: Global) -> Result<Box<Meta>, Unread> {
+    let Ok(arrangement) = arrange(alloc, ONE) else {
         return Err(Unread);
     };
     let mut meta = connection(alloc, arrangement)?;
@@ -127,7 +127,7 @@ fn connected(alloc: Global) -> Result<Box<Meta>, Unread> {
 
 // The target at its other end.
 fn peers(alloc: Global) -> Result<Vec<Peer>, Unread> {
-    let Ok(arrangement) = arranged(alloc, ONE) else {
+    let Ok(arrangement) = arrange(alloc, ONE) else {
         return Err(Unread);
     };
     Ok(ends(alloc, arrangement)?)
@@ -148,7 +148,7 @@ fn make(peers: &mut [Peer], meta: &mut Meta, steps: &[Move]) -> Result<(), Unrea
 
 // Whether the target has accepted the association once these moves were made.
 fn is_ready_after(alloc: Global, steps: &[Move]) -> Result<bool, Unread> {
-    let mut meta = connected(alloc)?;
+    let mut meta = driven_connection(alloc)?;
     let mut peers = peers(alloc)?;
     make(&mut peers, &mut meta, steps)?;
     Ok(matches!(state(&meta)?, State::Ready { .. }))
@@ -182,7 +182,7 @@ fn stop(peers: &mut [Peer], meta: &mut Meta) -> Result<bool, Unread> {
 }
 
 fn is_ended(alloc: Global) -> Result<bool, Unread> {
-    let mut meta = connected(alloc)?;
+    let mut meta = driven_connection(alloc)?;
     let mut peers = peers(alloc)?;
     let begun = state(&meta)?;
     let carried = stop(&mut peers, &mut meta)?;

@@ -11,9 +11,9 @@ use bytes::Bytes;
 use std::alloc::{AllocError, Global};
 use std::process::Abort;
 use std::test::Fail;
-use zelements::rows::{digits, held, octets, pair, parted, tells, unescaped};
+use zelements::rows::{digits, is_true, octets, pair, split_row, tells, unescape};
 use zelements::unread::Unread;
-use zencodings::boxes::boxed;
+use zencodings::boxes::box_value;
 use zencodings::parts::Line;
 use zholdings::shown::{has_list, is_listed, put_counts, put_known};
 use zknow::Mode;
@@ -23,7 +23,7 @@ use zorigin::CallRefused;
 /// So many connections in state Fresh.
 pub(crate) fn pool(alloc: Global, n: u32) -> Result<Box<Pool>, AllocError> {
     let pool = Pool::new(alloc, n, &Bytes::from_static(b"zmeta"))?;
-    boxed(alloc, pool)
+    box_value(alloc, pool)
 }
 
 // A pool of as many connections as the row says.
@@ -110,7 +110,7 @@ fn made_text(alloc: Global, made: &Result<(), CallRefused>) -> Result<String, Al
     }
 }
 
-fn made(alloc: Global, pool: &mut Pool, c: u32, step: &str) -> Result<String, Unread> {
+fn make_call(alloc: Global, pool: &mut Pool, c: u32, step: &str) -> Result<String, Unread> {
     let call = call(alloc, step)?;
     let made = make(pool, c, &call)?;
     Ok(made_text(alloc, &made)?)
@@ -123,7 +123,7 @@ fn taken_text(alloc: Global, taken: &Result<Step, TakeError>) -> Result<String, 
     }
 }
 
-fn taken(alloc: Global, pool: &mut Pool, c: u32) -> Result<String, Unread> {
+fn take_next(alloc: Global, pool: &mut Pool, c: u32) -> Result<String, Unread> {
     let taken = take(pool, c)?;
     Ok(taken_text(alloc, &taken)?)
 }
@@ -133,9 +133,9 @@ pub(crate) fn answer(alloc: Global, pool: &mut Pool, c: u32, step: &str) -> Resu
     let (word, _) = pair(step);
     match word {
         "out" => out(alloc, pool, c),
-        "take" => taken(alloc, pool, c),
+        "take" => take_next(alloc, pool, c),
         "state" => state(alloc, pool, c),
-        _ => made(alloc, pool, c, step),
+        _ => make_call(alloc, pool, c, step),
     }
 }
 
@@ -211,8 +211,8 @@ fn goes_on(alloc: Global, pool: &mut Pool, c: u32, row: &str) -> Result<bool, Un
 }
 
 fn is_list(alloc: Global, pool: &Pool, row: &str) -> Result<bool, Unread> {
-    let (names, due) = parted(row, " = ");
-    let due = unescaped(alloc, due)?;
+    let (names, due) = split_row(row, " = ");
+    let due = unescape(alloc, due)?;
     Ok(has_list(alloc, pool.knowledge(), names, Mode::Text, due.as_slice()))
 }
 
@@ -233,7 +233,7 @@ pub(crate) fn go_as_told(rt: &(impl Abort + AllocGlobal), sessions: &str) -> Res
         if let Some(n) = row.strip_prefix("new ") {
             current = pool_of(rt.alloc(), n)?;
         } else if !row.starts_with('#') {
-            assert!(rt; held(goes(rt.alloc(), &mut current, row)), "{row}");
+            assert!(rt; is_true(goes(rt.alloc(), &mut current, row)), "{row}");
         }
     }
     Ok(())

@@ -11,9 +11,9 @@ use std::process::Abort;
 use std::test::Fail;
 use zapdu::Apdu;
 use zber::{Oid, Seq};
-use zelements::rows::{cut, held, pair, parted};
+use zelements::rows::{is_true, pair, split_row, split_text};
 use zelements::unread::Unread;
-use zencodings::boxes::{apdu, boxed, parse};
+use zencodings::boxes::{apdu, box_value, parse};
 use zoom::Call;
 use zorigin::{Ask, CallRefused, Origin, Range, Refused, Sent, Settings, Taken};
 
@@ -35,7 +35,7 @@ pub(crate) fn ask(alloc: Global, small: i64, large: i64, medium: i64) -> Result<
         large,
         medium,
     };
-    Ok(boxed(alloc, ask)?)
+    Ok(box_value(alloc, ask)?)
 }
 
 // The same, of which no record is to come with the response, for the element set `F` of USmarc.
@@ -48,14 +48,14 @@ fn full_ask(alloc: Global) -> Result<Box<Ask>, Unread> {
 
 /// An origin of this name.
 pub(crate) fn origin_of(alloc: Global, name: Bytes) -> Result<Box<Origin>, AllocError> {
-    boxed(alloc, Origin::new(alloc, Settings { name }))
+    box_value(alloc, Origin::new(alloc, Settings { name }))
 }
 
 pub(crate) fn origin(alloc: Global) -> Result<Box<Origin>, AllocError> {
     origin_of(alloc, Bytes::from_static(b"zmeta"))
 }
 
-fn called(alloc: Global, answer: &Result<Sent, CallRefused>) -> Result<String, AllocError> {
+fn call_text(alloc: Global, answer: &Result<Sent, CallRefused>) -> Result<String, AllocError> {
     match answer {
         Ok(sent) => hex::encode(alloc, sent.octets.as_slice()),
         Err(reason) => format!(in alloc; "{reason:?}"),
@@ -71,7 +71,7 @@ fn word(taken: &Taken) -> &'static str {
     }
 }
 
-fn taken(alloc: Global, answer: &Result<Taken, Refused>) -> Result<String, AllocError> {
+fn take_text(alloc: Global, answer: &Result<Taken, Refused>) -> Result<String, AllocError> {
     match answer {
         Ok(taken) => String::from_str(alloc, word(taken)),
         Err(reason) => format!(in alloc; "{reason:?}"),
@@ -84,7 +84,7 @@ pub(crate) fn take(
     origin: &mut Origin,
     apdu: &Apdu,
 ) -> Result<Box<Result<Taken, Refused>>, AllocError> {
-    boxed(alloc, origin.take(apdu))
+    box_value(alloc, origin.take(apdu))
 }
 
 fn peek(
@@ -92,7 +92,7 @@ fn peek(
     origin: &Origin,
     apdu: &Apdu,
 ) -> Result<Box<Result<Taken, Refused>>, AllocError> {
-    boxed(alloc, origin.peek(apdu))
+    box_value(alloc, origin.peek(apdu))
 }
 
 fn state(alloc: Global, origin: &Origin) -> Result<String, AllocError> {
@@ -102,7 +102,7 @@ fn state(alloc: Global, origin: &Origin) -> Result<String, AllocError> {
 
 fn search_of(alloc: Global, op: u32, set: u32, ask: Box<Ask>) -> Result<Box<Call>, AllocError> {
     let ask = Box::into_inner(ask);
-    boxed(alloc, Call::Search { op, set, ask })
+    box_value(alloc, Call::Search { op, set, ask })
 }
 
 // The numbers of an operation and a set.
@@ -144,7 +144,7 @@ fn bounded_ask(alloc: Global, bounds: &str) -> Result<Box<Ask>, Unread> {
 }
 
 // `OP SMALL LARGE MEDIUM`, of set 1
-fn bounded(alloc: Global, row: &str) -> Result<Box<Call>, Unread> {
+fn bounded_search(alloc: Global, row: &str) -> Result<Box<Call>, Unread> {
     let (op, bounds) = pair(row);
     let op = op.parse::<u32>()?;
     let ask = bounded_ask(alloc, bounds)?;
@@ -155,7 +155,7 @@ fn bounded(alloc: Global, row: &str) -> Result<Box<Call>, Unread> {
 fn set_row(row: &str) -> (&str, &str) {
     let (op, rest) = pair(row);
     let (set, _) = pair(rest);
-    cut(row, op.len().saturating_add(set.len()).saturating_add(1))
+    split_text(row, op.len().saturating_add(set.len()).saturating_add(1))
 }
 
 // `OP SET START NUMBER`
@@ -163,12 +163,12 @@ fn present(alloc: Global, row: &str) -> Result<Box<Call>, Unread> {
     let (words, range) = set_row(row);
     let (op, set) = places(words)?;
     let (start, n) = numbers(range.trim_start())?;
-    Ok(boxed(alloc, Call::Present { op, set, start, n })?)
+    Ok(box_value(alloc, Call::Present { op, set, start, n })?)
 }
 
 // `START+NUMBER`
 fn range_in(range: &str) -> Result<Range, Unread> {
-    let (start, n) = parted(range, "+");
+    let (start, n) = split_row(range, "+");
     let start = start.parse::<i64>()?;
     let n = n.parse::<i64>()?;
     Ok(Range { start, n })
@@ -191,11 +191,11 @@ fn present_ranges(alloc: Global, row: &str) -> Result<Box<Call>, Unread> {
     let (words, others) = set_row(row);
     let (op, set) = places(words)?;
     let ranges = Seq::from_vec(ranges_in(alloc, others.trim_start())?);
-    Ok(boxed(alloc, Call::PresentRanges { op, set, ranges })?)
+    Ok(box_value(alloc, Call::PresentRanges { op, set, ranges })?)
 }
 
 fn plain(alloc: Global, call: Call) -> Result<Box<Call>, Unread> {
-    Ok(boxed(alloc, call)?)
+    Ok(box_value(alloc, call)?)
 }
 
 /// The call of a row: `init -`, `close -`, `search OP SET`, `full OP SET`, `bounds OP SMALL LARGE MEDIUM` for set 1,
@@ -207,14 +207,14 @@ pub(crate) fn call(alloc: Global, step: &str) -> Result<Box<Call>, Unread> {
         "close" => plain(alloc, Call::Close),
         "search" => search(alloc, row),
         "full" => full_search(alloc, row),
-        "bounds" => bounded(alloc, row),
+        "bounds" => bounded_search(alloc, row),
         "present" => present(alloc, row),
         "ranges" => present_ranges(alloc, row),
         _ => Err(Unread),
     }
 }
 
-fn sent(origin: &mut Origin, call: &Call) -> Result<Sent, CallRefused> {
+fn send_call(origin: &mut Origin, call: &Call) -> Result<Sent, CallRefused> {
     match call {
         Call::Init => origin.init(),
         Call::Search { op, set, ask } => origin.search(*op, *set, ask),
@@ -228,20 +228,20 @@ fn sent(origin: &mut Origin, call: &Call) -> Result<Sent, CallRefused> {
 
 fn call_row(alloc: Global, origin: &mut Origin, step: &str) -> Result<String, Unread> {
     let call = call(alloc, step)?;
-    let sent = boxed(alloc, sent(origin, &call))?;
-    Ok(called(alloc, &sent)?)
+    let sent = box_value(alloc, send_call(origin, &call))?;
+    Ok(call_text(alloc, &sent)?)
 }
 
 fn take_row(alloc: Global, origin: &mut Origin, digits: &str) -> Result<String, Unread> {
     let apdu = apdu(alloc, digits)?;
     let answer = take(alloc, origin, &apdu)?;
-    Ok(taken(alloc, &answer)?)
+    Ok(take_text(alloc, &answer)?)
 }
 
 fn peek_row(alloc: Global, origin: &Origin, digits: &str) -> Result<String, Unread> {
     let apdu = apdu(alloc, digits)?;
     let answer = peek(alloc, origin, &apdu)?;
-    Ok(taken(alloc, &answer)?)
+    Ok(take_text(alloc, &answer)?)
 }
 
 pub(crate) fn answer(alloc: Global, origin: &mut Origin, step: &str) -> Result<String, Unread> {
@@ -266,7 +266,7 @@ pub(crate) fn is_due(answer: &str, due: &str) -> bool {
 
 // Whether the step answers as it is told.
 fn goes(alloc: Global, origin: &mut Origin, row: &str) -> Result<bool, Unread> {
-    let (step, due) = parted(row, " = ");
+    let (step, due) = split_row(row, " = ");
     let answer = answer(alloc, origin, step)?;
     Ok(is_due(answer.as_str(), due))
 }
@@ -280,7 +280,7 @@ pub(crate) fn go_as_told(rt: &(impl Abort + AllocGlobal), sessions: &str) -> Res
         if row == "new" {
             current = origin(rt.alloc())?;
         } else if !row.starts_with('#') {
-            assert!(rt; held(goes(rt.alloc(), &mut current, row)), "{row}");
+            assert!(rt; is_true(goes(rt.alloc(), &mut current, row)), "{row}");
         }
     }
     Ok(())

@@ -10,9 +10,9 @@ use std::io::{ErrorKind, Read, Write};
 use std::process::Abort;
 use std::test::Fail;
 use zber::Seq;
-use zelements::rows::{digits, each_row, octets, pair, parted, tells};
+use zelements::rows::{digits, each_row, octets, pair, split_row, tells};
 use zelements::unread::Unread;
-use zencodings::boxes::{boxed, parse};
+use zencodings::boxes::{box_value, parse};
 use zoom::{Meta, MetaSettings, Question};
 use ztalk::{Device, answer, talk};
 
@@ -174,7 +174,7 @@ pub(crate) fn writes_of(sink: Device<Kept>) -> (Vec<u8>, usize) {
 }
 
 // What was written, by its digits.
-pub(crate) fn written(alloc: Global, sink: Device<Kept>) -> Result<String, AllocError> {
+pub(crate) fn written_digits(alloc: Global, sink: Device<Kept>) -> Result<String, AllocError> {
     let Kept {
         octets,
         step: _,
@@ -199,7 +199,7 @@ pub(crate) fn question(alloc: Global) -> Result<Question, Unread>
     })
 }
 
-pub(crate) fn asked(alloc: Global) -> Result<Box<Meta>, Unread> {
+pub(crate) fn new_meta(alloc: Global) -> Result<Box<Meta>, Unread> {
     let question = question(alloc)?;
     let questions = vec![in alloc; question]?;
     let settings = MetaSettings {
@@ -208,7 +208,7 @@ pub(crate) fn asked(alloc: Global) -> Result<Box<Meta>, Unread> {
         window: 4,
     };
     let meta = Meta::new(alloc, Seq::from_vec(questions), settings)?;
-    Ok(boxed(alloc, meta)?)
+    Ok(box_value(alloc, meta)?)
 }
 
 pub(crate) fn has(meta: &Meta) -> Result<(), Unread>
@@ -222,13 +222,13 @@ pub(crate) fn has(meta: &Meta) -> Result<(), Unread>
 }
 
 // The answer of a talk, and the state after it.
-fn talked(
+fn talk_text(
     alloc: Global,
     source: &mut Device<Given<'_>>,
     sink: &mut Device<Kept>,
     turns: u32,
 ) -> Result<String, Unread> {
-    let mut meta = asked(alloc)?;
+    let mut meta = new_meta(alloc)?;
     has(&meta)?;
     let answer = talk(alloc, &mut meta, 0, source, sink, turns);
     has(&meta)?;
@@ -237,7 +237,7 @@ fn talked(
 }
 
 // The answer of a target's answering.
-fn answered(
+fn answer_text(
     alloc: Global,
     source: &mut Device<Given<'_>>,
     sink: &mut Device<Kept>,
@@ -256,35 +256,35 @@ fn piece(alloc: Global, digits: &str) -> Result<Vec<u8>, Unread> {
 }
 
 fn is_talk(alloc: Global, row: &str) -> Result<bool, Unread> {
-    let (told, due) = parted(row, " | ");
+    let (told, due) = split_row(row, " | ");
     let (fed, told) = pair(told);
     let case = case_of(told)?;
     let fed = piece(alloc, fed)?;
     let mut source = source_of(fed.as_slice(), case);
     let mut sink = sink_of(alloc, case);
-    let answer = talked(alloc, &mut source, &mut sink, case.turns)?;
-    let written = written(alloc, sink)?;
+    let answer = talk_text(alloc, &mut source, &mut sink, case.turns)?;
+    let written = written_digits(alloc, sink)?;
     Ok(tells(format!(in alloc; "{answer} | {written}"), due))
 }
 
 fn is_answer(alloc: Global, row: &str) -> Result<bool, Unread> {
-    let (told, due) = parted(row, " | ");
+    let (told, due) = split_row(row, " | ");
     let (fed, told) = pair(told);
     let case = case_of(told)?;
     let fed = piece(alloc, fed)?;
     let mut source = source_of(fed.as_slice(), case);
     let mut sink = sink_of(alloc, case);
-    let answer = answered(alloc, &mut source, &mut sink, case.turns)?;
-    let written = written(alloc, sink)?;
+    let answer = answer_text(alloc, &mut source, &mut sink, case.turns)?;
+    let written = written_digits(alloc, sink)?;
     Ok(tells(format!(in alloc; "{answer} | {written}"), due))
 }
 
 // What can be read in a conversation that goes to its end, and what is written in it, by their digits.
 pub(crate) fn whole() -> (&'static str, &'static str) {
     let row = TALKS.lines().nth(1).unwrap_or("");
-    let (told, due) = parted(row, " | ");
-    let (_, rest) = parted(due, " | ");
-    let (_, sent) = parted(rest, " | ");
+    let (told, due) = split_row(row, " | ");
+    let (_, rest) = split_row(due, " | ");
+    let (_, sent) = split_row(rest, " | ");
     (pair(told).0, sent)
 }
 

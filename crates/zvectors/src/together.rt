@@ -1,14 +1,14 @@
 // Two conversations at once over devices in memory, of which sources have nothing yet at some polls.
 ghost use Rattle.std.specs.Prelude.{◌≡◌, None, length, IfOk};
 
-use crate::talks::{Kept, empty_sink, question, whole, written};
+use crate::talks::{Kept, empty_sink, question, whole, written_digits};
 use bytes::Bytes;
 use std::alloc::Global;
 use std::test::Fail;
 use zber::Seq;
-use zelements::rows::{held, octets};
+use zelements::rows::{is_true, octets};
 use zelements::unread::Unread;
-use zencodings::boxes::boxed;
+use zencodings::boxes::box_value;
 use zoom::{Meta, MetaSettings, Reason, State};
 use ztalk::{Device, Ends, Failed, Polled, Unwatched, talk_at_once};
 
@@ -67,7 +67,7 @@ fn asked_twice(alloc: Global) -> Result<Box<Meta>, Unread> {
         window: 4,
     };
     let meta = Meta::new(alloc, Seq::from_vec(questions), settings)?;
-    Ok(boxed(alloc, meta)?)
+    Ok(box_value(alloc, meta)?)
 }
 
 fn has_two(meta: &Meta) -> Result<(), Unread>
@@ -93,11 +93,11 @@ fn sent_by(
         sink,
         phase: _,
     } = ends;
-    Ok(written(alloc, sink)?)
+    Ok(written_digits(alloc, sink)?)
 }
 
 // How both conversations end, of which each source has all octets at the polls that its mask leaves.
-fn talked(alloc: Global, all: &[u8], masks: (u32, u32)) -> Result<(Ended, Ended), Unread> {
+fn talk_both(alloc: Global, all: &[u8], masks: (u32, u32)) -> Result<(Ended, Ended), Unread> {
     let mut meta = asked_twice(alloc)?;
     has_two(&meta)?;
     let first = Ends::new(source_with(all, masks.0), empty_sink(alloc));
@@ -131,15 +131,18 @@ fn is_as_alone(ended: &Ended, mask: u32, sent: &str) -> bool {
 fn are_as_alone(alloc: Global, masks: (u32, u32)) -> Result<bool, Unread> {
     let (digits, sent) = whole();
     let all = octets(alloc, digits)?;
-    let (first, second) = talked(alloc, all.as_slice(), masks)?;
+    let (first, second) = talk_both(alloc, all.as_slice(), masks)?;
     Ok(is_as_alone(&first, masks.0, sent) && is_as_alone(&second, masks.1, sent))
 }
 
 #[test]
 fn talks_at_once_go_as_alone(rt: HostRuntime) -> Result<(), Fail> {
     for mask in 0..16 {
-        assert!(rt; held(are_as_alone(rt.alloc(), (mask, 15 - mask))), "{mask}");
-        assert!(rt; held(are_as_alone(rt.alloc(), (0, mask))), "{mask}");
+        assert!(rt;
+            is_true(are_as_alone(rt.alloc(), (mask, 15 - mask))),
+            "{mask}"
+        );
+        assert!(rt; is_true(are_as_alone(rt.alloc(), (0, mask))), "{mask}");
     }
     Ok(())
 }

@@ -5,7 +5,7 @@ use std::alloc::Global;
 use std::process::Abort;
 use std::test::Fail;
 use zapdu::Apdu;
-use zelements::rows::{held, tells};
+use zelements::rows::{is_true, tells};
 use zelements::unread::Unread;
 use zencodings::boxes::apdu;
 use zorigin::{Origin, Refused, Taken};
@@ -41,7 +41,7 @@ fn is_asked(alloc: Global, origin: &mut Origin, place: u8) -> Result<bool, Unrea
 
 fn are_asked(alloc: Global, origin: &mut Origin, window: u8) -> bool {
     for place in 0..window {
-        if !held(is_asked(alloc, origin, place)) {
+        if !is_true(is_asked(alloc, origin, place)) {
             return false;
         }
     }
@@ -74,7 +74,7 @@ fn is_answered(alloc: Global, origin: &mut Origin, place: u8) -> Result<bool, Un
 
 fn are_answered(alloc: Global, origin: &mut Origin, from: u8, to: u8) -> bool {
     for place in from..to {
-        if !held(is_answered(alloc, origin, place)) {
+        if !is_true(is_answered(alloc, origin, place)) {
             return false;
         }
     }
@@ -103,7 +103,7 @@ fn windows_are_answered_in_any_order(rt: HostRuntime) -> Result<(), Fail> {
         (64, 63),
     ] {
         assert!(rt;
-            held(is_window(rt.alloc(), window, first)),
+            is_true(is_window(rt.alloc(), window, first)),
             "{window} {first}"
         );
     }

@@ -3,12 +3,12 @@ use crate::arranged::spells;
 use std::alloc::{AllocError, Global};
 use std::process::Abort;
 use std::test::Fail;
-use zelements::rows::{each_row, halves, unescaped};
+use zelements::rows::{each_row, halves, unescape};
 use zelements::unread::{Unread, read};
-use zencodings::boxes::boxed;
+use zencodings::boxes::box_value;
 use zoom::Move;
 use ztarget::{Database, Entry};
-use zworld::world::{End, Inquiry, NamedTarget, World, WorldError, read_world};
+use zworld::world::{AskedQuestion, End, NamedTarget, World, WorldError, read_world};
 
 // A file, and the number of the line that is refused, if one is.
 const FILES: &str = "\
@@ -125,7 +125,7 @@ fn line_of(number: &str) -> Result<Option<WorldError>, Unread> {
 
 fn is_refused(alloc: Global, row: &str) -> Result<bool, Unread> {
     let (file, line) = halves(row);
-    let file = unescaped(alloc, file)?;
+    let file = unescape(alloc, file)?;
     Ok(fault(alloc, file.as_slice())? == line_of(line)?)
 }
 
@@ -158,7 +158,7 @@ fn world(alloc: Global, file: &[u8]) -> Result<Box<World>, Unread> {
         return Err(Unread);
     }
     let world = read(read_world(alloc, file))?;
-    Ok(boxed(alloc, world)?)
+    Ok(box_value(alloc, world)?)
 }
 
 // Whether it has two records, of which the first has a title.
@@ -221,7 +221,7 @@ fn has_host(world: &World) -> bool {
 }
 
 // Whether it stands there, is put to this end, wants so many ranges, and, where it wants none, asks for a syntax.
-fn is_asked(asked: &Inquiry, line: u64, end: End, wanted: usize) -> bool {
+fn is_asked(asked: &AskedQuestion, line: u64, end: End, wanted: usize) -> bool {
     let question = &asked.question;
     asked.line == line
         && asked.end == end
@@ -229,7 +229,7 @@ fn is_asked(asked: &Inquiry, line: u64, end: End, wanted: usize) -> bool {
         && question.syntax.is_some() == (wanted == 0)
 }
 
-fn has_ranges(asked: &Inquiry) -> bool {
+fn has_ranges(asked: &AskedQuestion) -> bool {
     let [_, last] = asked.question.wanted.as_slice() else {
         return false;
     };

@@ -51,7 +51,7 @@ const SYNTAX: Extra = Extra {
 
 const CONFLICTS: Extra = Extra {
     id: "conflicts",
-    help: "Writes all records of a place for which several are known",
+    help: "Writes all records of a position for which several are known",
     value: None,
     is_many: false,
 };
@@ -158,7 +158,7 @@ const JOIN: Form = Form {
     about: "Puts together what searches of the same catalogues brought",
     example: "A and each B are saved files, of the same catalogues in the same order.
 Prints one list of all that any search brought. Where they brought different records for one
-place of a result set, all of these are shown there as a conflict.
+position of a result set, all of these are shown there as a conflict.
 
 Example, the searches of two days:
   zmeta join monday.saved tuesday.saved
@@ -184,8 +184,8 @@ const RECORDS: Form = Form {
     about: "Writes the records that searches of the same catalogues brought",
     example: "A and each B are saved files, of the same catalogues in the same order; one is enough.
 Writes the octets of the records, one after the other in the order of the list of 'zmeta join',
-as cataloguing tools read them. Where several records are known for one place, all of these are
-left out, or none with --conflicts. What is left out is told on standard error: such places,
+as cataloguing tools read them. Where several records are known for one position, all of these
+are left out, or none with --conflicts. What is left out is told on standard error: such positions,
 whatever stands there, and of the others diagnostics that stand for records, and records that
 have no octets of their own. Records of another syntax than the one asked for are not told.
 
@@ -211,14 +211,17 @@ const RUN: Form = Form {
     about: "Runs searches against catalogues in memory",
     example: "FILE describes the catalogues, what each is asked, and in which order octets are carried, a
 line each:
-  step N, window N            positions that one request asks for, requests that may wait
-  target NAME SIZE FLAGS      a catalogue; FLAGS are of c concurrent, n named, r refuse, or -
+  step N                      records that one request asks for, 1 to 1000; else 10
+  window N                    requests sent before the first is answered, 1 to 64; else 4
+  target NAME SIZE FLAGS      a catalogue; SIZE is the most octets of records in a reply; FLAGS are
+                              of c concurrent, n named, r refuse, or -
   db NAME                     a database of it
   rec OID OCTETS              a record of that
   field USE TEXT              a text that the record is found by
   ask NAME DB SYNTAX WANT QUERY
                               SYNTAX may be -; WANT is a number, or as 1-3,10-12
-  to NAME K, from NAME K      octets carried; rel NAME K releases reply K
+  to NAME K, from NAME K      at most K octets are carried to it, or from it; rel NAME K releases
+                              its reply K
 Prints one list of all that they answer.
 
 Example:
@@ -234,7 +237,8 @@ const ASK: Form = Form {
     name: "ask",
     about: "Asks library catalogues",
     example: "FILE describes the catalogues and what each is asked, a line each:
-  step N, window N            positions that one request asks for, requests that may wait
+  step N                      records that one request asks for, 1 to 1000; else 10
+  window N                    requests sent before the first is answered, 1 to 64; else 4
   host NAME ADDRESS           a catalogue, at an address as z3950.example.org:210
   ask NAME DB SYNTAX WANT QUERY
                               SYNTAX may be -; WANT is a number, or as 1-3,10-12

@@ -3,7 +3,7 @@ use Rattle.std.proofs.Common.{◌≡◌, ◌∙◌, sym, ap, subst, refl, ℕ, �
 use Rattle.zquestions.specs.declared.question.Question.{Question}
 use Rattle.zquestions.specs.Askable.{AreAskable}
 use Rattle.zworld.specs.declared.world.World.{World}
-use Rattle.zworld.specs.declared.world.Inquiry.{Inquiry}
+use Rattle.zworld.specs.declared.world.AskedQuestion.{AskedQuestion}
 use Rattle.zworld.specs.declared.world.NamedHost.{NamedHost}
 use Rattle.zworld.specs.declared.parts.Parts.{Parts}
 use Rattle.zworld.specs.Finding.{questions_of, AreFound, AreParts}
@@ -11,7 +11,7 @@ use Rattle.zworld.specs.Fitness.{IsFit, settings_by}
 use Rattle.zworld.specs.Enquiries.{address_for, IsEnquiry}
 use Rattle.zworld.proofs.Finding.{as_many, few_questions}
 
-pub enquires : (name : List ℕ) (w : World) (p : Parts) (all : List NamedHost) (asked taken : List Inquiry) (found : List (List ℕ))
+pub enquires : (name : List ℕ) (w : World) (p : Parts) (all : List NamedHost) (asked taken : List AskedQuestion) (found : List (List ℕ))
     (qs : List Question) (addresses names : List (List ℕ))
     → IsFit w → length name ≤ 2000000 → all ≡ w.hosts → asked ≡ w.questions → taken ≡ w.questions
     → AreFound (address_for all) asked found → AreParts taken p → qs ≡ p.questions.items → addresses ≡ found → names ≡ p.names.items

@@ -2,14 +2,14 @@
 use Rattle.std.proofs.Common.{◌≡◌, ◌∙◌, sym, ap, ap₂, subst, append_assoc, ℕ, ◌+◌, ◌<◌, ◌^◌, List, [], ◌∷◌, ◌++◌, length, map, take, drop, get_or, Option, Some, Result, Ok, Err, IfErr}
 use Rattle.std.proofs.lemmas.List.{take_more, take-append-drop, map-append, length-map}
 use Rattle.zworld.specs.declared.world.World.{World}
-use Rattle.zworld.specs.declared.world.Inquiry.{Inquiry}
+use Rattle.zworld.specs.declared.world.AskedQuestion.{AskedQuestion}
 use Rattle.zworld.specs.declared.world.WorldError.{WorldError}
 use Rattle.zworld.specs.declared.world.WorldError.TheVariants as errors
 use Rattle.zworld.specs.declared.parts.Parts.{Parts}
 use Rattle.zworld.specs.Finding.{questions_of, AreParts, IsOneMore, FindsOne, AreFound, IsFirstAtNone}
 use Rattle.zworld.specs.Fitness.{IsFit}
 
-pub one_found : {A : Type 0} (find : Inquiry → Option A) (qs : List Inquiry) (i : ℕ) (q : Inquiry) (found new : List A) (x : A)
+pub one_found : {A : Type 0} (find : AskedQuestion → Option A) (qs : List AskedQuestion) (i : ℕ) (q : AskedQuestion) (found new : List A) (x : A)
     → i < length qs → q ≡ get_or qs i q → AreFound find (take i qs) found → FindsOne find q (Ok x) → new ≡ found ++ x ∷ []
     → AreFound find (take (i + 1) qs) new
 one_found find qs i q found new x lt is h f e =
@@ -19,7 +19,7 @@ one_found find qs i q found new x lt is h f e =
     ∙ sym (map-append Some found (x ∷ []))
     ∙ ap (map Some) (sym e)
 
-pub one_more : (qs : List Inquiry) (q : Inquiry) (old new : Parts) → AreParts qs old → IsOneMore q old new → AreParts (qs ++ q ∷ []) new
+pub one_more : (qs : List AskedQuestion) (q : AskedQuestion) (old new : Parts) → AreParts qs old → IsOneMore q old new → AreParts (qs ++ q ∷ []) new
 one_more qs q old new h m = record {
   questions = m.questions ∙ ap (λ z. z ++ q.question ∷ []) h.questions ∙ sym (map-append (λ i. i.question) qs (q ∷ []));
   names = m.names ∙ ap (λ z. z ++ q.name ∷ []) h.names ∙ sym (map-append (λ i. i.name) qs (q ∷ []));
@@ -27,12 +27,12 @@ one_more qs q old new h m = record {
 
 -- ---- the first for which nothing is
 
-pub first_at_none : {A : Type 0} (find : Inquiry → Option A) (qs : List Inquiry) (i : ℕ) (q : Inquiry) (found : List A) (e : WorldError)
+pub first_at_none : {A : Type 0} (find : AskedQuestion → Option A) (qs : List AskedQuestion) (i : ℕ) (q : AskedQuestion) (found : List A) (e : WorldError)
     → i < length qs → q ≡ get_or qs i q → AreFound find (take i qs) found → FindsOne find q (Err e) → IsFirstAtNone find qs e
 first_at_none find qs i q found (errors.Refused line) lt is h f = record {
   front = take i qs;
   found = found;
-  inquiry = q;
+  asked_question = q;
   rest = drop (i + 1) qs;
   cut = sym (take-append-drop (i + 1) qs) ∙ ap (λ z. z ++ drop (i + 1) qs) (take_more qs i q lt ∙ ap (λ z. take i qs ++ z ∷ []) (sym is))
       ∙ append_assoc (take i qs) (q ∷ []) (drop (i + 1) qs);
@@ -46,7 +46,7 @@ pub refused_as : {A : Type 0} (P : WorldError → Type 0) (e f : WorldError) (r 
 refused_as P e f r is of h = rw (is, of) h
 
 -- as many as there are questions
-pub as_many : {A : Type 0} (find : Inquiry → Option A) (qs : List Inquiry) (found : List A) → AreFound find qs found
+pub as_many : {A : Type 0} (find : AskedQuestion → Option A) (qs : List AskedQuestion) (found : List A) → AreFound find qs found
     → length found ≡ length (questions_of qs)
 as_many find qs found h =
     sym (length-map found Some) ∙ sym (ap length h) ∙ length-map qs find ∙ sym (length-map qs (λ i. i.question))

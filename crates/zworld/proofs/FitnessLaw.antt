@@ -6,9 +6,9 @@ use Rattle.zquestions.specs.Askable.{AreAskable, IsAskable, HasArcs}
 use Rattle.zworld.specs.Finding.{questions_of}
 use Rattle.zworld.specs.Fitness.{IsFit}
 use Rattle.zworld.specs.WorldLines.{words}
-use Rattle.zworld.specs.Worlds.{Leaves, AreWorld, none, more, IsWorld, in_last, in_target, with_targets, change_target, new_target, new_host, add_content, in_database, add_database, inquiry, question, move_of, end_of, is_defined, is_among, place_of, asked_names, target_names}
+use Rattle.zworld.specs.Worlds.{Leaves, AreWorld, none, more, IsWorld, in_last, in_target, with_targets, change_target, new_target, new_host, add_content, in_database, add_database, asked_question, question, move_of, end_of, is_defined, is_among, place_of, asked_names, target_names}
 use Rattle.zworld.specs.declared.world.World.{World}
-use Rattle.zworld.specs.declared.world.Inquiry.{Inquiry}
+use Rattle.zworld.specs.declared.world.AskedQuestion.{AskedQuestion}
 use Rattle.zworld.specs.declared.world.NamedTarget.{NamedTarget}
 use Rattle.zworld.specs.declared.world.line.AskLine.{AskLine}
 use Rattle.zworld.specs.declared.world.line.Line.{Line}
@@ -20,7 +20,7 @@ use Rattle.zworld.proofs.FitnessLoads.{world_load, small}
 
 -- what is asked, and how
 record Asked : Type 0 where
-  questions : List Inquiry
+  questions : List AskedQuestion
   step : ℕ
   window : ℕ
 
@@ -36,7 +36,7 @@ record IsSane (a : Asked) : Type 0 where
 
 -- ---- questions
 
-askable_more : (qs : List Inquiry) (i : Inquiry) → AreAskable (questions_of qs) → IsAskable i.question → AreAskable (questions_of (qs ++ i ∷ []))
+askable_more : (qs : List AskedQuestion) (i : AskedQuestion) → AreAskable (questions_of qs) → IsAskable i.question → AreAskable (questions_of (qs ++ i ∷ []))
 askable_more [] i h q = (q, tt)
 askable_more (j ∷ qs) i h q = (h.0, askable_more qs i h.1 q)
 
@@ -80,9 +80,9 @@ keeps number (lines.Database name) w v i h s = subst IsSane (targets (add_databa
 keeps number (lines.Content content) w v i h s =
     subst IsSane (targets (in_target (in_database (add_content content))) w v h) s
 keeps number (lines.Ask line) w v i h s =
-    with_one (is_among line.name (asked_names w.questions)) (λ end. record w { questions = w.questions ++ inquiry number line h.0 end ∷ [] }) (end_of line.name w.targets w.hosts) v
+    with_one (is_among line.name (asked_names w.questions)) (λ end. record w { questions = w.questions ++ asked_question number line h.0 end ∷ [] }) (end_of line.name w.targets w.hosts) v
     (λ end. record {
-      askable = askable_more w.questions (inquiry number line h.0 end) s.askable (wanted_askable line h.0 i.0 i.1);
+      askable = askable_more w.questions (asked_question number line h.0 end) s.askable (wanted_askable line h.0 i.0 i.1);
       some = s.some;
       most = s.most;
       room = s.room;

@@ -8,7 +8,7 @@ use Rattle.ztarget.specs.declared.database.Entry.{Entry}
 use Rattle.ztarget.specs.Searching.{entries_in}
 use Rattle.zworld.specs.Fitness.{AreSmall}
 use Rattle.zworld.specs.WorldLines.{words, line_of, lines_of, is_feed}
-use Rattle.zworld.specs.Worlds.{Leaves, AreWorld, none, more, IsWorld, in_last, with_targets, change_target, new_target, new_host, new_database, new_entry, add_field, add_content, in_database, add_database, in_target, inquiry, move_of, end_of, is_defined, is_among, place_of, asked_names, target_names, database_names}
+use Rattle.zworld.specs.Worlds.{Leaves, AreWorld, none, more, IsWorld, in_last, with_targets, change_target, new_target, new_host, new_database, new_entry, add_field, add_content, in_database, add_database, in_target, asked_question, move_of, end_of, is_defined, is_among, place_of, asked_names, target_names, database_names}
 use Rattle.zworld.specs.declared.world.World.{World}
 use Rattle.zworld.specs.declared.world.NamedTarget.{NamedTarget}
 use Rattle.zworld.specs.declared.world.line.Content.{Content}
@@ -108,7 +108,7 @@ leaves_load number (lines.Ask line) w v h =
     let one : (i : _) → load (record w { questions = w.questions ++ i ∷ [] }) ≡ load w + 1 =
     λ i. omega (arith, length-append w.questions (i ∷ [])) in
     let same : load w + 1 ≡ load v =
-    without (is_among line.name (asked_names w.questions)) (load w + 1) (λ end. record w { questions = w.questions ++ inquiry number line h.0 end ∷ [] }) (end_of line.name w.targets w.hosts) v (λ end. one (inquiry number line h.0 end)) h.2 in
+    without (is_among line.name (asked_names w.questions)) (load w + 1) (λ end. record w { questions = w.questions ++ asked_question number line h.0 end ∷ [] }) (end_of line.name w.targets w.hosts) v (λ end. one (asked_question number line h.0 end)) h.2 in
     omega (arith, same)
 leaves_load number (lines.Carry way name k) w v h =
     let same : load w ≡ load v =

@@ -15,7 +15,7 @@ use Rattle.zworld.proofs.Finding.{as_many, few_questions}
 use Rattle.zworld.specs.declared.world.End.{End}
 use Rattle.zworld.specs.declared.world.End.TheVariants as ends
 use Rattle.zworld.specs.declared.world.World.{World}
-use Rattle.zworld.specs.declared.world.Inquiry.{Inquiry}
+use Rattle.zworld.specs.declared.world.AskedQuestion.{AskedQuestion}
 use Rattle.zworld.specs.declared.world.NamedTarget.{NamedTarget}
 use Rattle.zworld.specs.declared.parts.Parts.{Parts}
 use Rattle.zworld.proofs.WorldSaid.{none_some, some_same}
@@ -64,7 +64,7 @@ small_target name ts all (Some t) same h e = small_named name ts t.now (subst Ar
 
 -- ---- all of them
 
-new_of : (all : List NamedTarget) (q : Inquiry) (s : TargetState) → target_for all q ≡ Some s → s ≡ new_target s.databases s.settings
+new_of : (all : List NamedTarget) (q : AskedQuestion) (s : TargetState) → target_for all q ≡ Some s → s ≡ new_target s.databases s.settings
 new_of all q s e =
     let m = mapped state_of (target_at all q.end) s e in
     subst (λ z. z ≡ new_target z.databases z.settings) m.gives refl
@@ -77,13 +77,13 @@ abbrev tail_is : {A : Type 0} → List A → List A
 tail_is [] = []
 tail_is (x ∷ xs) = xs
 
-all_new : (all : List NamedTarget) (qs : List Inquiry) (ss : List TargetState) → AreFound (target_for all) qs ss → AreNew ss
+all_new : (all : List NamedTarget) (qs : List AskedQuestion) (ss : List TargetState) → AreFound (target_for all) qs ss → AreNew ss
 all_new all [] [] h = tt
 all_new all [] (s ∷ ss) h = absurd (Prim.cc h)
 all_new all (q ∷ qs) [] h = absurd (Prim.cc h)
 all_new all (q ∷ qs) (s ∷ ss) h = (new_of all q s (ap (head_is None) h), all_new all qs ss (ap tail_is h))
 
-pub arranged : (name : List ℕ) (w : World) (p : Parts) (all : List NamedTarget) (asked taken : List Inquiry) (found : List TargetState)
+pub arranged : (name : List ℕ) (w : World) (p : Parts) (all : List NamedTarget) (asked taken : List AskedQuestion) (found : List TargetState)
     (qs : List Question) (ss : List TargetState) (names : List (List ℕ))
     → IsFit w → length name ≤ 2000000 → all ≡ w.targets → asked ≡ w.questions → taken ≡ w.questions
     → AreFound (target_for all) asked found → AreParts taken p → qs ≡ p.questions.items → ss ≡ found → names ≡ p.names.items

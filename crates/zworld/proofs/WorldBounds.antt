@@ -1,14 +1,11 @@
 -- How many questions so many lines can put.
 use Rattle.std.proofs.Common.{◌≡◌, ◌∙◌, sym, ap, ℕ, ◌≤◌, ◌+◌, List, [], ◌∷◌, ◌++◌, length, Bool, true, false, if◌then◌else◌, Option, Some, None, refl, arith, length-append}
 use Rattle.std.specs.Option.{option_map}
-use Rattle.zworld.specs.Worlds.{Leaves, AreWorld, none, more, with_targets, new_target, new_host, inquiry, move_of, end_of, is_defined, is_among, place_of, asked_names, target_names}
+use Rattle.zworld.specs.Worlds.{Leaves, AreWorld, none, more, with_targets, new_target, new_host, asked_question, move_of, end_of, is_defined, is_among, place_of, asked_names, target_names}
 use Rattle.zworld.specs.declared.world.World.{World}
 use Rattle.zworld.specs.declared.world.line.Line.{Line}
 use Rattle.zworld.specs.declared.world.line.Line.TheVariants as lines
 use Rattle.zworld.proofs.WorldSaid.{none_some, some_same}
-
-asked : World → ℕ
-asked w = length w.questions
 
 same_asked : (x v : World) → Some x ≡ Some v → length x.questions ≡ length v.questions
 same_asked x v e = ap (λ z. length z.questions) (some_same x v e)
@@ -45,7 +42,7 @@ leaves_one number (lines.Content content) w v h =
     let same : length w.questions ≡ length v.questions = mapped (length w.questions) (with_targets w) _ v (λ a. refl) h in omega arith
 leaves_one number (lines.Ask line) w v h =
     let same : length w.questions + 1 ≡ length v.questions =
-    without (is_among line.name (asked_names w.questions)) (length w.questions + 1) (λ end. record w { questions = w.questions ++ inquiry number line h.0 end ∷ [] }) (end_of line.name w.targets w.hosts) v (λ end. length-append w.questions (inquiry number line h.0 end ∷ [])) h.2 in
+    without (is_among line.name (asked_names w.questions)) (length w.questions + 1) (λ end. record w { questions = w.questions ++ asked_question number line h.0 end ∷ [] }) (end_of line.name w.targets w.hosts) v (λ end. length-append w.questions (asked_question number line h.0 end ∷ [])) h.2 in
     omega arith
 leaves_one number (lines.Carry way name k) w v h =
     let same : length w.questions ≡ length v.questions =

@@ -1,11 +1,11 @@
 -- One line after the other.
-use Rattle.std.proofs.Common.{◌≡◌, ◌∙◌, sym, ap, subst, ℕ, ◌+◌, ◌≤◌, ◌<◌, ◌^◌, ◌==◌, List, [], ◌∷◌, ◌++◌, length, Option, Some, None, Result, Ok, Err, IfErr, refl, arith, append_assoc, append-nil, length-append}
+use Rattle.std.proofs.Common.{◌≡◌, ◌∙◌, sym, ap, subst, ℕ, ◌+◌, ◌≤◌, ◌<◌, ◌^◌, ◌==◌, List, [], ◌∷◌, ◌++◌, length, Option, Some, None, Result, Ok, Err, IfErr, refl, arith, append_assoc, length-append}
 use Rattle.std.specs.List.{slice_split}
 use Rattle.std.specs.Option.{IfSome, option_map}
 use Rattle.zworld.specs.World.{pieces}
 use Rattle.zworld.specs.WorldLines.{lines_of}
 use Rattle.zworld.specs.WorldReading.{IsReading, IsSound, Reads, IsFaultOf, left, world_of}
-use Rattle.zworld.specs.Worlds.{AreWorld, none, more, IsWorld, Makes, empty}
+use Rattle.zworld.specs.Worlds.{AreWorld, none, more, Makes, empty}
 use Rattle.zworld.specs.declared.world.WorldError.{WorldError}
 use Rattle.zworld.specs.declared.world.WorldError.TheVariants as errors
 use Rattle.zworld.specs.declared.world.reader.Reader.{Reader}
@@ -55,17 +55,11 @@ refuses file texts text number after r q (errors.Refused line) i f m = record {
 }
 refuses file texts text number after r q errors.Memory i f m = tt
 
-pub ends : (file : List ℕ) (number : ℕ) (r : Reader) → IsReading file number None r → IsWorld file (world_of r)
-ends file number r i = subst (λ z. AreWorld z (world_of r)) (sym (i.cut ∙ append-nil i.front)) i.world
-
 -- how many questions were put, and how many lines were read
 pub few : (file texts : List ℕ) (number : ℕ) (r : Reader) → IsReading file number (Some texts) r → length file < 2 ^ 32 → length r.questions.items < 2 ^ 32
 few file texts number r i h =
     let fewer : length r.questions.items ≤ length i.front = few_questions i.world in
     omega (arith, h, fewer, i.place, i.within)
-
-pub room : (file texts : List ℕ) (number : ℕ) (r : Reader) → IsReading file number (Some texts) r → length file < 2 ^ 32 → number + 1 < 2 ^ 64
-room file texts number r i h = omega (arith, h, i.within)
 
 pub refused_as : {A : Type 0} (file : List ℕ) (e f : WorldError) (r : Result A WorldError) → r ≡ Err f → f ≡ e → IsFaultOf file e → IfErr r (IsFaultOf file)
 refused_as file e f r is of h = rw (is, of) h

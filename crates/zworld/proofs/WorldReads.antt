@@ -1,15 +1,12 @@
 -- What each line adds, and that names stay known.
-use Rattle.std.proofs.Common.{◌≡◌, ◌∙◌, sym, ap, subst, ℕ, List, [], ◌∷◌, ◌++◌, map, Bool, true, false, ◌||◌, if◌then◌else◌, Option, Some, None, Result, Err, refl}
+use Rattle.std.proofs.Common.{◌≡◌, ◌∙◌, sym, ap, subst, ℕ, List, [], ◌∷◌, ◌++◌, map, Bool, true, false, if◌then◌else◌, Option, Some, None, Result, Err, refl}
 use Rattle.std.specs.Option.{option_map}
-use Rattle.std.proofs.lemmas.Bool.{cond-true, cond-false}
 use Rattle.ztarget.specs.declared.database.Database.{Database}
 use Rattle.ztarget.specs.declared.database.Entry.{Entry}
 use Rattle.ztarget.specs.declared.settings.TargetSettings.{TargetSettings}
-use Rattle.zworld.specs.Worlds.{in_last, in_database, in_target, add_database, change_target, with_targets, put_target, put_host, put_move, new_target, new_host, new_database, move_of, is_defined, is_among, place_of, target_names, host_names, asked_names, database_names}
+use Rattle.zworld.specs.Worlds.{in_last, in_database, in_target, add_database, change_target, with_targets, new_database, is_among, target_names, database_names}
 use Rattle.zworld.specs.declared.world.World.{World}
-use Rattle.zworld.specs.declared.world.NamedHost.{NamedHost}
 use Rattle.zworld.specs.declared.world.NamedTarget.{NamedTarget}
-use Rattle.zworld.specs.declared.world.line.Way.{Way}
 use Rattle.zworld.specs.World.{Answers}
 use Rattle.zworld.specs.WorldParts.{listed, target}
 use Rattle.zworld.specs.declared.world.fault.LineFault.{LineFault}
@@ -17,46 +14,12 @@ use Rattle.zworld.specs.declared.world.fault.LineFault.TheVariants as faults
 use Rattle.zworld.proofs.WorldLast.{in_last_end}
 use Rattle.zworld.proofs.WorldSaid.{none_some, some_same}
 
-map_end : {A B : Type 0} (f : A → B) (xs : List A) (x : A) → map f (xs ++ x ∷ []) ≡ map f xs ++ f x ∷ []
-map_end f [] x = refl
-map_end f (y ∷ ys) x = ap (λ zs. f y ∷ zs) (map_end f ys x)
-
--- the names with one more
-pub name_more : {A : Type 0} (name : A → List ℕ) (xs ys : List A) (x : A) (keys all : List (List ℕ)) → keys ≡ map name xs → all ≡ keys ++ name x ∷ [] → ys ≡ xs ++ x ∷ [] → all ≡ map name ys
-name_more name xs ys x keys all k a y = a ∙ ap (λ z. z ++ name x ∷ []) k ∙ sym (map_end name xs x) ∙ ap (map name) (sym y)
-
--- a name that is neither a target's nor a host's
-neither : (a b : Bool) → (a || b) ≡ false → (a ≡ false) × (b ≡ false)
-neither true b e = absurd (Prim.cc e)
-neither false b e = (refl, e)
-
-pub fresh_target : (name : List ℕ) (targets : List NamedTarget) (hosts : List NamedHost) (keys : List (List ℕ)) → keys ≡ target_names targets → is_defined name targets hosts ≡ false → is_among name keys ≡ false
-fresh_target name targets hosts keys k e = ap (is_among name) k ∙ (neither (is_among name (target_names targets)) (is_among name (host_names hosts)) e).0
-
-pub fresh_host : (name : List ℕ) (targets : List NamedTarget) (hosts : List NamedHost) (keys : List (List ℕ)) → keys ≡ host_names hosts → is_defined name targets hosts ≡ false → is_among name keys ≡ false
-fresh_host name targets hosts keys k e = ap (is_among name) k ∙ (neither (is_among name (target_names targets)) (is_among name (host_names hosts)) e).1
-
 -- ---- a target and a host
-
-pub target_put : (name : List ℕ) (settings : TargetSettings) (w : World) (targets : List NamedTarget) → is_defined name w.targets w.hosts ≡ false → targets ≡ w.targets ++ new_target name settings ∷ [] → put_target name settings w ≡ Some (record w { targets = targets })
-target_put name settings w targets e t = cond-false _ _ _ e ∙ ap (λ z. Some (with_targets w z)) (sym t)
-
-pub target_defined : (name : List ℕ) (settings : TargetSettings) (w : World) → is_defined name w.targets w.hosts ≡ true → put_target name settings w ≡ None
-target_defined name settings w e = cond-true _ _ _ e
-
-pub host_put : (name address : List ℕ) (w : World) (hosts : List NamedHost) → is_defined name w.targets w.hosts ≡ false → hosts ≡ w.hosts ++ new_host name address ∷ [] → put_host name address w ≡ Some (record w { hosts = hosts })
-host_put name address w hosts e h = cond-false _ _ _ e ∙ ap (λ z. Some (record w { hosts = z })) (sym h)
-
-pub host_defined : (name address : List ℕ) (w : World) → is_defined name w.targets w.hosts ≡ true → put_host name address w ≡ None
-host_defined name address w e = cond-true _ _ _ e
 
 -- ---- the last target
 
 pub changed : (change : NamedTarget → Option NamedTarget) (w : World) (targets : List NamedTarget) → in_last change w.targets ≡ Some targets → change_target change w ≡ Some (record w { targets = targets })
 changed change w targets e = ap (option_map (with_targets w)) e
-
-pub unchanged : (change : NamedTarget → Option NamedTarget) (w : World) → in_last change w.targets ≡ None → change_target change w ≡ None
-unchanged change w e = ap (option_map (with_targets w)) e
 
 last_named : {A : Type 0} (name : A → List ℕ) (t : A) (o : Option A) (ys : List A) → ((u : A) → o ≡ Some u → name t ≡ name u) → option_map (λ y. y ∷ []) o ≡ Some ys → map name (t ∷ []) ≡ map name ys
 last_named name t None ys k e = absurd (none_some e)
@@ -113,15 +76,6 @@ target_keeps change t u e = mapped (in_last change t.databases) t u e
 
 -- ---- a move
 
-pub moved : (way : Way) (name : List ℕ) (k c : ℕ) (w : World) → is_among name (target_names w.targets) ≡ true → place_of name (asked_names w.questions) ≡ Some c → put_move way name k w ≡ Some (record w { moves = w.moves ++ move_of way c k ∷ [] })
-moved way name k c w e p = cond-true _ _ _ e ∙ ap (option_map (λ c. record w { moves = w.moves ++ move_of way c k ∷ [] })) p
-
-pub no_target : (way : Way) (name : List ℕ) (k : ℕ) (w : World) → is_among name (target_names w.targets) ≡ false → put_move way name k w ≡ None
-no_target way name k w e = cond-false _ _ _ e
-
-pub not_asked : (way : Way) (name : List ℕ) (k : ℕ) (w : World) → is_among name (target_names w.targets) ≡ true → place_of name (asked_names w.questions) ≡ None → put_move way name k w ≡ None
-not_asked way name k w e p = cond-true _ _ _ e ∙ ap (option_map (λ c. record w { moves = w.moves ++ move_of way c k ∷ [] })) p
-
 -- ---- the databases of the last target
 
 pub still_named : (change : Database → Option Database) (keys : List (List ℕ)) (had es : List Database) → ((d u : Database) → change d ≡ Some u → d.name ≡ u.name) → keys ≡ database_names had → in_last change had ≡ Some es → keys ≡ database_names es
@@ -130,14 +84,3 @@ still_named change keys had es k n e = n ∙ databases_stay change had es k e
 pub refused_last : (change : Database → Option Database) (before : List NamedTarget) (name : List ℕ) (settings : TargetSettings) (had : List Database) (whole : Option (List NamedTarget)) (last : List NamedTarget) (e f : LineFault) (r : Result (List NamedTarget) LineFault) → whole ≡ Some last → before ++ target name settings had ∷ [] ≡ last → r ≡ Err f → f ≡ e → Answers {A = List Database} (in_last change had) (Err e) → Answers (in_last (in_target change) (listed whole)) r
 refused_last change before name settings had whole last e f r some view err of h =
     subst (λ z. Answers {A = List NamedTarget} (in_last (in_target change) z) r) (view ∙ sym (ap listed some)) (refused_in change before (target name settings had) e f r err of h)
-
--- a name that a database of the last target has already
-name_taken : (name : List ℕ) (before : List NamedTarget) (t : NamedTarget) (e : LineFault) → (e ≡ faults.Refused → is_among name (database_names t.databases) ≡ true) → Answers {A = List NamedTarget} (in_last (add_database name) (before ++ t ∷ [])) (Err e)
-name_taken name before t faults.Refused h =
-    in_last_end (add_database name) before t ∙ ap (option_map (λ y. before ++ y ∷ [])) (cond-true _ _ _ (h refl))
-name_taken name before t faults.Memory h = tt
-
-pub database_taken : (name : List ℕ) (keys : List (List ℕ)) (before : List NamedTarget) (t : NamedTarget) (whole : Option (List NamedTarget)) (last : List NamedTarget) (e f : LineFault) (r : Result (List NamedTarget) LineFault) → whole ≡ Some last → before ++ t ∷ [] ≡ last → keys ≡ database_names t.databases → r ≡ Err f → f ≡ e → (e ≡ faults.Refused → is_among name keys ≡ true) → Answers (in_last (add_database name) (listed whole)) r
-database_taken name keys before t whole last e f r some view named err of h =
-    subst (λ z. Answers {A = List NamedTarget} (in_last (add_database name) z) r) (view ∙ sym (ap listed some))
-    (rw (err, of) (name_taken name before t e (λ is. sym (ap (is_among name) named) ∙ h is)))

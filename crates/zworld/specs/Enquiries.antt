@@ -5,7 +5,7 @@ use Rattle.zquestions.specs.Askable.{AreAskable, AreFit}
 use Rattle.zworld.specs.declared.world.World.{World}
 use Rattle.zworld.specs.declared.world.WorldError.{WorldError}
 use Rattle.zworld.specs.declared.world.NamedHost.{NamedHost}
-use Rattle.zworld.specs.declared.world.Inquiry.{Inquiry}
+use Rattle.zworld.specs.declared.world.AskedQuestion.{AskedQuestion}
 use Rattle.zworld.specs.declared.world.End.{End}
 use Rattle.zworld.specs.declared.world.End.TheVariants as ends
 use Rattle.zworld.specs.declared.enquiry.Enquiry.{Enquiry}
@@ -19,7 +19,7 @@ host_at hosts (ends.Host place) = slice_get hosts place
 host_at hosts (ends.Target place) = None
 
 -- the address for a question, where it is put to a host
-abbrev pub address_for : List NamedHost → Inquiry → Option (List ℕ)
+abbrev pub address_for : List NamedHost → AskedQuestion → Option (List ℕ)
 address_for hosts i = option_map (λ h. h.address) (host_at hosts i.end)
 
 -- The hosts of the world are asked by one of this name: each question, its address and its name, in the order of the
@@ -35,8 +35,8 @@ pub record IsEnquiry (name : List ℕ) (w : World) (e : Enquiry) : Type 0 where
   pub equal : length e.addresses ≡ length e.questions
 
 -- the line is that of the first of the questions that is put to no host
-abbrev pub IsOfFirstTarget : List NamedHost → List Inquiry → ℕ → Type 0
-IsOfFirstTarget hosts inquiries line = IsOfFirstNone (address_for hosts) inquiries line
+abbrev pub IsOfFirstTarget : List NamedHost → List AskedQuestion → ℕ → Type 0
+IsOfFirstTarget hosts asked_questions line = IsOfFirstNone (address_for hosts) asked_questions line
 
 abbrev pub IsPutToTarget : World → WorldError → Type 0
 IsPutToTarget w e = IsFirstAtNone (address_for w.hosts) w.questions e

@@ -9,7 +9,7 @@ use Rattle.zquestions.specs.Askable.{AreAskable, AreFit}
 use Rattle.zworld.specs.declared.world.World.{World}
 use Rattle.zworld.specs.declared.world.WorldError.{WorldError}
 use Rattle.zworld.specs.declared.world.NamedTarget.{NamedTarget}
-use Rattle.zworld.specs.declared.world.Inquiry.{Inquiry}
+use Rattle.zworld.specs.declared.world.AskedQuestion.{AskedQuestion}
 use Rattle.zworld.specs.declared.world.End.{End}
 use Rattle.zworld.specs.declared.world.End.TheVariants as ends
 use Rattle.zworld.specs.declared.fitness.Arrangement.{Arrangement}
@@ -45,7 +45,7 @@ abbrev pub state_of : NamedTarget → TargetState
 state_of t = new_target t.databases t.settings
 
 -- the target for a question, where it is put to one in memory
-abbrev pub target_for : List NamedTarget → Inquiry → Option TargetState
+abbrev pub target_for : List NamedTarget → AskedQuestion → Option TargetState
 target_for targets i = option_map state_of (target_at targets i.end)
 
 -- the target of this name
@@ -73,8 +73,8 @@ IsArrangement a = (name : List ℕ) × (w : World) × IsArranged name w a
 -- ---- a question to a host
 
 -- the line is that of the first of the questions that is put to no target in memory
-abbrev pub IsOfFirstHost : List NamedTarget → List Inquiry → ℕ → Type 0
-IsOfFirstHost targets inquiries line = IsOfFirstNone (target_for targets) inquiries line
+abbrev pub IsOfFirstHost : List NamedTarget → List AskedQuestion → ℕ → Type 0
+IsOfFirstHost targets asked_questions line = IsOfFirstNone (target_for targets) asked_questions line
 
 abbrev pub IsPutToNone : World → WorldError → Type 0
 IsPutToNone w e = IsFirstAtNone (target_for w.targets) w.questions e

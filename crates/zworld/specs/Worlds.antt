@@ -17,7 +17,7 @@ use Rattle.zquestions.specs.declared.question.Question.{Question}
 use Rattle.zworld.specs.declared.world.World.{World}
 use Rattle.zworld.specs.declared.world.NamedTarget.{NamedTarget}
 use Rattle.zworld.specs.declared.world.NamedHost.{NamedHost}
-use Rattle.zworld.specs.declared.world.Inquiry.{Inquiry}
+use Rattle.zworld.specs.declared.world.AskedQuestion.{AskedQuestion}
 use Rattle.zworld.specs.declared.world.End.{End}
 use Rattle.zworld.specs.declared.world.End.TheVariants as ends
 use Rattle.zworld.specs.declared.world.line.AskLine.{AskLine}
@@ -37,7 +37,7 @@ target_names = map (λ t. t.name)
 abbrev pub host_names : List NamedHost → List (List ℕ)
 host_names = map (λ h. h.name)
 
-abbrev pub asked_names : List Inquiry → List (List ℕ)
+abbrev pub asked_names : List AskedQuestion → List (List ℕ)
 asked_names = map (λ q. q.name)
 
 abbrev pub database_names : List Database → List (List ℕ)
@@ -142,8 +142,8 @@ question line query = record {
   wanted = line.wanted;
 }
 
-abbrev pub inquiry : ℕ → AskLine → RpnQuery → End → Inquiry
-inquiry number line query end =
+abbrev pub asked_question : ℕ → AskLine → RpnQuery → End → AskedQuestion
+asked_question number line query end =
     record { line = number; name = line.name; end = end; question = question line query }
 
 -- a question on line `number` to one that is defined and was not asked yet
@@ -152,7 +152,7 @@ put_question number line query w =
     if is_among line.name (asked_names w.questions)
     then None
     else option_map
-    (λ end. record w { questions = w.questions ++ inquiry number line query end ∷ [] })
+    (λ end. record w { questions = w.questions ++ asked_question number line query end ∷ [] })
     (end_of line.name w.targets w.hosts)
 
 abbrev pub move_of : Way → ℕ → ℕ → Move

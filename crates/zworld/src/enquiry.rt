@@ -6,8 +6,8 @@ ghost use Rattle.zworld.specs.Fitness.{IsFit};
 ghost use Rattle.zworld.specs.Finding.{AreFound, FindsOne, IsFirstAtNone};
 ghost use Rattle.zworld.specs.Enquiries.{host_at, address_for, IsEnquiry, IsPutToTarget};
 
-use crate::parts::{add, parted};
-use crate::world::{End, Inquiry, NamedHost, World, WorldError};
+use crate::parts::{add, split_questions};
+use crate::world::{AskedQuestion, End, NamedHost, World, WorldError};
 use bytes::Bytes;
 use std::alloc::Global;
 use zber::Seq;
@@ -38,12 +38,14 @@ fn host_at(hosts: &[NamedHost], end: End) -> Option<&NamedHost>
 }
 
 /// The address for a question.
-fn address_for(hosts: &[NamedHost], inquiry: &Inquiry) -> Result<Bytes, WorldError>
-    ensures { FindsOne (address_for hosts.now) inquiry.now result }
+fn address_for(hosts: &[NamedHost], asked_question: &AskedQuestion) -> Result<Bytes, WorldError>
+    ensures { FindsOne (address_for hosts.now) asked_question.now result }
 {
-    match host_at(hosts, inquiry.end) {
+    match host_at(hosts, asked_question.end) {
         Some(host) => Ok(host.address.clone()?),
-        None => Err(WorldError::Refused { line: inquiry.line }),
+        None => Err(WorldError::Refused {
+            line: asked_question.line,
+        }),
     }
 }
 
@@ -51,14 +53,14 @@ fn address_for(hosts: &[NamedHost], inquiry: &Inquiry) -> Result<Bytes, WorldErr
 fn addresses_for(
     alloc: Global,
     hosts: &[NamedHost],
-    inquiries: &[Inquiry],
+    asked_questions: &[AskedQuestion],
 ) -> Result<Vec<Bytes>, WorldError>
-    ensures found { IfOk result (λ found. AreFound (address_for hosts.now) inquiries.now found.items) }
-    ensures fault { IfErr result (IsFirstAtNone (address_for hosts.now) inquiries.now) }
+    ensures found { IfOk result (λ found. AreFound (address_for hosts.now) asked_questions.now found.items) }
+    ensures fault { IfErr result (IsFirstAtNone (address_for hosts.now) asked_questions.now) }
 {
     let mut found = Vec::new(alloc);
-    for inquiry in inquiries {
-        let address = address_for(hosts, inquiry)?;
+    for asked_question in asked_questions {
+        let address = address_for(hosts, asked_question)?;
         add(&mut found, address)?;
     }
     Ok(found)
@@ -83,7 +85,7 @@ impl World {
             moves: _,
         } = self;
         let addresses = addresses_for(alloc, hosts.as_slice(), questions.as_slice())?;
-        let parts = parted(alloc, questions.into_vec())?;
+        let parts = split_questions(alloc, questions.into_vec())?;
         Ok(Enquiry {
             questions: Seq::from_vec(parts.questions),
             settings: MetaSettings { name, step, window },

@@ -7,8 +7,8 @@ ghost use Rattle.std.specs.Str.{bytes_eq};
 ghost use Rattle.zworld.specs.Fitness.{AreSmall, IsFit, IsArranged, IsPutToNone, target_at, target_for, target_named, state_of};
 ghost use Rattle.zworld.specs.Finding.{AreFound, FindsOne, IsFirstAtNone};
 
-use crate::parts::{add, parted};
-use crate::world::{End, Inquiry, NamedTarget, World, WorldError};
+use crate::parts::{add, split_questions};
+use crate::world::{AskedQuestion, End, NamedTarget, World, WorldError};
 use bytes::Bytes;
 use std::alloc::{AllocError, Global};
 use zber::{Duplicate, Seq};
@@ -58,14 +58,16 @@ fn target_at(targets: &[NamedTarget], end: End) -> Option<&NamedTarget>
 fn target_for(
     alloc: Global,
     targets: &[NamedTarget],
-    inquiry: &Inquiry,
+    asked_question: &AskedQuestion,
 ) -> Result<Target, WorldError>
     requires { AreSmall targets.now }
-    ensures { FindsOne (target_for targets.now) inquiry.now result }
+    ensures { FindsOne (target_for targets.now) asked_question.now result }
 {
-    match target_at(targets, inquiry.end) {
+    match target_at(targets, asked_question.end) {
         Some(target) => Ok(target.target(alloc)?),
-        None => Err(WorldError::Refused { line: inquiry.line }),
+        None => Err(WorldError::Refused {
+            line: asked_question.line,
+        }),
     }
 }
 
@@ -73,15 +75,15 @@ fn target_for(
 fn targets_for(
     alloc: Global,
     targets: &[NamedTarget],
-    inquiries: &[Inquiry],
+    asked_questions: &[AskedQuestion],
 ) -> Result<Vec<Target>, WorldError>
     requires { AreSmall targets.now }
-    ensures found { IfOk result (λ found. AreFound (target_for targets.now) inquiries.now found.items) }
-    ensures fault { IfErr result (IsFirstAtNone (target_for targets.now) inquiries.now) }
+    ensures found { IfOk result (λ found. AreFound (target_for targets.now) asked_questions.now found.items) }
+    ensures fault { IfErr result (IsFirstAtNone (target_for targets.now) asked_questions.now) }
 {
     let mut found = Vec::new(alloc);
-    for inquiry in inquiries {
-        let target = target_for(alloc, targets, inquiry)?;
+    for asked_question in asked_questions {
+        let target = target_for(alloc, targets, asked_question)?;
         add(&mut found, target)?;
     }
     Ok(found)
@@ -119,7 +121,7 @@ impl World {
     /// The world as it is run by one of this name, which has at most 2,000,000 octets.
     ///
     /// Refusals: `Refused` with the line of the first question that is put to a host; and `Memory`.
-    pub fn arranged(self, alloc: Global, name: Bytes) -> Result<Arrangement, WorldError>
+    pub fn arrange(self, alloc: Global, name: Bytes) -> Result<Arrangement, WorldError>
         requires fit { IsFit self }
         requires short { length name ≤ 2000000 }
         ensures arranged { IfOk result (IsArranged name self) }
@@ -134,7 +136,7 @@ impl World {
             moves,
         } = self;
         let targets = targets_for(alloc, targets.as_slice(), questions.as_slice())?;
-        let parts = parted(alloc, questions.into_vec())?;
+        let parts = split_questions(alloc, questions.into_vec())?;
         Ok(Arrangement {
             questions: Seq::from_vec(parts.questions),
             settings: MetaSettings { name, step, window },

@@ -3,7 +3,7 @@
 ghost use Rattle.std.specs.Prelude.{◌≡◌, [], ◌++◌, ◌∷◌, IfOk, OnOk};
 ghost use Rattle.zworld.specs.Finding.{AreParts, IsOneMore};
 
-use crate::world::Inquiry;
+use crate::world::AskedQuestion;
 use bytes::Bytes;
 use std::alloc::{AllocError, Global};
 use zquestions::Question;
@@ -27,15 +27,15 @@ impl Parts {
     }
 
     /// Puts a question last.
-    fn put(&mut self, inquiry: Inquiry) -> Result<(), AllocError>
-        ensures { OnOk result (IsOneMore inquiry self.old self.new) }
+    fn put(&mut self, asked_question: AskedQuestion) -> Result<(), AllocError>
+        ensures { OnOk result (IsOneMore asked_question self.old self.new) }
     {
-        let Inquiry {
+        let AskedQuestion {
             line: _,
             name,
             end: _,
             question,
-        } = inquiry;
+        } = asked_question;
         self.questions.push(question)?;
         self.names.push(name)?;
         Ok(())
@@ -50,12 +50,15 @@ pub(crate) fn add<A: Drop>(all: &mut Vec<A>, one: A) -> Result<(), AllocError>
 }
 
 /// The parts of questions.
-pub(crate) fn parted(alloc: Global, inquiries: Vec<Inquiry>) -> Result<Parts, AllocError>
-    ensures { IfOk result (AreParts inquiries.items) }
+pub(crate) fn split_questions(
+    alloc: Global,
+    asked_questions: Vec<AskedQuestion>,
+) -> Result<Parts, AllocError>
+    ensures { IfOk result (AreParts asked_questions.items) }
 {
     let mut parts = Parts::new(alloc);
-    for inquiry in inquiries {
-        parts.put(inquiry)?;
+    for asked_question in asked_questions {
+        parts.put(asked_question)?;
     }
     Ok(parts)
 }

@@ -17,7 +17,7 @@ mod targets;
 mod wanted;
 mod word;
 
-use crate::world::cut::cut;
+use crate::world::cut::first_piece;
 use crate::world::fault::LineFault;
 use crate::world::reader::Reader;
 use bytes::Bytes;
@@ -57,7 +57,7 @@ pub enum End {
 
 /// A question: the number of its line, from 1, and whom it is put to.
 #[derive(Drop)]
-pub struct Inquiry {
+pub struct AskedQuestion {
     /// The number of its line in the file.
     pub line: u64,
     /// The name of the one that is asked.
@@ -80,7 +80,7 @@ pub struct World {
     /// The hosts, in order.
     pub hosts: Seq<NamedHost>,
     /// The questions, in order.
-    pub questions: Seq<Inquiry>,
+    pub questions: Seq<AskedQuestion>,
     /// The moves, in order; `c` is the place of a question.
     pub moves: Seq<Move>,
 }
@@ -130,7 +130,7 @@ pub fn read_world(alloc: Global, file: &[u8]) -> Result<World, WorldError>
     let mut number = 0;
     let mut rest = Some(file);
     while let Some(texts) = rest {
-        let (text, after) = cut(texts, b'\n');
+        let (text, after) = first_piece(texts, b'\n');
         number += 1;
         read_line(&mut reader, number, text)?;
         rest = after;

@@ -1,11 +1,11 @@
 // Which entries match, by the definition: word for word and entry by entry.
 use crate::target::matching::{names, query as query_of_row, target_of_rows};
-use crate::target::{database, found};
+use crate::target::{database, places_found};
 use std::alloc::{AllocError, Global};
 use std::process::Abort;
 use std::test::Fail;
 use zelements::dice::Dice;
-use zelements::rows::held;
+use zelements::rows::is_true;
 use zelements::unread::Unread;
 use zrpn::{Attr, AttrValue, Query, Rpn, TermValue};
 use ztarget::{Database, Entry, Target};
@@ -108,7 +108,7 @@ fn is_match(alloc: Global, entry: &Entry, query: &Rpn) -> Result<bool, AllocErro
 }
 
 // The databases named, each once.
-fn named<'a>(
+fn databases_named<'a>(
     alloc: Global,
     databases: &[&'a Database],
     named: &str,
@@ -144,7 +144,7 @@ const WORDS: [&str; 9] = ["a", "A", "ab", "aB", "ba", "b1", "%e9", "%e9a", "-"];
 
 fn text(alloc: Global, dice: &mut Dice, most: u64) -> Result<String, AllocError> {
     let mut text = String::new(alloc);
-    for _ in 0..dice.below(most.saturating_add(1)) {
+    for _ in 0..dice.number_below(most.saturating_add(1)) {
         text.push_str(dice.one(&WORDS))?;
         text.push_str(dice.one(&[" ", "-", ", ", ""]))?;
     }
@@ -154,9 +154,9 @@ fn text(alloc: Global, dice: &mut Dice, most: u64) -> Result<String, AllocError>
 // The rows of a database's entries.
 fn rows(alloc: Global, dice: &mut Dice) -> Result<String, AllocError> {
     let mut rows = String::new(alloc);
-    for _ in 0..dice.below(6) {
+    for _ in 0..dice.number_below(6) {
         rows.push_str("r")?;
-        for _ in 0..dice.below(3).saturating_add(1) {
+        for _ in 0..dice.number_below(3).saturating_add(1) {
             let used = dice.one(&["4", "1003", "1016", "99"]);
             let text = text(alloc, dice, 6)?;
             rows.push_str(format!(in alloc; " | {used} {text}")?.as_str())?;
@@ -179,7 +179,7 @@ fn query(alloc: Global, dice: &mut Dice, operators: u64) -> Result<String, Alloc
     for _ in 0..operators {
         let operator = dice.one(&["@and", "@or", "@not"]);
         let other = operand(alloc, dice)?;
-        query = if dice.below(2) == 0 {
+        query = if dice.number_below(2) == 0 {
             format!(in alloc; "{operator} {query} {other}")?
         } else {
             format!(in alloc; "{operator} {other} {query}")?
@@ -195,7 +195,7 @@ fn found_in(
     named: &str,
 ) -> Result<Vec<u32>, Unread> {
     let names = names(alloc, named)?;
-    found(target, names.as_slice(), query)
+    places_found(target, names.as_slice(), query)
 }
 
 fn places_in(
@@ -204,7 +204,7 @@ fn places_in(
     query: &Query,
     named_row: &str,
 ) -> Result<Vec<u32>, AllocError> {
-    let named = named(alloc, databases, named_row)?;
+    let named = databases_named(alloc, databases, named_row)?;
     places(alloc, named.as_slice(), &query.root)
 }
 
@@ -242,7 +242,7 @@ fn is_any_found(
 
 fn are_all_found(alloc: Global, dice: &mut Dice, target: &Target, databases: &[&Database]) -> bool {
     for operators in [0, 0, 1, 2, 3, 7] {
-        if !held(is_any_found(alloc, dice, target, databases, operators)) {
+        if !is_true(is_any_found(alloc, dice, target, databases, operators)) {
             return false;
         }
     }
@@ -277,7 +277,7 @@ fn is_round(alloc: Global, seed: u64) -> Result<bool, Unread> {
 #[test]
 fn searches_find_what_the_definition_has(rt: HostRuntime) -> Result<(), Fail> {
     for seed in 0..500 {
-        assert!(rt; held(is_round(rt.alloc(), seed)), "{seed}");
+        assert!(rt; is_true(is_round(rt.alloc(), seed)), "{seed}");
     }
     Ok(())
 }

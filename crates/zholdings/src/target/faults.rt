@@ -5,7 +5,7 @@ use bytes::Bytes;
 use std::alloc::{AllocError, Global};
 use std::process::Abort;
 use std::test::Fail;
-use zelements::rows::{each_row, halves, parted};
+use zelements::rows::{each_row, halves, split_row};
 use zelements::unread::Unread;
 use zrpn::Query;
 use ztarget::{MatchError, Target};
@@ -58,7 +58,7 @@ dune | a x y => 235 x
 @attr 1.2.840.10003.3.1 1=4 dune | a => none
 "#;
 
-fn told(alloc: Global, answer: Result<Vec<u32>, MatchError>) -> Result<String, AllocError> {
+fn fault_text(alloc: Global, answer: Result<Vec<u32>, MatchError>) -> Result<String, AllocError> {
     match answer {
         Ok(_) => String::from_str(alloc, "none"),
         Err(MatchError::Code { code, info }) => {
@@ -75,7 +75,7 @@ fn fault(
     names: &[Bytes],
     query: &Query,
 ) -> Result<String, AllocError> {
-    told(alloc, matches(target, names, query))
+    fault_text(alloc, matches(target, names, query))
 }
 
 fn fault_in(alloc: Global, target: &Target, query: &Query, named: &str) -> Result<String, Unread> {
@@ -91,7 +91,7 @@ fn fault_of(alloc: Global, text: &str, named: &str) -> Result<String, Unread> {
 
 fn is_fault(alloc: Global, row: &str) -> Result<bool, Unread> {
     let (row, due) = halves(row);
-    let (text, named) = parted(row, " | ");
+    let (text, named) = split_row(row, " | ");
     let fault = fault_of(alloc, text, if named == "-" { "" } else { named })?;
     Ok(fault.as_str().trim_end() == due)
 }

@@ -1,13 +1,13 @@
 // Which entries queries match.
-use crate::target::{database, found, target_of};
+use crate::target::{database, places_found, target_of};
 use bytes::Bytes;
 use std::alloc::Global;
 use std::process::Abort;
 use std::test::Fail;
 use zber::{Oid, Seq};
-use zelements::rows::{each_row, halves, parted, unescaped};
+use zelements::rows::{each_row, halves, split_row, unescape};
 use zelements::unread::Unread;
-use zencodings::boxes::{boxed, parse};
+use zencodings::boxes::{box_value, parse};
 use zrpn::{Attr, AttrValue, Query, Rpn, TermValue};
 use ztarget::{Target, TargetSettings};
 
@@ -136,7 +136,7 @@ pub(crate) fn target_of_rows(
 }
 
 pub(crate) fn query(alloc: Global, row: &str) -> Result<Box<Query>, Unread> {
-    let text = unescaped(alloc, row)?;
+    let text = unescape(alloc, row)?;
     parse(alloc, text.as_slice())
 }
 
@@ -151,7 +151,7 @@ pub(crate) fn names(alloc: Global, row: &str) -> Result<Vec<Bytes>, Unread> {
 // How many entries of the database `a` are matched.
 fn count(alloc: Global, target: &Target, query: &Query) -> Result<usize, Unread> {
     let names = names(alloc, "a")?;
-    let places = found(target, names.as_slice(), query)?;
+    let places = places_found(target, names.as_slice(), query)?;
     Ok(places.len())
 }
 
@@ -164,7 +164,7 @@ fn found_of(alloc: Global, rows: &str, text: &str) -> Result<usize, Unread> {
 
 fn is_matched(alloc: Global, row: &str) -> Result<bool, Unread> {
     let (row, due) = halves(row);
-    let (text, fields) = parted(row, " | ");
+    let (text, fields) = split_row(row, " | ");
     let rows = format!(in alloc; "r | {fields}")?;
     let count = found_of(alloc, rows.as_str(), text)?;
     Ok((if count == 1 { "true" } else { "false" }) == due)
@@ -183,21 +183,26 @@ fn numbers(alloc: Global, row: &str) -> Result<Vec<u32>, Unread> {
     Ok(numbers)
 }
 
-fn placed(alloc: Global, target: &Target, query: &Query, named: &str) -> Result<Vec<u32>, Unread> {
+fn places_by_names(
+    alloc: Global,
+    target: &Target,
+    query: &Query,
+    named: &str,
+) -> Result<Vec<u32>, Unread> {
     let names = names(alloc, named)?;
-    found(target, names.as_slice(), query)
+    places_found(target, names.as_slice(), query)
 }
 
 fn places_of(alloc: Global, text: &str, named: &str) -> Result<Vec<u32>, Unread> {
     let query = query(alloc, text)?;
     let second = "r | 4 one dune\nr | 4 dune\nr | 4 dune";
     let target = target_of_rows(alloc, "r | 4 one\nr | 4 two", second)?;
-    placed(alloc, &target, &query, named)
+    places_by_names(alloc, &target, &query, named)
 }
 
 fn are_placed(alloc: Global, row: &str) -> Result<bool, Unread> {
     let (row, due) = halves(row);
-    let (text, named) = parted(row, " | ");
+    let (text, named) = split_row(row, " | ");
     let told = numbers(alloc, due)?;
     let places = places_of(alloc, text, named)?;
     Ok(places.as_slice() == told.as_slice())
@@ -210,7 +215,7 @@ fn places_are_counted_through_the_databases_named(rt: HostRuntime) -> Result<(),
 
 // `TYPE=VALUE`
 fn attribute(part: &str) -> Result<Attr, Unread> {
-    let (kind, value) = parted(part, "=");
+    let (kind, value) = split_row(part, "=");
     let kind = kind.parse::<i64>()?;
     let number = value.parse::<i64>()?;
     Ok(Attr {
@@ -230,13 +235,13 @@ fn attributes(alloc: Global, row: &str) -> Result<Seq<Attr>, Unread> {
 }
 
 // The term of one word with these attributes.
-fn attributed(alloc: Global, attributes_row: &str, word: &str) -> Result<Box<Query>, Unread> {
+fn query_of_word(alloc: Global, attributes_row: &str, word: &str) -> Result<Box<Query>, Unread> {
     let attr_set = Oid::from_arcs(alloc, &[1, 2, 840, 10003, 3, 1])?;
     let octets = Bytes::copy_from_slice(alloc, word.as_bytes())?;
     let attrs = attributes(alloc, attributes_row)?;
     let term = TermValue::General(octets);
     let root = Rpn::Term { attrs, term };
-    Ok(boxed(alloc, Query { attr_set, root })?)
+    Ok(box_value(alloc, Query { attr_set, root })?)
 }
 
 // Words, their attributes, and whether `dune` by `herbert` is matched.
@@ -253,8 +258,8 @@ dun | 5=100 1=4 5=1 => true
 
 fn is_repeated(alloc: Global, row: &str) -> Result<bool, Unread> {
     let (row, due) = halves(row);
-    let (word, attributes) = parted(row, " | ");
-    let query = attributed(alloc, attributes, word)?;
+    let (word, attributes) = split_row(row, " | ");
+    let query = query_of_word(alloc, attributes, word)?;
     let target = target_of_rows(alloc, "r | 4 dune | 1003 herbert", "")?;
     let count = count(alloc, &target, &query)?;
     Ok((if count == 1 { "true" } else { "false" }) == due)

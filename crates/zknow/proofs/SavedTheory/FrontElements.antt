@@ -74,9 +74,6 @@ module _ {A : Type 0} (p : Place A) (octets : List ℕ) where
     same_node : (x : A) (s t : List ℕ) (b : BeginsWith p x octets s t) → b.element.node ≡ n
     same_node x s t b = (one_message longest octets b.element.node n t front.0 (begins_of x s t b) front.1).0
 
-    pub says_here : (x : A) → NoElement p octets → p.stands x n → ⊥
-    says_here x none says = none x front.1.message front.0 (record { cut = front.1.cut; element = record { node = n; message = front.1.is; says = says } })
-
     stands_here : (x : A) (s t : List ℕ) → BeginsWith p x octets s t → p.stands x n
     stands_here x s t b = subst (p.stands x) (same_node x s t b) b.element.says
 
@@ -87,9 +84,6 @@ module _ {A : Type 0} (p : Place A) (octets : List ℕ) where
 
     pub no_meaning : p.meaning n ≡ None → NoElement p octets
     no_meaning none x s t b = let found = p.finds x n (stands_here x s t b) in absurd cc
-
-    pub found_value : (x : A) → among (tag_of n) p.tags ≡ true → p.meaning n ≡ Some x → FrontValue p octets (Some x)
-    found_value x there means = (front.1.message, front.0, record { cut = front.1.cut; element = record { node = n; message = front.1.is; says = p.reads x n there means } })
 
   -- the octets begin with the canonical element, or not
   module _ (x : A) (lawful : (n : Element) → p.spelt x ≡ Some n → IsLawful n) (front : FrontValue p octets (Some x)) (canonical : List ℕ) (is : canonical ≡ encoding p x) (test : Bool) (tested : test ≡ pointwise eqb canonical (take (length canonical) octets)) where

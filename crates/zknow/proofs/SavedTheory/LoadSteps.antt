@@ -1,5 +1,5 @@
 -- One element of a file more.
-use Rattle.std.proofs.Common.{◌≡◌, ℕ, ℤ, pos, ◌+◌, ◌<◌, List, [], ◌∷◌, ◌++◌, length, take, drop, Option, Some, None, refl, sym, ap, subst, ◌∙◌, inl, inr, ⊎_elim, arith, take-append-drop, length-drop, length-take}
+use Rattle.std.proofs.Common.{◌≡◌, ℕ, ℤ, pos, ◌+◌, ◌<◌, List, [], ◌∷◌, ◌++◌, length, take, drop, Option, Some, None, sym, ap, subst, ◌∙◌, inl, inr, ⊎_elim, arith, take-append-drop, length-drop, length-take}
 use Rattle.std.specs.Prelude.{Contains}
 use Rattle.std.specs.declared.cmp.Ordering.TheVariants.{Less}
 use Rattle.std.specs.List.Sorted.{IsStrictlySortedBy}
@@ -113,11 +113,6 @@ module _ (names : List (List ℕ)) (facts : List Fact) (file : List ℕ) (at : �
       cut = sym (take-append-drop size (drop at file));
       element = subst (IsElement saved_fact f) (sym taken.canonical) taken.element;
     }
-
-pub first_fault : (file : List ℕ) (e : FrontError) → IsFrontFault saved_names file e → IsFault file (fault_at 0 e)
-first_fault file NoValue h = inl (refl, h)
-first_fault file NotCanonical h = inl (refl, record { names = h.value; spelling = h.spelling; rest = h.rest; begins = h.begins; odd = h.odd })
-first_fault file Memory h = h
 
 pub later_fault : (file : List ℕ) (names : List (List ℕ)) (facts : List Fact) (rest : List ℕ) (at : ℕ) (e : FrontError) → IsSoundUpTo file names facts rest → at ≡ length facts + 1 → IsFrontFault saved_fact rest e → IsFault file (fault_at at e)
 later_fault file names facts rest at NoValue sound place h = inr (record { names = names; facts = facts; rest = rest; sound = sound; place = place; none = h })

@@ -77,11 +77,6 @@ pub flat_map_ones : {X : Type 0} (xs : List X) → flat_map (λ x. x ∷ []) xs 
 flat_map_ones [] = refl
 flat_map_ones (x ∷ xs) = ap (λ l. x ∷ l) (flat_map_ones xs)
 
--- values by number, each number's in turn
-pub numbered_flat : {T G : Type 0} (g : ℤ × T → List G) (t : List (ℤ × List T)) → flat_map g (numbered t) ≡ flat_map (λ (e : ℤ × List T). flat_map (λ x. g (e.0, x)) e.1) t
-numbered_flat g [] = refl
-numbered_flat g (e ∷ t) = flat_entry (λ xs. xs) (λ p x. (p, x)) g e t ∙ ap (λ l. flat_map (λ x. g (e.0, x)) e.1 ++ l) (numbered_flat g t)
-
 -- a loop over values by number: what is written, and what is left to be
 pub numbered_written : {T G : Type 0} (g : ℤ × T → List G) (e : ℤ × List T) (rest after : List (ℤ × List T)) (so_far next all : List G) → rest ≡ e ∷ after → so_far ++ flat_map g (numbered rest) ≡ all → next ≡ so_far ++ flat_map (λ x. g (e.0, x)) e.1
     → next ++ flat_map g (numbered after) ≡ all

@@ -12,7 +12,7 @@ use Rattle.zknow.specs.Tables.Join.{IsUnion, IsPartOfUnion}
 use Rattle.zknow.specs.Tables.Search.{IsGap}
 use Rattle.zknow.specs.Tables.Distinct.{AreDistinct}
 use Rattle.zknow.specs.Tables.DistinctLaws.{in_cons, in_head, in_tail, none_in_nil}
-use Rattle.zknow.proofs.TableTheory.Unions.{IsJoining, joining_none, joining_part, joining_more, joining_all}
+use Rattle.zknow.proofs.TableTheory.Unions.{IsJoining, joining_part, joining_more, joining_all}
 
 module _ {T : Type 0} where
   -- what holds of all and of y holds of all after an insert
@@ -43,10 +43,6 @@ module _ {T : Type 0} where
       new : x ≡ y → Contains (insert xs i y) x
       new same = subst (Contains (insert xs i y)) (sym same) (Contains-append_right (take i xs) (y ∷ drop i xs) y (in_head y (drop i xs)))
 
-  -- what is there already
-  pub there_union : (xs : List T) (y : T) → Contains xs y → IsUnion (Contains xs) (λ x. x ≡ y) (Contains xs)
-  there_union xs y here x = (inl, ⊎_elim (λ h. h) (λ same. subst (Contains xs) (sym same) here))
-
   -- the first of a list and the others
   pub first_others : (x : T) (xs whole : List T) → whole ≡ x ∷ xs → (y : T) → Contains whole y ↔ ((y ≡ x) ⊎ Contains xs y)
   first_others x xs whole is y = (
@@ -59,17 +55,11 @@ module _ {T : Type 0} where
     pub rest_valid : AllByRecursion valid rest
     pub joining : IsJoining (Contains old) (Contains other) (Contains now) (Contains rest)
 
-  pub joins_none : (valid : T → Type 0) (old other : List T) → AllByRecursion valid other → JoinsList valid old other old other
-  joins_none valid old other all = record { rest_valid = all; joining = joining_none (Contains old) (Contains other) }
-
   module _ (valid : T → Type 0) (old other now rest : List T) (m : JoinsList valid old other now rest) where
     pub joins_all : rest ≡ [] → IsUnion (Contains old) (Contains other) (Contains now)
     joins_all none = joining_all (Contains old) (Contains other) (Contains now) (Contains rest) (λ x h. none_in_nil x (subst (λ l. Contains l x) none h)) m.joining
 
     module _ (x : T) (after : List T) (front : rest ≡ x ∷ after) where
-      pub next_valid : valid x
-      next_valid = (subst (λ l. AllByRecursion valid l) front m.rest_valid).0
-
       pub joins_part : (next : List T) → IsPartOfUnion (Contains now) (λ y. y ≡ x) (Contains next) → IsPartOfUnion (Contains old) (Contains other) (Contains next)
       joins_part next step = joining_part (Contains old) (Contains other) (Contains now) (λ y. y ≡ x) (Contains next) (Contains rest) (Contains after) (first_others x after rest front) step m.joining
 

@@ -1,5 +1,5 @@
 -- The items of a table's section: which they are, and that they are in order.
-use Rattle.std.proofs.Common.{◌≡◌, ℤ, ◌+◌, ◌<◌, ◌≤◌, append_assoc, List, [], ◌∷◌, ◌++◌, map, Bool, true, false, cond, Option, Some, None, IsSomeAnd, ◌↔◌, refl, sym, ap, subst, ◌∙◌, ⊎_elim}
+use Rattle.std.proofs.Common.{◌≡◌, ℤ, append_assoc, List, [], ◌∷◌, ◌++◌, map, Bool, true, false, cond, Option, Some, None, IsSomeAnd, ◌↔◌, refl, sym, ap, subst, ◌∙◌, ⊎_elim}
 use Rattle.std.specs.Prelude.{Contains, ⊤}
 use Rattle.std.specs.declared.cmp.Ordering.{Ordering}
 use Rattle.std.specs.declared.cmp.Ordering.TheVariants.{Less, Equal}

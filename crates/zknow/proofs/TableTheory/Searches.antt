@@ -8,7 +8,6 @@ use Rattle.std.specs.List.Sorted.{IsStrictlySortedBy}
 use Rattle.std.proofs.lemmas.Bool.{cases_lt}
 use Rattle.std.proofs.lemmas.List.{get_or_default}
 use Rattle.std.proofs.lemmas.Map.Keys.{Less-from_sorted}
-use Rattle.zknow.specs.Tables.Search.{IsGap}
 
 -- in a list in order: what is before one below is below, and what is after one above is above
 pub record Rises {T : Type 0} (stands : T → Ordering) (xs : List T) : Type 0 where
@@ -23,9 +22,6 @@ pub record IsBetween {T : Type 0} (stands : T → Ordering) (xs : List T) (low h
   pub after : (k : ℕ) (d : T) → high ≤ k → k < length xs → stands (get_or xs k d) ≡ Greater
 
 module _ {T : Type 0} (stands : T → Ordering) (xs : List T) where
-  pub between_all : IsBetween stands xs 0 (length xs)
-  between_all = record { ordered = omega arith; within = omega arith; before = λ k d lt. absurd (omega (arith, lt)); after = λ k d le lt. absurd (omega (arith, le, lt)) }
-
   module _ (rises : Rises stands xs) (low high middle : ℕ) (x : T) (from : low ≤ middle) (to : middle < high) (is : x ≡ get_or xs middle x) (between : IsBetween stands xs low high) where
     lt : middle < length xs
     lt = omega (arith, to, between.within)
@@ -48,13 +44,6 @@ module _ {T : Type 0} (stands : T → Ordering) (xs : List T) where
       before = between.before;
       after = λ k d above within. ⊎_elim (λ later. rises.above middle k d later within (at_middle Greater greater d)) (λ here. let same : k ≡ middle = omega (arith, here, above) in ap (λ n. stands (get_or xs n d)) same ∙ at_middle Greater greater d) (cases_lt middle k);
     }
-
-  pub gap_from : (low high : ℕ) → IsBetween stands xs low high → high ≤ low → IsGap stands xs low
-  gap_from low high between le = record {
-    within = omega (arith, between.ordered, between.within);
-    before = between.before;
-    after = λ k d from within. between.after k d (omega (arith, between.ordered, le, from)) within;
-  }
 
 module _ {T K : Type 0} (order : K → K → Ordering) (total : IsTotalOrder order) (rank : T → K) (y : K) (xs : List T) (up : (j k : ℕ) (d : T) → j < k → k < length xs → order (rank (get_or xs j d)) (rank (get_or xs k d)) ≡ Less) where
   flipped : (a b : K) → order a b ≡ Less → order b a ≡ Greater

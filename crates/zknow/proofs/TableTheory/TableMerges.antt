@@ -1,5 +1,5 @@
 -- A table that is joined into another, entry by entry.
-use Rattle.std.proofs.Common.{◌≡◌, List, [], ◌∷◌, Bool, true, false, cond, Option, Some, None, IsSomeAnd, ◌⊎◌, ◌↔◌, refl, sym, ap, subst, ◌∙◌, inl, inr, ⊎_elim}
+use Rattle.std.proofs.Common.{◌≡◌, List, ◌∷◌, Bool, true, false, cond, Option, Some, None, IsSomeAnd, ◌⊎◌, ◌↔◌, refl, sym, ap, subst, ◌∙◌, inl, inr, ⊎_elim}
 use Rattle.std.specs.declared.cmp.Ordering.{Ordering}
 use Rattle.std.specs.declared.cmp.Ordering.TheVariants.{Equal}
 use Rattle.std.specs.Cmp.{IsTotalOrder, Equal-is}
@@ -8,10 +8,10 @@ use Rattle.std.specs.Map.{keys_of}
 use Rattle.std.specs.BTreeMap.{is_at}
 use Rattle.std.proofs.lemmas.Cmp.{tied_itself}
 use Rattle.std.proofs.lemmas.Map.Keys.{sorted_head, sorted_tail}
-use Rattle.zknow.specs.Tables.Join.{IsUnion, IsPartOfUnion}
+use Rattle.zknow.specs.Tables.Join.{IsUnion}
 use Rattle.zknow.specs.Tables.Table.{value_at, AtKey, HasItem, IsLawfulTable}
 use Rattle.zknow.specs.Tables.TableLaws.{none_below}
-use Rattle.zknow.proofs.TableTheory.Unions.{IsJoining, joining_none, joining_part, joining_more, joining_all}
+use Rattle.zknow.proofs.TableTheory.Unions.{IsJoining, joining_none, joining_more}
 
 -- what a loop over a table's entries keeps: those that are left are a lawful table
 pub record JoinsTable {K J I : Type 0} (cmp : K → K → Ordering) (holds : J → I → Type 0) (lawful : J → Type 0) (old other now rest : List (K × J)) : Type 0 where
@@ -60,10 +60,6 @@ module _ {K J I : Type 0} (cmp : K → K → Ordering) (holds : J → I → Type
       first_others x = (split_by x _ refl, ⊎_elim (at_head x) (item_in_tail x))
 
   module _ (old other now : List (K × J)) where
-    pub joins_all : (rest : List (K × J)) → rest ≡ [] → JoinsTable cmp holds lawful old other now rest → IsUnion (HasItem cmp holds old) (HasItem cmp holds other) (HasItem cmp holds now)
-    joins_all rest none m = joining_all (HasItem cmp holds old) (HasItem cmp holds other) (HasItem cmp holds now) (HasItem cmp holds rest)
-        (λ x h. subst (λ t. HasItem cmp holds t x) none h) m.joining
-
     module _ (e : K × J) (rest after : List (K × J)) (front : rest ≡ e ∷ after) (m : JoinsTable cmp holds lawful old other now rest) where
       good : IsLawfulTable cmp holds lawful (e ∷ after)
       good = subst (IsLawfulTable cmp holds lawful) front m.rest_lawful
@@ -73,9 +69,6 @@ module _ {K J I : Type 0} (cmp : K → K → Ordering) (holds : J → I → Type
 
       pub next_some : (i : I) × holds e.1 i
       next_some = head_some e after good
-
-      pub joins_part : (next : List (K × J)) → IsPartOfUnion (HasItem cmp holds now) (AtKey e.0 (holds e.1)) (HasItem cmp holds next) → IsPartOfUnion (HasItem cmp holds old) (HasItem cmp holds other) (HasItem cmp holds next)
-      joins_part next step = joining_part (HasItem cmp holds old) (HasItem cmp holds other) (HasItem cmp holds now) (AtKey e.0 (holds e.1)) (HasItem cmp holds next) (HasItem cmp holds rest) (HasItem cmp holds after) split step m.joining
 
       pub joins_more : (next : List (K × J)) → IsUnion (HasItem cmp holds now) (AtKey e.0 (holds e.1)) (HasItem cmp holds next) → JoinsTable cmp holds lawful old other next after
       joins_more next union = record {

@@ -1,12 +1,10 @@
 -- A table of joins: the list of its keys in order, each with its value. Its items are pairs of a key and an item of
 -- that key's value.
-use Rattle.std.specs.Prelude.{◌≡◌, ℕ, ◌<◌, List, [], Option, Some, Result, length, slice_index_or, IsSomeAnd, unwrap_or}
-use Rattle.std.specs.Result.{MatchResult}
+use Rattle.std.specs.Prelude.{◌≡◌, List, Option, Some, IsSomeAnd}
 use Rattle.std.specs.declared.cmp.Ordering.{Ordering}
 use Rattle.std.specs.BTreeMap.{is_at}
 use Rattle.std.specs.Map.{lookup, keys_of}
 use Rattle.std.specs.List.Sorted.{IsStrictlySortedBy}
-use Rattle.zknow.specs.Tables.Search.{IsGap}
 
 -- what the table has at the key
 abbrev pub value_at : {K J : Type 0} → (K → K → Ordering) → List (K × J) → K → Option J
@@ -26,17 +24,3 @@ module _ {K J I : Type 0} (cmp : K → K → Ordering) (holds : J → I → Type
     pub ordered : IsStrictlySortedBy cmp (keys_of t)
     pub values : (k : K) (j : J) → value_at cmp t k ≡ Some j → lawful j
     pub some : (k : K) (j : J) → value_at cmp t k ≡ Some j → (x : I) × holds j x
-
--- the values of a list at the key, none where it is missing
-abbrev pub values_at : {K V : Type 0} → (K → K → Ordering) → List (K × List V) → K → List V
-values_at cmp t k = unwrap_or (value_at cmp t k) []
-
-module _ {K J : Type 0} (cmp : K → K → Ordering) where
-  -- the key stands at the place
-  pub record IsEntry (t : List (K × J)) (key : K) (i : ℕ) : Type 0 where
-    pub within : i < length t
-    pub is : (d : K × J) → (slice_index_or t i d).0 ≡ key
-
-  -- where the key stands, or where it would go
-  abbrev pub IsPlace : List (K × J) → K → Result ℕ ℕ → Type 0
-  IsPlace t key r = MatchResult r (IsEntry t key) (IsGap (λ e. cmp e.0 key) t)

@@ -16,7 +16,7 @@ use std::alloc::{AllocError, Global};
 use zapdu::Record;
 
 /// The keys in order, each once.
-fn sorted<K: Key>(mut keys: Vec<K>) -> Vec<K>
+fn sort_keys<K: Key>(mut keys: Vec<K>) -> Vec<K>
     ensures { result.items ≡ ascending K.cmp keys.items }
 {
     keys.sort_unstable();
@@ -42,7 +42,7 @@ pub(crate) fn block_keys(alloc: Global, tables: &Tables) -> Result<Vec<SetKey>, 
     put_keys(&tables.counts, &mut keys)?;
     put_keys(&tables.failed, &mut keys)?;
     put_keys(&tables.diags, &mut keys)?;
-    Ok(sorted(keys))
+    Ok(sort_keys(keys))
 }
 
 fn put_rows(
@@ -80,5 +80,5 @@ pub(crate) fn row_keys(alloc: Global, tables: &Tables) -> Result<Vec<RowKey>, Al
 {
     let mut keys = Vec::new(alloc);
     put_all_rows(&tables.seen, &mut keys)?;
-    Ok(sorted(keys))
+    Ok(sort_keys(keys))
 }

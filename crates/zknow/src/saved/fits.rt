@@ -9,7 +9,7 @@ ghost use Rattle.zknow.specs.Saved.Naturals.{is_natural};
 ghost use Rattle.zknow.specs.Saved.SavedFacts.{saved_fact};
 
 use crate::tables::fact_ref::FactRef;
-use crate::tables::ranked::{number_fits, spelled};
+use crate::tables::ranked::{number_fits, show_spelled};
 
 fn natural_fits(number: &u32)
     ensures { is_natural number.now ≡ true }
@@ -55,7 +55,7 @@ pub(crate) fn fits(fact: &FactRef<'_>)
             natural_fits(target);
             natural_fits(set);
             number_fits(place);
-            spelled(*diag);
+            show_spelled(*diag);
         }
     }
 }

@@ -2,7 +2,7 @@
 ghost use Rattle.std.specs.Prelude.{◌≡◌, IfOk, IfErr};
 ghost use Rattle.zknow.specs.Saved.Fronts.{FrontElement, FrontValue, IsTaken, IsFrontFault, ShowsFront};
 
-use crate::encoding::encoded;
+use crate::encoding::encode;
 use crate::saved::saving::LONGEST;
 use std::alloc::{AllocError, Global};
 use zasn::{PartError, Tagged};
@@ -107,7 +107,7 @@ pub(crate) fn take_front<T: Tagged>(alloc: Global, octets: &[u8]) -> Result<(T, 
     let Some(value) = front_value::<T>(alloc, octets)? else {
         return Err(FrontError::NoValue);
     };
-    let canonical = encoded(alloc, &value)?;
+    let canonical = encode(alloc, &value)?;
     if !octets.starts_with(canonical.as_slice()) {
         return Err(FrontError::NotCanonical);
     }

@@ -3,8 +3,8 @@ ghost use Rattle.std.specs.Prelude.{◌≡◌, IfOk};
 ghost use Rattle.zapdu.specs.Productions.Diagnostics.{diag_rec};
 ghost use Rattle.zknow.specs.Encodings.{IsEncodedAs};
 
-use crate::encoding::encoded;
-use crate::tables::ranked::{Ranked, spelled};
+use crate::encoding::encode;
+use crate::tables::ranked::{Ranked, show_spelled};
 use std::alloc::{AllocError, Global};
 use std::cmp::Ordering;
 use std::marker::Model;
@@ -47,8 +47,8 @@ impl EncodedDiag {
     pub(crate) fn of(alloc: Global, diag: &DiagRec) -> Result<EncodedDiag, AllocError>
         ensures { IfOk result (λ e. e ≡ diag.now) }
     {
-        spelled(diag);
-        let octets = encoded(alloc, diag)?;
+        show_spelled(diag);
+        let octets = encode(alloc, diag)?;
         let entry = Entry {
             octets,
             diag: diag.copy(alloc)?,

@@ -86,7 +86,7 @@ impl Ranked for Record {
     ghost total = { encoding_total whole_record };
 
     fn key(&self, alloc: Global) -> Result<Vec<u8>, AllocError> {
-        encoding::encoded(alloc, self)
+        encoding::encode(alloc, self)
     }
 
     fn compare(
@@ -100,7 +100,7 @@ impl Ranked for Record {
 }
 
 /// Does nothing: it tells that an element stands for the diagnostic, whichever it is.
-pub(crate) fn spelled(diag: &DiagRec)
+pub(crate) fn show_spelled(diag: &DiagRec)
     ensures { IsSpellable diag_rec diag.now }
 {
     match diag {

@@ -79,9 +79,6 @@ module _ (k : Key) (a : Attr) (set : option_map (λ s. s.now) k.0 ≡ a.attr_set
       updates q ∙ ap (λ b. cond b true (contains key_cmp old q)) (key_is q) ∙ or_cond (is_key_of q a) (contains key_cmp old q)
       ∙ ap (λ b. is_key_of q a || b) (keys q)
 
-pub no_keys : (seen : BTreeSet Key) → seen.keys ≡ [] → AreKeysOf seen []
-no_keys seen none q = ap (list_any (is_at (key_cmp q))) none
-
 -- ---- from the last attribute on
 
 neither : (a b : Bool) → (a && (b && false)) ≡ false

@@ -23,9 +23,6 @@ use Rattle.zquery.proofs.NotationTheory.Refusing.{relaxed-step, relaxed, faulty,
 abbrev Goes : Expected → Token → Type 0
 Goes p t = (next : List Expected) × (stepped any_level p t ≡ Ok next)
 
-unless-deep : (b : Bool) (x : List Expected) → unless_deep b x ≡ Err kind.TooDeep → unless_deep false x ≡ Ok x
-unless-deep b x h = refl
-
 value-deep : (o : Option TermValue) (b : Bool) → next_if kind.BadNumber o (λ _. unless_deep b []) ≡ Err kind.TooDeep → next_if kind.BadNumber o (λ _. unless_deep false []) ≡ Ok []
 value-deep None b h = absurd (Prim.cc h)
 value-deep (Some v) b h = refl

@@ -108,9 +108,6 @@ quote-word text after bs h e =
     let same : f.0 ≡ 34 = head-is f.0 34 f.1.0 bs (sym f.1.1 ∙ e) in
     true≢false (sym (ap (λ (c : ℕ). c == 34) same) ∙ f.1.2)
 
-stops-word : (b : ℕ) → is_white b ≡ false → is_white b ≡ not true
-stops-word b h = h
-
 black : (q : Bool) (text lead after : List ℕ) → IsWritten q text lead after → (b : ℕ) × ((bs : List ℕ) × (lead ++ after ≡ b ∷ bs) × (is_white b ≡ false))
 black true text lead after w = (34, (spelled w.pieces ++ 34 ∷ after, closing text lead after w, white-quote))
 black false text lead after w =

@@ -9,9 +9,6 @@ use Rattle.zquery.specs.Notation.Printing.{escaped, in_quotes}
 pub record Lexes (at : ℕ) (text : List ℕ) (ts : List Token) : Type 0 where
   pub lexed : (us : List Token) (tail : List ℕ) → TokensThen AllWhite us (at + length text) tail → TokensThen AllWhite (ts ++ us) at (text ++ tail)
 
-pub lex-none : (at : ℕ) → Lexes at [] []
-lex-none at = record { lexed = λ us tail h. subst (λ (n : ℕ). TokensThen AllWhite us n tail) (omega arith) h }
-
 pub lex-both : (at : ℕ) (a b : List ℕ) (ts us : List Token) → Lexes at a ts → Lexes (at + length a) b us → Lexes at (a ++ b) (ts ++ us)
 lex-both at a b ts us f g = record {
   lexed = λ more tail h.

@@ -3,8 +3,7 @@ use Rattle.std.proofs.Common.{◌≡◌, refl, sym, ◌∙◌, ap, ℕ, List, []
 use Rattle.std.proofs.lemmas.Bool.Decides.{Decides-eqb}
 use Rattle.std.proofs.lemmas.List.{map-append}
 use Rattle.std.proofs.lemmas.Grind.{flat_map-append}
-use Rattle.zquery.specs.Notation.Tokens.{piece, ArePieces, spelled, StaysOpen}
-use Rattle.zquery.specs.Notation.Lexing.{Closes}
+use Rattle.zquery.specs.Notation.Tokens.{piece, ArePieces, spelled}
 
 -- the octets are pieces, and then what is left
 pub record Quotes (octets text left : List ℕ) : Type 0 where
@@ -12,9 +11,6 @@ pub record Quotes (octets text left : List ℕ) : Type 0 where
   pub lawful : ArePieces pieces
   pub text_is : text ≡ map (λ x. x.0) pieces
   pub whole : octets ≡ spelled pieces ++ left
-
-pub quotes-none : (octets : List ℕ) → Quotes octets [] octets
-quotes-none octets = record { pieces = []; lawful = tt; text_is = refl; whole = refl }
 
 pieces-append : (xs : List (ℕ × Bool)) (x : ℕ × Bool) → ArePieces xs → ((x.1 ≡ true) ⊎ (((x.0 == 34) || (x.0 == 92)) ≡ false)) → ArePieces (xs ++ x ∷ [])
 pieces-append [] x h f = (f, tt)
@@ -34,15 +30,6 @@ quotes-escaped octets text left after c text' q e t = one-more octets text left 
 
 pub quotes-plain : (octets text left after : List ℕ) (b : ℕ) (text' : List ℕ) → Quotes octets text left → left ≡ b ∷ after → ((b == 34) || (b == 92)) ≡ false → text' ≡ text ++ b ∷ [] → Quotes octets text' after
 quotes-plain octets text left after b text' q e f t = one-more octets text left after (b, false) text' q e (inr f) t
-
-pub quotes-closes : (octets text left after : List ℕ) → Quotes octets text left → left ≡ 34 ∷ after → Closes octets text after
-quotes-closes octets text left after q e = record { pieces = q.pieces; lawful = q.lawful; text_is = q.text_is; whole = q.whole ∙ ap (λ (z : List ℕ). spelled q.pieces ++ z) e }
-
-pub quotes-open : (octets text left : List ℕ) → Quotes octets text left → left ≡ [] → StaysOpen octets
-quotes-open octets text left q e = record { pieces = q.pieces; lawful = q.lawful; whole = inl (q.whole ∙ ap (λ (z : List ℕ). spelled q.pieces ++ z) e ∙ append-nil (spelled q.pieces)) }
-
-pub quotes-open_escape : (octets text left : List ℕ) → Quotes octets text left → left ≡ 92 ∷ [] → StaysOpen octets
-quotes-open_escape octets text left q e = record { pieces = q.pieces; lawful = q.lawful; whole = inr (q.whole ∙ ap (λ (z : List ℕ). spelled q.pieces ++ z) e) }
 
 not-true : (v : Bool) → (v ≡ true → ⊥) → v ≡ false
 not-true true h = absurd (h refl)

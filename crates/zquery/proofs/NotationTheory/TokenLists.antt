@@ -29,9 +29,6 @@ pub record Lexed (text : List ℕ) (out : List Token) (left : List ℕ) : Type 0
   pub below : length left ≤ length text
   pub front : TokensThen (Leaves left) out 0 text
 
-pub lexed-none : (text : List ℕ) → Lexed text [] text
-lexed-none text = record { below = omega arith; front = record { gap = []; white = tt; whole = refl } }
-
 on-white : (left : List ℕ) (b : ℕ) (after : List ℕ) (at : ℕ) (octets : List ℕ) → left ≡ b ∷ after → is_white b ≡ true → Leaves left at octets → Leaves after at octets
 on-white left b after at octets e w l = record {
   gap = l.gap ++ b ∷ [];

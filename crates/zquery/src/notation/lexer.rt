@@ -18,7 +18,7 @@ fn is_space(octet: u8) -> bool
     octet == 32 || octet == 9 || octet == 10 || octet == 13
 }
 
-fn taken(octets: &[u8]) -> Option<(u8, &[u8])>
+fn split_first(octets: &[u8]) -> Option<(u8, &[u8])>
     ensures some { IfSome result (λ x. octets.now ≡ x.0 ∷ x.1.now) }
     ensures none { IfNone result (octets.now ≡ []) }
 {
@@ -35,12 +35,12 @@ fn quoted_text(alloc: Global, octets: &[u8]) -> Result<Option<(Vec<u8>, &[u8])>,
 {
     let mut text = Vec::new(alloc);
     let mut left = octets;
-    while let Some((octet, after)) = taken(left) {
+    while let Some((octet, after)) = split_first(left) {
         if octet == b'"' {
             return Ok(Some((text, after)));
         }
         if octet == b'\\' {
-            let Some((escaped, further)) = taken(after) else {
+            let Some((escaped, further)) = split_first(after) else {
                 return Ok(None);
             };
             text.push(escaped)?;
@@ -59,7 +59,7 @@ fn word_text(alloc: Global, octets: &[u8]) -> Result<(Vec<u8>, &[u8]), AllocErro
 {
     let mut text = Vec::new(alloc);
     let mut left = octets;
-    while let Some((octet, after)) = taken(left) {
+    while let Some((octet, after)) = split_first(left) {
         if is_space(octet) {
             return Ok((text, left));
         }
@@ -90,7 +90,7 @@ pub fn tokens(alloc: Global, text: &[u8]) -> Result<Vec<Token>, PqfError>
 {
     let mut out = Vec::new(alloc);
     let mut left = text;
-    while let Some((octet, after)) = taken(left) {
+    while let Some((octet, after)) = split_first(left) {
         let at = text.len() - left.len();
         if is_space(octet) {
             left = after;

@@ -35,7 +35,7 @@ pub fn number(text: &[u8], most: u64) -> Option<u64>
     }
 }
 
-fn negated(number: u64) -> i64
+fn negate(number: u64) -> i64
     requires { number ≤ 2 ^ 63 }
     ensures { result ≡ negative number }
 {
@@ -65,7 +65,7 @@ pub(crate) fn integer(text: &[u8]) -> Option<i64>
 {
     if let Some(digits) = after_minus(text) {
         return match number(digits, 9_223_372_036_854_775_808) {
-            Some(number) => Some(negated(number)),
+            Some(number) => Some(negate(number)),
             None => None,
         };
     }

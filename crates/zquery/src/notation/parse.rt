@@ -14,7 +14,7 @@ ghost use Rattle.zquery.specs.Notation.Faults.{memory, missing, Refuses};
 ghost use Rattle.zquery.specs.Notation.Reading.{Takes, numbers_at, attribute_at, kind_at, own_at, opened_at, NoPrefix, Leads, IsRead};
 ghost use Rattle.zquery.specs.Notation.Texts.{IsText, IsFault};
 
-use crate::attribute::{kept, put};
+use crate::attribute::{put, set_unless_own};
 use crate::notation::cursor::Cursor;
 use crate::notation::error::{PqfError, PqfErrorKind};
 use crate::notation::lexer::tokens;
@@ -93,7 +93,7 @@ fn next_attribute(
     match set_named(alloc, token.text.as_slice())? {
         Some(set) => {
             cursor.skip();
-            attribute_in(cursor, end, kept(own, set))
+            attribute_in(cursor, end, set_unless_own(own, set))
         }
         None => Err(error_of(token, PqfErrorKind::UnknownSet)),
     }
@@ -184,7 +184,7 @@ fn set_of(name: &Bytes, attrs: Vec<Attr>) -> Result<Rpn, AllocError>
     }
 }
 
-fn joined(operator: Operator, left: Box<Rpn>, right: Box<Rpn>) -> Rpn
+fn join(operator: Operator, left: Box<Rpn>, right: Box<Rpn>) -> Rpn
     ensures { seen result ≡ Of operator (seen left.value) (seen right.value) }
 {
     match operator {
@@ -195,7 +195,7 @@ fn joined(operator: Operator, left: Box<Rpn>, right: Box<Rpn>) -> Rpn
 }
 
 /// A tree in a box.
-fn boxed(alloc: Global, tree: Rpn) -> Result<Box<Rpn>, PqfError>
+fn box_tree(alloc: Global, tree: Rpn) -> Result<Box<Rpn>, PqfError>
     ensures ok { IfOk result (λ b. b.value ≡ tree) }
     ensures err { IfErr result (λ e. e ≡ memory) }
 {
@@ -231,10 +231,10 @@ fn query(
                 return Err(error_of(token, PqfErrorKind::TooDeep));
             }
             let first = query(alloc, cursor, end, own, attrs.as_slice(), kind, level + 1)?;
-            let left = boxed(alloc, first)?;
+            let left = box_tree(alloc, first)?;
             let second = query(alloc, cursor, end, own, attrs.as_slice(), kind, level + 1)?;
-            let right = boxed(alloc, second)?;
-            Ok(joined(operator, left, right))
+            let right = box_tree(alloc, second)?;
+            Ok(join(operator, left, right))
         }
         Word::NamedSet => {
             if level > DEEPEST {
@@ -268,7 +268,7 @@ fn own_set(alloc: Global, cursor: &mut Cursor<'_>, end: usize) -> Result<Oid, Pq
 }
 
 /// The query's set: the one that is named first, or bib-1.
-fn opened(alloc: Global, cursor: &mut Cursor<'_>, end: usize) -> Result<Oid, PqfError>
+fn query_set(alloc: Global, cursor: &mut Cursor<'_>, end: usize) -> Result<Oid, PqfError>
     ensures { Takes (opened_at end cursor.old) result cursor.new }
 {
     if let Some(first) = cursor.first() {
@@ -292,7 +292,7 @@ fn parse_tokens(alloc: Global, tokens: &[Token], end: usize) -> Result<Query, Pq
             kind: PqfErrorKind::Empty,
         });
     };
-    let own = opened(alloc, &mut cursor, end)?;
+    let own = query_set(alloc, &mut cursor, end)?;
     let root = match query(alloc, &mut cursor, end, &own, &[], TermKind::GeneralTerm, 1) {
         Ok(root) => root,
         Err(e) => return Err(e),

@@ -115,9 +115,9 @@ fn join(joint: Joint, left: Box<Rpn>, right: Box<Rpn>) -> Rpn
     }
 }
 
-/// Two structures and an operator.
+/// Two structures and an operator (rpnRpnOp).
 #[cycle(structure)]
-fn joined(alloc: Global, nodes: &[Node]) -> Result<Rpn, PartError>
+fn rpn_rpn_op(alloc: Global, nodes: &[Node]) -> Result<Rpn, PartError>
     ensures { MeansTree (joined_of (map says nodes.now)) result }
 {
     match nodes {
@@ -142,7 +142,7 @@ fn structure(alloc: Global, node: &Node) -> Result<Rpn, PartError>
             if has_tag(node, 0) {
                 only_operand(alloc, nodes.as_slice())
             } else if has_tag(node, 1) {
-                joined(alloc, nodes.as_slice())
+                rpn_rpn_op(alloc, nodes.as_slice())
             } else {
                 Err(PartError::Misfit)
             }

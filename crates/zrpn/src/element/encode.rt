@@ -57,9 +57,9 @@ fn logical(alloc: Global, kind: Operator) -> Result<Node, BuildError>
     write_alone_tagged(alloc, &Joint::Logical(kind), Tag::context(46))
 }
 
-/// Two structures and an operator's element.
+/// Two structures and an operator's element (rpnRpnOp).
 #[cycle(structure)]
-fn joined(alloc: Global, left: &Rpn, right: &Rpn, operator: Node) -> Result<Node, BuildError>
+fn rpn_rpn_op(alloc: Global, left: &Rpn, right: &Rpn, operator: Node) -> Result<Node, BuildError>
     ensures { Makes (around (context 1)
         (three (tree_spelt (seen left.now)) (tree_spelt (seen right.now)) (Some operator))) result }
 {
@@ -80,17 +80,18 @@ fn structure(alloc: Global, rpn: &Rpn) -> Result<Node, BuildError>
         Rpn::Term { attrs, term } => attr_term(alloc, attrs, term),
         Rpn::ResultSet { name } => write_alone(alloc, name, Tag::context(0), Tag::context(31)),
         Rpn::SetAttrs { name, attrs } => result_attr(alloc, name, attrs),
-        Rpn::And(left, right) => joined(alloc, left, right, logical(alloc, Operator::And)?),
-        Rpn::Or(left, right) => joined(alloc, left, right, logical(alloc, Operator::Or)?),
-        Rpn::Not(left, right) => joined(alloc, left, right, logical(alloc, Operator::Not)?),
+        Rpn::And(left, right) => rpn_rpn_op(alloc, left, right, logical(alloc, Operator::And)?),
+        Rpn::Or(left, right) => rpn_rpn_op(alloc, left, right, logical(alloc, Operator::Or)?),
+        Rpn::Not(left, right) => rpn_rpn_op(alloc, left, right, logical(alloc, Operator::Not)?),
         Rpn::Prox(operator, left, right) => {
             let operator = write_alone(alloc, operator, Tag::context(46), Tag::context(3))?;
-            joined(alloc, left, right, operator)
+            rpn_rpn_op(alloc, left, right, operator)
         }
     }
 }
 
-fn built(alloc: Global, query: &Query) -> Result<Node, BuildError>
+/// The element of a query (RPNQuery).
+fn write_query(alloc: Global, query: &Query) -> Result<Node, BuildError>
     ensures { Makes (query_spelt query.now) result }
 {
     let mut out = PartsBuf::new(alloc);
@@ -108,5 +109,5 @@ pub fn to_node(alloc: Global, query: &Query) -> Result<Node, BuildError>
     ensures written { IsWritten (WritesQuery query.now) result }
     ensures spelled { Makes (query_spelt query.now) result }
 {
-    built(alloc, query)
+    write_query(alloc, query)
 }

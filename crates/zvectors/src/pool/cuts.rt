@@ -5,9 +5,9 @@ use crate::sessions::call;
 use std::alloc::Global;
 use std::process::Abort;
 use std::test::Fail;
-use zelements::rows::{held, octets};
+use zelements::rows::{is_true, octets};
 use zelements::unread::{Unread, read};
-use zencodings::boxes::boxed;
+use zencodings::boxes::box_value;
 use zoom::{Call, Pool, Step};
 
 // Requests for the positions 1 to 3 and 2 to 4.
@@ -85,7 +85,7 @@ fn exchange_of(
         second,
         list,
     };
-    Ok(boxed(alloc, exchange)?)
+    Ok(box_value(alloc, exchange)?)
 }
 
 fn long(alloc: Global) -> Result<Box<Exchange>, Unread> {
@@ -134,7 +134,7 @@ fn both_come(pool: &mut Pool, exchange: &Exchange, from: usize, to: usize) -> Re
     comes(pool, 1, second, exchange.calls.as_slice())
 }
 
-fn begun(alloc: Global, exchange: &Exchange) -> Result<Box<Pool>, Unread> {
+fn begin_pool(alloc: Global, exchange: &Exchange) -> Result<Box<Pool>, Unread> {
     let mut pool = pool(alloc, 2)?;
     make_due(&mut pool, 0, exchange.calls.as_slice())?;
     make_due(&mut pool, 1, exchange.calls.as_slice())?;
@@ -143,7 +143,7 @@ fn begun(alloc: Global, exchange: &Exchange) -> Result<Box<Pool>, Unread> {
 
 // Whether the list is due where the octets come in pieces with these ends.
 fn is_cut(alloc: Global, exchange: &Exchange, ends: &[usize]) -> Result<bool, Unread> {
-    let mut pool = begun(alloc, exchange)?;
+    let mut pool = begin_pool(alloc, exchange)?;
     let mut from = 0usize;
     for to in ends {
         both_come(&mut pool, exchange, from, *to)?;
@@ -161,7 +161,7 @@ fn is_each_cut(alloc: Global, exchange: &Exchange) -> Result<bool, Unread> {
 #[test]
 fn octets_come_one_by_one_in_alternation(rt: HostRuntime) -> Result<(), Fail> {
     let exchange = long(rt.alloc())?;
-    assert!(rt; held(is_each_cut(rt.alloc(), &exchange)));
+    assert!(rt; is_true(is_each_cut(rt.alloc(), &exchange)));
     Ok(())
 }
 
@@ -169,7 +169,7 @@ fn octets_come_one_by_one_in_alternation(rt: HostRuntime) -> Result<(), Fail> {
 fn are_cut(alloc: Global, exchange: &Exchange, first: usize) -> bool {
     let len = exchange.first.len();
     for second in first..=len {
-        if !held(is_cut(alloc, exchange, &[first, second, len])) {
+        if !is_true(is_cut(alloc, exchange, &[first, second, len])) {
             return false;
         }
     }

@@ -4,7 +4,7 @@ use crate::sessions::call;
 use std::alloc::Global;
 use std::process::Abort;
 use std::test::Fail;
-use zelements::rows::{held, octets, pair};
+use zelements::rows::{is_true, octets, pair};
 use zelements::unread::{Unread, read};
 use zknow::Known;
 use zoom::{Call, Pool, ResultSet, Step, TakeError};
@@ -61,7 +61,7 @@ fn takes(pool: &mut Pool) -> Result<Step, Unread> {
 
 // Whether the call is admitted and its reply accepted, and nothing more is there.
 fn goes(pool: &mut Pool, turn: &Turn) -> Result<bool, Unread> {
-    let sent = held(makes(pool, &turn.call)) && held(feeds(pool, turn.reply.as_slice()));
+    let sent = is_true(makes(pool, &turn.call)) && is_true(feeds(pool, turn.reply.as_slice()));
     let done = matches!(takes(pool), Ok(Step::Opened | Step::Answered));
     Ok(sent && done && matches!(takes(pool), Ok(Step::Nothing)))
 }
@@ -90,7 +90,7 @@ fn records(pool: &Pool, position: i64) -> usize {
 fn a_session_goes_on_where_memory_was_refused(rt: HostRuntime) -> Result<(), Fail> {
     let turns = turns(rt.alloc())?;
     let mut pool = pool(rt.alloc(), 1)?;
-    assert!(rt; held(go(&mut pool, turns.as_slice())));
+    assert!(rt; is_true(go(&mut pool, turns.as_slice())));
     assert!(rt; records(&pool, 1) == 1 && records(&pool, 2) == 2);
     assert!(rt; records(&pool, 4) == 1 && records(&pool, 5) == 0);
     Ok(())

@@ -4,7 +4,7 @@ use crate::sessions::is_due;
 use std::alloc::{AllocError, Global};
 use std::process::Abort;
 use std::test::Fail;
-use zelements::rows::{held, pair, parted};
+use zelements::rows::{is_true, pair, split_row};
 use zelements::unread::Unread;
 use zoom::Pool;
 
@@ -52,7 +52,7 @@ fn answer_of(alloc: Global, pool: &mut Pool, step: &str) -> Result<String, Unrea
 }
 
 fn goes(alloc: Global, pool: &mut Pool, row: &str) -> Result<bool, Unread> {
-    let (step, due) = parted(row, " = ");
+    let (step, due) = split_row(row, " = ");
     let answer = answer_of(alloc, pool, step)?;
     Ok(is_due(answer.as_str(), due))
 }
@@ -65,7 +65,7 @@ pub(crate) fn go_through_pool(rt: &(impl Abort + AllocGlobal), sessions: &str) -
         if row == "new" {
             current = pool(rt.alloc(), 1)?;
         } else if !row.starts_with('#') && !row.starts_with("peek ") {
-            assert!(rt; held(goes(rt.alloc(), &mut current, row)), "{row}");
+            assert!(rt; is_true(goes(rt.alloc(), &mut current, row)), "{row}");
         }
     }
     Ok(())

@@ -5,7 +5,7 @@ ghost use Rattle.std.specs.Option.{option_map};
 ghost use Rattle.zworld.specs.World.{pieces, behind};
 
 /// What stands before the first such octet, and what stands behind it where there is one.
-fn parted(text: &[u8], at: u8) -> (&[u8], Option<&[u8]>)
+fn split_at(text: &[u8], at: u8) -> (&[u8], Option<&[u8]>)
     ensures whole { text.now ≡ result.0.now ++ behind at (option_map (λ r. r.now) result.1) }
     ensures shorter { IfSome result.1 (λ r. length r.now < length text.now) }
     ensures plain { All (λ x. x ≢ at) result.0.now }
@@ -17,9 +17,9 @@ fn parted(text: &[u8], at: u8) -> (&[u8], Option<&[u8]>)
 }
 
 /// The first piece of a text that is cut at each such octet, and the text of the others.
-pub(crate) fn cut(text: &[u8], at: u8) -> (&[u8], Option<&[u8]>)
+pub(crate) fn first_piece(text: &[u8], at: u8) -> (&[u8], Option<&[u8]>)
     ensures shorter { IfSome result.1 (λ r. length r.now < length text.now) }
     ensures pieces { slice_split (λ b. b == at) text.now ≡ result.0.now ∷ pieces at (option_map (λ r. r.now) result.1) }
 {
-    parted(text, at)
+    split_at(text, at)
 }

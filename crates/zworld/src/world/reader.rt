@@ -2,17 +2,17 @@
 ghost use Rattle.std.specs.Prelude.{◌≡◌, ◌<◌, ◌^◌, ◌++◌, ◌∷◌, [], length, false, Some, IfOk, OnOk};
 ghost use Rattle.zworld.specs.declared.world.line.Line.TheVariants as lines;
 ghost use Rattle.zworld.specs.WorldParts.{listed};
-ghost use Rattle.zworld.specs.Worlds.{empty, is_among, asked_names, end_of, is_defined, put_target, put_host, change_target, add_database, add_content, in_database, in_target, inquiry, move_of, put_move, IsQueryOf, Leaves};
+ghost use Rattle.zworld.specs.Worlds.{empty, is_among, asked_names, end_of, is_defined, put_target, put_host, change_target, add_database, add_content, in_database, in_target, asked_question, move_of, put_move, IsQueryOf, Leaves};
 ghost use Rattle.zworld.specs.WorldReading.{IsSound, world_of, Gives, Follows, MakesOr};
 
 use crate::world::fault::LineFault;
 use crate::world::line::{AskLine, Content, Line, Way};
 use crate::world::names::add_name;
-use crate::world::said::{query_of, said};
+use crate::world::said::{query_of, read_line};
 use crate::world::targets::{
     OpenTarget, closed_targets, with_target, with_target_content, with_target_database,
 };
-use crate::world::{End, Inquiry, NamedHost, World};
+use crate::world::{AskedQuestion, End, NamedHost, World};
 use bytes::Bytes;
 use indexmap::IndexSet;
 use std::alloc::{AllocError, Global};
@@ -31,20 +31,20 @@ pub(crate) struct Reader {
     target_names: IndexSet<Bytes>,
     hosts: Vec<NamedHost>,
     host_names: IndexSet<Bytes>,
-    questions: Vec<Inquiry>,
+    questions: Vec<AskedQuestion>,
     asked_names: IndexSet<Bytes>,
     moves: Vec<Move>,
 }
 
 /// What is asked in one database.
-fn inquiry(
+fn asked_question(
     alloc: Global,
     number: u64,
     line: AskLine,
     query: Query,
     end: End,
-) -> Result<Inquiry, AllocError>
-    ensures { IfOk result (λ i. i ≡ inquiry number line query end) }
+) -> Result<AskedQuestion, AllocError>
+    ensures { IfOk result (λ i. i ≡ asked_question number line query end) }
 {
     let AskLine {
         name,
@@ -55,7 +55,7 @@ fn inquiry(
     } = line;
     let mut databases = Vec::new(alloc);
     databases.push(database)?;
-    Ok(Inquiry {
+    Ok(AskedQuestion {
         line: number,
         name,
         end,
@@ -179,18 +179,18 @@ impl Reader {
         Ok(())
     }
 
-    fn add_inquiry(&mut self, inquiry: Inquiry) -> Result<(), AllocError>
+    fn push_question(&mut self, asked_question: AskedQuestion) -> Result<(), AllocError>
         requires sound { IsSound self.old }
-        requires new { is_among inquiry.name (asked_names self.old.questions.items) ≡ false }
+        requires new { is_among asked_question.name (asked_names self.old.questions.items) ≡ false }
         ensures sound { OnOk result (IsSound self.new) }
         ensures world { OnOk result (world_of self.new
-            ≡ record (world_of self.old) { questions = self.old.questions.items ++ inquiry ∷ [] }) }
+            ≡ record (world_of self.old) { questions = self.old.questions.items ++ asked_question ∷ [] }) }
     {
-        if add_name(&mut self.asked_names, &inquiry.name).is_err() {
-            drop(inquiry);
+        if add_name(&mut self.asked_names, &asked_question.name).is_err() {
+            drop(asked_question);
             return Err(AllocError);
         }
-        self.questions.push(inquiry)?;
+        self.questions.push(asked_question)?;
         Ok(())
     }
 
@@ -208,8 +208,8 @@ impl Reader {
         ensures { OnOk result
             (IsSound self.new × Leaves number (lines.Ask line) (world_of self.old) (world_of self.new)) }
     {
-        let inquiry = inquiry(self.alloc, number, line, query, end)?;
-        self.add_inquiry(inquiry)
+        let asked_question = asked_question(self.alloc, number, line, query, end)?;
+        self.push_question(asked_question)
     }
 
     fn add_end(&mut self, number: u64, line: AskLine, end: End) -> Result<(), LineFault>
@@ -286,7 +286,7 @@ impl Reader {
         requires few { length self.old.questions.items < 2 ^ 32 }
         ensures { MakesOr number text.now (world_of self.old) self.new result }
     {
-        match said(self.alloc, text) {
+        match read_line(self.alloc, text) {
             Ok(line) => self.add_line(number, line),
             Err(fault) => Err(fault),
         }

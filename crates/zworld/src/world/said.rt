@@ -20,7 +20,7 @@ fn fault_of(error: PqfError) -> LineFault
 }
 
 /// What the words of a text say.
-pub(crate) fn said(alloc: Global, text: &[u8]) -> Result<Line, LineFault>
+pub(crate) fn read_line(alloc: Global, text: &[u8]) -> Result<Line, LineFault>
     ensures { Says text.now result }
 {
     one_lexing();

@@ -6,7 +6,7 @@ ghost use Rattle.std.specs.List.{slice_split};
 ghost use Rattle.zworld.specs.World.{Answers};
 ghost use Rattle.zworld.specs.WorldWants.{highest, most_wanted, two, ends_of, ends_in, count, range, firsts, ranges_in, wanted_of, is_comma, is_hyphen};
 
-use crate::world::cut::cut;
+use crate::world::cut::first_piece;
 use crate::world::fault::LineFault;
 use crate::world::number::number_in;
 use std::alloc::Global;
@@ -20,11 +20,11 @@ const HIGHEST: u64 = 2_147_483_647;
 const MOST: u64 = 1_000_000;
 
 /// The two texts, where no hyphen stands in the second.
-fn paired<'a>(first: &'a [u8], rest: &'a [u8]) -> Option<(&'a [u8], &'a [u8])>
+fn pair<'a>(first: &'a [u8], rest: &'a [u8]) -> Option<(&'a [u8], &'a [u8])>
     ensures { option_map (λ texts. (texts.0.now, texts.1.now)) result
         ≡ two (first.now ∷ slice_split is_hyphen rest.now) }
 {
-    let (last, more) = cut(rest, b'-');
+    let (last, more) = first_piece(rest, b'-');
     match more {
         None => Some((first, last)),
         Some(_) => None,
@@ -35,9 +35,9 @@ fn paired<'a>(first: &'a [u8], rest: &'a [u8]) -> Option<(&'a [u8], &'a [u8])>
 fn two(text: &[u8]) -> Option<(&[u8], &[u8])>
     ensures { option_map (λ texts. (texts.0.now, texts.1.now)) result ≡ two (slice_split is_hyphen text.now) }
 {
-    let (first, after) = cut(text, b'-');
+    let (first, after) = first_piece(text, b'-');
     match after {
-        Some(rest) => paired(first, rest),
+        Some(rest) => pair(first, rest),
         None => None,
     }
 }
@@ -96,7 +96,7 @@ fn ranges_of(alloc: Global, text: &[u8]) -> Result<Seq<Range>, LineFault>
     let mut room = MOST;
     let mut rest = Some(text);
     while let Some(texts) = rest {
-        let (text, after) = cut(texts, b',');
+        let (text, after) = first_piece(texts, b',');
         let Some(ends) = ends_in(low, room, text) else {
             return Err(LineFault::Refused);
         };

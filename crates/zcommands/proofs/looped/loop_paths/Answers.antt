@@ -7,7 +7,7 @@ use Rattle.zcommands.proofs.looped.loop_paths.Goals as goal
 
 pub returns-clause-loops : goal.returns-clause-loops
 returns-clause-loops g c =
-    let ran = subst (λ z. IfSome z (λ file. LoopsFile c.args.mode file (Ok c.in_ok-finished.finished))) c.named-world.ensures.octets c.in_ok-finished.ensures.ran in
+    let ran = subst (λ z. IfSome z (λ file. LoopsFile c.args.mode file (Ok c.in_ok-finished.finished))) c.file_at-world.ensures.octets c.in_ok-finished.ensures.ran in
     concludes (LoopsFile c.args.mode) (g.S.Folder.octets c.args.system.now c.args.paths.world.now) c.in_ok-finished.finished
     (option_map (λ path. path.now) c.args.paths.saved)
     (held g.W.Write.contents c.args.output.now) (held g.W.Write.contents c.finish-answer.new.output) (held g.E.Write.contents c.args.errors.now) (held g.E.Write.contents c.finish-answer.new.errors)

@@ -6,7 +6,7 @@ use Rattle.zcommands.proofs.serve.serve_target.Goals as goal
 
 pub returns-clause-serves : goal.returns-clause-serves
 returns-clause-serves g c =
-    let says = subst (λ z. IfSome z (λ file. IsWorld file c.in_ok-world.world)) c.named-file.ensures.octets c.in_ok-world.ensures.says in
+    let says = subst (λ z. IfSome z (λ file. IsWorld file c.in_ok-world.world)) c.file_at-file.ensures.octets c.in_ok-world.ensures.says in
     serves_told c.args.service.name.now (g.S.Folder.octets c.args.system.now c.args.service.world.now) c.in_ok-world.world c.serve_world-served.result
     says c.serve_world-served.ensures
 

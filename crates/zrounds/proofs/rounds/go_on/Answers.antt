@@ -1,4 +1,4 @@
-use Rattle.std.proofs.Common.{subst, true, false}
+use Rattle.std.proofs.Common.{subst}
 use Rattle.std.proofs.lemmas.Result.{IfOk-weaker}
 use Rattle.zrounds.specs.RunRounds.{WorldRounds}
 use Rattle.zrounds.proofs.RunRounds.{grows_moved, grows_ended}

@@ -4,14 +4,14 @@ use Rattle.zworld.specs.Finding.{IsFirstAtNone}
 use Rattle.zworld.proofs.Finding.{one_found, first_at_none, refused_as}
 use Rattle.zworld.proofs.enquiry.addresses_for.Goals as goal
 
-pub loop-inquiry-preserved : goal.loop-inquiry-preserved
-loop-inquiry-preserved c =
-    one_found (address_for c.args.hosts.now) c.args.inquiries.now c.loop-inquiry.inquiry-index c.inquiry-item.result c.loop-inquiry.found.items c.add.new.all.items
-    c.in_ok-address.address c.loop-inquiry-test.true c.inquiry-item.is c.loop-inquiry.invariant c.in_ok-address.ensures c.in_ok-add.ensures
+pub loop-asked_question-preserved : goal.loop-asked_question-preserved
+loop-asked_question-preserved c =
+    one_found (address_for c.args.hosts.now) c.args.asked_questions.now c.loop-asked_question.asked_question-index c.asked_question-item.result c.loop-asked_question.found.items c.add.new.all.items
+    c.in_ok-address.address c.loop-asked_question-test.true c.asked_question-item.is c.loop-asked_question.invariant c.in_ok-address.ensures c.in_ok-add.ensures
 
 pub returns-in_err-address-clause-fault : goal.returns-in_err-address-clause-fault
 returns-in_err-address-clause-fault c =
     let p = err_from_is_err_and c.from_residual.result c.from_residual.ensures.1 in
-    refused_as (IsFirstAtNone (address_for c.args.hosts.now) c.args.inquiries.now) c.in_err-address.field-0.0 p.0 c.from_residual.result p.1 p.2
-    (first_at_none (address_for c.args.hosts.now) c.args.inquiries.now c.loop-inquiry.inquiry-index c.inquiry-item.result c.loop-inquiry.found.items c.in_err-address.field-0.0
-    c.loop-inquiry-test.true c.inquiry-item.is c.loop-inquiry.invariant c.in_err-address.ensures)
+    refused_as (IsFirstAtNone (address_for c.args.hosts.now) c.args.asked_questions.now) c.in_err-address.field-0.0 p.0 c.from_residual.result p.1 p.2
+    (first_at_none (address_for c.args.hosts.now) c.args.asked_questions.now c.loop-asked_question.asked_question-index c.asked_question-item.result c.loop-asked_question.found.items c.in_err-address.field-0.0
+    c.loop-asked_question-test.true c.asked_question-item.is c.loop-asked_question.invariant c.in_err-address.ensures)

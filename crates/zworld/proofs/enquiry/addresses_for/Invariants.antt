@@ -3,5 +3,5 @@ use Rattle.zworld.specs.Finding.{AreFound}
 use Rattle.zworld.specs.Enquiries.{address_for}
 use Rattle.zworld.proofs.enquiry.addresses_for.Given as goal
 
-abbrev pub invariant-loop-inquiry : goal.invariant-loop-inquiry
-invariant-loop-inquiry l = AreFound (address_for l.hosts) (take l.inquiry-index l.inquiries) l.found.items
+abbrev pub invariant-loop-asked_question : goal.invariant-loop-asked_question
+invariant-loop-asked_question l = AreFound (address_for l.hosts) (take l.asked_question-index l.asked_questions) l.found.items

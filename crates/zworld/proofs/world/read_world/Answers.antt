@@ -14,13 +14,13 @@ pub returns-in_err-read_line-clause-fault : goal.returns-in_err-read_line-clause
 returns-in_err-read_line-clause-fault c =
     let p = err_from_is_err_and c.from_residual.result c.from_residual.ensures.1 in
     refused_as c.args.file.now c.in_err-read_line.field-0.0 p.0 c.from_residual.result p.1 p.2
-    (refuses c.args.file.now c.in-Some.texts.now c.cut.result.0.now c.loop-rest.number (option_map (λ r. r.now) c.cut.result.1) c.loop-rest.reader c.read_line.new.reader c.in_err-read_line.field-0.0
-    (rw c.in-Some.is at c.loop-rest.invariant) c.cut.ensures.pieces c.in_err-read_line.ensures)
+    (refuses c.args.file.now c.in-Some.texts.now c.first_piece.result.0.now c.loop-rest.number (option_map (λ r. r.now) c.first_piece.result.1) c.loop-rest.reader c.read_line.new.reader c.in_err-read_line.field-0.0
+    (rw c.in-Some.is at c.loop-rest.invariant) c.first_piece.ensures.pieces c.in_err-read_line.ensures)
 
 pub loop-rest-preserved : goal.loop-rest-preserved
 loop-rest-preserved c =
-    goes_on c.args.file.now c.in-Some.texts.now c.cut.result.0.now c.loop-rest.number (option_map (λ r. r.now) c.cut.result.1) c.loop-rest.reader c.read_line.new.reader
-    (rw c.in-Some.is at c.loop-rest.invariant) c.cut.ensures.pieces (less (λ r. r.now) (length c.in-Some.texts.now) c.cut.result.1 c.cut.ensures.shorter) c.in_ok-read_line.ensures
+    goes_on c.args.file.now c.in-Some.texts.now c.first_piece.result.0.now c.loop-rest.number (option_map (λ r. r.now) c.first_piece.result.1) c.loop-rest.reader c.read_line.new.reader
+    (rw c.in-Some.is at c.loop-rest.invariant) c.first_piece.ensures.pieces (less (λ r. r.now) (length c.in-Some.texts.now) c.first_piece.result.1 c.first_piece.ensures.shorter) c.in_ok-read_line.ensures
 
 pub loop-rest-init : goal.loop-rest-init
 loop-rest-init c = begins c.args.file.now c.new-reader.result c.new-reader.ensures.sound c.new-reader.ensures.world

@@ -14,4 +14,4 @@ pub returns-in-Seen : goal.returns-in-Seen
 returns-in-Seen c = rw c.in-Seen.is (seen_spelled c.in-Seen.target c.in-Seen.set c.natural_fits-in-Seen.ensures c.natural_fits-in-Seen-2.ensures c.in-Seen.position c.in-Seen.rec.now c.number_fits-in-Seen.ensures (subst (λ f. IsFact (fact_of f)) c.in-Seen.is c.requires))
 
 pub returns-in-Diag : goal.returns-in-Diag
-returns-in-Diag c = rw c.in-Diag.is (diag_spelled c.in-Diag.target c.in-Diag.set c.natural_fits-in-Diag.ensures c.natural_fits-in-Diag-2.ensures c.in-Diag.place c.in-Diag.diag.now c.number_fits-in-Diag.ensures c.spelled.ensures (subst (λ f. IsFact (fact_of f)) c.in-Diag.is c.requires))
+returns-in-Diag c = rw c.in-Diag.is (diag_spelled c.in-Diag.target c.in-Diag.set c.natural_fits-in-Diag.ensures c.natural_fits-in-Diag-2.ensures c.in-Diag.place c.in-Diag.diag.now c.number_fits-in-Diag.ensures c.show_spelled.ensures (subst (λ f. IsFact (fact_of f)) c.in-Diag.is c.requires))

@@ -10,12 +10,12 @@ returns-in-Ok-clause-after c =
     let lt = rw (← c.self.view_is) at c.requires in
     let new : MetaLinks = record {
       pool = c.call.new.self;
-      drivers = slice_set c.self.inside.drivers.items c.args.c c.sent.new.self;
+      drivers = slice_set c.self.inside.drivers.items c.args.c c.note_sent.new.self;
     } in
     rw (← c.self.view_is) (admitted_to (Unit {0}) c.one_hearing.ensures c.args.c (call_of c.args.call.now) old new
-    c.index_mut.result.now c.sent.new.self lt (c.in-Ok.ensures.after tt) c.in-Ok.ensures.answer
+    c.index_mut.result.now c.note_sent.new.self lt (c.in-Ok.ensures.after tt) c.in-Ok.ensures.answer
     (driver_at old.drivers old.pool.connections c.args.c _ c.index_mut.result.now c.self.invariant lt c.index_mut.ensures.value)
-    c.sent.ensures refl c.in-Ok.ensures.size)
+    c.note_sent.ensures refl c.in-Ok.ensures.size)
 
 pub returns-in-Memory-clause-after : goal.returns-in-Memory-clause-after
 returns-in-Memory-clause-after c =
@@ -30,10 +30,10 @@ returns-in_default-clause-after c =
     let lt = rw (← c.self.view_is) at c.requires in
     let new : MetaLinks = record {
       pool = c.call.new.self;
-      drivers = slice_set c.self.inside.drivers.items c.args.c c.refused.new.self;
+      drivers = slice_set c.self.inside.drivers.items c.args.c c.note_refused.new.self;
     } in
     rw (← c.self.view_is) (refused_to (Unit {0}) c.one_hearing.ensures c.sent_requests.ensures c.args.c (call_of c.args.call.now)
-    c.in-Err.reason old new c.index_mut-in_default.result.now c.refused.new.self c.in_default.not-Memory lt
+    c.in-Err.reason old new c.index_mut-in_default.result.now c.note_refused.new.self c.in_default.not-Memory lt
     (c.in-Err.ensures.after c.in_default.not-Memory) c.in-Err.ensures.answer
     (driver_at old.drivers old.pool.connections c.args.c _ c.index_mut-in_default.result.now c.self.invariant lt c.index_mut-in_default.ensures.value)
-    c.refused.ensures refl c.in-Err.ensures.size)
+    c.note_refused.ensures refl c.in-Err.ensures.size)

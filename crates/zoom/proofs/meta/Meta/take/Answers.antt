@@ -16,7 +16,7 @@ returns-in-Ok-clause-after c =
     let old : MetaLinks = record { pool = c.self.inside.pool; drivers = c.self.inside.drivers.items } in
     let lt = rw (← c.self.view_is) at c.requires in
     let new : MetaLinks = record {
-      pool = c.told.new.self;
+      pool = c.take_told.new.self;
       drivers = slice_set c.self.inside.drivers.items c.args.c c.know_take.new.driver;
     } in
     rw (← c.self.view_is) (λ done. took_meta c.one_meeting.ensures c.one_hearing.ensures c.args.c old new
@@ -34,7 +34,7 @@ pub returns-in-Err-clause-after : goal.returns-in-Err-clause-after
 returns-in-Err-clause-after c =
     let old : MetaLinks = record { pool = c.self.inside.pool; drivers = c.self.inside.drivers.items } in
     let lt = rw (← c.self.view_is) at c.requires in
-    let new : MetaLinks = record { pool = c.told.new.self; drivers = c.self.inside.drivers.items } in
+    let new : MetaLinks = record { pool = c.take_told.new.self; drivers = c.self.inside.drivers.items } in
     rw (← c.self.view_is) (λ done. refused_meta c.one_meeting.ensures c.one_hearing.ensures c.refused_law.ensures c.args.c
     old new c.in-Err.error c.in-Err.ensures.answer done (c.in-Err.ensures.after done) lt refl c.in-Err.ensures.size)
 

@@ -1,4 +1,4 @@
-use Rattle.std.proofs.Common.{◌≡◌, ◌<◌, rules, true, false, List, length, slice_get, Some, sym, ap, subst, ◌∙◌}
+use Rattle.std.proofs.Common.{◌≡◌, ◌<◌, rules, List, length, slice_get, Some, sym, ap, subst, ◌∙◌}
 use Rattle.zoom.specs.States.{is_stopped}
 use Rattle.zoom.specs.Links.{Link, Links}
 use Rattle.zoom.proofs.Pools.{AllStopped, got, stopped_none, stopped_one, finished_all, finished_not}

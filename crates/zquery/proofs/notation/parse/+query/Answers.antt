@@ -13,7 +13,7 @@ returns-in_ok-right-in-Op-clause-ok t c = λ xs e.
     let w : word c.in-Some.token.now ≡ Op c.in-Op.operator = sym c.in-Op.ensures in
     let left = c.in_ok-first-in-Op.ensures.ok l.below (c.as_slice.ensures.value ∙ l.forces) in
     let right = c.in_ok-second-in-Op.ensures.ok l.below (c.as_slice-in-Op.ensures.value ∙ l.forces) in
-    subst (λ (q : Tree). IsRead c.args.own.now xs c.args.kind c.args.level c.args.cursor.now c.query-in-Op.new.cursor q) (sym (c.joined.ensures ∙ ap₂ (λ a b. Of c.in-Op.operator (seen a) (seen b)) c.in_ok-left-in-Op.ensures.ok c.in_ok-right-in-Op.ensures.ok))
+    subst (λ (q : Tree). IsRead c.args.own.now xs c.args.kind c.args.level c.args.cursor.now c.query-in-Op.new.cursor q) (sym (c.join.ensures ∙ ap₂ (λ a b. Of c.in-Op.operator (seen a) (seen b)) c.in_ok-left-in-Op.ensures.ok c.in_ok-right-in-Op.ensures.ok))
     (read-both _ _ _ _ _ _ c.in-Some.token.now c.in-Op.operator _ _ _ _ c.args.level _ _ l c.in-Some.ensures.some w left right)
 
 pub returns-in_ok-set-in-NamedSet-clause-ok : goal.returns-in_ok-set-in-NamedSet-clause-ok

@@ -7,17 +7,17 @@ use Rattle.zquery.proofs.notation.parse.parse_tokens.Goals as goal
 pub returns-in-Err-clause-err : goal.returns-in-Err-clause-err
 returns-in-Err-clause-err c =
     let all : c.args.tokens.now ≡ c.in-Some.field-0.now ∷ drop 1 c.new-cursor.result = sym c.new-cursor.ensures ∙ c.in-Some.ensures.some in
-    let opening : opened_at c.args.end c.args.tokens.now ≡ Ok (c.in_ok-own.own, c.opened.new.cursor) = ap (opened_at c.args.end) (sym c.new-cursor.ensures) ∙ c.in_ok-own.ensures in
+    let opening : opened_at c.args.end c.args.tokens.now ≡ Ok (c.in_ok-own.own, c.query_set.new.cursor) = ap (opened_at c.args.end) (sym c.new-cursor.ensures) ∙ c.in_ok-own.ensures in
     elim (c.in-Err.ensures.err []) [ inl m ↦ inl m | inr f ↦ inr (refused-on c.args.end c.args.tokens.now _ _ _ _ all opening ∙ f) ]
 
 pub returns-in-None-clause-ok : goal.returns-in-None-clause-ok
 returns-in-None-clause-ok c =
     let all : c.args.tokens.now ≡ c.in-Some.field-0.now ∷ drop 1 c.new-cursor.result = sym c.new-cursor.ensures ∙ c.in-Some.ensures.some in
-    let opening : opened_at c.args.end c.args.tokens.now ≡ Ok (c.in_ok-own.own, c.opened.new.cursor) = ap (opened_at c.args.end) (sym c.new-cursor.ensures) ∙ c.in_ok-own.ensures in
+    let opening : opened_at c.args.end c.args.tokens.now ≡ Ok (c.in_ok-own.own, c.query_set.new.cursor) = ap (opened_at c.args.end) (sym c.new-cursor.ensures) ∙ c.in_ok-own.ensures in
     read-whole c.args.end c.args.tokens.now _ _ _ _ _ _ all opening (c.in-Ok.ensures.ok [] none-force) c.in-None.ensures.none.0
 
 pub returns-in-Some-next-clause-err : goal.returns-in-Some-next-clause-err
 returns-in-Some-next-clause-err c =
     let all : c.args.tokens.now ≡ c.in-Some.field-0.now ∷ drop 1 c.new-cursor.result = sym c.new-cursor.ensures ∙ c.in-Some.ensures.some in
-    let opening : opened_at c.args.end c.args.tokens.now ≡ Ok (c.in_ok-own.own, c.opened.new.cursor) = ap (opened_at c.args.end) (sym c.new-cursor.ensures) ∙ c.in_ok-own.ensures in
+    let opening : opened_at c.args.end c.args.tokens.now ≡ Ok (c.in_ok-own.own, c.query_set.new.cursor) = ap (opened_at c.args.end) (sym c.new-cursor.ensures) ∙ c.in_ok-own.ensures in
     inr (refused-on c.args.end c.args.tokens.now _ _ _ _ all opening ∙ ap (fault c.args.end) (c.in-Ok.ensures.walks [] ∙ ap (λ ts. walk below_limit ts []) c.in-Some-next.ensures.some) ∙ ap Some (sym c.error_of.ensures))

@@ -5,5 +5,5 @@ use Rattle.zrpn.proofs.element.decode.+structure.Given as goal
 abbrev pub decreases-structure : goal.decreases-structure
 decreases-structure l = 2 * weight l.node.now
 
-abbrev pub decreases-joined : goal.decreases-joined
-decreases-joined l = 2 * count_of (forest l.nodes.now) + 1
+abbrev pub decreases-rpn_rpn_op : goal.decreases-rpn_rpn_op
+decreases-rpn_rpn_op l = 2 * count_of (forest l.nodes.now) + 1

@@ -7,5 +7,5 @@ use Rattle.zrpn.proofs.element.encode.+structure.Given as goal
 abbrev pub decreases-structure : goal.decreases-structure
 decreases-structure l = 2 * height (seen l.rpn.now)
 
-abbrev pub decreases-joined : goal.decreases-joined
-decreases-joined l = 2 * max (height (seen l.left.now)) (height (seen l.right.now)) + 1
+abbrev pub decreases-rpn_rpn_op : goal.decreases-rpn_rpn_op
+decreases-rpn_rpn_op l = 2 * max (height (seen l.left.now)) (height (seen l.right.now)) + 1

@@ -11,6 +11,6 @@ returns-clause-places c =
     let n = c.args.needed in
     let entries = c.args.self.now in
     let among : c.as_slice.result.now ≡ places_from (meets (HasPhrase n.used false n.asked.now)) 0 entries = search rules in
-    IfOk-weaker c.narrowed.result _ _
+    IfOk-weaker c.narrow.result _ _
     (λ found told. kept_of_needed (meets (asks c.args.criterion.now)) n entries c.as_slice.result.now found.items c.requires among (rw c.in_ok-among.ensures.same at told))
-    c.narrowed.ensures.narrows
+    c.narrow.ensures.narrows
