@@ -48,7 +48,8 @@ use Rattle.zoom.specs.Steering.{ask_of, errand_of, complete_in}
 use Rattle.zoom.specs.Drivers.{DriverState, IsDriver}
 use Rattle.zoom.specs.Heard.{Heard}
 use Rattle.zoom.specs.History.{accepted}
-use Rattle.zoom.proofs.Drivings.{among, contained, replied, driven}
+use Rattle.zorigin.proofs.Members.{among, contained}
+use Rattle.zoom.proofs.Drivings.{replied, driven}
 use Rattle.zoom.proofs.Due.{opened_of}
 use Rattle.zoom.proofs.MetaLaws.{driver_of}
 use Rattle.zoom.proofs.Orders.{from_answer, of_answer}

@@ -54,7 +54,7 @@ use Rattle.zquestions.specs.declared.question.MetaSettings.{MetaSettings}
 use Rattle.zoom.specs.Driving.{operation_for}
 use Rattle.zoom.specs.Steering.{Errand, ask_of, errand_of, IsSteered, IsSteeredCall}
 use Rattle.zoom.specs.Drivers.{DriverState, IsDriver}
-use Rattle.zoom.proofs.Drivings.{among, contained}
+use Rattle.zorigin.proofs.Members.{among, contained}
 use Rattle.zoom.proofs.Due.{past_settings}
 use Rattle.zschedules.proofs.Complete.{same_admitted}
 use Rattle.zaccord.specs.Accord.{requests}

@@ -1,5 +1,5 @@
 -- Which call a reply that is owed answers, and when that was made.
-use Rattle.std.proofs.Common.{◌≡◌, inl, inr, true, false, cond, List, [], ◌∷◌, ◌++◌, Option, None, Some, Result, Ok, Err, refl, sym, ap, subst, ◌∙◌}
+use Rattle.std.proofs.Common.{◌≡◌, inl, inr, List, [], ◌∷◌, ◌++◌, Option, None, Some, Result, Ok, Err, refl, sym, ap, subst, ◌∙◌}
 use Rattle.std.specs.Prelude.{reverse}
 use Rattle.std.specs.Option.{option_map}
 use Rattle.std.proofs.lemmas.List.{reverse-append}
@@ -11,15 +11,12 @@ use Rattle.zorigin.specs.declared.range.Range.{Range}
 use Rattle.zorigin.specs.declared.state.Searched.{Searched}
 use Rattle.zorigin.specs.declared.answer.Asked.{Asked}
 use Rattle.zorigin.specs.declared.answer.Answer.{Answer}
-use Rattle.zorigin.specs.declared.answer.Taken.{Taken}
-use Rattle.zorigin.specs.declared.answer.Taken.TheVariants as taken
 use Rattle.zorigin.specs.declared.refusal.CallRefused.{CallRefused}
-use Rattle.zorigin.specs.declared.refusal.Refused.{Refused}
-use Rattle.zorigin.specs.Standings.{Call, Init, Search, Present, Close, Standing, is_open, search_of}
+use Rattle.zorigin.specs.Standings.{Call, Init, Search, Present, Close, Standing, search_of}
 use Rattle.zorigin.specs.Sending.{request_of, init_request, search_request, present_request, close_request}
 use Rattle.zorigin.specs.Calls.{refusal}
 use Rattle.zorigin.specs.Replies.{verdict}
-use Rattle.zorigin.specs.Log.{Log, Made, Got, Past, past, standing, state_of, asked, operation_of, admit_unless, after_verdict, request_list}
+use Rattle.zorigin.specs.Log.{Log, Made, Got, Past, past, standing, asked, operation_of, admit_unless, request_list}
 use Rattle.zorigin.proofs.Orderly.{sent_request}
 use Rattle.ztarget.specs.declared.database.Database.{Database}
 use Rattle.ztarget.specs.declared.settings.TargetSettings.{TargetSettings}
@@ -31,17 +28,9 @@ use Rattle.zoom.specs.Steering.{Errand, IsSteered, IsSteeredCall}
 use Rattle.zoom.proofs.Drivings.{asked_more, same_asked}
 use Rattle.zschedules.proofs.Replies.{kept_call, kept_reply}
 use Rattle.zaccord.specs.Accord.{requests}
+use Rattle.zaccord.proofs.Requests.{same_verdict}
 
 -- ---- one entry more
-
-pub same_sent : (p : Past) (v : Result Taken Refused) → (after_verdict p v).sent ≡ p.sent
-same_sent p (Ok (taken.Opened a)) = refl
-same_sent p (Ok (taken.Rejected a)) = refl
-same_sent p (Ok (taken.Answered a)) = refl
-same_sent p (Ok taken.Closed) = refl
-same_sent p (Err r) =
-    elim (is_open (state_of p)) as
-    (λ b. (cond b (record p { fault = Some r }) p).sent ≡ p.sent) [ true ↦ refl | false ↦ refl ]
 
 kept_asked : (p : Past) (call : Call) (r : Option CallRefused) (q : Asked) → IsIn q (asked p)
     → IsIn q (asked (admit_unless p call r))
@@ -181,4 +170,4 @@ module _ (databases : List Database) (offers : TargetSettings) (e : Errand) (set
       let v = verdict (standing p) reply in
       later log (Got reply ∷ log) r
       (λ q at. subst (IsIn q) (sym (same_asked p v)) at) (kept_reply p v)
-      (owes log s d r (subst (λ l. IsIn r (replies databases offers (reverse l))) (same_sent p v) i))
+      (owes log s d r (subst (λ l. IsIn r (replies databases offers (reverse l))) ((same_verdict p v).1) i))

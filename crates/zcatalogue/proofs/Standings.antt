@@ -40,13 +40,14 @@ use Rattle.ztarget.specs.Responding.{search_fault, name_fault, kept_fault}
 use Rattle.ztarget.specs.Replies.{answer, answer_at, left_by, standing_after, to_search_unless, kept_as, after_init}
 use Rattle.ztarget.specs.Laws.{KeptSets}
 use Rattle.zoom.specs.Steering.{Errand, IsSteered, IsSteeredCall}
-use Rattle.zoom.proofs.Drivings.{among, contained}
+use Rattle.zorigin.proofs.Members.{among, contained}
 use Rattle.zoom.proofs.Due.{past_settings}
 use Rattle.zschedules.proofs.Complete.{same_admitted}
 use Rattle.zschedules.proofs.Replies.{kept_call, kept_reply}
 use Rattle.zcatalogue.specs.Catalogue.{size_given}
 use Rattle.zcatalogue.proofs.Owing.{search_leaves, present_leaves}
-use Rattle.zcatalogue.proofs.Sent.{same_sent, one_more, is_request, IsRequest}
+use Rattle.zaccord.proofs.Requests.{same_verdict}
+use Rattle.zcatalogue.proofs.Sent.{one_more, is_request, IsRequest}
 use Rattle.zorigin.proofs.Orderly.{sent_request}
 
 -- ---- the requests
@@ -435,7 +436,7 @@ module _ (databases : List Database) (offers : TargetSettings) (settings : Setti
           let p = past settings log in
           let v = verdict (standing p) reply in
           let old = stands log s (λ x i o. opened x (kept_reply p v x i) o) in
-          let sent = same_sent p v in
+          let sent = (same_verdict p v).1 in
           let calls = same_admitted p v in
           record {
             state = ap (λ l. (standing_after databases offers (reverse l)).state) sent ∙ old.state

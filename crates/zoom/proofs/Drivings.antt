@@ -1,15 +1,16 @@
 -- Replies answer what was sent.
-use Rattle.std.proofs.Common.{◌≡◌, inl, inr, ℕ, zero, suc, ◌+◌, ◌<◌, ◌≤◌, true, false, cond, List, [], ◌∷◌, ◌++◌, map, length, Option, None, Some, Result, Ok, Err, refl, sym, ap, subst, ◌∙◌, arith, append-nil, length-append, true≢false}
+use Rattle.std.proofs.Common.{◌≡◌, inl, inr, ℕ, suc, ◌+◌, ◌<◌, ◌≤◌, true, false, cond, List, [], ◌∷◌, ◌++◌, map, length, Option, None, Some, Result, Ok, Err, refl, sym, ap, subst, ◌∙◌, arith, append-nil, length-append, true≢false}
 use Rattle.std.proofs.lemmas.Bool.Decides.{nat_tests}
 use Rattle.std.proofs.lemmas.Grind.{flat_map-append}
 use Rattle.std.proofs.lemmas.Map.Keys.{IsDistinct-head, IsDistinct-tail}
-use Rattle.std.specs.Prelude.{Contains, slice_index_or, nat_eq}
+use Rattle.std.specs.Prelude.{nat_eq}
 use Rattle.std.specs.List.{AllByRecursion, IsDistinct}
 use Rattle.zplan.specs.Plan.{Operation, Event, Reply, same, number, asked_in, replies_in, count_in, IsDriven}
 use Rattle.zplan.specs.Positions.{IsIn, IsWanted, up_to}
 use Rattle.zplan.specs.Laws.{BoundLaws}
 use Rattle.zplan.proofs.Cuts.{in_either}
 use Rattle.zplan.proofs.Order.{same_is}
+use Rattle.zorigin.proofs.Members.{among, contained}
 use Rattle.zorigin.specs.declared.settings.Settings.{Settings}
 use Rattle.zorigin.specs.declared.settings.Ask.{Ask}
 use Rattle.zorigin.specs.declared.answer.Asked.{Asked}
@@ -26,22 +27,6 @@ use Rattle.zorigin.specs.Log.{Log, Made, Got, Past, past, standing, state_of, as
 use Rattle.zoom.specs.Driving.{plan_of, operation_for, reply_for, made_event, answer_event, got_event, events_of, IsNumbered, IsDueEvent, IsDueCall, IsDrivenLog}
 
 -- ---- members
-
-pub contained : {X : Type 0} (x : X) (xs : List X) → IsIn x xs → Contains xs x
-contained x [] h = absurd h
-contained x (y ∷ ys) (inl e) = (0, (let at : 0 < length (y ∷ ys) = omega arith in at), sym e)
-contained x (y ∷ ys) (inr i) =
-    let more = contained x ys i in
-    let at : suc more.0 < length (y ∷ ys) = omega (arith, more.1) in
-    (suc more.0, at, more.2)
-
-pub among : {X : Type 0} (x : X) (xs : List X) → Contains xs x → IsIn x xs
-among {X} x xs h = by xs h.0 h.1 h.2
-  where
-    by : (ys : List X) (k : ℕ) → k < length ys → slice_index_or ys k x ≡ x → IsIn x ys
-    by [] k h e = absurd (omega arith)
-    by (y ∷ ys) zero h e = inl (sym e)
-    by (y ∷ ys) (suc k) h e = inr (by ys k (omega arith) e)
 
 pub in_last : {X : Type 0} (x : X) (xs : List X) → IsIn x (xs ++ x ∷ [])
 in_last x [] = inl refl

@@ -40,7 +40,8 @@ use Rattle.zoom.specs.Steering.{Errand, IsNextCall, is_skip, may_call, room_in}
 use Rattle.zoom.specs.Drivers.{DriverState, IsDriver, IsAt, AtOpened, HasOpening, HasFound, AllAnswered, events_at, found_events}
 use Rattle.zoom.specs.Drivers.{opened_events}
 use Rattle.zoom.specs.Due.{CanAskFor, CanBeCalled, DueLaws}
-use Rattle.zoom.proofs.Drivings.{among, contained, sent_known, replied}
+use Rattle.zorigin.proofs.Members.{among, contained}
+use Rattle.zoom.proofs.Drivings.{sent_known, replied}
 use Rattle.zoom.proofs.Drivings as drivings
 use Rattle.zoom.proofs.DueRows.{and_false, or_first, any_in, init_rows, search_rows, present_rows, admits_init, admits_close}
 use Rattle.zoom.proofs.DueRows.{admits_present, refuses_search, unused, number_init, none_past, none_left}

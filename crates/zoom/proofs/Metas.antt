@@ -241,6 +241,17 @@ pub heard_at : (settings : Settings) (h : History) (heard : ℕ → Heard) (cs :
     → Stands settings h heard cs → c < length cs → HasHeard settings (only c h) (heard c)
 heard_at settings h heard cs c s lt = let k = slice_some cs c lt in (s.each c k.0 k.1).heard
 
+-- what a history can have left, it can have left up to the connection's next take
+pub up_to_meta : UpToLaw → (q : List Question) (s : MetaSettings) (c : ℕ) (h : History) (meta : MetaLinks)
+    → MetaAfter q s h meta → MetaAfterUpTo q s c h meta
+up_to_meta law q s c h meta a = record {
+  fit = a.fit;
+  askable = a.askable;
+  pool = law (settings_of s) c h meta.pool a.pool;
+  driven = a.driven;
+  size = a.size;
+}
+
 -- what the state of a connection tells
 pub state_tells : UpToLaw → OneHearing → (tells : State → Bool) (c : ℕ) (meta : MetaLinks) (state : State)
     → c < length meta.pool.connections → IsStateAt c meta.pool state

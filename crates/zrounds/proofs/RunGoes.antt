@@ -7,7 +7,8 @@ use Rattle.zquestions.specs.declared.question.MetaSettings.{MetaSettings}
 use Rattle.zoom.specs.Heard.{Deed, Calls, Feeds, Takes, Ends, Gives, Stops, given, fed}
 use Rattle.zoom.specs.History.{History, only}
 use Rattle.zoom.specs.Laws.{UpToLaw}
-use Rattle.zoom.specs.Metas.{MetaLinks, MetaAfter, MetaAfterUpTo, MetaBefell, MetaTook, DrivesTo, Progress, settings_of, made}
+use Rattle.zoom.specs.Metas.{MetaLinks, MetaAfter, MetaBefell, MetaTook, DrivesTo, Progress, made}
+use Rattle.zoom.proofs.Metas.{up_to_meta}
 use Rattle.zoom.proofs.Pools.{only_append}
 use Rattle.zrounds.specs.RunSteps.{IsSilent, AreSilent, Went, GoesOn}
 
@@ -90,16 +91,6 @@ goes_trans a b c f g = record {
 pub befell_goes : (c : ℕ) (deed : Deed) (old new : MetaLinks) → CarriesNone deed → MetaBefell c deed old new → GoesOn old new
 befell_goes c deed old new n b = record {
   on = λ q s h a. record { more = (c, deed) ∷ []; after = b q s h a; silent = one_silent c deed n };
-}
-
-pub up_to_meta : UpToLaw → (q : List Question) (s : MetaSettings) (c : ℕ) (h : History) (meta : MetaLinks)
-    → MetaAfter q s h meta → MetaAfterUpTo q s c h meta
-up_to_meta law q s c h meta a = record {
-  fit = a.fit;
-  askable = a.askable;
-  pool = law (settings_of s) c h meta.pool a.pool;
-  driven = a.driven;
-  size = a.size;
 }
 
 pub took_goes : UpToLaw → (c : ℕ) (old new : MetaLinks) → MetaTook c old new → GoesOn old new

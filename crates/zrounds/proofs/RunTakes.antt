@@ -26,12 +26,11 @@ use Rattle.zoom.specs.Hosts.{Holdings, Event, HostState, holdings_of}
 use Rattle.zoom.specs.Laws.{OneHearing, TakeLaws, UpToLaw, Waits}
 use Rattle.zoom.specs.Leaving.{AreReadBack}
 use Rattle.zoom.specs.Metas.{MetaLinks, MetaAfter, MetaTook, Drives, made, settings_of}
-use Rattle.zoom.proofs.Metas.{heard_at, slice_some}
+use Rattle.zoom.proofs.Metas.{heard_at, slice_some, up_to_meta}
 use Rattle.zexchange.specs.Exchange.{IsSound, TookAll, ExchangeLaws, CallsLaw}
 use Rattle.zrounds.specs.declared.peers.Peer.{Peer}
 use Rattle.zrounds.specs.RunSound.{of, DrivesAt, TakesAt, is_taken, IsIdle, IsFine, Stepped, Adds}
 use Rattle.zrounds.specs.RunTurns.{AddsAt}
-use Rattle.zrounds.proofs.RunGoes.{up_to_meta}
 use Rattle.zrounds.proofs.RunSound.{only_more, of_append}
 
 -- ---- what a Take answers

@@ -57,8 +57,8 @@ pub record WorldGrows (old new : MetaLinks) (was now : List Peer) : Type 0 where
 -- ---- the end
 
 -- A connection and its target after a complete exchange: neither was stopped; the connection was rejected, or its
--- search was tried and its Close was answered; and what came to it are the replies that the target owes to what it sent,
--- each once, in some order.
+-- search was tried and its Close was answered; and what came to it are the replies that the target owes to what it
+-- sent, each once, in some order.
 pub record IsWhole (s : MetaSettings) (target : TargetState) (deeds : List Deed) : Type 0 where
   pub heard : Heard
   pub events : List Event

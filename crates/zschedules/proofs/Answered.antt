@@ -27,7 +27,8 @@ use Rattle.zorigin.specs.Log.{Log, Made, Got, Past, past, standing, state_of, op
 use Rattle.zorigin.specs.Laws.{IsOrderly, answered_op}
 use Rattle.zoom.specs.Driving.{operation_for, reply_for, can_search, got_event, made_event, events_of, IsDrivenLog}
 use Rattle.zoom.specs.Steering.{is_rejected, is_rejection, complete_in}
-use Rattle.zoom.proofs.Drivings.{contained, among, replies_call, numbered, driven}
+use Rattle.zorigin.proofs.Members.{among, contained}
+use Rattle.zoom.proofs.Drivings.{replies_call, numbered, driven}
 use Rattle.zschedules.proofs.Complete.{closed_in}
 use Rattle.zschedules.proofs.Replies.{came}
 use Rattle.zschedules.proofs.Same.{for_opens}

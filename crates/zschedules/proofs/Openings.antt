@@ -25,7 +25,8 @@ use Rattle.zorigin.specs.Laws.{IsOrderly}
 use Rattle.zoom.specs.Heard.{answer_in}
 use Rattle.zoom.specs.Driving.{plan_of, operation_for, reply_for, can_search, got_event, made_event, events_of, IsDueCall, IsDueEvent, IsDrivenLog}
 use Rattle.zoom.specs.Laws.{plain}
-use Rattle.zoom.proofs.Drivings.{contained, among, in_last, same_asked, sent_known, replies_call, driven}
+use Rattle.zorigin.proofs.Members.{among, contained}
+use Rattle.zoom.proofs.Drivings.{in_last, same_asked, sent_known, replies_call, driven}
 use Rattle.zschedules.proofs.Replies.{CameFrom}
 
 -- ---- before the reply to Init

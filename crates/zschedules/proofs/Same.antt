@@ -21,7 +21,8 @@ use Rattle.zorigin.specs.Log.{Log, Got, Past, past, standing, opening, opens, is
 use Rattle.zorigin.specs.Laws.{IsOrderly}
 use Rattle.zoom.specs.Driving.{operation_for, reply_for, can_search, can_present, counted, events_of, IsDrivenLog}
 use Rattle.zoom.specs.Laws.{plain}
-use Rattle.zoom.proofs.Drivings.{contained, replied, driven}
+use Rattle.zorigin.proofs.Members.{contained}
+use Rattle.zoom.proofs.Drivings.{replied, driven}
 use Rattle.zschedules.proofs.Replies.{CameFrom, came, kept_reply}
 use Rattle.zschedules.proofs.Openings.{init_replied, at_opening, search_same, shows_after, shows_same}
 

@@ -22,7 +22,8 @@ use Rattle.zoom.specs.Drivers.{DriverState, IsDriver}
 use Rattle.zoom.specs.Heard.{Heard, HasHeard}
 use Rattle.zoom.specs.History.{History, only, accepted, facts_at}
 use Rattle.zoom.specs.Metas.{MetaLinks, MetaAfter, settings_of}
-use Rattle.zoom.proofs.Drivings.{contained, among, replied, driven}
+use Rattle.zorigin.proofs.Members.{among, contained}
+use Rattle.zoom.proofs.Drivings.{replied, driven}
 use Rattle.zoom.proofs.Metas.{heard_at}
 use Rattle.zoom.proofs.MetaLaws.{driver_of}
 use Rattle.zoom.proofs.Orders.{from_answer, of_answer}

@@ -20,9 +20,9 @@ use Rattle.zoom.specs.Heard.{Heard, HasHeard, Takes, Ends, Meets, took_as, told_
 use Rattle.zoom.specs.History.{History, only, AfterUpTo}
 use Rattle.zoom.specs.Befalling.{IsTakeAnswer}
 use Rattle.zoom.specs.Laws.{OneMeeting, OneHearing, UpToLaw}
-use Rattle.zoom.specs.Metas.{MetaLinks, MetaAfter, MetaAfterUpTo, MetaTook, settings_of}
+use Rattle.zoom.specs.Metas.{MetaLinks, MetaAfter, MetaTook, settings_of}
 use Rattle.zoom.proofs.Pools.{only_same}
-use Rattle.zoom.proofs.Metas.{heard_at}
+use Rattle.zoom.proofs.Metas.{heard_at, up_to_meta}
 use Rattle.ztalk.specs.declared.turns.Turn.TheVariants as turns
 use Rattle.ztalk.specs.Talks.{Stage, Due, Listening, Waiting, Over, StandsAt, AnswersNext, IsStoppedAt, Follows, begins, speaks, hears, lacks, stops, reads, ends}
 use Rattle.ztalk.specs.Turns.{Hears, GoesAlone, turn_of}
@@ -154,15 +154,6 @@ module _ (law : UpToLaw) (hearing : OneHearing) (meeting : OneMeeting) (c : ℕ)
     (lt : c < length old.pool.connections) (answer : Result Step TakeError) (done : IsDone answer)
     (told : IsTakeAnswer c old.pool answer) (took : MetaTook c old new)
   where
-    up_to_meta : (q : List Question) (s : MetaSettings) (h : History) → MetaAfter q s h old → MetaAfterUpTo q s c h old
-    up_to_meta q s h a = record {
-      fit = a.fit;
-      askable = a.askable;
-      pool = law (settings_of s) c h old.pool a.pool;
-      driven = a.driven;
-      size = a.size;
-    }
-
     answered : (q : List Question) (s : MetaSettings) (h : History) → MetaAfter q s h old
         → (p : Heard) → HasHeard (settings_of s) (only c h) p → (met : Met) × Meets p met × (answer ≡ took_as p met)
     answered q s h a p heard =
@@ -195,7 +186,7 @@ module _ (law : UpToLaw) (hearing : OneHearing) (meeting : OneMeeting) (c : ℕ)
         read = t.read;
         written = t.written;
         follows = follows q s h t.more t.read t.written reads t.after t.follows;
-        after = took q s (t.more ++ h) (up_to_meta q s (t.more ++ h) t.after);
+        after = took q s (t.more ++ h) (up_to_meta law q s c (t.more ++ h) old t.after);
         stands = stands q s (t.more ++ h) t.after;
         came = t.came;
         went = t.went;

@@ -9,7 +9,7 @@ use Rattle.zoom.specs.declared.state.Reason.TheVariants as reasons
 use Rattle.zoom.specs.Heard.{HasHeard, Ends, Gives, Stops, past_of, given, is_lost, sent}
 use Rattle.zoom.specs.History.{History, only}
 use Rattle.zoom.specs.Laws.{UpToLaw, OneHearing}
-use Rattle.zoom.specs.Metas.{MetaLinks, MetaAfter, MetaAfterUpTo, MetaBefell, MetaKeeps, DrivesTo, Drives, Progress, made, settings_of}
+use Rattle.zoom.specs.Metas.{MetaLinks, MetaAfter, MetaBefell, MetaKeeps, DrivesTo, Drives, Progress, made, settings_of}
 use Rattle.ztalk.specs.Devices.{DeviceState, AppendsFront, HasFailed}
 use Rattle.ztalk.specs.declared.outgoing.PushError.{PushError}
 use Rattle.ztalk.specs.declared.outgoing.PushError.TheVariants as pushes
@@ -18,7 +18,7 @@ use Rattle.ztalk.specs.declared.turns.Turn.TheVariants as turns
 use Rattle.ztalk.specs.Pushes.{MetaBroke, Pushes}
 use Rattle.ztalk.specs.Talks.{Stage, Due, Listening, Waiting, Over, Talk, GoesOn, HaltsFrom, HasSpoken, begins, speaks, same}
 use Rattle.zoom.specs.Links.{waiting_at, waiting_in}
-use Rattle.zoom.proofs.Metas.{slice_some}
+use Rattle.zoom.proofs.Metas.{slice_some, up_to_meta}
 use Rattle.zoom.proofs.Pools.{only_same, only_other}
 use Rattle.ztalk.specs.Talking.{Settles}
 use Rattle.ztalk.specs.Turns.{BreaksOff, HaltsAlone, Speaks, Hears, TakesTurn}
@@ -105,23 +105,12 @@ module _ (hearing : OneHearing) (E : Type 0) (c n : ℕ) (old mid new : MetaLink
 
 -- ---- memory is wanting
 
--- what a history can have left, it can have left up to the connection's next take
-pub up_to_take : UpToLaw → (q : List Question) (s : MetaSettings) (c : ℕ) (h : History) (meta : MetaLinks)
-    → MetaAfter q s h meta → MetaAfterUpTo q s c h meta
-up_to_take law q s c h meta a = record {
-  fit = a.fit;
-  askable = a.askable;
-  pool = law (settings_of s) c h meta.pool a.pool;
-  driven = a.driven;
-  size = a.size;
-}
-
 -- nothing was done
 pub halts_same : UpToLaw → (c : ℕ) (from : Stage) (old new : MetaLinks) → new ≡ old → HaltsAlone c from old new
 halts_same law c from old new e held q s h n source left sink t = record {
   more = t.more;
   others = λ i far. others_follow i t.follows far;
-  after = up_to_take law q s c (t.more ++ h) new (subst (MetaAfter q s (t.more ++ h)) (sym e) t.after);
+  after = up_to_meta law q s c (t.more ++ h) new (subst (MetaAfter q s (t.more ++ h)) (sym e) t.after);
 }
 
 -- a take was not done
@@ -130,7 +119,7 @@ pub halts_keeps : UpToLaw → (c : ℕ) (from : Stage) (old new : MetaLinks) →
 halts_keeps law c from old new keeps held q s h n source left sink t = record {
   more = t.more;
   others = λ i far. others_follow i t.follows far;
-  after = keeps q s (t.more ++ h) (up_to_take law q s c (t.more ++ h) old t.after);
+  after = keeps q s (t.more ++ h) (up_to_meta law q s c (t.more ++ h) old t.after);
 }
 
 -- nor one behind the end of the input
@@ -140,7 +129,7 @@ halts_ended law c from old mid new befell keeps held q s h n source left sink t 
   more = (c, Ends) ∷ t.more;
   others = λ i far. only_other c i Ends t.more far ∙ others_follow i t.follows far;
   after = keeps q s ((c, Ends) ∷ (t.more ++ h))
-      (up_to_take law q s c ((c, Ends) ∷ (t.more ++ h)) mid (befell q s (t.more ++ h) t.after));
+      (up_to_meta law q s c ((c, Ends) ∷ (t.more ++ h)) mid (befell q s (t.more ++ h) t.after));
 }
 
 -- calls were made
@@ -153,7 +142,7 @@ halts_made law c from old new drove held q s h n source left sink t =
       more = made c d.calls ++ t.more;
       others = λ i far.
           none_both i (made c d.calls) t.more (others_made c i d.calls far) (others_follow i t.follows far);
-      after = up_to_take law q s c ((made c d.calls ++ t.more) ++ h) new
+      after = up_to_meta law q s c ((made c d.calls ++ t.more) ++ h) new
           (subst (λ z. MetaAfter q s z new) (sym (append_assoc (made c d.calls) t.more h)) d.after);
     }
 

@@ -35,8 +35,8 @@ abbrev pub AreFound : {A : Type 0} → (AskedQuestion → Option A) → List Ask
 AreFound find asked_questions found = map find asked_questions ≡ map Some found
 
 -- The line is that of the first of the questions that nothing is found for.
-pub record IsOfFirstNone {A : Type 0} (find : AskedQuestion → Option A) (asked_questions : List AskedQuestion) (line : ℕ)
-    : Type 0 where
+pub record IsOfFirstNone {A : Type 0} (find : AskedQuestion → Option A) (asked_questions : List AskedQuestion)
+    (line : ℕ) : Type 0 where
   pub front : List AskedQuestion
   pub found : List A
   pub asked_question : AskedQuestion
