@@ -29,20 +29,20 @@ demo: show
 	scripts/demo
 
 interop:
-	scripts/interop
+	tests/interop/check
 
 hostile:
-	scripts/hostile
+	tests/hostile/check.py
 
 wrong-bodies:
-	scripts/wrong-bodies
+	tests/mutants/check
 
 # As many checks at a time as there are processors, and three at most: each takes 5 GB at most, of 24. Left to itself rt ci
 # reserves more, and lets processors idle; and more checks than processors keep the longest chain of them waiting.
 test:
 	RT_JOBS=$(checks) rt ci
-	python3 program/check.py
-	python3 refused-memory/check.py
+	python3 tests/program/check.py
+	python3 tests/out-of-memory/check.py
 
 # It builds nothing: make show does.
 install:

@@ -11,7 +11,7 @@ import tempfile
 import time
 
 TOP = os.path.dirname(os.path.dirname(os.path.abspath(__file__)))
-BELOW = ("zber", "zproductions", "zasn", "zrpn", "zapdu")
+BELOW = ("zber", "zasn_tables", "zasn", "zquery_rpn", "zapdu")
 ZMETA = f"{TOP}/crates/zmeta/out/zmeta"
 
 

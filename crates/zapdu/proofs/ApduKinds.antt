@@ -3,10 +3,10 @@ use Rattle.std.proofs.Common.{◌≡◌, List, [], ◌∷◌, ◌++◌, Some, Re
 use Rattle.zber.specs.AsnTags.{AsnTag}
 use Rattle.zber.specs.Elements.{Element}
 use Rattle.zber.specs.Tags.{same_tag}
-use Rattle.zproductions.specs.Reading.{◌>>=◌}
-use Rattle.zproductions.specs.Laws.{IsMisfit, IsExact}
-use Rattle.zproductions.proofs.Readings.{same_tag-true}
-use Rattle.zproductions.proofs.Tables.{elements_exact}
+use Rattle.zasn.specs.Reading.{◌>>=◌}
+use Rattle.zasn.specs.Laws.{IsMisfit, IsExact}
+use Rattle.zasn_tables.proofs.Readings.{same_tag-true}
+use Rattle.zasn_tables.proofs.Tables.{elements_exact}
 use Rattle.zapdu.specs.declared.apdu.Apdu.{Apdu}
 use Rattle.zapdu.specs.declared.apdu.Apdu.TheVariants as apdus
 use Rattle.zapdu.specs.declared.apdu.Kind.{Kind}

@@ -3,7 +3,7 @@ use Rattle.std.proofs.Common.{◌≡◌, ℕ, zero, suc, ◌-◌, ◌<◌, ◌�
 use Rattle.std.proofs.lemmas.List.{take_at}
 use Rattle.zber.specs.AsnTags.{AsnTag}
 use Rattle.zber.specs.Elements.{Element, Primitive, Constructed, elements, cons, tag_of}
-use Rattle.zproductions.specs.Laws.{IsMisfit}
+use Rattle.zasn.specs.Laws.{IsMisfit}
 use Rattle.zber.proofs.Runs.{elements-forest}
 use Rattle.zasn.specs.declared.error.PartError.{PartError}
 use Rattle.zasn.specs.declared.error.PartError.TheVariants.{Misfit}

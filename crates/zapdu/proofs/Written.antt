@@ -2,7 +2,7 @@
 use Rattle.std.proofs.Common.{Result, Ok, Err}
 use Rattle.zber.specs.AsnTags.{context}
 use Rattle.zber.specs.Elements.{Element}
-use Rattle.zproductions.specs.Place.{Place}
+use Rattle.zasn.specs.Place.{Place}
 use Rattle.zasn.specs.declared.error.BuildError.{BuildError}
 use Rattle.zasn.specs.declared.error.BuildError.TheVariants.{NotSpellable, Memory}
 use Rattle.zasn.specs.Answers.{IsWritten, Makes}

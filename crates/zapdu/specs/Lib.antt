@@ -3,3 +3,6 @@ pub mod ReadingBack
 pub mod Text
 pub mod Writes
 pub mod Productions
+pub use Rattle.zasn.specs.Place
+pub use Rattle.zasn.specs.Answers
+pub use Rattle.zasn.specs.declared.error.BuildError

@@ -3,9 +3,9 @@ use Rattle.std.specs.Prelude.{◌≡◌, ℕ, ◌<◌, ◌≤◌, List, [], ◌�
 use Rattle.zber.specs.AsnTags.{AsnTag, context}
 use Rattle.zber.specs.Elements.{Element, Primitive, Constructed, elements}
 use Rattle.zber.specs.Tags.{same_tag}
-use Rattle.zproductions.specs.Standing.{sequence}
-use Rattle.zproductions.specs.Reading.{◌>>=◌}
-use Rattle.zproductions.specs.Within.{around}
+use Rattle.zasn.specs.Standing.{sequence}
+use Rattle.zasn.specs.Reading.{◌>>=◌}
+use Rattle.zasn.specs.Within.{around}
 use Rattle.zapdu.specs.declared.apdu.Apdu.{Apdu}
 use Rattle.zapdu.specs.declared.apdu.Apdu.TheVariants as apdus
 use Rattle.zapdu.specs.declared.apdu.Kind.{Kind}

@@ -1,7 +1,7 @@
 -- Elements read one after the other, and built one after the other, as a loop does.
 use Rattle.std.proofs.Common.{◌≡◌, List, [], ◌∷◌, ◌++◌, Option, Some, None, refl, sym, ap, append_assoc}
-use Rattle.zproductions.specs.Reading.{option_map}
-use Rattle.zproductions.specs.Within.{onto}
+use Rattle.zasn_tables.specs.Reading.{option_map}
+use Rattle.zasn_tables.specs.Within.{onto}
 
 -- what is still to come, behind what is there
 abbrev pub behind : {A : Type 0} → List A → Option (List A) → Option (List A)

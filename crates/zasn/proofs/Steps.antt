@@ -2,7 +2,7 @@
 use Rattle.std.proofs.Common.{◌≡◌, List, [], ◌∷◌, Option, Result, Ok, Err, refl, subst}
 use Rattle.zber.specs.AsnTags.{AsnTag}
 use Rattle.zber.specs.Elements.{Element}
-use Rattle.zproductions.specs.Reading.{◌>>=◌, optional_at}
+use Rattle.zasn_tables.specs.Reading.{◌>>=◌, optional_at}
 use Rattle.zasn.specs.declared.error.PartError.{PartError}
 use Rattle.zasn.specs.declared.error.PartError.TheVariants.{Misfit, Memory}
 use Rattle.zasn.specs.Answers.{Finds, Takes}

@@ -3,8 +3,8 @@ use Rattle.std.proofs.Common.{◌≡◌, ◌≤◌, ℕ, ◌-◌, List, [], ◌�
 use Rattle.std.proofs.lemmas.List.{drop_at}
 use Rattle.zber.specs.AsnTags.{AsnTag}
 use Rattle.zber.specs.Elements.{Element, cons}
-use Rattle.zproductions.specs.Table.{Elements}
-use Rattle.zproductions.specs.Within.{found, sequence_of, any_at, all_of, list_of}
+use Rattle.zasn_tables.specs.Table.{Elements}
+use Rattle.zasn_tables.specs.Within.{found, sequence_of, any_at, all_of, list_of}
 use Rattle.zber.proofs.Runs.{elements-forest}
 use Rattle.zasn.specs.declared.error.PartError.{PartError}
 use Rattle.zasn.specs.declared.error.PartError.TheVariants.{Misfit, Memory}

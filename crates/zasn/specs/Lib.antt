@@ -1,3 +1,12 @@
 pub mod Answers
 pub mod Errors
 pub mod Places
+pub use Rattle.zasn_tables.specs.Building
+pub use Rattle.zasn_tables.specs.Choice
+pub use Rattle.zasn_tables.specs.Laws
+pub use Rattle.zasn_tables.specs.Meanings
+pub use Rattle.zasn_tables.specs.Place
+pub use Rattle.zasn_tables.specs.Reading
+pub use Rattle.zasn_tables.specs.Standing
+pub use Rattle.zasn_tables.specs.Table
+pub use Rattle.zasn_tables.specs.Within

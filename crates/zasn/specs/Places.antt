@@ -3,21 +3,21 @@ use Rattle.std.specs.Prelude.{◌≡◌, ℕ, ℤ, Bool, true, List, [], ◌∷�
 use Rattle.zber.specs.AsnTags.{AsnTag}
 use Rattle.zber.specs.Elements.{Element, tag_of}
 use Rattle.zber.specs.Tags.{among}
-use Rattle.zproductions.specs.Standing.{required as one, ended as no_more, tagged, sequence}
-use Rattle.zproductions.specs.Reading.{constructed}
-use Rattle.zproductions.specs.Building.{constructed_spelt}
-use Rattle.zproductions.specs.Laws.{IsPlace, IsSpelled}
-use Rattle.zproductions.specs.Meanings.{octets_of, octets_spelt, oid_of, oid_spelt, bits_of, bits_spelt, int_of, int_spelt, bool_of, bool_spelt}
-use Rattle.zproductions.specs.Place.{Place}
-use Rattle.zproductions.specs.Within.{sequence_of, around, itself, any_at, is_kept, each, list_of, whole_of, all_spelt}
-use Rattle.zproductions.specs.Choice.{Choice, Pick, picked, Says, choice_of, choice_spelt, choice_tags, distinct}
-use Rattle.zproductions.specs.Table.{ComponentTable, required, ended, Elements, Fields, fields, Maker, make_of, Stand, walk, put, tags_of, clear}
-use Rattle.zproductions.proofs.Readings.{constructed_at_tag}
-use Rattle.zproductions.proofs.Builds.{constructed_spelled}
-use Rattle.zproductions.proofs.Meanings.{octets_place, octets_spelled, oid_place, oid_spelled, bits_place, bits_spelled, int_place, int_spelled, bool_place, bool_spelled}
-use Rattle.zproductions.proofs.Tables.{value_read, value_made}
-use Rattle.zproductions.proofs.Choices.{pick_some, choice_begins, pick_reads, pick_finds, choice_makes, choice_none}
-use Rattle.zproductions.proofs.Withins.{within_place, within_spelled, any_place, any_spelled, kept_place, kept_spelled, list_place, list_spelled}
+use Rattle.zasn_tables.specs.Standing.{required as one, ended as no_more, tagged, sequence}
+use Rattle.zasn_tables.specs.Reading.{constructed}
+use Rattle.zasn_tables.specs.Building.{constructed_spelt}
+use Rattle.zasn_tables.specs.Laws.{IsPlace, IsSpelled}
+use Rattle.zasn_tables.specs.Meanings.{octets_of, octets_spelt, oid_of, oid_spelt, bits_of, bits_spelt, int_of, int_spelt, bool_of, bool_spelt}
+use Rattle.zasn_tables.specs.Place.{Place}
+use Rattle.zasn_tables.specs.Within.{sequence_of, around, itself, any_at, is_kept, each, list_of, whole_of, all_spelt}
+use Rattle.zasn_tables.specs.Choice.{Choice, Pick, picked, Says, choice_of, choice_spelt, choice_tags, distinct}
+use Rattle.zasn_tables.specs.Table.{ComponentTable, required, ended, Elements, Fields, fields, Maker, make_of, Stand, walk, put, tags_of, clear}
+use Rattle.zasn_tables.proofs.Readings.{constructed_at_tag}
+use Rattle.zasn_tables.proofs.Builds.{constructed_spelled}
+use Rattle.zasn_tables.proofs.Meanings.{octets_place, octets_spelled, oid_place, oid_spelled, bits_place, bits_spelled, int_place, int_spelled, bool_place, bool_spelled}
+use Rattle.zasn_tables.proofs.Tables.{value_read, value_made}
+use Rattle.zasn_tables.proofs.Choices.{pick_some, choice_begins, pick_reads, pick_finds, choice_makes, choice_none}
+use Rattle.zasn_tables.proofs.Withins.{within_place, within_spelled, any_place, any_spelled, kept_place, kept_spelled, list_place, list_spelled}
 
 -- the elements of a value that is made of the table's fields
 abbrev pub of_table : {V : Type 0} (t : ComponentTable V) (make : Maker t V)

@@ -1,7 +1,7 @@
 //! Elements that a production keeps as they stand.
 ghost use Rattle.std.specs.Prelude.{◌≡◌, [], ◌∷◌, Some, None, IfSome, IfNone};
-ghost use Rattle.zproductions.specs.Within.{any_at, around, sequence_of};
-ghost use Rattle.zproductions.specs.Place.{Place};
+ghost use Rattle.zasn_tables.specs.Within.{any_at, around, sequence_of};
+ghost use Rattle.zasn_tables.specs.Place.{Place};
 ghost use Rattle.zasn.specs.Answers.{Means, Makes};
 ghost use Rattle.zasn.specs.Places.{kept};
 

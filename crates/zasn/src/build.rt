@@ -1,8 +1,8 @@
 //! The elements of a production, built from left to right.
 ghost use Rattle.std.specs.Prelude.{◌≡◌, [], ◌∷◌, ◌++◌, Some, OnErr};
 ghost use Rattle.zber.specs.Elements.{cons};
-ghost use Rattle.zproductions.specs.Building.{optional_put, required_put};
-ghost use Rattle.zproductions.specs.Place.{Place};
+ghost use Rattle.zasn_tables.specs.Building.{optional_put, required_put};
+ghost use Rattle.zasn_tables.specs.Place.{Place};
 ghost use Rattle.zasn.specs.Answers.{Puts};
 ghost use Rattle.zasn.specs.Places.{any, explicit, kept, strings};
 

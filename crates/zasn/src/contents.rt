@@ -3,7 +3,7 @@ ghost use Rattle.std.specs.Prelude.{◌≡◌};
 ghost use Rattle.zber.specs.AsnTags.{AsnTag};
 ghost use Rattle.zber.specs.Elements.{tag_of};
 ghost use Rattle.zber.specs.Tags.{among};
-ghost use Rattle.zproductions.specs.Place.{Place};
+ghost use Rattle.zasn_tables.specs.Place.{Place};
 ghost use Rattle.zasn.specs.Answers.{Means, Makes};
 ghost use Rattle.zasn.specs.Places.{octets, integer, boolean, oid, bits, opaque};
 
@@ -94,7 +94,7 @@ impl Contents for Bytes {
     }
 }
 
-#[tactic(auto, using(zproductions::proofs::Meanings::fits_i64))]
+#[tactic(auto, using(zasn_tables::proofs::Meanings::fits_i64))]
 impl Contents for i64 {
     ghost place = { integer };
 

@@ -2,10 +2,10 @@
 ghost use Rattle.std.specs.Prelude.{◌≡◌, [], ◌∷◌, true, false, length, IfSome, IfNone, IfOk, IfErr, OnOk, OnErr};
 ghost use Rattle.zber.specs.AsnTags.{context};
 ghost use Rattle.zber.specs.Elements.{prim, tag_of};
-ghost use Rattle.zproductions.specs.Reading.{optional_at, required_at, ended_at};
-ghost use Rattle.zproductions.specs.Place.{Place};
+ghost use Rattle.zasn_tables.specs.Reading.{optional_at, required_at, ended_at};
+ghost use Rattle.zasn_tables.specs.Place.{Place};
 ghost use Rattle.zber.specs.Tags.{among};
-ghost use Rattle.zproductions.specs.Within.{alone_at, sequence_of};
+ghost use Rattle.zasn_tables.specs.Within.{alone_at, sequence_of};
 ghost use Rattle.zasn.specs.Answers.{TakesAway, Finds, begins, starts};
 
 use crate::contents::{Contents, Tagged};

@@ -1,8 +1,8 @@
 //! Values of elements that are given away: what a value keeps of them is moved, and not copied.
 ghost use Rattle.std.specs.Prelude.{◌≡◌, [], ◌∷◌, IfOk};
-ghost use Rattle.zproductions.specs.Table.{Elements};
-ghost use Rattle.zproductions.specs.Place.{Place};
-ghost use Rattle.zproductions.specs.Within.{alone_at, any_at, around, sequence_of};
+ghost use Rattle.zasn_tables.specs.Table.{Elements};
+ghost use Rattle.zasn_tables.specs.Place.{Place};
+ghost use Rattle.zasn_tables.specs.Within.{alone_at, any_at, around, sequence_of};
 ghost use Rattle.zasn.specs.Answers.{Finds, FindsAway, Makes, Means, Puts};
 ghost use Rattle.zasn.specs.Places.{explicit};
 

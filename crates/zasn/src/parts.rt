@@ -1,9 +1,9 @@
 //! The elements of a production, read from left to right.
 ghost use Rattle.std.specs.Prelude.{◌≡◌, [], ◌∷◌, true, false, length, drop, ◌-◌, IfSome, IfNone, IfOk, IfErr, OnErr};
-ghost use Rattle.zproductions.specs.Reading.{optional_at, required_at, ended_at};
-ghost use Rattle.zproductions.specs.Place.{Place};
-ghost use Rattle.zproductions.specs.Table.{Elements};
-ghost use Rattle.zproductions.specs.Within.{alone_at, any_at, list_of, sequence_of};
+ghost use Rattle.zasn_tables.specs.Reading.{optional_at, required_at, ended_at};
+ghost use Rattle.zasn_tables.specs.Place.{Place};
+ghost use Rattle.zasn_tables.specs.Table.{Elements};
+ghost use Rattle.zasn_tables.specs.Within.{alone_at, any_at, list_of, sequence_of};
 ghost use Rattle.zasn.specs.Answers.{Takes, Finds, begins};
 ghost use Rattle.zasn.specs.Places.{alone, kept, text_under};
 

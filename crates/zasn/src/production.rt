@@ -1,8 +1,8 @@
 //! Values of several elements in order: a SEQUENCE.
 ghost use Rattle.std.specs.Prelude.{◌≡◌, [], ◌∷◌, Some, IfOk};
-ghost use Rattle.zproductions.specs.Table.{Elements};
-ghost use Rattle.zproductions.specs.Place.{Place};
-ghost use Rattle.zproductions.specs.Within.{sequence_of, around, alone_at};
+ghost use Rattle.zasn_tables.specs.Table.{Elements};
+ghost use Rattle.zasn_tables.specs.Place.{Place};
+ghost use Rattle.zasn_tables.specs.Within.{sequence_of, around, alone_at};
 ghost use Rattle.zasn.specs.Answers.{Finds, Puts, Means, Makes};
 ghost use Rattle.zasn.specs.Places.{explicit};
 

@@ -1,6 +1,6 @@
 //! SEQUENCE OF: values in order, each in an element with a tag of its own.
 ghost use Rattle.std.specs.Prelude.{◌≡◌};
-ghost use Rattle.zproductions.specs.Within.{all_of, all_spelt, whole_of};
+ghost use Rattle.zasn_tables.specs.Within.{all_of, all_spelt, whole_of};
 ghost use Rattle.zasn.specs.Answers.{Means, Makes};
 ghost use Rattle.zasn.specs.Places.{list};
 

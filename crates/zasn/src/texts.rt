@@ -1,6 +1,6 @@
 //! SEQUENCE OF strings: texts in order, each in an element with the same tag.
-ghost use Rattle.zproductions.specs.Within.{all_of, all_spelt, list_of};
-ghost use Rattle.zproductions.specs.Meanings.{octets_spelt};
+ghost use Rattle.zasn_tables.specs.Within.{all_of, all_spelt, list_of};
+ghost use Rattle.zasn_tables.specs.Meanings.{octets_spelt};
 ghost use Rattle.zasn.specs.Answers.{Means, Makes};
 ghost use Rattle.zasn.specs.Places.{strings, text_under};
 

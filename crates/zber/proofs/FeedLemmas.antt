@@ -45,7 +45,7 @@ begun limit xs s at window reading opened finished count contents = subst (Holds
     within = omega (arith, at);
     path = rw (at, opened) top;
     window = rw (at, window) (record { end_is = omega arith; past_is = refl; marked_is = refl });
-    told = rw (at, finished) none;
+    assembled = rw (at, finished) none;
     count = count;
     contents = contents;
   };
@@ -61,7 +61,7 @@ path_fed {xs = xs} {s = s} ys g =
       within = omega (arith, g.within, length-append xs ys);
       path = rw same g.path;
       window = g.window;
-      told = rw same g.told;
+      assembled = rw same g.assembled;
       count = g.count;
       contents = g.contents;
     }
@@ -85,7 +85,7 @@ going_fed {xs = xs} {s = s} {r = r} ys g =
 whole_fed : {limit : ℕ} {xs : List ℕ} {s : Scan} {e : Element} (ys : List ℕ) → IsWhole limit xs s e → IsWhole limit (xs ++ ys) s e
 whole_fed {xs = xs} {s = s} ys g =
     let same : take s.at (xs ++ ys) ≡ take s.at xs = take-append-le s.at xs ys g.within in
-    record { within = omega (arith, g.within, length-append xs ys); none_open = g.none_open; message = rw same g.message; told = rw same g.told; contents = g.contents }
+    record { within = omega (arith, g.within, length-append xs ys); none_open = g.none_open; message = rw same g.message; assembled = rw same g.assembled; contents = g.contents }
 
 by_reading : (limit : ℕ) (xs ys : List ℕ) (s : Scan) (r : Reading) → HoldsBy limit xs s r → HoldsBy limit (xs ++ ys) s r
 by_reading limit xs ys s (AtFront f len) h = going_fed ys h

@@ -5,11 +5,11 @@ use Rattle.zber.specs.declared.fault.HeaderPlace.{HeaderPlace}
 use Rattle.zber.specs.declared.scan.Finished.{Finished}
 use Rattle.zber.specs.declared.scan.Open.{Open}
 use Rattle.zber.specs.AsnTags.{AsnTag}
-use Rattle.zber.specs.Elements.{Element, forest, prim, cons, Primitive, Constructed}
+use Rattle.zber.specs.Elements.{contents_in, Element, forest, prim, cons, Primitive, Constructed}
 use Rattle.zber.specs.Spelling.{Length, Spells, primitive, definite as spells_definite, indefinite as spells_indefinite, SpellsAll, none as spells_none}
 use Rattle.zber.specs.Headers.{Header, of_size, of_mark}
 use Rattle.zber.specs.Paths.{start, after, Opens, definite, indefinite, Reached, top as reached_top, inside as reached_inside}
-use Rattle.zber.specs.Scans.{Told, none, prim_told, cons_told, contents_in, WindowIs, Path, top, inside}
+use Rattle.zber.specs.Scans.{IsAssembly, none, with_primitive, with_constructed, WindowIs, Path, top, inside}
 use Rattle.zber.proofs.ElementLemmas.{SpellsAll-append, differ}
 
 -- a range of a front is that range of the whole
@@ -18,16 +18,16 @@ range_front zero size xs ys l = take-append-le size xs ys (omega arith)
 range_front (suc from) size [] ys l = absurd (omega arith)
 range_front (suc from) size (x ∷ xs) ys l = range_front from size xs ys (omega arith)
 
-pub told_more : {xs : List ℕ} {es ds : List Element} {fs : List Finished} (ys : List ℕ) → Told xs es fs ds → Told (xs ++ ys) es fs ds
-told_more ys none = none
-told_more {xs = xs} {es = es} {ds = ds} ys (prim_told {n = n} {from = from} {size = size} {fs = fs} l t) =
-    prim_told (omega (arith, l, length-append xs ys)) (subst (λ z. Told (xs ++ ys) (es ++ prim n z ∷ []) fs ds) (sym (range_front from size xs ys l)) (told_more ys t))
-told_more ys (cons_told l t) = cons_told l (told_more ys t)
+pub assembled_more : {xs : List ℕ} {es ds : List Element} {fs : List Finished} (ys : List ℕ) → IsAssembly xs es fs ds → IsAssembly (xs ++ ys) es fs ds
+assembled_more ys none = none
+assembled_more {xs = xs} {es = es} {ds = ds} ys (with_primitive {n = n} {from = from} {size = size} {fs = fs} l t) =
+    with_primitive (omega (arith, l, length-append xs ys)) (subst (λ z. IsAssembly (xs ++ ys) (es ++ prim n z ∷ []) fs ds) (sym (range_front from size xs ys l)) (assembled_more ys t))
+assembled_more ys (with_constructed l t) = with_constructed l (assembled_more ys t)
 
-pub told_then : {xs : List ℕ} {es ds cs : List Element} {fs gs : List Finished} → Told xs es fs ds → Told xs ds gs cs → Told xs es (fs ++ gs) cs
-told_then none u = u
-told_then (prim_told l t) u = prim_told l (told_then t u)
-told_then (cons_told l t) u = cons_told l (told_then t u)
+pub assembled_then : {xs : List ℕ} {es ds cs : List Element} {fs gs : List Finished} → IsAssembly xs es fs ds → IsAssembly xs ds gs cs → IsAssembly xs es (fs ++ gs) cs
+assembled_then none u = u
+assembled_then (with_primitive l t) u = with_primitive l (assembled_then t u)
+assembled_then (with_constructed l t) u = with_constructed l (assembled_then t u)
 
 pub path_reached : {limit : ℕ} {os : List Open} {xs : List ℕ} {es : List Element} {p : HeaderPlace} → Path limit os xs es p → Reached limit xs p
 path_reached top = reached_top

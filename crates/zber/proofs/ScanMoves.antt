@@ -156,7 +156,7 @@ going_on {xs = xs} {s = s} {es = es} {p = p} g r hs e l f =
     record { es = es; place = p; going = g; looked = omega (arith, len, l); reading = subst (λ z. ReadingIs p z r) (e ∙ ap (λ k. take k (drop s.at xs)) (sym len)) f }
 
 same_going : {limit : ℕ} {xs : List ℕ} {s : Scan} {es : List Element} {p : HeaderPlace} (r : Reading) → Going limit xs s es p → Going limit xs (record s { reading = r }) es p
-same_going r g = record { within = g.within; path = g.path; window = g.window; told = g.told; count = g.count; contents = g.contents }
+same_going r g = record { within = g.within; path = g.path; window = g.window; assembled = g.assembled; count = g.count; contents = g.contents }
 
 holds_by : (limit : ℕ) (xs : List ℕ) (s : Scan) (p : HeaderPlace) (hs : List ℕ) (r : Reading) → ReadingIs p hs r → IsGoing limit xs s r → HoldsBy limit xs s r
 holds_by limit xs s p hs (AtFront f len) q g = g
@@ -196,7 +196,7 @@ going_same f g = record {
   within = rw (← f.at) g.within;
   path = rw (← f.at, ← f.opened) g.path;
   window = rw (← f.at, ← f.window) g.window;
-  told = rw (← f.at, ← f.finished) g.told;
+  assembled = rw (← f.at, ← f.finished) g.assembled;
   count = rw (← f.count) g.count;
   contents = rw (← f.contents) g.contents;
 }
@@ -205,7 +205,7 @@ is_going_same : {limit : ℕ} {xs : List ℕ} {s t : Scan} {r : Reading} → Sam
 is_going_same f g = record { es = g.es; place = g.place; going = going_same f g.going; looked = rw (← f.at) g.looked; reading = rw (← f.at) g.reading }
 
 whole_same : {limit : ℕ} {xs : List ℕ} {s t : Scan} {e : Element} → Same s t → IsWhole limit xs s e → IsWhole limit xs t e
-whole_same f g = record { within = rw (← f.at) g.within; none_open = rw (← f.opened) g.none_open; message = rw (← f.at) g.message; told = rw (← f.at, ← f.finished) g.told; contents = rw (← f.contents) g.contents }
+whole_same f g = record { within = rw (← f.at) g.within; none_open = rw (← f.opened) g.none_open; message = rw (← f.at) g.message; assembled = rw (← f.at, ← f.finished) g.assembled; contents = rw (← f.contents) g.contents }
 
 same_by : (limit : ℕ) (xs : List ℕ) (s t : Scan) (r : Reading) → Same s t → HoldsBy limit xs s r → HoldsBy limit xs t r
 same_by limit xs s t (AtFront f len) e h = is_going_same e h

@@ -11,14 +11,14 @@ use Rattle.zber.specs.declared.scan.Reading.TheVariants.{Front}
 use Rattle.zber.specs.declared.scan.Scan.{Scan}
 use Rattle.zber.specs.declared.front.Front.TheVariants.{Nothing}
 use Rattle.zber.specs.AsnTags.{AsnTag}
-use Rattle.zber.specs.Elements.{Element, forest, prim, cons}
+use Rattle.zber.specs.Elements.{contents_in, Element, forest, prim, cons}
 use Rattle.zber.specs.Spelling.{Spells, SpellsAll, deepest, primitive, definite as spells_definite, indefinite as spells_indefinite, none as spells_none, more}
 use Rattle.zber.specs.Headers.{Header}
 use Rattle.zber.specs.Paths.{after, Opens, definite, indefinite}
-use Rattle.zber.specs.Scans.{Told, none, prim_told, cons_told, contents_in, WindowIs, Path, top, inside, Going, IsGoing, Holds, HoldsBy, behind_reading, inner_window, IsPassed, IsEntered, IsClosed}
+use Rattle.zber.specs.Scans.{IsAssembly, none, with_primitive, with_constructed, WindowIs, Path, top, inside, Going, IsGoing, Holds, HoldsBy, behind_reading, inner_window, IsPassed, IsEntered, IsClosed}
 use Rattle.zber.proofs.ElementLemmas.{id_some}
 use Rattle.zber.proofs.HeaderLemmas.{take_add}
-use Rattle.zber.proofs.ScanLemmas.{told_more, told_then, path_none, path_child, path_open, closing, Closing, spell_octets, ends_size, ends_mark, contents-append, contents_closed}
+use Rattle.zber.proofs.ScanLemmas.{assembled_more, assembled_then, path_none, path_child, path_open, closing, Closing, spell_octets, ends_size, ends_mark, contents-append, contents_closed}
 
 pub place_is : (p : HeaderPlace) (w : Window) (at few : ℕ) → WindowIs w at p → few + p.room ≡ 64 → record { size = w.end - at; past = w.past; marked = w.marked; room = 64 - few } ≡ p
 place_is p w at few f r =
@@ -60,23 +60,23 @@ path_contents (inside {xs = xs} {h = h} {ys = ys} {es = es} {fs = fs} f w b open
 module _ (limit : ℕ) (xs : List ℕ) (s : Scan) where
   pub child_holds : (os : List Open) (front : List ℕ) (es : List Element) (p : HeaderPlace) (e : Element) (zs : List ℕ) → Path limit os front es p → Spells p.room e zs → length zs ≤ p.size
       → s.opened.items ≡ os → s.at ≡ length (front ++ zs) → take s.at xs ≡ front ++ zs → s.at ≤ length xs
-      → WindowIs s.window (length front) p → Told (front ++ zs) [] s.finished.items (es ++ e ∷ []) → s.count ≡ length es + 1 → s.contents ≡ contents_in (forest (es ++ e ∷ []))
+      → WindowIs s.window (length front) p → IsAssembly (front ++ zs) [] s.finished.items (es ++ e ∷ []) → s.count ≡ length es + 1 → s.contents ≡ contents_in (forest (es ++ e ∷ []))
       → s.reading ≡ behind_reading (length os) → Holds limit xs s
-  child_holds os front es p e zs path spelled fits opened at octets within window told count contents reading = go os refl where
+  child_holds os front es p e zs path spelled fits opened at octets within window assembled count contents reading = go os refl where
     go : (ms : List Open) → os ≡ ms → Holds limit xs s
     go [] q =
         let empty = path_none path q in
         let here : take s.at xs ≡ zs = octets ∙ ap (λ z. z ++ zs) empty.0 in
         let spells : Spells deepest e (take s.at xs) = subst (λ z. Spells z e (take s.at xs)) (ap (λ z. z.room) empty.2) (subst (Spells p.room e) (sym here) spelled) in
         let small : length (take s.at xs) ≤ limit = omega (arith, ap length here, fits, ap (λ z. z.size) empty.2) in
-        let all : Told (take s.at xs) [] s.finished.items (e ∷ []) = subst (λ z. Told z [] s.finished.items (e ∷ [])) (sym octets) (subst (λ z. Told (front ++ zs) [] s.finished.items (z ++ e ∷ [])) empty.1 told) in
+        let all : IsAssembly (take s.at xs) [] s.finished.items (e ∷ []) = subst (λ z. IsAssembly z [] s.finished.items (e ∷ [])) (sym octets) (subst (λ z. IsAssembly (front ++ zs) [] s.finished.items (z ++ e ∷ [])) empty.1 assembled) in
         subst (HoldsBy limit xs s) (sym (reading ∙ ap (λ z. behind_reading (length z)) q)) (
           e,
           record {
             within = within;
             none_open = opened ∙ q;
             message = record { spelled = spells; within = small };
-            told = all;
+            assembled = all;
             contents = contents ∙ ap (λ z. contents_in (forest (z ++ e ∷ []))) empty.1;
           },
         )
@@ -93,7 +93,7 @@ module _ (limit : ℕ) (xs : List ℕ) (s : Scan) where
               past_is = window.past_is;
               marked_is = window.marked_is;
             };
-            told = rw octets told;
+            assembled = rw octets assembled;
             count = omega (arith, count, length-append es (e ∷ []));
             contents = contents;
           };
@@ -102,8 +102,8 @@ module _ (limit : ℕ) (xs : List ℕ) (s : Scan) where
         })
 
 -- what is told of one more element
-pub told_prim : (xs : List ℕ) (es : List Element) (fs : List Finished) (n : AsnTag) (zs ys : List ℕ) (from size : ℕ) → Told xs [] fs es → from + size ≤ length (xs ++ zs) → take size (drop from (xs ++ zs)) ≡ ys → Told (xs ++ zs) [] (fs ++ Prim n from size ∷ []) (es ++ prim n ys ∷ [])
-told_prim xs es fs n zs ys from size t l e = told_then (told_more zs t) (prim_told l (subst (λ z. Told (xs ++ zs) (es ++ prim n (take size (drop from (xs ++ zs))) ∷ []) [] (es ++ prim n z ∷ [])) e none))
+pub assembled_primitive : (xs : List ℕ) (es : List Element) (fs : List Finished) (n : AsnTag) (zs ys : List ℕ) (from size : ℕ) → IsAssembly xs [] fs es → from + size ≤ length (xs ++ zs) → take size (drop from (xs ++ zs)) ≡ ys → IsAssembly (xs ++ zs) [] (fs ++ Prim n from size ∷ []) (es ++ prim n ys ∷ [])
+assembled_primitive xs es fs n zs ys from size t l e = assembled_then (assembled_more zs t) (with_primitive l (subst (λ z. IsAssembly (xs ++ zs) (es ++ prim n (take size (drop from (xs ++ zs))) ∷ []) [] (es ++ prim n z ∷ [])) e none))
 
 take_left : {A : Type 0} (xs ys : List A) → take (length xs) (xs ++ ys) ≡ xs
 take_left [] ys = refl
@@ -113,11 +113,11 @@ drop_left : {A : Type 0} (xs ys : List A) → drop (length xs) (xs ++ ys) ≡ ys
 drop_left [] ys = refl
 drop_left (x ∷ xs) ys = drop_left xs ys
 
-pub told_cons : (xs : List ℕ) (es ds : List Element) (fs : List Finished) (n : AsnTag) (zs : List ℕ) (behind : ℕ) → Told xs [] fs (es ++ ds) → behind ≡ length es → Told (xs ++ zs) [] (fs ++ Cons n behind ∷ []) (es ++ cons n ds ∷ [])
-told_cons xs es ds fs n zs behind t e =
+pub assembled_constructed : (xs : List ℕ) (es ds : List Element) (fs : List Finished) (n : AsnTag) (zs : List ℕ) (behind : ℕ) → IsAssembly xs [] fs (es ++ ds) → behind ≡ length es → IsAssembly (xs ++ zs) [] (fs ++ Cons n behind ∷ []) (es ++ cons n ds ∷ [])
+assembled_constructed xs es ds fs n zs behind t e =
     let front : take behind (es ++ ds) ≡ es = ap (λ k. take k (es ++ ds)) e ∙ take_left es ds in
     let back : drop behind (es ++ ds) ≡ ds = ap (λ k. drop k (es ++ ds)) e ∙ drop_left es ds in
-    told_then (told_more zs t) (cons_told (omega (arith, e, length-append es ds)) (subst (λ z. Told (xs ++ zs) (take behind (es ++ ds) ++ cons n (drop behind (es ++ ds)) ∷ []) [] z) (rw (front, back) refl) none))
+    assembled_then (assembled_more zs t) (with_constructed (omega (arith, e, length-append es ds)) (subst (λ z. IsAssembly (xs ++ zs) (take behind (es ++ ds) ++ cons n (drop behind (es ++ ds)) ∷ []) [] z) (rw (front, back) refl) none))
 
 pub take_full : (xs : List ℕ) → take (length xs) xs ≡ xs
 take_full [] = refl
@@ -140,10 +140,10 @@ passed {limit} {xs} {s} {n} {len} {size} f t opened at window finished count con
     let sum : length (front ++ (head ++ body)) ≡ s.at + (len + size) = omega (arith, length-append front (head ++ body), length-append head body, front_len, head_len, body_len) in
     let cut : drop (s.at + len) (front ++ (head ++ body)) ≡ body = ap (λ k. drop k (front ++ (head ++ body))) (omega (arith, length-append front head, front_len, head_len)) ∙ ap (drop (length (front ++ head))) (sym (append_assoc front head body)) ∙ drop_left (front ++ head) body in
     let range : take size (drop (s.at + len) (front ++ (head ++ body))) ≡ body = ap (take size) cut ∙ ap (λ k. take k body) (sym body_len) ∙ take_full body in
-    let told = told_prim front f.es s.finished.items n (head ++ body) body (s.at + len) size f.going.told (omega (arith, sum)) range in
+    let assembled = assembled_primitive front f.es s.finished.items n (head ++ body) body (s.at + len) size f.going.assembled (omega (arith, sum)) range in
     child_holds limit xs t s.opened.items front f.es f.place (prim n body) (head ++ body) f.going.path (spell_octets body f.header body_len)
     (omega (arith, f.fits, length-append head body, head_len, body_len)) opened (at ∙ sym sum) octets (omega (arith, at, f.come))
-    (rw (window, front_len) f.going.window) (rw finished told) (omega (arith, count, f.going.count))
+    (rw (window, front_len) f.going.window) (rw finished assembled) (omega (arith, count, f.going.count))
     (omega (arith, contents, f.going.contents, contents-append f.es (prim n body ∷ []), body_len)) reading
 
 -- behind the end of the innermost open element
@@ -156,11 +156,11 @@ module _ {limit : ℕ} {xs : List ℕ} {s : Scan} {len : ℕ} (f : IsClosed limi
       let group : (k.front ++ (k.head ++ k.octets)) ++ tail ≡ k.front ++ zs = append_assoc k.front (k.head ++ k.octets) tail ∙ ap (λ z. k.front ++ z) (append_assoc k.head k.octets tail) in
       let here : take s.at xs ++ tail ≡ k.front ++ zs = ap (λ z. z ++ tail) k.front_is ∙ group in
       let octets : take t.at xs ≡ k.front ++ zs = ap (λ z. take z xs) at ∙ take_add xs s.at len ∙ ap (λ z. take s.at xs ++ z) is ∙ here in
-      let told : Told (take s.at xs ++ tail) [] (s.finished.items ++ Cons o.tag o.behind ∷ []) (k.before ++ cons o.tag k.kids ∷ []) = told_cons (take s.at xs) k.before k.kids s.finished.items o.tag tail o.behind (subst (λ z. Told (take s.at xs) [] s.finished.items z) k.elements f.going.told) k.behind in
+      let assembled : IsAssembly (take s.at xs ++ tail) [] (s.finished.items ++ Cons o.tag o.behind ∷ []) (k.before ++ cons o.tag k.kids ∷ []) = assembled_constructed (take s.at xs) k.before k.kids s.finished.items o.tag tail o.behind (subst (λ z. IsAssembly (take s.at xs) [] s.finished.items z) k.elements f.going.assembled) k.behind in
       let within : t.at ≤ length xs = omega (arith, at, f.come) in
       let at_is : t.at ≡ length (k.front ++ zs) = sym (length-take-le t.at xs within) ∙ ap length octets in
       child_holds limit xs t os k.front k.before k.outer (cons o.tag k.kids) zs k.path spelled.0 spelled.1 opened at_is octets within
-      (rw window k.window) (rw finished (subst (λ z. Told z [] (s.finished.items ++ Cons o.tag o.behind ∷ []) (k.before ++ cons o.tag k.kids ∷ [])) here told))
+      (rw window k.window) (rw finished (subst (λ z. IsAssembly z [] (s.finished.items ++ Cons o.tag o.behind ∷ []) (k.before ++ cons o.tag k.kids ∷ [])) here assembled))
       (omega (arith, count, k.behind)) (contents ∙ f.going.contents ∙ ap (λ z. contents_in (forest z)) k.elements ∙ sym (contents_closed o.tag k.before k.kids)) reading
 
   closed_as : ((len ≡ 0) × (f.place.marked ≡ false) × (f.place.size ≡ 0)) ⊎ ((len ≡ 2) × (f.place.marked ≡ true) × (2 ≤ f.place.size) × (take 2 (drop s.at xs) ≡ 0 ∷ 0 ∷ [])) → Holds limit xs t
@@ -202,7 +202,7 @@ entered_at {limit} {xs} {s} {n} {size} {len} f es p q g t o opens window outer b
         within = omega (arith, at, f.come);
         path = rw (octets, opened) path;
         window = window;
-        told = rw (octets, finished) (told_more head g.told);
+        assembled = rw (octets, finished) (assembled_more head g.assembled);
         count = count ∙ g.count;
         contents = contents ∙ g.contents;
       };

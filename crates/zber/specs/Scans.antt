@@ -11,7 +11,7 @@ use Rattle.zber.specs.declared.scan.Reading.TheVariants.{Front, Head, End, Whole
 use Rattle.zber.specs.declared.scan.Scan.{Scan}
 use Rattle.zber.specs.AsnTags.{AsnTag}
 use Rattle.zber.specs.declared.front.Front.TheVariants.{Nothing}
-use Rattle.zber.specs.Elements.{Element, Forest, end, leaf, branch, forest, prim, cons}
+use Rattle.zber.specs.Elements.{Element, forest, prim, cons, contents_in}
 use Rattle.zber.specs.Spelling.{SpellsAll, IsMessage}
 use Rattle.zber.specs.Headers.{Header}
 use Rattle.zber.specs.Fronts.{FrontIs}
@@ -19,20 +19,14 @@ use Rattle.zber.specs.Paths.{start, after, Opens}
 
 -- What is told of finished elements makes these of those: contents are a range of the octets, and children the elements
 -- behind so many.
-pub data Told (xs : List ℕ) : List Element → List Finished → List Element → Type 0 where
-  none : {es : List Element} → Told xs es [] es
-  prim_told : {n : _} {from size : ℕ} {es ds : List Element} {fs : List Finished}
-      → from + size ≤ length xs → Told xs (es ++ prim n (take size (drop from xs)) ∷ []) fs ds
-      → Told xs es (Prim n from size ∷ fs) ds
-  cons_told : {n : _} {behind : ℕ} {es ds : List Element} {fs : List Finished}
-      → behind ≤ length es → Told xs (take behind es ++ cons n (drop behind es) ∷ []) fs ds
-      → Told xs es (Cons n behind ∷ fs) ds
-
--- how many octets are contents of primitive elements
-abbrev pub contents_in : Forest → ℕ
-contents_in end = 0
-contents_in (leaf n xs rest) = length xs + contents_in rest
-contents_in (branch n kids rest) = contents_in kids + contents_in rest
+pub data IsAssembly (xs : List ℕ) : List Element → List Finished → List Element → Type 0 where
+  none : {es : List Element} → IsAssembly xs es [] es
+  with_primitive : {n : _} {from size : ℕ} {es ds : List Element} {fs : List Finished}
+      → from + size ≤ length xs → IsAssembly xs (es ++ prim n (take size (drop from xs)) ∷ []) fs ds
+      → IsAssembly xs es (Prim n from size ∷ fs) ds
+  with_constructed : {n : _} {behind : ℕ} {es ds : List Element} {fs : List Finished}
+      → behind ≤ length es → IsAssembly xs (take behind es ++ cons n (drop behind es) ∷ []) fs ds
+      → IsAssembly xs es (Cons n behind ∷ fs) ds
 
 -- the window that a place has, behind so many octets
 pub record WindowIs (w : Window) (at : ℕ) (p : HeaderPlace) : Type 0 where
@@ -52,7 +46,7 @@ pub record Going (limit : ℕ) (xs : List ℕ) (s : Scan) (es : List Element) (p
   pub within : s.at ≤ length xs
   pub path : Path limit s.opened.items (take s.at xs) es p
   pub window : WindowIs s.window s.at p
-  pub told : Told (take s.at xs) [] s.finished.items es
+  pub assembled : IsAssembly (take s.at xs) [] s.finished.items es
   pub count : s.count ≡ length es
   pub contents : s.contents ≡ contents_in (forest es)
 
@@ -79,7 +73,7 @@ pub record IsWhole (limit : ℕ) (xs : List ℕ) (s : Scan) (e : Element) : Type
   pub within : s.at ≤ length xs
   pub none_open : s.opened.items ≡ []
   pub message : IsMessage limit e (take s.at xs)
-  pub told : Told (take s.at xs) [] s.finished.items (e ∷ [])
+  pub assembled : IsAssembly (take s.at xs) [] s.finished.items (e ∷ [])
   pub contents : s.contents ≡ contents_in (forest (e ∷ []))
 
 pub record IsGoing (limit : ℕ) (xs : List ℕ) (s : Scan) (r : Reading) : Type 0 where

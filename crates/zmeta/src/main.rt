@@ -3,15 +3,15 @@
 
 ghost use Rattle.std.specs.Prelude.{◌≡◌};
 ghost use Rattle.std.specs.Process.{exit_status};
-ghost use Rattle.zcommands.specs.Faults.{code_of};
+ghost use Rattle.zmeta_commands.specs.Faults.{code_of};
 
 use std::io::{ErrorKind, IsTerminal, Stderr};
 use std::process::ExitCode;
 use std::{env, io};
-use zcommands::commands::run;
-use zcommands::fault::Status;
-use zcommands::input::Input;
-use zcommands::output::Output;
+use zmeta_commands::commands::run;
+use zmeta_commands::fault::Status;
+use zmeta_commands::input::Input;
+use zmeta_commands::output::Output;
 
 fn main(rt: HostRuntime) -> ExitCode {
     let words = arguments(&rt);

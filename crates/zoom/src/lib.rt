@@ -1,29 +1,17 @@
-//! Connections to targets, and what is known from them.
+//! The interface of a client, whole (Z39.50-2003, 3.2 and 3.4; the calls of ZOOM): connections to targets in one pool,
+//! result sets, what drives connections for questions, worlds in memory, talks over devices, and sockets.
+//!
+//! It has no code of its own: the members of the family have it, each proved by itself, and this hands it out.
 #![tactic(auto)]
 
-mod answer;
-mod call;
-mod connection;
-mod driver;
-pub mod driving;
-mod heeding;
-mod host;
 pub mod laws;
-mod learning;
-mod meta;
-mod phase;
-mod pool;
-mod receiving;
-mod result_set;
-mod state;
-mod take;
-mod waiting;
 
-pub use answer::{Step, TakeError};
-pub use call::Call;
-pub use host::Host;
-pub use meta::Meta;
-pub use pool::Pool;
-pub use result_set::ResultSet;
-pub use state::{Reason, State};
-pub use zquestions::{MetaSettings, Move, Question};
+pub use zoom_io::{
+    AnswerError, Device, Ends, Failed, Phase, Polled, PushError, Sink, Source, TalkError,
+    Unwatched, Watch, answer, push, talk, talk_at_once,
+};
+pub use zoom_pool::{Call, Host, Meta, Pool, Reason, ResultSet, State, Step, TakeError};
+pub use zoom_questions::{MetaSettings, Move, Question};
+pub use zoom_sim::ways::{Way, Within};
+pub use zoom_sim::{run_over, run_world};
+pub use zoom_tcp::{Line, ServeError, ask, ask_at_once, run_loopback, serve};

@@ -10,7 +10,7 @@ use Rattle.zapdu.specs.declared.productions.present_response.PresentResponse.{Pr
 use Rattle.zorigin.specs.declared.answer.What.{What}
 use Rattle.zorigin.specs.declared.answer.What.TheVariants as what
 use Rattle.zorigin.specs.declared.refusal.Refused.TheVariants as refused
-use Rattle.zorigin.specs.Ranges.{positions}
+use Rattle.zplan.specs.Ranges.{positions}
 use Rattle.zorigin.specs.Fitting.{records_in, diagnostics_in, is_empty, has_fragment, IsCounted, FitsSearch, FitsPresent, Fits, is_number, exceeds, count_mismatch, bad_number, bad_search, bad_present, search_fault, present_fault, fault_of}
 
 -- ---- the rows

@@ -9,13 +9,14 @@ use Rattle.zapdu.specs.declared.productions.diagnostic.DiagRec.{DiagRec}
 use Rattle.zapdu.specs.Productions.Records.{whole_record}
 use Rattle.zknow.specs.declared.fact.Fact.{Fact}
 use Rattle.zknow.specs.declared.fact.Fact.TheVariants.{Seen, Failed}
-use Rattle.zknow.specs.Encodings.{IsSpellable}
+use Rattle.zasn.specs.Place.{IsSpellable}
 use Rattle.zknow.specs.Facts.{IsFact}
 use Rattle.zorigin.specs.declared.answer.What.{What}
 use Rattle.zorigin.specs.declared.answer.What.TheVariants as what
 use Rattle.zorigin.specs.declared.answer.Answer.{Answer}
 use Rattle.zorigin.specs.Fitting.{Fits, records_in, diagnostics_in}
-use Rattle.zorigin.specs.Ranges.{positions, first_of}
+use Rattle.zplan.specs.Positions.{first_of}
+use Rattle.zplan.specs.Ranges.{positions}
 use Rattle.zorigin.specs.Facts.{seen_from, seen_at, told_at, count_or_failed, facts_by, facts_of, records_of, asks_positions, IsShowable}
 use Rattle.zorigin.proofs.Ranges.{IsLow, follows, low_positions}
 

@@ -6,8 +6,8 @@ use Rattle.std.specs.List.{enumerate_from, range_with_len}
 use Rattle.zapdu.specs.declared.productions.record.Record.{Record}
 use Rattle.zknow.specs.declared.fact.Fact.{Fact}
 use Rattle.zknow.specs.declared.fact.Fact.TheVariants.{Seen}
-use Rattle.zorigin.specs.declared.range.Range.{Range}
-use Rattle.zorigin.specs.Ranges.{natural, positions}
+use Rattle.zplan.specs.declared.range.Range.{Range}
+use Rattle.zplan.specs.Ranges.{natural, positions}
 use Rattle.zorigin.specs.Facts.{seen_from, seen_at}
 use Rattle.zorigin.proofs.Ranges.{natural_so, left_more}
 

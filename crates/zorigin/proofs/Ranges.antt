@@ -7,8 +7,10 @@ use Rattle.std.proofs.lemmas.List.Folds.{list_any-append}
 use Rattle.std.proofs.lemmas.List.FromFn.{length-range_with_len}
 use Rattle.std.specs.List.{range_with_len, AllByRecursion}
 use Rattle.zber.proofs.Tests.{both_true}
-use Rattle.zorigin.specs.declared.range.Range.{Range}
-use Rattle.zorigin.specs.Ranges.{natural, positions_of, positions, first_of, last_of, is_range, follow, are_ranges, is_past}
+use Rattle.zplan.specs.declared.range.Range.{Range}
+use Rattle.zorigin.specs.Ranges.{last_of, is_range, follow, are_ranges, is_past}
+use Rattle.zplan.specs.Positions.{first_of}
+use Rattle.zplan.specs.Ranges.{natural, positions_of, positions}
 
 -- ---- what a range that can be asked for is
 

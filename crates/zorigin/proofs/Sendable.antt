@@ -8,9 +8,9 @@ use Rattle.zber.specs.Bits.{bit_octets}
 use Rattle.zber.specs.Canonical.{canonical}
 use Rattle.zber.specs.Elements.{Element, height}
 use Rattle.zber.specs.Oids.{is_oid}
-use Rattle.zproductions.specs.Meanings.{is_i64, oid_spelt}
-use Rattle.zproductions.specs.Table.{ComponentTable, required, ended, Fields, fields, put}
-use Rattle.zproductions.specs.Within.{around, all_spelt}
+use Rattle.zasn.specs.Meanings.{is_i64, oid_spelt}
+use Rattle.zasn.specs.Table.{ComponentTable, required, ended, Fields, fields, put}
+use Rattle.zasn.specs.Within.{around, all_spelt}
 use Rattle.zapdu.specs.declared.apdu.Apdu.{Apdu}
 use Rattle.zapdu.specs.declared.productions.element_set_names.ElementSetNames.{ElementSetNames}
 use Rattle.zapdu.specs.declared.productions.element_set_names.ElementSetNames.TheVariants.{Generic}
@@ -22,7 +22,7 @@ use Rattle.zapdu.specs.Productions.PresentRequests.{present_request_table, prese
 use Rattle.zapdu.specs.Productions.Ranges.{range_table, range_parts, whole_range}
 use Rattle.zapdu.specs.Productions.RecordCompositions.{record_composition}
 use Rattle.zapdu.specs.Writes.{tag_of_kind, kind_of, apdu_made, apdu_spelt}
-use Rattle.zorigin.specs.declared.range.Range.{Range}
+use Rattle.zplan.specs.declared.range.Range.{Range}
 use Rattle.zorigin.specs.declared.settings.Ask.{Ask}
 use Rattle.zorigin.specs.declared.settings.Settings.{Settings}
 use Rattle.zorigin.specs.declared.state.Searched.{Searched}

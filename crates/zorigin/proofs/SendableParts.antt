@@ -3,9 +3,9 @@ use Rattle.std.proofs.Common.{◌≡◌, ℕ, ◌+◌, List, [], ◌∷◌, ◌+
 use Rattle.zber.specs.Canonical.{canonical}
 use Rattle.zber.specs.Elements.{Element}
 use Rattle.zber.proofs.ElementSizes.{run_len}
-use Rattle.zproductions.specs.Building.{◌>>=◌ as and_then, optional_put}
-use Rattle.zproductions.specs.Reading.{option_map}
-use Rattle.zproductions.specs.Table.{ComponentTable, required, optional, also, ended, Fields, put}
+use Rattle.zasn.specs.Building.{◌>>=◌ as and_then, optional_put}
+use Rattle.zasn.specs.Reading.{option_map}
+use Rattle.zasn.specs.Table.{ComponentTable, required, optional, also, ended, Fields, put}
 use Rattle.zorigin.proofs.SendableSizes.{run_more}
 
 -- the place has an element, where there is a value, and the rest holds behind its octets

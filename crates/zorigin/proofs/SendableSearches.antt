@@ -7,10 +7,10 @@ use Rattle.zber.specs.Canonical.{canonical}
 use Rattle.zber.specs.Elements.{Element, Primitive, Constructed, forest, height}
 use Rattle.zber.specs.Oids.{oid_octets, is_oid}
 use Rattle.zber.proofs.ElementSizes.{run_len}
-use Rattle.zproductions.specs.Meanings.{oid_spelt}
-use Rattle.zproductions.specs.Table.{Fields, fields}
-use Rattle.zproductions.specs.Within.{around}
-use Rattle.zrpn.specs.Trees.{RpnQuery}
+use Rattle.zasn.specs.Meanings.{oid_spelt}
+use Rattle.zasn.specs.Table.{Fields, fields}
+use Rattle.zasn.specs.Within.{around}
+use Rattle.zquery.specs.Trees.{RpnQuery}
 use Rattle.zapdu.specs.declared.productions.search_query.SearchQuery.TheVariants.{Rpn}
 use Rattle.zapdu.specs.declared.productions.search_request.SearchRequest.{SearchRequest}
 use Rattle.zapdu.specs.Productions.ElementSets.{element_set_names}

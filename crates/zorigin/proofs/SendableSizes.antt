@@ -16,11 +16,11 @@ use Rattle.zber.specs.Oids.{IsOid, groups, fronts as group_fronts, oid_octets, i
 use Rattle.zber.proofs.CanonicalSteps.{canonical_before}
 use Rattle.zber.proofs.ElementSizes.{run_len}
 use Rattle.zber.proofs.OidTest.{is_oid_from_pass}
-use Rattle.zproductions.specs.Building.{◌>>=◌ as and_then, optional_put}
-use Rattle.zproductions.specs.Meanings.{is_i64, oid_spelt, int_spelt}
-use Rattle.zproductions.specs.Reading.{option_map}
-use Rattle.zproductions.specs.Table.{ComponentTable, required, optional, also, ended, Fields, put}
-use Rattle.zproductions.specs.Within.{around, onto}
+use Rattle.zasn.specs.Building.{◌>>=◌ as and_then, optional_put}
+use Rattle.zasn.specs.Meanings.{is_i64, oid_spelt, int_spelt}
+use Rattle.zasn.specs.Reading.{option_map}
+use Rattle.zasn.specs.Table.{ComponentTable, required, optional, also, ended, Fields, put}
+use Rattle.zasn.specs.Within.{around, onto}
 
 -- ---- what stands before contents: no more than 15 octets
 

@@ -2,9 +2,9 @@
 use Rattle.std.proofs.Common.{ℕ, zero, suc, List, [], ◌∷◌, Option, Some, None}
 use Rattle.std.specs.List.{AllByRecursion}
 use Rattle.zber.specs.Elements.{Element, Primitive, Constructed, elements}
-use Rattle.zproductions.specs.Standing as standing
-use Rattle.zproductions.specs.Table.{ComponentTable, required, optional, ended, also, fields, Stand}
-use Rattle.zproductions.specs.Within.{each}
+use Rattle.zasn.specs.Standing as standing
+use Rattle.zasn.specs.Table.{ComponentTable, required, optional, ended, also, fields, Stand}
+use Rattle.zasn.specs.Within.{each}
 use Rattle.zapdu.specs.declared.apdu.Apdu.{Apdu}
 use Rattle.zapdu.specs.declared.apdu.Apdu.TheVariants as apdus
 use Rattle.zapdu.specs.declared.productions.record.Record.{Record}
@@ -16,7 +16,7 @@ use Rattle.zapdu.specs.Productions.Records.{records, whole_record}
 use Rattle.zapdu.specs.Productions.SearchResponses.{search_response_table, search_response_parts}
 use Rattle.zapdu.specs.Productions.PresentResponses.{present_response_table, present_response_parts}
 use Rattle.zapdu.specs.Writes.{Writes}
-use Rattle.zknow.specs.Encodings.{IsSpellable}
+use Rattle.zasn.specs.Place.{IsSpellable}
 use Rattle.zorigin.specs.Fitting.{records_in}
 use Rattle.zorigin.specs.Facts.{records_of}
 

@@ -13,7 +13,8 @@ use Rattle.zorigin.specs.declared.state.Outcome.TheVariants as outcomes
 use Rattle.zorigin.specs.declared.state.Searched.{Searched}
 use Rattle.zorigin.specs.Standings.{Call, Init, Search, Present, Close, Standing, is_fresh, is_ready, is_found, search_of}
 use Rattle.zorigin.specs.Fitting.{first_row, is_empty}
-use Rattle.zorigin.specs.Ranges.{positions, are_ranges, is_past}
+use Rattle.zorigin.specs.Ranges.{are_ranges, is_past}
+use Rattle.zplan.specs.Ranges.{positions}
 use Rattle.zorigin.specs.Sending.{request_of, is_unsendable, sent_of, Sends}
 
 -- Init is called first and once, the others in Ready

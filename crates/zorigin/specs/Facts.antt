@@ -16,7 +16,9 @@ use Rattle.zorigin.specs.declared.answer.Asked.{Asked}
 use Rattle.zorigin.specs.declared.answer.Answer.{Answer}
 use Rattle.zorigin.specs.declared.answer.Taken.{Taken}
 use Rattle.zorigin.specs.declared.answer.Taken.TheVariants as taken
-use Rattle.zorigin.specs.Ranges.{positions, first_of, are_ranges}
+use Rattle.zorigin.specs.Ranges.{are_ranges}
+use Rattle.zplan.specs.Positions.{first_of}
+use Rattle.zplan.specs.Ranges.{positions}
 use Rattle.zorigin.specs.Fitting.{Fits, records_in, diagnostics_in}
 
 -- record j stands at the j-th position from the first

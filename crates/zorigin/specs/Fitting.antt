@@ -17,7 +17,7 @@ use Rattle.zorigin.specs.declared.answer.What.{What}
 use Rattle.zorigin.specs.declared.answer.What.TheVariants as what
 use Rattle.zorigin.specs.declared.refusal.Refused.{Refused}
 use Rattle.zorigin.specs.declared.refusal.Refused.TheVariants as refused
-use Rattle.zorigin.specs.Ranges.{positions}
+use Rattle.zplan.specs.Ranges.{positions}
 
 -- the records of a response, in order
 abbrev pub records_in : Option Records → List Record

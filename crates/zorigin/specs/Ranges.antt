@@ -2,29 +2,11 @@
 -- 3.2.3.1).
 use Rattle.std.specs.Prelude.{ℕ, ℤ, pos, negsuc, ◌+ℤ◌, ◌-ℤ◌, int_le, int_lt, Bool, true, false, ◌&&◌, List, [], ◌∷◌}
 use Rattle.std.specs.List.{range_with_len, flat_map, list_any}
-use Rattle.zorigin.specs.declared.range.Range.{Range}
-
--- 0 in the place of a negative number
-abbrev pub natural : ℤ → ℕ
-natural (pos n) = n
-natural (negsuc n) = 0
-
--- the positions of one range, in order
-abbrev pub positions_of : Range → List ℕ
-positions_of r = range_with_len (natural r.start) (natural r.n)
-
--- the positions of ranges, in the order of the ranges
-abbrev pub positions : List Range → List ℕ
-positions ranges = flat_map positions_of ranges
+use Rattle.zplan.specs.declared.range.Range.{Range}
 
 -- so many positions from the start on
 abbrev pub one_range : ℤ → ℤ → List Range
 one_range start n = record { start = start; n = n } ∷ []
-
--- the first of the positions, 0 where there is none
-abbrev pub first_of : List ℕ → ℕ
-first_of [] = 0
-first_of (p ∷ ps) = p
 
 -- ---- ranges that can be asked for, whatever the set's count is
 

@@ -1,6 +1,6 @@
 -- Which requests can always be sent (Z39.50-2003, 3.2.1.1, 3.2.3.1, 3.2.11.1).
 use Rattle.std.specs.Prelude.{◌≡◌, ℕ, ◌≤◌, Bool, true, false, List, ◌∷◌, length, Some}
-use Rattle.zorigin.specs.declared.range.Range.{Range}
+use Rattle.zplan.specs.declared.range.Range.{Range}
 use Rattle.zorigin.specs.declared.settings.Ask.{Ask}
 use Rattle.zorigin.specs.declared.settings.Settings.{Settings}
 use Rattle.zorigin.specs.declared.state.Searched.{Searched}

@@ -2,6 +2,7 @@
 use Rattle.std.specs.Prelude.{◌≡◌, ℕ, pos, nat_lt, Bool, true, false, ◌||◌, if◌then◌else◌, List, [], ◌∷◌, ◌++◌, length, map, Option, Some, None, Result, Ok, Err, codes}
 use Rattle.std.specs.Option.{option_map}
 use Rattle.std.specs.Fmt.{decimal}
+use Rattle.zber.specs.declared.framer.TheConstants.{MESSAGE_LIMIT}
 use Rattle.zber.specs.Elements.{Element, height}
 use Rattle.zber.specs.Canonical.{canonical}
 use Rattle.zber.specs.Spelling.{Begins}
@@ -19,7 +20,7 @@ use Rattle.zapdu.specs.declared.productions.search_query.SearchQuery.TheVariants
 use Rattle.zapdu.specs.declared.productions.search_request.SearchRequest.{SearchRequest}
 use Rattle.zapdu.specs.Writes.{Writes, apdu_spelt}
 use Rattle.zorigin.specs.declared.settings.Settings.{Settings}
-use Rattle.zorigin.specs.declared.range.Range.{Range}
+use Rattle.zplan.specs.declared.range.Range.{Range}
 use Rattle.zorigin.specs.declared.settings.Ask.{Ask}
 use Rattle.zorigin.specs.declared.state.Searched.{Searched}
 use Rattle.zorigin.specs.declared.answer.Sent.{Sent}
@@ -142,7 +143,7 @@ request_of s Close = Some close_request
 
 abbrev pub too_large : Option Element → Bool
 too_large None = true
-too_large (Some n) = nat_lt 64 (height n) || nat_lt 2097152 (length (canonical n))
+too_large (Some n) = nat_lt 64 (height n) || nat_lt MESSAGE_LIMIT (length (canonical n))
 
 -- the APDU has no spelling, more than 64 constructed elements within one another, or more than 2,097,152 octets
 unfoldable pub is_unsendable : Apdu → Bool
@@ -177,7 +178,7 @@ Sends apdu (Err _) = ⊥
 
 -- whatever follows, the octets begin with the element, within the limit of a message
 abbrev pub IsFramed : Element → List ℕ → Type 0
-IsFramed n octets = (more : List ℕ) → Begins 2097152 (octets ++ more) n more
+IsFramed n octets = (more : List ℕ) → Begins MESSAGE_LIMIT (octets ++ more) n more
 
 -- the octets begin, whatever follows, with the one element that is made of the APDU, and it stands for the APDU
 pub record IsReadBack (sent : Sent) : Type 0 where

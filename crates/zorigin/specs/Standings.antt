@@ -3,7 +3,7 @@ use Rattle.std.specs.Prelude.{ℕ, nat_eq, Bool, true, false, List, Option, Some
 use Rattle.std.specs.Map.{lookup}
 use Rattle.zorigin.specs.declared.settings.Settings.{Settings}
 use Rattle.zorigin.specs.declared.settings.Ask.{Ask}
-use Rattle.zorigin.specs.declared.range.Range.{Range}
+use Rattle.zplan.specs.declared.range.Range.{Range}
 use Rattle.zorigin.specs.declared.answer.Asked.{Asked}
 use Rattle.zorigin.specs.declared.state.State.{State}
 use Rattle.zorigin.specs.declared.state.State.TheVariants as states

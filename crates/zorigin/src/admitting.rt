@@ -8,12 +8,12 @@ ghost use Rattle.zorigin.specs.Ranges.{are_ranges};
 
 use crate::answer::{Asked, What};
 use crate::origin::Origin;
-use crate::range::Range;
 use crate::refusal::CallRefused;
 use crate::settings::Ask;
 use crate::state::{Searched, State};
 use indexmap::{IndexMap, IndexSet};
 use zber::{Duplicate, Seq};
+use zplan::Range;
 
 /// Notes an operation as admitted.
 fn admit(

@@ -1,10 +1,10 @@
 //! Operations, and the replies to them.
 
-use crate::range::Range;
 use bytes::Bytes;
 use std::alloc::{AllocError, Global};
 use zapdu::Apdu;
 use zber::{Duplicate, Seq};
+use zplan::Range;
 
 /// What an operation asks for.
 #[derive(Drop)]
@@ -37,7 +37,7 @@ impl Duplicate for What {
             What::Init => Ok(What::Init),
             What::Search => Ok(What::Search),
             What::Present { ranges } => Ok(What::Present {
-                ranges: ranges.duplicate(alloc)?,
+                ranges: Seq::from_vec(Vec::from_slice(alloc, ranges.as_slice())?),
             }),
         }
     }

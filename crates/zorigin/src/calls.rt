@@ -9,13 +9,13 @@ ghost use Rattle.zorigin.specs.Sending.{IsReadBack};
 
 use crate::answer::Sent;
 use crate::origin::Origin;
-use crate::range::Range;
 use crate::refusal::CallRefused;
 use crate::refusing::{is_ready, search_of};
 use crate::request::{close_request, init_request, present_request, search_request};
 use crate::sending::send;
 use crate::settings::Ask;
 use crate::state::State;
+use zplan::Range;
 
 impl Origin {
     fn init_sent(&self) -> Result<Sent, CallRefused>

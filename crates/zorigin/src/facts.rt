@@ -1,17 +1,19 @@
 //! What a reply says of a target's result sets.
 ghost use Rattle.std.specs.Prelude.{◌≡◌, true, ◌++◌, ℤ, pos, ◌+ℤ◌, ◌≤ℤ◌, ◌<ℤ◌, length, IfOk, OnOk};
 ghost use Rattle.zknow.specs.declared.fact.Fact.TheVariants.{Seen};
-ghost use Rattle.zorigin.specs.Ranges.{positions, are_ranges};
+ghost use Rattle.zorigin.specs.Ranges.{are_ranges};
+ghost use Rattle.zplan.specs.Ranges.{positions};
 ghost use Rattle.zorigin.specs.Facts.{seen_from, seen_at, told_at, count_or_failed, init_facts, search_facts, present_facts, facts_of, IsShowable};
 ghost use Rattle.zorigin.specs.Fitting.{records_in, diagnostics_in};
 
 use crate::answer::{Answer, What};
 use crate::fitting::records_in;
-use crate::range::{Range, first_of, natural};
+use crate::range::{first_of, natural};
 use std::alloc::{AllocError, Global};
 use zapdu::{Apdu, DiagRec, InitResponse, PresentResponse, Record, Records, SearchResponse};
 use zber::Duplicate;
 use zknow::Fact;
+use zplan::Range;
 
 /// What a record says that stands so far behind the first position.
 fn seen_at(

@@ -1,12 +1,13 @@
 //! Whether a reply can answer an operation.
 ghost use Rattle.std.specs.Prelude.{◌≡◌, not, length};
-ghost use Rattle.zorigin.specs.Ranges.{positions};
+ghost use Rattle.zplan.specs.Ranges.{positions};
 ghost use Rattle.zorigin.specs.Fitting.{records_in, diagnostics_in, is_empty, is_fragment, has_fragment, is_number, exceeds, count_mismatch, bad_number, bad_search, bad_present, search_fault, present_fault, fault_of};
 
 use crate::answer::What;
-use crate::range::{Range, exceed_positions};
+use crate::range::exceed_positions;
 use crate::refusal::Refused;
 use zapdu::{Apdu, PresentResponse, Record, RecordBody, Records, SearchResponse};
+use zplan::Range;
 
 /// The records of a response.
 pub(crate) fn records_in(records: &Option<Records>) -> &[Record]

@@ -21,7 +21,7 @@ mod state;
 pub use answer::{Answer, Asked, Sent, Taken, What};
 pub use facts::facts_of;
 pub use origin::Origin;
-pub use range::Range;
 pub use refusal::{CallRefused, Refused};
 pub use settings::{Ask, Settings};
 pub use state::State;
+pub use zplan::Range;

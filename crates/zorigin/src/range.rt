@@ -1,27 +1,13 @@
 //! Ranges of positions.
 ghost use Rattle.std.specs.Prelude.{◌≡◌, ◌&&◌, ℤ, pos, ◌≤ℤ◌, int_lt, nat_lt, length, true, IfOk};
-ghost use Rattle.zorigin.specs.Ranges.{natural, positions, positions_of, last_of, is_range, follow, are_ranges, is_past, first_of};
+ghost use Rattle.zorigin.specs.Ranges.{last_of, is_range, follow, are_ranges, is_past};
+ghost use Rattle.zplan.specs.Positions.{first_of};
+ghost use Rattle.zplan.specs.Ranges.{natural, positions, positions_of};
 
-use std::alloc::{AllocError, Global};
-use zber::Duplicate;
-
-/// Positions of a result set that follow one another (Z39.50-2003, 3.2.3.1).
-#[derive(Clone, Copy, Debug, PartialEq, Eq)]
-pub struct Range {
-    /// The first position, from 1 to 2,147,483,647.
-    pub start: i64,
-    /// How many, from 1 on; none of them is past 2,147,483,647.
-    pub n: i64,
-}
+use zplan::Range;
 
 /// The highest position that can be asked for.
 const LAST_POSITION: i64 = 2_147_483_647;
-
-impl Duplicate for Range {
-    fn duplicate(&self, _alloc: Global) -> Result<Self, AllocError> {
-        Ok(*self)
-    }
-}
 
 /// 0 in the place of a negative number.
 pub(crate) fn natural(number: i64) -> usize

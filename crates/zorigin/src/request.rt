@@ -2,7 +2,6 @@
 ghost use Rattle.std.specs.Prelude.{◌≡◌, IfOk};
 ghost use Rattle.zorigin.specs.Sending.{init_request, set_name, element_set, search_request, composition, sent_range, additional, present_request, close_request};
 
-use crate::range::Range;
 use crate::reference::reference_id;
 use crate::settings::{Ask, Settings};
 use crate::state::Searched;
@@ -13,6 +12,7 @@ use zapdu::{
     RecordComposition, SearchQuery, SearchRequest,
 };
 use zber::{Bits, Duplicate, Seq};
+use zplan::Range;
 
 /// The size that is offered for records and for one record.
 const SIZE: i64 = 1_048_576;

@@ -7,10 +7,7 @@ use crate::refusal::CallRefused;
 use bytes::Bytes;
 use std::alloc::Global;
 use zapdu::{Apdu, BuildError, to_node};
-use zber::{EncodeError, Node};
-
-/// The most octets of a message.
-const LIMIT: u32 = 2_097_152;
+use zber::{EncodeError, MESSAGE_LIMIT, Node};
 
 /// The octets of an element.
 fn encode(alloc: Global, node: &Node) -> Result<Bytes, CallRefused>
@@ -18,7 +15,7 @@ fn encode(alloc: Global, node: &Node) -> Result<Bytes, CallRefused>
     ensures framed { IfOk result (IsFramed node.now) }
 {
     let mut octets = Vec::new(alloc);
-    match node.encode(alloc, LIMIT, &mut octets) {
+    match node.encode(alloc, MESSAGE_LIMIT, &mut octets) {
         Ok(()) => Ok(Bytes::from_vec(octets)?),
         Err(EncodeError::Memory) => Err(CallRefused::Memory),
         Err(_) => Err(CallRefused::Unsendable),

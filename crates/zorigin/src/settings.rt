@@ -2,7 +2,7 @@
 
 use bytes::Bytes;
 use zber::{Oid, Seq};
-use zrpn::Query;
+use zquery::Query;
 
 /// What holds for one connection.
 #[derive(Drop)]

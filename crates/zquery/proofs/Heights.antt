@@ -1,7 +1,7 @@
 -- No tree has height 0.
 use Rattle.std.proofs.Common.{◌≡◌, sym, ℕ, ◌<◌, false, nat_le, arith}
 use Rattle.std.proofs.lemmas.Bool.{lt-leb}
-use Rattle.zrpn.specs.Trees.{Tree, OfTerm, OfSet, OfSetAttrs, Of, Near, height}
+use Rattle.zquery_rpn.specs.Trees.{Tree, OfTerm, OfSet, OfSetAttrs, Of, Near, height}
 
 pub height-some : (q : Tree) → 0 < height q
 height-some (OfTerm xs v) = omega arith

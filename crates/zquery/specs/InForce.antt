@@ -2,8 +2,8 @@
 use Rattle.std.specs.Prelude.{ℕ, List, [], ◌∷◌, Bool, true, false, ◌&&◌, not, Option, Some, None, map, filter, if◌then◌else◌}
 use Rattle.std.specs.Ordering.{int_eq}
 use Rattle.std.specs.Str.{bytes_eq}
-use Rattle.zrpn.specs.declared.query.Attr.{Attr}
-use Rattle.zrpn.specs.declared.query.AttrValue.{AttrValue}
+use Rattle.zquery_rpn.specs.declared.query.Attr.{Attr}
+use Rattle.zquery_rpn.specs.declared.query.AttrValue.{AttrValue}
 
 abbrev pub same_set : Option (List ℕ) → Option (List ℕ) → Bool
 same_set None None = true

@@ -3,10 +3,10 @@ use Rattle.std.specs.Prelude.{ℕ, List, [], ◌∷◌, Option, Some, None}
 use Rattle.std.specs.Int.{w64}
 use Rattle.std.specs.Int.RustNames.{FitsSigned}
 use Rattle.zber.specs.Oids.{IsOid}
-use Rattle.zrpn.specs.declared.query.Attr.{Attr}
-use Rattle.zrpn.specs.declared.query.TermValue.{TermValue}
-use Rattle.zrpn.specs.declared.query.TermValue.TheVariants.{Numeric}
-use Rattle.zrpn.specs.Trees.{Tree, OfTerm, OfSet, OfSetAttrs, Of, Near, RpnQuery}
+use Rattle.zquery_rpn.specs.declared.query.Attr.{Attr}
+use Rattle.zquery_rpn.specs.declared.query.TermValue.{TermValue}
+use Rattle.zquery_rpn.specs.declared.query.TermValue.TheVariants.{Numeric}
+use Rattle.zquery_rpn.specs.Trees.{Tree, OfTerm, OfSet, OfSetAttrs, Of, Near, RpnQuery}
 
 abbrev pub IsLawfulSet : Option (List ℕ) → Type 0
 IsLawfulSet None = Unit {0}

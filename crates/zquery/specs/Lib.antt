@@ -1,3 +1,12 @@
 pub mod InForce
 pub mod Lawful
 pub mod Notation
+pub use Rattle.zquery_rpn.specs.Coding
+pub use Rattle.zquery_rpn.specs.Element
+pub use Rattle.zquery_rpn.specs.QueryTrees
+pub use Rattle.zquery_rpn.specs.Trees
+pub use Rattle.zquery_rpn.specs.declared.query.Attr
+pub use Rattle.zquery_rpn.specs.declared.query.AttrValue
+pub use Rattle.zquery_rpn.specs.declared.query.TermValue
+pub use Rattle.zasn.specs.Answers
+pub use Rattle.zasn.specs.declared.error.BuildError

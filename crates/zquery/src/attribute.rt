@@ -1,13 +1,13 @@
 // The attributes in force.
 ghost use Rattle.std.specs.Prelude.{◌≡◌, None, OnOk, OnErr, position};
-ghost use Rattle.zrpn.specs.declared.query.Attr.{Attr};
+ghost use Rattle.zquery_rpn.specs.declared.query.Attr.{Attr};
 ghost use Rattle.zquery.specs.InForce.{alike, same_set};
 ghost use Rattle.zquery.specs.Notation.Grammar.{kept_set};
 ghost use Rattle.zquery.specs.Notation.Reading.{put_in};
 
 use std::alloc::AllocError;
 use zber::Oid;
-use zrpn::Attr;
+use zquery_rpn::Attr;
 
 /// The set that an attribute keeps: none where it names the query's own.
 pub(crate) fn set_unless_own(own: &Oid, set: Oid) -> Option<Oid>

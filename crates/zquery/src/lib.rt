@@ -12,4 +12,4 @@ pub use notation::parse::parse_pqf;
 pub use notation::print::{PrintError, print_pqf};
 pub use notation::token::Token;
 pub use notation::value::oid_named;
-pub use zrpn::{Attr, AttrValue, BuildError, Query, Rpn, TermValue, from_node, to_node};
+pub use zquery_rpn::{Attr, AttrValue, BuildError, Query, Rpn, TermValue, from_node, to_node};

@@ -2,13 +2,14 @@
 use Rattle.std.proofs.Common.{◌≡◌, sym, ◌∙◌, ap, ℕ, List, length, map, take, None, Some}
 use Rattle.std.proofs.lemmas.List.{length-map, take-map}
 use Rattle.zapdu.specs.declared.productions.present_request.PresentRequest.{PresentRequest}
-use Rattle.zapdu.specs.declared.productions.range.Range.{Range}
+use Rattle.zplan.specs.declared.range.Range.{Range}
 use Rattle.zapdu.specs.declared.productions.record.Record.{Record}
 use Rattle.zapdu.specs.declared.productions.search_request.SearchRequest.{SearchRequest}
 use Rattle.ztarget.specs.declared.database.Database.{Database}
 use Rattle.ztarget.specs.declared.found.Hit.{Hit}
 use Rattle.ztarget.specs.Keeping.{found_at, all_found_at, records_at}
-use Rattle.ztarget.specs.Positions.{ranges_of, positions, at_positions}
+use Rattle.ztarget.specs.Positions.{ranges_of, at_positions}
+use Rattle.zplan.specs.Ranges.{positions}
 use Rattle.ztarget.specs.Responding.{due_count, search_response, search_found, asked_by, present_fault, present_response, present_unless, presented}
 use Rattle.ztarget.specs.Showing.{shown, held}
 use Rattle.ztarget.specs.Standing.{Terms}

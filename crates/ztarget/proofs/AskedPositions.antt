@@ -5,27 +5,27 @@ use Rattle.std.proofs.lemmas.Bool.{leb-true}
 use Rattle.std.proofs.lemmas.List.{at_drop_more, map-append, take_rest, length-take-le, length-map, take-map, drop-map}
 use Rattle.std.proofs.lemmas.List.FromFn.{length-range_with_len}
 use Rattle.std.specs.List.{range_with_len}
-use Rattle.zapdu.specs.declared.productions.range.Range.{Range}
+use Rattle.zplan.specs.declared.range.Range.{Range}
 use Rattle.zapdu.specs.declared.productions.record.Record.{Record}
 use Rattle.zber.proofs.Tests.{both_true}
-use Rattle.ztarget.specs.Initialising.{natural}
+use Rattle.zplan.specs.Ranges.{natural, positions_of, positions}
 use Rattle.ztarget.specs.declared.database.Database.{Database}
 use Rattle.ztarget.specs.declared.found.Hit.{Hit}
 use Rattle.ztarget.specs.Keeping.{AllStand, found_at, all_found_at, records_at}
 use Rattle.ztarget.specs.Showing.{shown, size_of, fitting, used_after, fitting_after, used_by, held}
-use Rattle.ztarget.specs.Positions.{positions_of, positions, is_in_set, are_in_set, at_positions}
+use Rattle.ztarget.specs.Positions.{is_in_set, are_in_set, at_positions}
 
 pub left_more : (ranges : List Range) (i : ℕ) (x : Range) → i < length ranges → x ≡ get_or ranges i x → positions (drop i ranges) ≡ positions_of x ++ positions (drop (i + 1) ranges)
 left_more ranges i x l e = at_drop_more positions ranges i x l ∙ ap (λ y. positions (y ∷ drop (i + 1) ranges)) (sym e)
 
 pub length_left : (ranges : List Range) (i : ℕ) (x : Range) → i < length ranges → x ≡ get_or ranges i x
-    → length (positions (drop i ranges)) ≡ natural x.number_of_records + length (positions (drop (i + 1) ranges))
+    → length (positions (drop i ranges)) ≡ natural x.n + length (positions (drop (i + 1) ranges))
 length_left ranges i x l e =
     ap length (left_more ranges i x l e) ∙ length-append (positions_of x) (positions (drop (i + 1) ranges))
-    ∙ ap (λ k. k + length (positions (drop (i + 1) ranges))) (length-range_with_len (natural x.starting_position) (natural x.number_of_records))
+    ∙ ap (λ k. k + length (positions (drop (i + 1) ranges))) (length-range_with_len (natural x.start) (natural x.n))
 
 pub in_set_more : (count : ℕ) (ranges : List Range) (i : ℕ) (x : Range) → i < length ranges → x ≡ get_or ranges i x
-    → are_in_set count (drop i ranges) ≡ (is_in_set (natural x.starting_position) (natural x.number_of_records) count && are_in_set count (drop (i + 1) ranges))
+    → are_in_set count (drop i ranges) ≡ (is_in_set (natural x.start) (natural x.n) count && are_in_set count (drop (i + 1) ranges))
 in_set_more count ranges i x l e = at_drop_more (are_in_set count) ranges i x l ∙ ap (λ y. are_in_set count (y ∷ drop (i + 1) ranges)) (sym e)
 
 -- ---- the last position
@@ -42,13 +42,13 @@ beyond_run start (suc n) (suc i) rest h =
     let e : i - n ≡ suc i - suc n = omega arith in
     beyond_run (start + 1) n i rest (omega arith) ∙ ap (λ k. get_or rest k 0) e
 
-pub position_within : (ranges : List Range) (i : ℕ) (x : Range) (left : ℕ) → i < length ranges → x ≡ get_or ranges i x → left < natural x.number_of_records
-    → get_or (positions (drop i ranges)) left 0 ≡ natural x.starting_position + left
-position_within ranges i x left l e h = ap (λ ps. get_or ps left 0) (left_more ranges i x l e) ∙ within_run (natural x.starting_position) (natural x.number_of_records) left (positions (drop (i + 1) ranges)) h
+pub position_within : (ranges : List Range) (i : ℕ) (x : Range) (left : ℕ) → i < length ranges → x ≡ get_or ranges i x → left < natural x.n
+    → get_or (positions (drop i ranges)) left 0 ≡ natural x.start + left
+position_within ranges i x left l e h = ap (λ ps. get_or ps left 0) (left_more ranges i x l e) ∙ within_run (natural x.start) (natural x.n) left (positions (drop (i + 1) ranges)) h
 
-pub position_beyond : (ranges : List Range) (i : ℕ) (x : Range) (left : ℕ) → i < length ranges → x ≡ get_or ranges i x → natural x.number_of_records ≤ left
-    → get_or (positions (drop i ranges)) left 0 ≡ get_or (positions (drop (i + 1) ranges)) (left - natural x.number_of_records) 0
-position_beyond ranges i x left l e h = ap (λ ps. get_or ps left 0) (left_more ranges i x l e) ∙ beyond_run (natural x.starting_position) (natural x.number_of_records) left (positions (drop (i + 1) ranges)) h
+pub position_beyond : (ranges : List Range) (i : ℕ) (x : Range) (left : ℕ) → i < length ranges → x ≡ get_or ranges i x → natural x.n ≤ left
+    → get_or (positions (drop i ranges)) left 0 ≡ get_or (positions (drop (i + 1) ranges)) (left - natural x.n) 0
+position_beyond ranges i x left l e h = ap (λ ps. get_or ps left 0) (left_more ranges i x l e) ∙ beyond_run (natural x.start) (natural x.n) left (positions (drop (i + 1) ranges)) h
 
 -- ---- what stands at them
 
@@ -112,24 +112,24 @@ in_set s n count h =
     (leb-true 1 s one.0, leb-true 1 n one.1, leb-true (s + n) (count + 1) two.1)
 
 pub first_in_set : (count : ℕ) (ranges : List Range) (i : ℕ) (x : Range) → i < length ranges → x ≡ get_or ranges i x → are_in_set count (drop i ranges) ≡ true
-    → (is_in_set (natural x.starting_position) (natural x.number_of_records) count ≡ true) × (are_in_set count (drop (i + 1) ranges) ≡ true)
-first_in_set count ranges i x l e h = both_true (is_in_set (natural x.starting_position) (natural x.number_of_records) count) (are_in_set count (drop (i + 1) ranges)) (sym (in_set_more count ranges i x l e) ∙ h)
+    → (is_in_set (natural x.start) (natural x.n) count ≡ true) × (are_in_set count (drop (i + 1) ranges) ≡ true)
+first_in_set count ranges i x l e h = both_true (is_in_set (natural x.start) (natural x.n) count) (are_in_set count (drop (i + 1) ranges)) (sym (in_set_more count ranges i x l e) ∙ h)
 
 pub within_all : (count : ℕ) (ranges : List Range) (j : ℕ) → are_in_set count ranges ≡ true → get_or (positions ranges) j 0 ≤ count
 within_all count [] j h = omega arith
 within_all count (r ∷ rs) j h =
-    let two = both_true (is_in_set (natural r.starting_position) (natural r.number_of_records) count) (are_in_set count rs) h in
-    let f = in_set (natural r.starting_position) (natural r.number_of_records) count two.0 in
-    by (ltb j (natural r.number_of_records)) refl f.2 (λ k. within_all count rs k two.1)
+    let two = both_true (is_in_set (natural r.start) (natural r.n) count) (are_in_set count rs) h in
+    let f = in_set (natural r.start) (natural r.n) count two.0 in
+    by (ltb j (natural r.n)) refl f.2 (λ k. within_all count rs k two.1)
   where
-    by : (b : Bool) → ltb j (natural r.number_of_records) ≡ b → natural r.starting_position + natural r.number_of_records ≤ count + 1
+    by : (b : Bool) → ltb j (natural r.n) ≡ b → natural r.start + natural r.n ≤ count + 1
         → ((k : ℕ) → get_or (positions rs) k 0 ≤ count) → get_or (positions (r ∷ rs)) j 0 ≤ count
     by true e last rest =
-        let less : j < natural r.number_of_records = grind (arith, nat_tests) in
-        omega (arith, within_run (natural r.starting_position) (natural r.number_of_records) j (positions rs) less, last, less)
+        let less : j < natural r.n = grind (arith, nat_tests) in
+        omega (arith, within_run (natural r.start) (natural r.n) j (positions rs) less, last, less)
     by false e last rest =
-        let more : natural r.number_of_records ≤ j = grind (arith, nat_tests) in
-        omega (arith, beyond_run (natural r.starting_position) (natural r.number_of_records) j (positions rs) more, rest (j - natural r.number_of_records))
+        let more : natural r.n ≤ j = grind (arith, nat_tests) in
+        omega (arith, beyond_run (natural r.start) (natural r.n) j (positions rs) more, rest (j - natural r.n))
 
 -- the part of the set at the positions of one range
 pub part_at : {X : Type 0} (found : List X) (s n m1 m2 : ℕ) → is_in_set s n (length found) ≡ true → m1 ≡ s - 1 → m2 ≡ n
@@ -182,14 +182,14 @@ module _ (size : ℕ) (asked : Option (List ℕ)) (databases : List Database) wh
 
   -- the first range and then the others
   pub held_first : (hits : List Hit) (ranges : List Range) (x : Range) (first after : List Record) (used : Option ℕ) (due : List Hit)
-      → 0 < length ranges → x ≡ get_or ranges 0 x → is_in_set (natural x.starting_position) (natural x.number_of_records) (length hits) ≡ true → due ≡ at_positions hits (positions_of x)
+      → 0 < length ranges → x ≡ get_or ranges 0 x → is_in_set (natural x.start) (natural x.n) (length hits) ≡ true → due ≡ at_positions hits (positions_of x)
       → first ≡ held size (records_at size asked databases due) → used ≡ used_by size (records_at size asked databases due)
       → after ≡ first ++ fitting_after size used (records_at size asked databases (at_positions hits (positions (drop 1 ranges))))
       → after ≡ held size (records_at size asked databases (at_positions hits (positions ranges)))
   held_first hits ranges x first after used due l e within d h u a =
       let xs = records_at size asked databases due in
       let ys = records_at size asked databases (at_positions hits (positions (drop 1 ranges))) in
-      let some : 1 ≤ length xs = omega (arith, records_many due, ap length d, some_at hits (natural x.starting_position) (natural x.number_of_records) within) in
+      let some : 1 ≤ length xs = omega (arith, records_many due, ap length d, some_at hits (natural x.start) (natural x.n) within) in
       a ∙ (λ j. h j ++ fitting_after size (u j) ys) ∙ sym (held_both size xs ys some) ∙ ap (held size) (sym (at_more hits ranges 0 x due l e d))
 
 -- entries stand at the hits at the positions

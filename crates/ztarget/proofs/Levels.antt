@@ -5,12 +5,12 @@ use Rattle.std.specs.List.{All, AllByRecursion}
 use Rattle.std.proofs.lemmas.List.Elements.{recursion_from_All}
 use Rattle.zber.specs.AsnTags.{AsnTag}
 use Rattle.zber.specs.Elements.{Element, Primitive, Constructed, forest, height, height_of}
-use Rattle.zproductions.specs.Building.{◌>>=◌ as and_then, optional_put}
-use Rattle.zproductions.specs.Meanings.{is_i64}
-use Rattle.zproductions.specs.Reading.{option_map}
-use Rattle.zproductions.specs.Place.{Place}
-use Rattle.zproductions.specs.Table.{ComponentTable, required, optional, also, ended, Fields, put}
-use Rattle.zproductions.specs.Within.{around, onto, all_spelt}
+use Rattle.zasn.specs.Building.{◌>>=◌ as and_then, optional_put}
+use Rattle.zasn.specs.Meanings.{is_i64}
+use Rattle.zasn.specs.Reading.{option_map}
+use Rattle.zasn.specs.Place.{Place}
+use Rattle.zasn.specs.Table.{ComponentTable, required, optional, also, ended, Fields, put}
+use Rattle.zasn.specs.Within.{around, onto, all_spelt}
 use Rattle.zber.specs.Integers.{integer_octets}
 use Rattle.zber.specs.Oids.{IsOid, oid_octets}
 use Rattle.zber.proofs.OidTest.{is_oid_pass}

@@ -8,8 +8,8 @@ use Rattle.zber.specs.Dotted.{dotted}
 use Rattle.zber.specs.AsnTags.{AsnTag, context, universal}
 use Rattle.zber.specs.Elements.{Element}
 use Rattle.zber.specs.Oids.{IsOid}
-use Rattle.zproductions.specs.Meanings.{is_i64}
-use Rattle.zproductions.specs.Table.{fields}
+use Rattle.zasn.specs.Meanings.{is_i64}
+use Rattle.zasn.specs.Table.{fields}
 use Rattle.zasn.specs.Places.{octets, integer, within}
 use Rattle.zapdu.specs.declared.apdu.Apdu.{Apdu}
 use Rattle.zapdu.specs.declared.apdu.Apdu.TheVariants as apdus

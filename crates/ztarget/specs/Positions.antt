@@ -1,26 +1,23 @@
 -- The positions of a result set that a request for records asks for, in the order sent (Z39.50-2003, 3.2.3.1).
-use Rattle.std.specs.Prelude.{ℕ, ◌+◌, ◌-◌, nat_le, List, [], ◌∷◌, take, drop, slice_index_or, Bool, ◌&&◌, Option, Some, None}
-use Rattle.std.specs.List.{range_with_len, flat_map, list_all}
-use Rattle.zapdu.specs.declared.productions.range.Range.{Range}
+use Rattle.std.specs.Prelude.{ℕ, ◌+◌, ◌-◌, nat_le, List, [], ◌∷◌, map, take, drop, slice_index_or, Bool, ◌&&◌, Option, Some, None}
+use Rattle.std.specs.List.{flat_map, list_all}
+use Rattle.zapdu.specs.declared.productions.range.Range.{Range as SentRange}
+use Rattle.zplan.specs.declared.range.Range.{Range}
 use Rattle.zapdu.specs.declared.productions.present_request.PresentRequest.{PresentRequest}
-use Rattle.ztarget.specs.Initialising.{natural}
+use Rattle.zplan.specs.Ranges.{natural}
 
-abbrev pub additional : Option (List Range) → List Range
+-- a range as it is sent
+abbrev pub received_range : SentRange → Range
+received_range r = record { start = r.starting_position; n = r.number_of_records }
+
+abbrev pub additional : Option (List SentRange) → List Range
 additional None = []
-additional (Some ranges) = ranges
+additional (Some ranges) = map received_range ranges
 
 -- the first range, then the additional ones
 abbrev pub ranges_of : PresentRequest → List Range
 ranges_of r =
-    record { starting_position = r.result_set_start_point; number_of_records = r.number_of_records_requested }
-    ∷ additional r.additional_ranges
-
-abbrev pub positions_of : Range → List ℕ
-positions_of range = range_with_len (natural range.starting_position) (natural range.number_of_records)
-
--- those of all ranges
-abbrev pub positions : List Range → List ℕ
-positions ranges = flat_map positions_of ranges
+    record { start = r.result_set_start_point; n = r.number_of_records_requested } ∷ additional r.additional_ranges
 
 -- the positions are in a set of so many
 abbrev pub is_in_set : ℕ → ℕ → ℕ → Bool
@@ -29,7 +26,7 @@ is_in_set start number count = (nat_le 1 start && nat_le 1 number) && nat_le (st
 -- each range begins at 1 or later, has a position, and none past so many
 abbrev pub are_in_set : ℕ → List Range → Bool
 are_in_set count ranges =
-    list_all (λ (r : Range). is_in_set (natural r.starting_position) (natural r.number_of_records) count) ranges
+    list_all (λ (r : Range). is_in_set (natural r.start) (natural r.n) count) ranges
 
 -- what stands at the positions
 abbrev pub at_positions : {X : Type 0} → List X → List ℕ → List X

@@ -1,24 +1,43 @@
 //! The positions that a request for records asks for.
-ghost use Rattle.std.specs.Prelude.{◌≡◌, ◌==◌, ◌<◌, ◌^◌, ◌≤◌, true, length, IfOk};
-ghost use Rattle.ztarget.specs.Initialising.{natural};
-ghost use Rattle.ztarget.specs.Positions.{ranges_of, positions, is_in_set, are_in_set, last_of};
+ghost use Rattle.std.specs.Prelude.{◌≡◌, ◌==◌, ◌<◌, ◌^◌, ◌≤◌, true, length, map, IfOk};
+ghost use Rattle.zplan.specs.Ranges.{natural, positions};
+ghost use Rattle.ztarget.specs.Positions.{received_range, ranges_of, is_in_set, are_in_set, last_of};
 
 use crate::init::natural;
 use std::alloc::{AllocError, Global};
-use zapdu::{PresentRequest, Range};
-use zber::Duplicate;
+use zapdu::{PresentRequest, Range as SentRange};
+use zplan::Range;
+
+/// A range as it was sent.
+fn received_range(range: &SentRange) -> Range
+    ensures { result ≡ received_range range.now }
+{
+    Range {
+        start: range.starting_position,
+        n: range.number_of_records,
+    }
+}
+
+fn received_ranges(alloc: Global, ranges: &[SentRange]) -> Result<Vec<Range>, AllocError>
+    ensures { IfOk result (λ v. v.items ≡ map received_range ranges.now) }
+{
+    ranges
+        .iter()
+        .map(|range| received_range(range))
+        .collect(alloc)
+}
 
 /// The first range, then the additional ones.
 pub(crate) fn ranges_of(alloc: Global, request: &PresentRequest) -> Result<Vec<Range>, AllocError>
     ensures { IfOk result (λ ranges. ranges.items ≡ ranges_of request.now) }
 {
     let mut ranges = match &request.additional_ranges {
-        Some(additional) => additional.duplicate(alloc)?.into_vec(),
+        Some(additional) => received_ranges(alloc, additional.as_slice())?,
         None => Vec::new(alloc),
     };
     let first = Range {
-        starting_position: request.result_set_start_point,
-        number_of_records: request.number_of_records_requested,
+        start: request.result_set_start_point,
+        n: request.number_of_records_requested,
     };
     ranges.insert(0, first)?;
     Ok(ranges)
@@ -38,8 +57,8 @@ pub(crate) fn are_in_set(ranges: &[Range], count: usize) -> bool
     ensures { result ≡ are_in_set count ranges.now }
 {
     for range in ranges {
-        let start = natural(range.starting_position);
-        if !is_in_set(start, natural(range.number_of_records), count) {
+        let start = natural(range.start);
+        if !is_in_set(start, natural(range.n), count) {
             return false;
         }
     }
@@ -52,7 +71,7 @@ pub(crate) fn are_so_many(ranges: &[Range], number: usize) -> bool
 {
     let mut left = number;
     for range in ranges {
-        let number = natural(range.number_of_records);
+        let number = natural(range.n);
         if left < number {
             return false;
         }
@@ -70,9 +89,9 @@ pub(crate) fn last_of(ranges: &[Range], number: usize, count: usize) -> usize
 {
     let mut left = number.saturating_sub(1);
     for range in ranges {
-        let number = natural(range.number_of_records);
+        let number = natural(range.n);
         if left < number {
-            return natural(range.starting_position) + left;
+            return natural(range.start) + left;
         }
         left -= number;
     }

@@ -3,11 +3,11 @@ use crate::sessions::go_as_told;
 use std::alloc::Global;
 use std::test::Fail;
 use zapdu::Apdu;
-use zelements::unread::{Unread, read};
-use zencodings::boxes::apdu;
-use zencodings::parts::Line;
-use zholdings::shown::put_facts;
+use zapdu_tests::boxes::apdu;
+use zapdu_tests::parts::Line;
+use zber_tests::unread::{Unread, read};
 use zknow::Fact;
+use zknow_tests::shown::put_facts;
 use zorigin::{Origin, Taken, facts_of};
 
 // Sessions in which `facts` takes a reply and answers its facts, for target 7.

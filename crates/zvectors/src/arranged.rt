@@ -1,15 +1,15 @@
 // Worlds that are arranged, and others that put a question to a host.
 ghost use Rattle.std.specs.Prelude.{IfOk};
-ghost use Rattle.zworld.specs.Fitness.{IsArrangement};
+ghost use Rattle.zmeta_world.specs.Fitness.{IsArrangement};
 
 use bytes::Bytes;
 use std::alloc::{AllocError, Global};
 use std::process::Abort;
 use std::test::Fail;
-use zelements::rows::{each_row, halves, unescape};
-use zelements::unread::Unread;
-use zworld::fitness::Arrangement;
-use zworld::world::{WorldError, read_world};
+use zber_tests::rows::{each_row, halves, unescape};
+use zber_tests::unread::Unread;
+use zmeta_world::fitness::Arrangement;
+use zmeta_world::world::{WorldError, read_world};
 
 // A file, and the number of the line with a question to a host.
 const HOSTED: &str = "\

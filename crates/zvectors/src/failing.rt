@@ -4,10 +4,9 @@ ghost use Rattle.std.specs.Prelude.{◌<◌, length};
 use crate::talks::{Case, has, new_meta, reads_of, sink_of, source_of, whole, writes_of};
 use std::alloc::Global;
 use std::test::Fail;
-use zelements::rows::{is_true, octets};
-use zelements::unread::Unread;
-use zoom::{Meta, Reason, State};
-use ztalk::{TalkError, talk};
+use zber_tests::rows::{is_true, octets};
+use zber_tests::unread::Unread;
+use zoom::{Meta, Reason, State, TalkError, talk};
 
 // The most octets of a call.
 const STEP: usize = 24;

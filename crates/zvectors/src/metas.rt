@@ -1,17 +1,16 @@
 // Connections that are driven for a question, from the octets that come to those that are sent.
-ghost use Rattle.std.specs.Prelude.{◌<◌, ◌≤◌, length, map, IfOk};
-ghost use Rattle.zplan.specs.Ranges.{AreWanted};
-ghost use Rattle.zorigin.specs.Ranges.{positions};
-ghost use Rattle.zquestions.specs.Askable.{IsAskable, plan_range};
+ghost use Rattle.std.specs.Prelude.{◌<◌, ◌≤◌, length, IfOk};
+ghost use Rattle.zplan.specs.Ranges.{AreWanted, positions};
+ghost use Rattle.zoom.specs.Askable.{IsAskable};
 
 use bytes::Bytes;
 use std::alloc::{AllocError, Global};
 use std::process::Abort;
 use std::test::Fail;
+use zapdu_tests::boxes::{box_value, parse};
 use zber::Seq;
-use zelements::rows::{digits, each_row, is_true, octets, pair, tells};
-use zelements::unread::{Unread, read};
-use zencodings::boxes::{box_value, parse};
+use zber_tests::rows::{digits, each_row, is_true, octets, pair, tells};
+use zber_tests::unread::{Unread, read};
 use zoom::{Meta, MetaSettings, Question};
 use zorigin::Range;
 
@@ -42,7 +41,7 @@ const PARTED: &str = "\
 
 // Positions 1, 2 and 5 to 7, or the first ten.
 fn ranges_wanted(alloc: Global, is_parted: bool) -> Result<Vec<Range>, AllocError>
-    ensures wanted { IfOk result (λ v. AreWanted (map plan_range v.items)) }
+    ensures wanted { IfOk result (λ v. AreWanted v.items) }
     ensures few { IfOk result (λ v. length (positions v.items) ≤ 1000000) }
 {
     if is_parted {

@@ -1,20 +1,20 @@
 // Moves that are made, and a round with a target that stopped.
 ghost use Rattle.std.specs.Prelude.{◌≡◌, length, IfOk};
-ghost use Rattle.zworld.specs.Fitness.{IsArrangement};
+ghost use Rattle.zmeta_world.specs.Fitness.{IsArrangement};
 
 use crate::arranged::arrange;
 use std::alloc::{AllocError, Global};
 use std::process::Abort;
 use std::test::Fail;
-use zelements::rows::{each_row, halves, pair};
-use zelements::unread::Unread;
-use zencodings::boxes::box_value;
+use zapdu_tests::boxes::box_value;
+use zber_tests::rows::{each_row, halves, pair};
+use zber_tests::unread::Unread;
+use zmeta_world::fitness::Arrangement;
 use zoom::{Meta, Move, Reason, State};
-use zrounds::peers::{Peer, peers_of};
-use zrounds::rounds::make_moves;
-use zrounds::turns::drive_all;
-use zrounds::ways::Within;
-use zworld::fitness::Arrangement;
+use zoom_sim::peers::{Peer, peers_of};
+use zoom_sim::rounds::make_moves;
+use zoom_sim::turns::drive_all;
+use zoom_sim::ways::Within;
 
 const ONE: &[u8] = b"step 10
 window 4

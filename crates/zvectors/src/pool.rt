@@ -11,12 +11,12 @@ use bytes::Bytes;
 use std::alloc::{AllocError, Global};
 use std::process::Abort;
 use std::test::Fail;
-use zelements::rows::{digits, is_true, octets, pair, split_row, tells, unescape};
-use zelements::unread::Unread;
-use zencodings::boxes::box_value;
-use zencodings::parts::Line;
-use zholdings::shown::{has_list, is_listed, put_counts, put_known};
+use zapdu_tests::boxes::box_value;
+use zapdu_tests::parts::Line;
+use zber_tests::rows::{digits, is_true, octets, pair, split_row, tells, unescape};
+use zber_tests::unread::Unread;
 use zknow::Mode;
+use zknow_tests::shown::{has_list, is_listed, put_counts, put_known};
 use zoom::{Call, Pool, Reason, ResultSet, Step, TakeError};
 use zorigin::CallRefused;
 

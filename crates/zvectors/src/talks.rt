@@ -1,6 +1,6 @@
 // Conversations over devices in memory: connections that are driven, and targets that answer.
 ghost use Rattle.std.specs.Prelude.{◌<◌, length, IfOk};
-ghost use Rattle.zquestions.specs.Askable.{IsAskable};
+ghost use Rattle.zoom.specs.Askable.{IsAskable};
 
 use crate::hosts::host;
 use bytes::Bytes;
@@ -9,12 +9,11 @@ use std::io;
 use std::io::{ErrorKind, Read, Write};
 use std::process::Abort;
 use std::test::Fail;
+use zapdu_tests::boxes::{box_value, parse};
 use zber::Seq;
-use zelements::rows::{digits, each_row, octets, pair, split_row, tells};
-use zelements::unread::Unread;
-use zencodings::boxes::{box_value, parse};
-use zoom::{Meta, MetaSettings, Question};
-use ztalk::{Device, answer, talk};
+use zber_tests::rows::{digits, each_row, octets, pair, split_row, tells};
+use zber_tests::unread::Unread;
+use zoom::{Device, Meta, MetaSettings, Question, answer, talk};
 
 // What can be read, how much a call moves, which read and which write fails (the first being 1), and how many reads
 // there may be; then the answer, the state, and what was written. The question wants no record.

@@ -5,12 +5,13 @@ use crate::talks::{Kept, empty_sink, question, whole, written_digits};
 use bytes::Bytes;
 use std::alloc::Global;
 use std::test::Fail;
+use zapdu_tests::boxes::box_value;
 use zber::Seq;
-use zelements::rows::{is_true, octets};
-use zelements::unread::Unread;
-use zencodings::boxes::box_value;
-use zoom::{Meta, MetaSettings, Reason, State};
-use ztalk::{Device, Ends, Failed, Polled, Unwatched, talk_at_once};
+use zber_tests::rows::{is_true, octets};
+use zber_tests::unread::Unread;
+use zoom::{
+    Device, Ends, Failed, Meta, MetaSettings, Polled, Reason, State, Unwatched, talk_at_once,
+};
 
 // The most octets of a poll, and how often a source may be polled.
 const STEP: usize = 24;

@@ -5,9 +5,9 @@ use std::alloc::Global;
 use std::process::Abort;
 use std::test::Fail;
 use zapdu::Apdu;
-use zelements::rows::{is_true, tells};
-use zelements::unread::Unread;
-use zencodings::boxes::apdu;
+use zapdu_tests::boxes::apdu;
+use zber_tests::rows::{is_true, tells};
+use zber_tests::unread::Unread;
 use zorigin::{Origin, Refused, Taken};
 
 // An association with concurrent operations, and a set of 100 records.

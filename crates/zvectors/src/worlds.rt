@@ -3,12 +3,12 @@ use crate::arranged::spells;
 use std::alloc::{AllocError, Global};
 use std::process::Abort;
 use std::test::Fail;
-use zelements::rows::{each_row, halves, unescape};
-use zelements::unread::{Unread, read};
-use zencodings::boxes::box_value;
+use zapdu_tests::boxes::box_value;
+use zber_tests::rows::{each_row, halves, unescape};
+use zber_tests::unread::{Unread, read};
+use zmeta_world::world::{AskedQuestion, End, NamedTarget, World, WorldError, read_world};
 use zoom::Move;
 use ztarget::{Database, Entry};
-use zworld::world::{AskedQuestion, End, NamedTarget, World, WorldError, read_world};
 
 // A file, and the number of the line that is refused, if one is.
 const FILES: &str = "\

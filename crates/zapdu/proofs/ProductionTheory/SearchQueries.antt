@@ -1,12 +1,12 @@
 -- The query within an element that holds one element.
 use Rattle.std.proofs.Common.{◌≡◌, List, [], ◌∷◌, Some, Result}
 use Rattle.zber.specs.Elements.{Element, Primitive, Constructed, elements}
-use Rattle.zproductions.specs.Within.{found, sequence_of, any_at}
-use Rattle.zproductions.specs.Reading.{option_map}
+use Rattle.zasn.specs.Within.{found, sequence_of, any_at}
+use Rattle.zasn.specs.Reading.{option_map}
 use Rattle.zasn.specs.declared.error.PartError.{PartError}
 use Rattle.zasn.specs.Answers.{Means}
-use Rattle.zrpn.specs.Element.AnyQueries.{any_query, any_query_at, query_within}
-use Rattle.zrpn.proofs.ElementTheory.AnyQueryPlaces.{alone_says}
+use Rattle.zquery_rpn.specs.Element.AnyQueries.{any_query, any_query_at, query_within}
+use Rattle.zquery_rpn.proofs.ElementTheory.AnyQueryPlaces.{alone_says}
 use Rattle.zapdu.specs.declared.productions.search_query.SearchQuery.{SearchQuery}
 use Rattle.zapdu.specs.Productions.SearchQueries.{of_sum}
 

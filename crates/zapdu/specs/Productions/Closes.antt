@@ -1,7 +1,7 @@
 -- Close [48] (Z39.50-2003, 4.1 and 3.2.11).
 use Rattle.std.specs.Prelude.{refl}
 use Rattle.zber.specs.AsnTags.{context, universal}
-use Rattle.zproductions.specs.Table.{ComponentTable, required, optional, ended, ◌⨾◌, Elements}
+use Rattle.zasn.specs.Table.{ComponentTable, required, optional, ended, ◌⨾◌, Elements}
 use Rattle.zasn.specs.Places.{of_table, octets, integer, oid, opaque, within, explicit}
 use Rattle.zapdu.specs.declared.productions.close.Close.{Close}
 use Rattle.zapdu.specs.Productions.Externals.{external_parts}

@@ -3,9 +3,9 @@ use Rattle.std.specs.Prelude.{◌≡◌, Option, refl}
 use Rattle.std.proofs.Common.{inl, inr}
 use Rattle.zber.specs.AsnTags.{universal}
 use Rattle.zber.specs.Elements.{Element}
-use Rattle.zproductions.specs.Place.{Place}
-use Rattle.zproductions.specs.Choice.{Choice, either, finally, Pick, picked}
-use Rattle.zproductions.specs.Table.{ComponentTable, required, ended, ◌⨾◌, Elements}
+use Rattle.zasn.specs.Place.{Place}
+use Rattle.zasn.specs.Choice.{Choice, either, finally, Pick, picked}
+use Rattle.zasn.specs.Table.{ComponentTable, required, ended, ◌⨾◌, Elements}
 use Rattle.zasn.specs.Places.{of_table, of_choice, octets, integer, oid, within}
 use Rattle.zapdu.specs.declared.productions.diagnostic.Info.{Info}
 use Rattle.zapdu.specs.declared.productions.diagnostic.Info.TheVariants.{V2, V3}

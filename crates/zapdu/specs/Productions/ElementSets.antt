@@ -2,9 +2,9 @@
 use Rattle.std.specs.Prelude.{◌≡◌, refl}
 use Rattle.std.proofs.Common.{inl, inr}
 use Rattle.zber.specs.AsnTags.{context, universal}
-use Rattle.zproductions.specs.Place.{Place}
-use Rattle.zproductions.specs.Choice.{Choice, either, finally, Pick, picked}
-use Rattle.zproductions.specs.Table.{ComponentTable, required, ended, ◌⨾◌, Elements}
+use Rattle.zasn.specs.Place.{Place}
+use Rattle.zasn.specs.Choice.{Choice, either, finally, Pick, picked}
+use Rattle.zasn.specs.Table.{ComponentTable, required, ended, ◌⨾◌, Elements}
 use Rattle.zasn.specs.Places.{of_table, of_choice, octets, within, list}
 use Rattle.zapdu.specs.declared.productions.element_set_names.DatabaseElementSet.{DatabaseElementSet}
 use Rattle.zapdu.specs.declared.productions.element_set_names.ElementSetNames.{ElementSetNames}

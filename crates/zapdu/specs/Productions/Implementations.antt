@@ -2,7 +2,7 @@
 use Rattle.std.specs.Prelude.{ℕ, List, Option, refl}
 use Rattle.zber.specs.AsnTags.{context, universal}
 use Rattle.zber.specs.Elements.{Element}
-use Rattle.zproductions.specs.Table.{ComponentTable, optional, ended, ◌⨾◌, Elements}
+use Rattle.zasn.specs.Table.{ComponentTable, optional, ended, ◌⨾◌, Elements}
 use Rattle.zasn.specs.Places.{of_table, octets, opaque, within, explicit}
 use Rattle.zapdu.specs.declared.productions.external.External.{External}
 use Rattle.zapdu.specs.declared.productions.implementation.Implementation.{Implementation}

@@ -1,7 +1,7 @@
 -- InitializeResponse [21] (Z39.50-2003, 4.1 and 3.2.1.1).
 use Rattle.std.specs.Prelude.{◌≡◌, true, refl}
 use Rattle.zber.specs.AsnTags.{context}
-use Rattle.zproductions.specs.Table.{ComponentTable, required, optional, also, ◌⨾◌, Elements, clear}
+use Rattle.zasn.specs.Table.{ComponentTable, required, optional, also, ◌⨾◌, Elements, clear}
 use Rattle.zasn.specs.Places.{of_table, octets, bits, integer, boolean}
 use Rattle.zapdu.specs.declared.productions.init_response.InitResponse.{InitResponse}
 use Rattle.zapdu.specs.Productions.Implementations.{implementation, implementation_parts}

@@ -1,7 +1,7 @@
 -- PresentRequest [24] (Z39.50-2003, 4.1 and 3.2.3).
 use Rattle.std.specs.Prelude.{◌≡◌, true, refl}
 use Rattle.zber.specs.AsnTags.{context}
-use Rattle.zproductions.specs.Table.{ComponentTable, required, optional, also, ◌⨾◌, Elements, clear}
+use Rattle.zasn.specs.Table.{ComponentTable, required, optional, also, ◌⨾◌, Elements, clear}
 use Rattle.zasn.specs.Places.{of_table, octets, integer, list}
 use Rattle.zapdu.specs.declared.productions.present_request.PresentRequest.{PresentRequest}
 use Rattle.zapdu.specs.Productions.Ranges.{whole_range}

@@ -1,8 +1,8 @@
 -- Ranges of a result set (Z39.50-2003, 4.1: Range).
 use Rattle.std.specs.Prelude.{refl}
 use Rattle.zber.specs.AsnTags.{context, universal}
-use Rattle.zproductions.specs.Place.{Place}
-use Rattle.zproductions.specs.Table.{ComponentTable, required, ended, ◌⨾◌, Elements}
+use Rattle.zasn.specs.Place.{Place}
+use Rattle.zasn.specs.Table.{ComponentTable, required, ended, ◌⨾◌, Elements}
 use Rattle.zasn.specs.Places.{of_table, integer, within}
 use Rattle.zapdu.specs.declared.productions.range.Range.{Range}
 

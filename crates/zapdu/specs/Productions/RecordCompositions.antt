@@ -2,8 +2,8 @@
 use Rattle.std.specs.Prelude.{◌≡◌, refl}
 use Rattle.std.proofs.Common.{inl, inr}
 use Rattle.zber.specs.AsnTags.{context}
-use Rattle.zproductions.specs.Place.{Place}
-use Rattle.zproductions.specs.Choice.{Choice, either, finally, Pick, picked}
+use Rattle.zasn.specs.Place.{Place}
+use Rattle.zasn.specs.Choice.{Choice, either, finally, Pick, picked}
 use Rattle.zasn.specs.Places.{of_choice, explicit, opaque}
 use Rattle.zapdu.specs.declared.productions.record_composition.RecordComposition.{RecordComposition}
 use Rattle.zapdu.specs.declared.productions.record_composition.RecordComposition.TheVariants.{Simple, Complex}

@@ -3,9 +3,9 @@ use Rattle.std.specs.Prelude.{◌≡◌, [], ◌∷◌, Option, refl}
 use Rattle.std.proofs.Common.{inl, inr}
 use Rattle.zber.specs.AsnTags.{context, universal}
 use Rattle.zber.specs.Elements.{Element}
-use Rattle.zproductions.specs.Place.{Place}
-use Rattle.zproductions.specs.Choice.{Choice, either, finally, Pick, picked}
-use Rattle.zproductions.specs.Table.{ComponentTable, required, optional, ended, ◌⨾◌, Elements}
+use Rattle.zasn.specs.Place.{Place}
+use Rattle.zasn.specs.Choice.{Choice, either, finally, Pick, picked}
+use Rattle.zasn.specs.Table.{ComponentTable, required, optional, ended, ◌⨾◌, Elements}
 use Rattle.zasn.specs.Places.{of_table, of_choice, octets, within, explicit, kept, list}
 use Rattle.zapdu.specs.declared.productions.record.RecordBody.{RecordBody}
 use Rattle.zapdu.specs.declared.productions.record.RecordBody.TheVariants.{Retrieval, Surrogate, Fragment}
@@ -61,10 +61,6 @@ WritesRecord v n = whole_record.stands v n
 -- the one element that spells the record, its contents octets those of the canonical encoding
 abbrev pub record_spelt : Record → Option Element
 record_spelt v = whole_record.spelt v
-
--- some element stands for the record
-abbrev pub IsSpellable : Record → Type 0
-IsSpellable v = (n : Element) × WritesRecord v n
 
 -- responseRecords [28] SEQUENCE OF, nonSurrogateDiagnostic [130], multipleNonSurDiagnostics [205] SEQUENCE OF
 abbrev pub kinds_of_records : Choice Records

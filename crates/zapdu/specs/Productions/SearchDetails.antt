@@ -1,7 +1,7 @@
 -- The last places of a SearchRequest (Z39.50-2003, 4.1 and 3.2.2).
 use Rattle.std.specs.Prelude.{◌≡◌, true, refl}
 use Rattle.zber.specs.AsnTags.{context}
-use Rattle.zproductions.specs.Table.{ComponentTable, required, optional, ended, ◌⨾◌, Elements, clear}
+use Rattle.zasn.specs.Table.{ComponentTable, required, optional, ended, ◌⨾◌, Elements, clear}
 use Rattle.zasn.specs.Places.{of_table, oid, opaque, explicit}
 use Rattle.zapdu.specs.declared.productions.search_details.SearchDetails.{SearchDetails}
 use Rattle.zapdu.specs.declared.productions.search_request.SearchRequest.{SearchRequest}

@@ -3,12 +3,12 @@ use Rattle.std.specs.Prelude.{◌≡◌, [], ◌∷◌, ◌⊎◌, refl}
 use Rattle.std.proofs.Common.{inl, inr}
 use Rattle.zber.specs.AsnTags.{context}
 use Rattle.zber.specs.Elements.{Element}
-use Rattle.zproductions.specs.Place.{Place}
-use Rattle.zproductions.specs.Choice.{Choice, finally, Pick, picked}
+use Rattle.zasn.specs.Place.{Place}
+use Rattle.zasn.specs.Choice.{Choice, finally, Pick, picked}
 use Rattle.zasn.specs.Places.{lawful, of_choice}
-use Rattle.zrpn.specs.Trees.{RpnQuery}
-use Rattle.zrpn.specs.Element.AnyQueries.{WritesWithin, query_within, within_spelt}
-use Rattle.zrpn.proofs.ElementTheory.AnyQueryPlaces.{any_query_place, any_query_spelled}
+use Rattle.zquery_rpn.specs.Trees.{RpnQuery}
+use Rattle.zquery_rpn.specs.Element.AnyQueries.{WritesWithin, query_within, within_spelt}
+use Rattle.zquery_rpn.proofs.ElementTheory.AnyQueryPlaces.{any_query_place, any_query_spelled}
 use Rattle.zapdu.specs.declared.productions.search_query.SearchQuery.{SearchQuery}
 use Rattle.zapdu.specs.declared.productions.search_query.SearchQuery.TheVariants.{Rpn, Other}
 

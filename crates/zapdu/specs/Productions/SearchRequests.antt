@@ -1,7 +1,7 @@
 -- SearchRequest [22] (Z39.50-2003, 4.1 and 3.2.2).
 use Rattle.std.specs.Prelude.{◌≡◌, true, refl}
 use Rattle.zber.specs.AsnTags.{context}
-use Rattle.zproductions.specs.Table.{ComponentTable, required, optional, also, ◌⨾◌, Elements, clear}
+use Rattle.zasn.specs.Table.{ComponentTable, required, optional, also, ◌⨾◌, Elements, clear}
 use Rattle.zasn.specs.Places.{of_table, octets, integer, boolean, strings}
 use Rattle.zapdu.specs.declared.productions.search_request.SearchRequest.{SearchRequest}
 use Rattle.zapdu.specs.Productions.SearchQueries.{search_query}

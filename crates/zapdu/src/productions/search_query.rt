@@ -1,13 +1,13 @@
 //! The query of a SearchRequest.
-ghost use Rattle.zproductions.specs.Reading.{option_map};
-ghost use Rattle.zrpn.specs.Element.AnyQueries.{any_query, query_within};
+ghost use Rattle.zasn.specs.Reading.{option_map};
+ghost use Rattle.zquery_rpn.specs.Element.AnyQueries.{any_query, query_within};
 ghost use Rattle.zasn.specs.Answers.{Means};
 ghost use Rattle.zapdu.specs.Productions.SearchQueries.{of_sum, search_query};
 
 use std::alloc::Global;
 use zasn::{BuildError, PartError, Tagged, sole, write_any, write_around};
 use zber::{Node, Tag};
-use zrpn::Query;
+use zquery_rpn::Query;
 
 /// What is searched for (Z39.50-2003, 4.1: Query).
 pub enum SearchQuery {
@@ -32,7 +32,7 @@ fn query_of(alloc: Global, node: &Node) -> Result<SearchQuery, PartError>
     if node.tag != Tag::context(1) {
         return Ok(SearchQuery::Other(node.copy(alloc)?));
     }
-    match zrpn::from_node(alloc, node)? {
+    match zquery_rpn::from_node(alloc, node)? {
         Some(query) => Ok(SearchQuery::Rpn(query)),
         None => Err(PartError::Misfit),
     }
@@ -67,7 +67,7 @@ impl Tagged for SearchQuery {
     fn to_element(&self, alloc: Global) -> Result<Node, BuildError> {
         match self {
             SearchQuery::Rpn(query) => {
-                let node = zrpn::to_node(alloc, query)?;
+                let node = zquery_rpn::to_node(alloc, query)?;
                 write_around(alloc, node, Tag::context(21))
             }
             SearchQuery::Other(node) => {

@@ -15,7 +15,8 @@ use Rattle.zapdu.specs.Productions.Records.{whole_record}
 use Rattle.zknow.specs.declared.fact.Fact.{Fact}
 use Rattle.zknow.specs.declared.fact.Fact.TheVariants.{Count, Failed, Seen, Diag}
 use Rattle.zknow.specs.Tables.DistinctLaws.{in_cons, in_head, in_tail, none_in_nil, each_in, less_itself}
-use Rattle.zknow.specs.Encodings.{encoding_cmp, encoding_total, IsSpellable}
+use Rattle.zknow.specs.Encodings.{encoding_cmp, encoding_total}
+use Rattle.zasn.specs.Place.{IsSpellable}
 use Rattle.zknow.specs.Facts.{fact_cmp, IsFact, AreFacts}
 use Rattle.zknow.specs.Known.{is_set, count_in, record_in, counts_at, records_at}
 use Rattle.zknow.specs.List.ListLaws.{HasTwoCounts, IsConflict}

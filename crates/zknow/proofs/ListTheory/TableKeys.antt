@@ -16,7 +16,8 @@ use Rattle.zknow.specs.declared.tables.keys.RowKey.{RowKey}
 use Rattle.zknow.specs.declared.tables.Tables.{Tables}
 use Rattle.zknow.specs.declared.fact.Fact.{Fact}
 use Rattle.zknow.specs.declared.fact.Fact.TheVariants.{Count, Failed, Seen, Diag}
-use Rattle.zknow.specs.Encodings.{encoding_cmp, IsSpellable}
+use Rattle.zknow.specs.Encodings.{encoding_cmp}
+use Rattle.zasn.specs.Place.{IsSpellable}
 use Rattle.zknow.specs.Tables.Keys.{set_cmp, set_total, set_exact, IsMarked, IsAnyMark, row_cmp, row_total, row_exact}
 use Rattle.zknow.specs.List.Listing.{ascending, block_of, row_of}
 use Rattle.zknow.specs.Tables.Sections.{facts_of, counts_of, failed_of, seen_of, diags_of, section, marked, numbered}

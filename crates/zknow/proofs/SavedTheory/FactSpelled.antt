@@ -3,13 +3,13 @@ use Rattle.std.proofs.Common.{◌≡◌, ◌≤ℤ◌, ℕ, ℤ, pos, int_le, co
 use Rattle.zber.specs.AsnTags.{AsnTag, context}
 use Rattle.zber.specs.Elements.{Element, Primitive}
 use Rattle.zber.specs.Integers.{integer_octets}
-use Rattle.zproductions.specs.Meanings.{is_i64, int_spelt, octets_spelt}
-use Rattle.zproductions.specs.Within.{all_spelt, onto}
+use Rattle.zasn.specs.Meanings.{is_i64, int_spelt, octets_spelt}
+use Rattle.zasn.specs.Within.{all_spelt, onto}
 use Rattle.zapdu.specs.declared.productions.record.Record.{Record}
 use Rattle.zapdu.specs.declared.productions.diagnostic.DiagRec.{DiagRec}
 use Rattle.zapdu.specs.Productions.Records.{whole_record}
 use Rattle.zapdu.specs.Productions.Diagnostics.{diag_rec}
-use Rattle.zproductions.specs.Place.{Place}
+use Rattle.zasn.specs.Place.{Place, IsSpellable}
 use Rattle.zknow.specs.declared.fact.Fact.{Fact}
 use Rattle.zknow.specs.declared.fact.Fact.TheVariants.{Count, Failed, Seen, Diag}
 use Rattle.zknow.specs.declared.saved.natural.Natural.{Natural}
@@ -17,7 +17,6 @@ use Rattle.zknow.specs.declared.saved.saved_fact.SavedCount.{SavedCount}
 use Rattle.zknow.specs.declared.saved.saved_fact.SavedFailed.{SavedFailed}
 use Rattle.zknow.specs.declared.saved.saved_fact.SavedSeen.{SavedSeen}
 use Rattle.zknow.specs.declared.saved.saved_fact.SavedDiag.{SavedDiag}
-use Rattle.zknow.specs.Encodings.{IsSpellable}
 use Rattle.zknow.specs.Facts.{IsFact}
 use Rattle.zknow.specs.Saved.Naturals.{is_natural, natural_spelt, natural_octets}
 use Rattle.zknow.specs.Saved.SavedFacts.{saved_names, count_parts, failed_parts, seen_parts, diag_parts, any_fact, in_range, saved_fact}

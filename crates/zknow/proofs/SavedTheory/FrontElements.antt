@@ -13,7 +13,7 @@ use Rattle.zber.specs.Stream.{Stream, Answers}
 use Rattle.zber.specs.declared.fault.FaultKind.{FaultKind}
 use Rattle.zber.specs.declared.fault.FrameError.TheVariants.{Fault}
 use Rattle.zber.specs.Tags.{among}
-use Rattle.zproductions.specs.Place.{Place}
+use Rattle.zasn.specs.Place.{Place}
 use Rattle.zber.proofs.OneOutcome.{one_message, message_or_fault}
 use Rattle.zknow.specs.Encodings.{encoding}
 use Rattle.zknow.specs.Saved.Saved.{longest}

@@ -8,7 +8,8 @@ use Rattle.zapdu.specs.declared.productions.record.Record.{Record}
 use Rattle.zapdu.specs.Productions.Records.{whole_record}
 use Rattle.zknow.specs.declared.fact.Fact.{Fact}
 use Rattle.zknow.specs.declared.fact.Fact.TheVariants.{Count, Failed, Seen, Diag}
-use Rattle.zknow.specs.Encodings.{encoding, IsSpellable}
+use Rattle.zknow.specs.Encodings.{encoding}
+use Rattle.zasn.specs.Place.{IsSpellable, Place}
 use Rattle.zknow.specs.Facts.{fact_cmp, IsFact}
 use Rattle.zknow.specs.Tables.DistinctLaws.{none_in_nil, in_cons, same_sorted, each_in}
 use Rattle.zknow.specs.Tables.Join.{IsUnion}
@@ -17,7 +18,6 @@ use Rattle.zknow.specs.Saved.Saved.{saved, IsElement, Fits, IsSaved}
 use Rattle.zknow.specs.Saved.Loaded.{BeginsWith, IsSoundUpTo, IsFault}
 use Rattle.zknow.specs.declared.saved.front.FrontError.{FrontError}
 use Rattle.zknow.specs.declared.saved.front.FrontError.TheVariants.{NoValue, NotCanonical, Memory}
-use Rattle.zproductions.specs.Place.{Place}
 use Rattle.zber.proofs.HeaderLemmas.{take_add}
 use Rattle.zknow.proofs.SavedTheory.OneElement.{element_some}
 use Rattle.std.proofs.lemmas.List.{append-nil}

@@ -3,7 +3,7 @@ use Rattle.std.proofs.Common.{◌≡◌, ◌≢◌, ◌<◌, ℕ, List, ◌++◌
 use Rattle.std.proofs.lemmas.List.{append_cancel_left}
 use Rattle.zber.specs.Elements.{Element, height}
 use Rattle.zber.specs.Canonical.{canonical, IsLawful}
-use Rattle.zproductions.specs.Place.{Place}
+use Rattle.zasn.specs.Place.{Place}
 use Rattle.zber.proofs.CanonicalLemmas.{canonical_is_spelling}
 use Rattle.zber.proofs.OneSpelling.{one_spelling}
 use Rattle.zber.proofs.ScanSteps.{spells_some}

@@ -5,10 +5,10 @@ use Rattle.zber.specs.AsnTags.{AsnTag, universal}
 use Rattle.zber.specs.Elements.{Element, Primitive, cons}
 use Rattle.zber.specs.Oids.{is_oid, oid_octets}
 use Rattle.zber.specs.Integers.{integer_octets}
-use Rattle.zproductions.specs.Within.{around}
-use Rattle.zproductions.specs.Building.{◌>>=◌, required_put, optional_put}
-use Rattle.zproductions.specs.Meanings.{is_i64, oid_spelt, int_spelt, octets_spelt}
-use Rattle.zproductions.specs.Reading.{option_map}
+use Rattle.zasn.specs.Within.{around}
+use Rattle.zasn.specs.Building.{◌>>=◌, required_put, optional_put}
+use Rattle.zasn.specs.Meanings.{is_i64, oid_spelt, int_spelt, octets_spelt}
+use Rattle.zasn.specs.Reading.{option_map}
 use Rattle.zapdu.specs.declared.productions.external.Content.{Content}
 use Rattle.zapdu.specs.declared.productions.external.Content.TheVariants.{Single, Aligned, Arbitrary}
 use Rattle.zapdu.specs.declared.productions.external.External.{External}
@@ -18,7 +18,7 @@ use Rattle.zapdu.specs.declared.productions.diagnostic.DefaultDiag.{DefaultDiag}
 use Rattle.zapdu.specs.declared.productions.diagnostic.DiagRec.TheVariants.{Default, Ext}
 use Rattle.zapdu.specs.Productions.Externals.{external_parts, content}
 use Rattle.zapdu.specs.Productions.Diagnostics.{default_parts, diag_rec, info}
-use Rattle.zknow.specs.Encodings.{IsSpellable}
+use Rattle.zasn.specs.Place.{IsSpellable}
 
 -- some element, or some list of them, is written
 abbrev pub Is : {A : Type 0} → Option A → Type 0

@@ -18,7 +18,8 @@ use Rattle.zknow.specs.declared.tables.keys.SetKey.{SetKey}
 use Rattle.zknow.specs.declared.tables.keys.Mark.{Mark}
 use Rattle.zknow.specs.declared.fact.Fact.{Fact}
 use Rattle.zknow.specs.declared.fact.Fact.TheVariants.{Count, Failed, Seen, Diag}
-use Rattle.zknow.specs.Encodings.{encoding_cmp, IsSpellable}
+use Rattle.zknow.specs.Encodings.{encoding_cmp}
+use Rattle.zasn.specs.Place.{IsSpellable}
 use Rattle.zknow.specs.Facts.{fact_cmp}
 use Rattle.zknow.specs.Tables.Sections.{facts_of, counts_of, failed_of, seen_of, diags_of, marked, numbered}
 use Rattle.zknow.specs.Tables.Table.{HasItem, IsLawfulTable}

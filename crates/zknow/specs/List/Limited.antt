@@ -2,8 +2,8 @@
 use Rattle.std.specs.Prelude.{◌≡◌, Bool, true, false, Option, Some, None, if◌then◌else◌}
 use Rattle.std.proofs.Common.{refl, ap, subst, ◌∙◌, cond}
 use Rattle.zber.specs.Elements.{Element}
-use Rattle.zproductions.specs.Building.{◌>>=◌}
-use Rattle.zproductions.specs.Place.{Place}
+use Rattle.zasn.specs.Building.{◌>>=◌}
+use Rattle.zasn.specs.Place.{Place}
 
 module _ {A : Type 0} (p : Place A) (test : A → Bool) where
   abbrev pub passing : A → Option A

@@ -2,7 +2,7 @@
 use Rattle.std.specs.Prelude.{◌≡◌, ◌≢◌, ℕ, ◌≤◌, List, ◌++◌, length, take, Option, Some, None, ⊤}
 use Rattle.zber.specs.Elements.{Element}
 use Rattle.zber.specs.Spelling.{Begins}
-use Rattle.zproductions.specs.Place.{Place}
+use Rattle.zasn.specs.Place.{Place}
 use Rattle.zknow.specs.declared.saved.front.Front.{Front}
 use Rattle.zknow.specs.declared.saved.front.Front.TheVariants as front
 use Rattle.zknow.specs.declared.saved.front.FrontError.{FrontError}

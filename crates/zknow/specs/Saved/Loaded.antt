@@ -2,7 +2,7 @@
 -- first fact 1.
 use Rattle.std.specs.Prelude.{◌≡◌, ◌≢◌, ◌⊎◌, ℕ, ◌+◌, ◌<◌, List, [], ◌∷◌, ◌++◌, length, ⊤}
 use Rattle.std.specs.List.Sorted.{IsStrictlySortedBy}
-use Rattle.zproductions.specs.Place.{Place}
+use Rattle.zasn.specs.Place.{Place}
 use Rattle.zknow.specs.declared.fact.Fact.{Fact}
 use Rattle.zknow.specs.declared.saved.loading.LoadError.{LoadError}
 use Rattle.zknow.specs.declared.saved.loading.LoadError.TheVariants.{NotKnowledge, NotCanonical, Memory}

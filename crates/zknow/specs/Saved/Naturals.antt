@@ -5,14 +5,14 @@ use Rattle.std.proofs.lemmas.Bool.{ltb-true, lt-ltb}
 use Rattle.zber.specs.AsnTags.{AsnTag}
 use Rattle.zber.specs.Elements.{Element, Primitive}
 use Rattle.zber.specs.Integers.{integer_octets}
-use Rattle.zproductions.specs.Standing.{tagged}
-use Rattle.zproductions.specs.Laws.{IsPlace, IsSpelled}
-use Rattle.zproductions.specs.Meanings.{int_of, is_i64}
-use Rattle.zproductions.specs.Building.{◌>>=◌}
-use Rattle.zproductions.specs.Place.{Place}
-use Rattle.zproductions.proofs.Meanings.{int_spelled}
-use Rattle.zproductions.proofs.Readings.{tagged_place}
-use Rattle.zproductions.proofs.Builds.{fitting_spelled}
+use Rattle.zasn.specs.Standing.{tagged}
+use Rattle.zasn.specs.Laws.{IsPlace, IsSpelled}
+use Rattle.zasn.specs.Meanings.{int_of, is_i64}
+use Rattle.zasn.specs.Building.{◌>>=◌}
+use Rattle.zasn.specs.Place.{Place}
+use Rattle.zasn_tables.proofs.Meanings.{int_spelled}
+use Rattle.zasn_tables.proofs.Readings.{tagged_place}
+use Rattle.zasn_tables.proofs.Builds.{fitting_spelled}
 use Rattle.zasn.specs.Places.{lawful}
 use Rattle.zknow.specs.declared.saved.natural.Natural.{Natural}
 

@@ -5,7 +5,7 @@ use Rattle.std.specs.List.Sorted.{IsStrictlySortedBy}
 use Rattle.zber.specs.Elements.{Element, height}
 use Rattle.zber.specs.Canonical.{canonical}
 use Rattle.zber.specs.Spelling.{IsMessage, deepest}
-use Rattle.zproductions.specs.Place.{Place}
+use Rattle.zasn.specs.Place.{Place}
 use Rattle.zknow.specs.declared.fact.Fact.{Fact}
 use Rattle.zknow.specs.declared.saved.saving.SaveError.{SaveError}
 use Rattle.zknow.specs.declared.saved.saving.SaveError.TheVariants.{TooDeep, TooLong, Memory}

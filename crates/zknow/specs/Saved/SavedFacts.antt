@@ -4,13 +4,13 @@ use Rattle.std.proofs.Common.{inl, inr, int_le}
 use Rattle.zber.specs.AsnTags.{context}
 use Rattle.zber.specs.Elements.{Element, Primitive, cons}
 use Rattle.zber.specs.Values.{in_octets}
-use Rattle.zproductions.specs.Place.{Place}
-use Rattle.zproductions.specs.Choice.{Choice, either, finally, Pick, picked}
-use Rattle.zproductions.specs.Table.{ComponentTable, required, ended, ◌⨾◌, Elements}
-use Rattle.zproductions.specs.Standing.{tagged}
-use Rattle.zproductions.specs.Meanings.{meant, octets_spelt}
-use Rattle.zproductions.proofs.Readings.{tagged_place}
-use Rattle.zproductions.proofs.Builds.{contents_spelled}
+use Rattle.zasn.specs.Place.{Place}
+use Rattle.zasn.specs.Choice.{Choice, either, finally, Pick, picked}
+use Rattle.zasn.specs.Table.{ComponentTable, required, ended, ◌⨾◌, Elements}
+use Rattle.zasn.specs.Standing.{tagged}
+use Rattle.zasn.specs.Meanings.{meant, octets_spelt}
+use Rattle.zasn_tables.proofs.Readings.{tagged_place}
+use Rattle.zasn_tables.proofs.Builds.{contents_spelled}
 use Rattle.zasn.specs.Places.{of_table, of_choice, integer, within, list, lawful}
 use Rattle.zapdu.specs.declared.productions.diagnostic.DiagRec.{DiagRec}
 use Rattle.zapdu.specs.declared.productions.record.Record.{Record}

@@ -12,7 +12,8 @@ use Rattle.zknow.specs.declared.tables.keys.SetKey.{SetKey}
 use Rattle.zknow.specs.declared.tables.Tables.{Tables}
 use Rattle.zknow.specs.declared.fact.Fact.{Fact}
 use Rattle.zknow.specs.declared.fact.Fact.TheVariants.{Count, Failed, Seen, Diag}
-use Rattle.zknow.specs.Encodings.{encoding_cmp, encoding_total, IsSpellable}
+use Rattle.zknow.specs.Encodings.{encoding_cmp, encoding_total}
+use Rattle.zasn.specs.Place.{IsSpellable}
 use Rattle.zknow.specs.Facts.{IsFact}
 use Rattle.zknow.specs.Tables.Table.{HasItem, IsLawfulTable}
 use Rattle.zknow.specs.Tables.TableLaws.{same_table}

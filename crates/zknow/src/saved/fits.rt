@@ -1,8 +1,8 @@
 //! That an element stands for each fact.
 ghost use Rattle.std.specs.Prelude.{◌≡◌, ◌<◌, ◌^◌, true};
-ghost use Rattle.zproductions.specs.Meanings.{is_i64};
+ghost use Rattle.zasn.specs.Meanings.{is_i64};
 ghost use Rattle.zapdu.specs.Productions.Diagnostics.{diag_rec};
-ghost use Rattle.zknow.specs.Encodings.{IsSpellable};
+ghost use Rattle.zasn.specs.Place.{IsSpellable};
 ghost use Rattle.zknow.specs.Tables.FactRefs.{fact_of};
 ghost use Rattle.zknow.specs.Facts.{IsFact};
 ghost use Rattle.zknow.specs.Saved.Naturals.{is_natural};

@@ -1,6 +1,6 @@
 //! The names of targets as one element of a saved file.
 ghost use Rattle.std.specs.Prelude.{◌≡◌, IfOk};
-ghost use Rattle.zproductions.specs.Within.{all_of, list_of, whole_of};
+ghost use Rattle.zasn.specs.Within.{all_of, list_of, whole_of};
 ghost use Rattle.zasn.specs.Answers.{Means};
 ghost use Rattle.zknow.specs.Saved.SavedFacts.{saved_name, saved_names};
 

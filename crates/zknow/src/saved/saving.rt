@@ -1,7 +1,7 @@
 //! Writing a saved file.
 ghost use Rattle.std.specs.Prelude.{◌≡◌, ◌∷◌, ◌++◌, List, ℕ, [], Some, false, Contains, map, IfOk, IfErr, OnOk, OnErr};
 ghost use Rattle.std.specs.List.{AllByRecursion};
-ghost use Rattle.zknow.specs.Encodings.{IsSpellable};
+ghost use Rattle.zasn.specs.Place.{IsSpellable};
 ghost use Rattle.zknow.specs.Tables.FactRefs.{fact_of};
 ghost use Rattle.zknow.specs.Facts.{IsFact};
 ghost use Rattle.zknow.specs.Saved.Saved.{saved, longest, IsSaved, IsRefused, AreWithin};

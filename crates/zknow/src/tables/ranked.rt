@@ -1,9 +1,9 @@
 //! Values in an order that may need memory to compare.
 ghost use Rattle.std.specs.Prelude.{◌≡◌, true, IfSome};
 ghost use Rattle.zber.specs.Oids.{is_oid};
-ghost use Rattle.zproductions.specs.Meanings.{is_i64};
+ghost use Rattle.zasn.specs.Meanings.{is_i64};
 ghost use Rattle.zapdu.specs.Productions.Diagnostics.{diag_rec};
-ghost use Rattle.zknow.specs.Encodings.{IsSpellable};
+ghost use Rattle.zasn.specs.Place.{IsSpellable};
 
 use crate::encoding;
 use std::alloc::{AllocError, Global};
@@ -75,7 +75,8 @@ impl Ranked for Record {
     type Key = Vec<u8>;
 
     ghost use Rattle.zapdu.specs.Productions.Records.{whole_record};
-    ghost use Rattle.zknow.specs.Encodings.{encoding_cmp, encoding_total, IsSpellable, IsEncodedAs};
+    ghost use Rattle.zknow.specs.Encodings.{encoding_cmp, encoding_total, IsEncodedAs};
+    ghost use Rattle.zasn.specs.Place.{IsSpellable};
 
     ghost order = { encoding_cmp whole_record };
 
@@ -130,7 +131,7 @@ fn each_oid_fits(oid: &Option<Oid>)
     }
 }
 
-#[tactic(auto, using(zproductions::proofs::Meanings::fits_i64))]
+#[tactic(auto, using(zasn_tables::proofs::Meanings::fits_i64))]
 fn fits(number: i64)
     ensures { is_i64 number ≡ true }
 {}

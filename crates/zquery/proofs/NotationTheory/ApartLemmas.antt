@@ -13,7 +13,7 @@ use Rattle.std.specs.List.{list_any}
 use Rattle.std.specs.Option.{option_map, option_cmp}
 use Rattle.std.specs.Ordering.{is_eq, ordering_then, nat_cmp, int_cmp, int_eq}
 use Rattle.std.specs.Str.{bytes_eq}
-use Rattle.zrpn.specs.declared.query.Attr.{Attr}
+use Rattle.zquery_rpn.specs.declared.query.Attr.{Attr}
 use Rattle.zquery.specs.InForce.{same_set, alike}
 use Rattle.zquery.specs.Notation.Apart.{Key, key_cmp, is_key_of, AreKeysOf}
 use Rattle.zquery.specs.Notation.Printing.{plain_attr, plain_attrs}

@@ -2,13 +2,13 @@
 use Rattle.std.proofs.Common.{◌≡◌, refl, sym, ◌∙◌, ap, subst, ℕ, ◌+◌, ◌≤◌, ◌<◌, max, List, [], ◌∷◌, ◌++◌, Option, Some, None, Result, Ok, Bool, false, if◌then◌else◌, arith, append_assoc, append-nil, length}
 use Rattle.std.proofs.lemmas.Bool.{le-ltb}
 use Rattle.zquery.specs.declared.notation.token.Token.{Token}
-use Rattle.zrpn.specs.declared.query.Attr.{Attr}
+use Rattle.zquery_rpn.specs.declared.query.Attr.{Attr}
 use Rattle.zquery.specs.declared.notation.word.TermKind.{TermKind}
 use Rattle.zquery.specs.declared.notation.word.TermKind.TheVariants.{GeneralTerm}
-use Rattle.zrpn.specs.declared.query.TermValue.{TermValue}
+use Rattle.zquery_rpn.specs.declared.query.TermValue.{TermValue}
 use Rattle.zquery.specs.declared.notation.error.PqfErrorKind.{PqfErrorKind}
 use Rattle.zquery.specs.declared.notation.error.PqfErrorKind.TheVariants as kind
-use Rattle.zrpn.specs.Trees.{Tree, RpnQuery, height}
+use Rattle.zquery_rpn.specs.Trees.{Tree, RpnQuery, height}
 use Rattle.zquery.specs.Notation.Words.{word}
 use Rattle.zquery.specs.Notation.Sets.{set_of}
 use Rattle.zquery.specs.Notation.Values.{numbers_of}

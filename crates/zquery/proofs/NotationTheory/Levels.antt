@@ -4,7 +4,7 @@ use Rattle.zquery.specs.declared.notation.token.Token.{Token}
 use Rattle.zquery.specs.declared.notation.word.Word.{Word}
 use Rattle.zquery.specs.declared.notation.word.Word.TheVariants.{AttrSet, Attribute, Op, NamedSet, TypeOfTerm, Unknown, Plain}
 use Rattle.zquery.specs.declared.notation.word.TermKind.{TermKind}
-use Rattle.zrpn.specs.declared.query.TermValue.{TermValue}
+use Rattle.zquery_rpn.specs.declared.query.TermValue.{TermValue}
 use Rattle.zquery.specs.declared.notation.error.PqfError.{PqfError}
 use Rattle.zquery.specs.declared.notation.error.PqfErrorKind.{PqfErrorKind}
 use Rattle.zquery.specs.declared.notation.error.PqfErrorKind.TheVariants as kind

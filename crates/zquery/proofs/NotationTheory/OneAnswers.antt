@@ -3,7 +3,7 @@ use Rattle.std.proofs.Common.{◌≡◌, sym, ◌∙◌, ap, subst, ℕ, ◌≤�
 use Rattle.zquery.specs.declared.notation.token.Token.{Token}
 use Rattle.zquery.specs.declared.notation.error.PqfError.{PqfError}
 use Rattle.zquery.specs.declared.notation.error.PqfErrorKind.{PqfErrorKind}
-use Rattle.zrpn.specs.Trees.{RpnQuery, height}
+use Rattle.zquery_rpn.specs.Trees.{RpnQuery, height}
 use Rattle.zquery.specs.Notation.Grammar.{IsQuery}
 use Rattle.zquery.specs.Notation.Table.{refusal}
 use Rattle.zquery.specs.Notation.Texts.{IsText, IsFault}

@@ -6,7 +6,7 @@ use Rattle.zquery.specs.declared.notation.word.Word.TheVariants.{AttrSet, Attrib
 use Rattle.zquery.specs.declared.notation.word.TermKind.TheVariants.{GeneralTerm}
 use Rattle.zquery.specs.declared.notation.error.PqfError.{PqfError}
 use Rattle.zquery.specs.declared.notation.error.PqfErrorKind.TheVariants as kind
-use Rattle.zrpn.specs.Trees.{Tree, height}
+use Rattle.zquery_rpn.specs.Trees.{Tree, height}
 use Rattle.zquery.specs.Notation.Words.{word}
 use Rattle.zquery.specs.Notation.Sets.{set_of, bib1}
 use Rattle.zquery.specs.InForce.{in_force}

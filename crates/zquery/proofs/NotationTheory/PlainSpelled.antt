@@ -7,25 +7,25 @@ use Rattle.zber.specs.AsnTags.{AsnTag, context, universal}
 use Rattle.zber.specs.Elements.{Element, Primitive, Constructed, forest}
 use Rattle.zber.specs.Integers.{integer_octets}
 use Rattle.zber.specs.Oids.{IsOid, oid_octets}
-use Rattle.zproductions.specs.Reading.{option_map}
-use Rattle.zproductions.specs.Building.{◌>>=◌, required_put, optional_put}
-use Rattle.zproductions.specs.Place.{Place}
-use Rattle.zproductions.specs.Within.{around, onto, all_spelt}
+use Rattle.zasn.specs.Reading.{option_map}
+use Rattle.zasn.specs.Building.{◌>>=◌, required_put, optional_put}
+use Rattle.zasn.specs.Place.{Place}
+use Rattle.zasn.specs.Within.{around, onto, all_spelt}
 use Rattle.zber.proofs.OidTest.{is_oid_pass}
-use Rattle.zproductions.proofs.Meanings.{fits_i64}
+use Rattle.zasn_tables.proofs.Meanings.{fits_i64}
 use Rattle.zasn.specs.Places.{integer, oid, explicit}
-use Rattle.zrpn.specs.declared.query.Attr.{Attr}
-use Rattle.zrpn.specs.declared.query.AttrValue.{AttrValue}
-use Rattle.zrpn.specs.declared.query.AttrValue.TheVariants.{Number, Complex}
-use Rattle.zrpn.specs.declared.query.TermValue.{TermValue}
-use Rattle.zrpn.specs.declared.query.TermValue.TheVariants.{General, Numeric, Text, Other}
+use Rattle.zquery_rpn.specs.declared.query.Attr.{Attr}
+use Rattle.zquery_rpn.specs.declared.query.AttrValue.{AttrValue}
+use Rattle.zquery_rpn.specs.declared.query.AttrValue.TheVariants.{Number, Complex}
+use Rattle.zquery_rpn.specs.declared.query.TermValue.{TermValue}
+use Rattle.zquery_rpn.specs.declared.query.TermValue.TheVariants.{General, Numeric, Text, Other}
 use Rattle.zquery.specs.Notation.Values.{most}
-use Rattle.zrpn.specs.Trees.{Tree, OfTerm, OfSet, OfSetAttrs, Of, Near, RpnQuery}
-use Rattle.zrpn.specs.Element.Operands.{AttrTerm, ResultSet, ResultAttr, value, attribute_parts, attribute, attributes, term, attributes_term_parts, set_attributes_parts, operand}
+use Rattle.zquery_rpn.specs.Trees.{Tree, OfTerm, OfSet, OfSetAttrs, Of, Near, RpnQuery}
+use Rattle.zquery_rpn.specs.Element.Operands.{AttrTerm, ResultSet, ResultAttr, value, attribute_parts, attribute, attributes, term, attributes_term_parts, set_attributes_parts, operand}
 use Rattle.zquery.specs.Notation.Printing.{in_range, names, plain_value, plain_attr, plain_attrs, plain_term, plain_tree}
 use Rattle.zquery.specs.Lawful.{IsLawfulSet, AreLawful, IsLawfulTerm, IsLawfulTree}
-use Rattle.zrpn.specs.Element.Type1Reading.{two, three, tree_spelt, query_spelt}
-use Rattle.zrpn.proofs.ElementTheory.OperatorSpelled.{operator_spelled}
+use Rattle.zquery_rpn.specs.Element.Type1Reading.{two, three, tree_spelt, query_spelt}
+use Rattle.zquery_rpn.proofs.ElementTheory.OperatorSpelled.{operator_spelled}
 
 -- there is a spelling
 abbrev Spelled : {A : Type 0} → Option A → Type 0

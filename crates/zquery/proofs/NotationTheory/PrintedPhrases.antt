@@ -10,19 +10,19 @@ use Rattle.zber.specs.Dotted.{dotted}
 use Rattle.zber.specs.Oids.{IsOid}
 use Rattle.zquery.specs.declared.notation.token.Token.{Token}
 use Rattle.zquery.specs.declared.notation.word.Word.TheVariants.{Op}
-use Rattle.zrpn.specs.declared.operator.Operator.{Operator}
-use Rattle.zrpn.specs.declared.operator.Operator.TheVariants.{And, Or, Not}
+use Rattle.zquery_rpn.specs.declared.operator.Operator.{Operator}
+use Rattle.zquery_rpn.specs.declared.operator.Operator.TheVariants.{And, Or, Not}
 use Rattle.zquery.specs.declared.notation.word.TermKind.{TermKind}
 use Rattle.zquery.specs.declared.notation.word.TermKind.TheVariants.{GeneralTerm, NumericTerm, TextTerm}
-use Rattle.zrpn.specs.declared.query.Attr.{Attr}
-use Rattle.zrpn.specs.declared.query.AttrValue.{AttrValue}
-use Rattle.zrpn.specs.declared.query.AttrValue.TheVariants.{Number, Complex}
-use Rattle.zrpn.specs.declared.query.TermValue.{TermValue}
-use Rattle.zrpn.specs.declared.query.TermValue.TheVariants.{General, Numeric, Text, Other}
+use Rattle.zquery_rpn.specs.declared.query.Attr.{Attr}
+use Rattle.zquery_rpn.specs.declared.query.AttrValue.{AttrValue}
+use Rattle.zquery_rpn.specs.declared.query.AttrValue.TheVariants.{Number, Complex}
+use Rattle.zquery_rpn.specs.declared.query.TermValue.{TermValue}
+use Rattle.zquery_rpn.specs.declared.query.TermValue.TheVariants.{General, Numeric, Text, Other}
 use Rattle.zquery.specs.Notation.Words.{word}
 use Rattle.zquery.specs.Notation.Values.{most, kind_of, value_of}
 use Rattle.zquery.specs.InForce.{in_force, alike}
-use Rattle.zrpn.specs.Trees.{Tree, OfTerm, OfSet, OfSetAttrs, Of, Near}
+use Rattle.zquery_rpn.specs.Trees.{Tree, OfTerm, OfSet, OfSetAttrs, Of, Near}
 use Rattle.zquery.specs.Notation.Tokens.{IsWord}
 use Rattle.zquery.specs.Notation.Grammar.{Phrase, One, Named, Attributed, InSet, Typed, Joined, Placed, Reads, placed, tokens_in, attr, kept_set, set_tree}
 use Rattle.zquery.specs.Notation.Printing.{in_quotes, attr_text, term_text, tree_text, in_range, plain_value, names, plain_attr, plain_attrs, plain_term, plain_tree}

@@ -6,7 +6,7 @@ use Rattle.std.proofs.lemmas.Slice.Eq.{bytes_eq-Decides}
 use Rattle.zber.specs.Dotted.{dotted}
 use Rattle.zquery.specs.Notation.Words.{word}
 use Rattle.zquery.specs.Notation.Sets.{bib1}
-use Rattle.zrpn.specs.Trees.{RpnQuery, height}
+use Rattle.zquery_rpn.specs.Trees.{RpnQuery, height}
 use Rattle.zquery.specs.Notation.Grammar.{placed, tokens_in, Bare, InAttrSet}
 use Rattle.zquery.specs.Notation.Texts.{IsText}
 use Rattle.zquery.specs.Notation.Printing.{tree_text, query_text, plain_tree, printable}

@@ -10,21 +10,21 @@ use Rattle.std.proofs.lemmas.Bool.{and_parts, and_from, or_parts, or_from, not-t
 use Rattle.zber.specs.Oids.{IsOid}
 use Rattle.zquery.specs.declared.notation.word.TermKind.{TermKind}
 use Rattle.zquery.specs.declared.notation.word.TermKind.TheVariants.{GeneralTerm, NumericTerm, TextTerm}
-use Rattle.zrpn.specs.declared.query.Attr.{Attr}
-use Rattle.zrpn.specs.declared.query.AttrValue.{AttrValue}
-use Rattle.zrpn.specs.declared.query.TermValue.{TermValue}
-use Rattle.zrpn.specs.declared.query.TermValue.TheVariants.{General, Numeric, Text}
+use Rattle.zquery_rpn.specs.declared.query.Attr.{Attr}
+use Rattle.zquery_rpn.specs.declared.query.AttrValue.{AttrValue}
+use Rattle.zquery_rpn.specs.declared.query.TermValue.{TermValue}
+use Rattle.zquery_rpn.specs.declared.query.TermValue.TheVariants.{General, Numeric, Text}
 use Rattle.zquery.specs.Notation.Numbers.{is_numeral, number_of, positive, negative, has_minus, integer_of}
 use Rattle.zquery.specs.Notation.Values.{is_equals, most, pair_of, numbers_of, value_of}
 use Rattle.zquery.specs.Notation.Sets.{bib1, set_of}
 use Rattle.zquery.specs.InForce.{alike, in_force}
 use Rattle.zquery.specs.Notation.Reading.{put_in}
-use Rattle.zrpn.specs.Trees.{Tree}
+use Rattle.zquery_rpn.specs.Trees.{Tree}
 use Rattle.zquery.specs.Notation.Grammar.{Phrase, One, Named, Attributed, InSet, Typed, Joined, Reads, attr, kept_set, set_tree, Whole, Bare, InAttrSet, ReadsWhole}
 use Rattle.zquery.specs.Notation.Printing.{in_range, names, plain_value, plain_attr, plain_attrs, plain_term, plain_tree}
 use Rattle.zquery.specs.Lawful.{IsLawfulSet, AreLawful, IsLawfulTerm, IsLawfulTree}
 use Rattle.zquery.proofs.InForceLemmas.{put-law}
-use Rattle.zquery.proofs.NotationTheory.SetLemmas.{oid-is}
+use Rattle.zber.proofs.OidTest.{is_oid_from_pass}
 use Rattle.zquery.proofs.NotationTheory.PrintedWords.{set-names}
 
 -- numbers
@@ -84,7 +84,7 @@ term-read NumericTerm text v e = let m = mapped Numeric (integer_of text) v e in
 -- sets
 set-read : (text set : List ℕ) → set_of text ≡ Some set → IsOid set
 set-read text set e = elim ((set-names text set).0 e) [
-  | inl p ↦ subst IsOid (sym p.1) (oid-is bib1 refl)
+  | inl p ↦ subst IsOid (sym p.1) (is_oid_from_pass bib1 refl)
   | inr p ↦ p.1
 ]
 
@@ -178,5 +178,5 @@ phrase-plain own xs k (Joined t p r) q g (o, w, (a, h, (b, i, is))) =
 
 -- queries
 pub whole-plain : (w : Whole) (own : List ℕ) (q : Tree) → ReadsWhole w own q → IsOid own × IsPlainTree own q
-whole-plain (Bare p) own q (e, h) = (subst IsOid (sym e) (oid-is bib1 refl), phrase-plain own [] GeneralTerm p q (none-plain own) h)
+whole-plain (Bare p) own q (e, h) = (subst IsOid (sym e) (is_oid_from_pass bib1 refl), phrase-plain own [] GeneralTerm p q (none-plain own) h)
 whole-plain (InAttrSet t u p) own q (w, e, h) = (set-read u.text own e, phrase-plain own [] GeneralTerm p q (none-plain own) h)

@@ -1,10 +1,10 @@
 -- The query of a text can be printed and spelled.
 use Rattle.std.proofs.lemmas.Bool.{and_from, le-leb}
-use Rattle.zrpn.specs.Trees.{height}
+use Rattle.zquery_rpn.specs.Trees.{height}
 use Rattle.zquery.specs.Notation.Laws.{TextPrintable, TextSpellable}
 use Rattle.zquery.proofs.NotationTheory.ReadPlain.{whole-plain}
 use Rattle.zquery.proofs.NotationTheory.PlainSpelled.{query-spelled}
-use Rattle.zrpn.proofs.ElementTheory.Type1Making.{makes_query}
+use Rattle.zquery_rpn.proofs.ElementTheory.Type1Making.{makes_query}
 
 pub text-printable : TextPrintable
 text-printable text q (ts, are, is) low = and_from _ _ (le-leb (height q.root) 32 low) (whole-plain is.whole q.attr_set q.root is.reads).1.0

@@ -10,49 +10,16 @@ use Rattle.std.proofs.lemmas.Fmt.{decimal_is_IsNumeral}
 use Rattle.zber.specs.declared.oid.OidError.{OidError}
 use Rattle.zber.specs.declared.oid.OidError.TheVariants.{OidText, OidArc, OidTooShort, OidFirst, Memory}
 use Rattle.zber.specs.Dotted.{numeral, dotted}
-use Rattle.zber.specs.Oids.{IsOid, HasRoot}
+use Rattle.zber.specs.Oids.{IsOid, HasRoot, is_oid}
 use Rattle.zber.specs.OidAnswers.{FromDotted, HasNoRoot}
 use Rattle.zber.proofs.DottedLemmas.{printed}
 use Rattle.zber.proofs.DottedReading.{dotted_apart, IsPlain, plain_digits}
 use Rattle.zber.proofs.NumeralLemmas.{numeral_is}
-use Rattle.zquery.specs.Notation.Sets.{fits, is_oid, is_dot, arcs_in, oid_of}
+use Rattle.zber.proofs.OidTest.{is_oid_pass, is_oid_from_pass}
+use Rattle.zquery.specs.Notation.Sets.{is_dot, arcs_in, oid_of}
 
 abbrev IsSmall : ℕ → Type 0
 IsSmall n = n < 2 ^ 32
-
--- the test tells object identifiers
-all-fit : (ns : List ℕ) → list_all fits ns ≡ true → All (λ n. n < 2 ^ 32) ns
-all-fit [] h = All-nil IsSmall
-all-fit (n ∷ ns) h = let parts = and_parts (fits n) (list_all fits ns) h in All-cons IsSmall n ns (ltb-true n (2 ^ 32) parts.0) (all-fit ns parts.1)
-
-fit-all : (ns : List ℕ) → All (λ n. n < 2 ^ 32) ns → list_all fits ns ≡ true
-fit-all [] h = refl
-fit-all (n ∷ ns) h = and_from _ _ (lt-ltb n (2 ^ 32) (All-head IsSmall n ns h)) (fit-all ns (All-tail IsSmall n ns h))
-
-root-of : (a b : ℕ) → ((a == 2) || (nat_lt a 2 && nat_lt b 40)) ≡ true → (a ≤ 2) × (a < 2 → b < 40)
-root-of a b h = elim (or_cases (a == 2) (nat_lt a 2 && nat_lt b 40) h) [
-  | inl e ↦ let two : a ≡ 2 = eqb-true a 2 e in (omega arith, λ l. absurd (omega arith))
-  | inr e ↦ let parts = and_parts (nat_lt a 2) (nat_lt b 40) e in
-      let one : a < 2 = ltb-true a 2 parts.0 in
-      let low : b < 40 = ltb-true b 40 parts.1 in
-      (omega arith, λ l. low)
-]
-
-of-root : (a b : ℕ) → (a ≤ 2) × (a < 2 → b < 40) → ((a == 2) || (nat_lt a 2 && nat_lt b 40)) ≡ true
-of-root a b h = elim (cases_lt a 2) [
-  | inl l ↦ or_right _ _ (and_from _ _ (lt-ltb a 2 l) (lt-ltb b 40 (h.1 l)))
-  | inr g ↦ or_left _ _ (eq-eqb a 2 (omega arith))
-]
-
-pub oid-is : (ns : List ℕ) → is_oid ns ≡ true → IsOid ns
-oid-is [] h = absurd (Prim.cc h)
-oid-is (a ∷ []) h = absurd (Prim.cc h)
-oid-is (a ∷ b ∷ ns) h = let parts = and_parts _ _ h in record { root = root-of a b parts.0; fits = all-fit (a ∷ b ∷ ns) parts.1 }
-
-pub is-oid : (ns : List ℕ) → IsOid ns → is_oid ns ≡ true
-is-oid [] h = absurd h.root
-is-oid (a ∷ []) h = absurd h.root
-is-oid (a ∷ b ∷ ns) h = and_from _ _ (of-root a b h.root) (fit-all (a ∷ b ∷ ns) h.fits)
 
 -- the numbers between the dots of a text of arcs are the arcs
 no-dot : (b : ℕ) → (b ≡ 46 → ⊥) → is_dot b ≡ false
@@ -93,13 +60,13 @@ unfolding oid_of
 oid-found text o e h =
     let arcs : arcs_in text ≡ o = ap arcs_in e ∙ arcs-back o h in
     let test : (is_oid (arcs_in text) && bytes_eq (dotted (arcs_in text)) text) ≡ true =
-    and_from _ _ (ap is_oid arcs ∙ is-oid o h) ((bytes_eq-Decides (dotted (arcs_in text)) text).1 (ap dotted arcs ∙ sym e)) in
+    and_from _ _ (ap is_oid arcs ∙ is_oid_pass o h) ((bytes_eq-Decides (dotted (arcs_in text)) text).1 (ap dotted arcs ∙ sym e)) in
     cond-true _ _ _ test ∙ ap (λ (ns : List ℕ). Some ns) arcs
 
 by-test : (text ns o : List ℕ) (b c : Bool) → is_oid ns ≡ b → bytes_eq (dotted ns) text ≡ c → (if b && c then Some ns else None) ≡ Some o → (text ≡ dotted o) × IsOid o
 by-test text ns o true true g h e =
     let same : ns ≡ o = cc in
-    (sym ((bytes_eq-Decides (dotted ns) text).0 h) ∙ ap dotted same, oid-is o (ap is_oid (sym same) ∙ g))
+    (sym ((bytes_eq-Decides (dotted ns) text).0 h) ∙ ap dotted same, is_oid_from_pass o (ap is_oid (sym same) ∙ g))
 by-test text ns o true false g h e = absurd (Prim.cc e)
 by-test text ns o false c g h e = absurd (Prim.cc e)
 

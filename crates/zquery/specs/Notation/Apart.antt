@@ -7,7 +7,7 @@ use Rattle.std.specs.declared.cmp.Ordering.{Ordering}
 use Rattle.std.specs.List.{list_any}
 use Rattle.std.specs.Option.{option_map, option_cmp}
 use Rattle.std.specs.Ordering.{ordering_then, nat_cmp, int_cmp, int_eq}
-use Rattle.zrpn.specs.declared.query.Attr.{Attr}
+use Rattle.zquery_rpn.specs.declared.query.Attr.{Attr}
 use Rattle.zquery.specs.InForce.{same_set}
 
 abbrev pub Key : Type 0

@@ -3,7 +3,7 @@ use Rattle.std.specs.Prelude.{◌≡◌, ℕ, List, [], ◌∷◌, ◌++◌, Boo
 use Rattle.zquery.specs.declared.notation.token.Token.{Token}
 use Rattle.zquery.specs.declared.notation.error.PqfError.{PqfError}
 use Rattle.zquery.specs.declared.notation.error.PqfErrorKind.TheVariants as kind
-use Rattle.zrpn.specs.Trees.{Tree, RpnQuery}
+use Rattle.zquery_rpn.specs.Trees.{Tree, RpnQuery}
 use Rattle.zquery.specs.Notation.Grammar.{Placed, Whole, ReadsWhole, whole_placed, tokens_in, IsQuery}
 use Rattle.zquery.specs.Notation.Table.{below_limit}
 

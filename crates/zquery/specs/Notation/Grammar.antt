@@ -3,13 +3,13 @@ use Rattle.std.specs.Prelude.{◌≡◌, ℕ, ◌+◌, pos, List, [], ◌∷◌,
 use Rattle.std.specs.Str.{bytes_eq}
 use Rattle.zquery.specs.declared.notation.token.Token.{Token}
 use Rattle.zquery.specs.declared.notation.word.Word.TheVariants.{AttrSet, Attribute, Op, NamedSet, TypeOfTerm, Plain}
-use Rattle.zrpn.specs.declared.operator.Operator.{Operator}
+use Rattle.zquery_rpn.specs.declared.operator.Operator.{Operator}
 use Rattle.zquery.specs.declared.notation.word.TermKind.{TermKind}
 use Rattle.zquery.specs.declared.notation.word.TermKind.TheVariants.{GeneralTerm}
-use Rattle.zrpn.specs.declared.query.Attr.{Attr}
-use Rattle.zrpn.specs.declared.query.AttrValue.TheVariants.{Number}
-use Rattle.zrpn.specs.declared.query.TermValue.{TermValue}
-use Rattle.zrpn.specs.Trees.{Tree, OfTerm, OfSet, OfSetAttrs, Of, RpnQuery}
+use Rattle.zquery_rpn.specs.declared.query.Attr.{Attr}
+use Rattle.zquery_rpn.specs.declared.query.AttrValue.TheVariants.{Number}
+use Rattle.zquery_rpn.specs.declared.query.TermValue.{TermValue}
+use Rattle.zquery_rpn.specs.Trees.{Tree, OfTerm, OfSet, OfSetAttrs, Of, RpnQuery}
 use Rattle.zquery.specs.Notation.Words.{word}
 use Rattle.zquery.specs.Notation.Sets.{bib1, set_of}
 use Rattle.zquery.specs.Notation.Values.{numbers_of, has_equals, kind_of, value_of}

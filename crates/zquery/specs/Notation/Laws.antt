@@ -7,7 +7,7 @@ use Rattle.zquery.specs.declared.notation.token.Token.{Token}
 use Rattle.zquery.specs.declared.notation.error.PqfError.{PqfError}
 use Rattle.zquery.specs.declared.notation.error.PqfErrorKind.TheVariants as kind
 use Rattle.zquery.specs.Notation.Sets.{bib1, is_bib1, set_of}
-use Rattle.zrpn.specs.Trees.{RpnQuery, height}
+use Rattle.zquery_rpn.specs.Trees.{RpnQuery, height}
 use Rattle.zquery.specs.Notation.Tokens.{AreTokens, IsOpenAt}
 use Rattle.zquery.specs.Notation.Grammar.{IsQuery}
 use Rattle.zquery.specs.Notation.Table.{refusal}
@@ -15,7 +15,7 @@ use Rattle.zquery.specs.Notation.Fronts.{IsFirstFault, IsBelowLevels}
 use Rattle.zquery.specs.Notation.Texts.{IsText, IsFault}
 use Rattle.zquery.specs.Lawful.{IsLawful}
 use Rattle.zquery.specs.Notation.Printing.{printable, query_text}
-use Rattle.zrpn.specs.Element.Type1.{WritesQuery}
+use Rattle.zquery_rpn.specs.Element.Type1.{WritesQuery}
 
 -- a text has one list of tokens, or one quote that stays open
 pub record OneLexing : Type 0 where

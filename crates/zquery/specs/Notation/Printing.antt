@@ -4,16 +4,16 @@ use Rattle.std.specs.Fmt.{signed_decimal}
 use Rattle.std.specs.List.{flat_map, list_any}
 use Rattle.std.specs.Str.{bytes_eq}
 use Rattle.zber.specs.Dotted.{dotted}
-use Rattle.zrpn.specs.declared.query.Attr.{Attr}
-use Rattle.zrpn.specs.declared.query.AttrValue.{AttrValue}
-use Rattle.zrpn.specs.declared.query.AttrValue.TheVariants.{Number, Complex}
-use Rattle.zrpn.specs.declared.query.TermValue.{TermValue}
-use Rattle.zrpn.specs.declared.query.TermValue.TheVariants.{General, Numeric, Text, Other}
-use Rattle.zrpn.specs.declared.operator.Operator.{Operator}
-use Rattle.zrpn.specs.declared.operator.Operator.TheVariants.{And, Or, Not}
+use Rattle.zquery_rpn.specs.declared.query.Attr.{Attr}
+use Rattle.zquery_rpn.specs.declared.query.AttrValue.{AttrValue}
+use Rattle.zquery_rpn.specs.declared.query.AttrValue.TheVariants.{Number, Complex}
+use Rattle.zquery_rpn.specs.declared.query.TermValue.{TermValue}
+use Rattle.zquery_rpn.specs.declared.query.TermValue.TheVariants.{General, Numeric, Text, Other}
+use Rattle.zquery_rpn.specs.declared.operator.Operator.{Operator}
+use Rattle.zquery_rpn.specs.declared.operator.Operator.TheVariants.{And, Or, Not}
 use Rattle.zquery.specs.InForce.{alike}
 use Rattle.zquery.specs.Notation.Sets.{bib1}
-use Rattle.zrpn.specs.Trees.{Tree, OfTerm, OfSet, OfSetAttrs, Of, Near, RpnQuery, height}
+use Rattle.zquery_rpn.specs.Trees.{Tree, OfTerm, OfSet, OfSetAttrs, Of, Near, RpnQuery, height}
 use Rattle.zquery.specs.Notation.Values.{most}
 
 -- a backslash stands before a quote and a backslash

@@ -4,14 +4,14 @@ use Rattle.zquery.specs.declared.notation.token.Token.{Token}
 use Rattle.zquery.specs.declared.notation.word.Word.{Word}
 use Rattle.zquery.specs.declared.notation.word.Word.TheVariants.{AttrSet, Attribute, TypeOfTerm}
 use Rattle.zquery.specs.declared.notation.word.TermKind.{TermKind}
-use Rattle.zrpn.specs.declared.query.Attr.{Attr}
+use Rattle.zquery_rpn.specs.declared.query.Attr.{Attr}
 use Rattle.zquery.specs.declared.notation.error.PqfError.{PqfError}
 use Rattle.zquery.specs.declared.notation.error.PqfErrorKind.{PqfErrorKind}
 use Rattle.zquery.specs.declared.notation.error.PqfErrorKind.TheVariants as kind
 use Rattle.zquery.specs.Notation.Words.{word}
 use Rattle.zquery.specs.Notation.Sets.{bib1, set_of}
 use Rattle.zquery.specs.Notation.Values.{numbers_of, has_equals, kind_of}
-use Rattle.zrpn.specs.Trees.{Tree, height}
+use Rattle.zquery_rpn.specs.Trees.{Tree, height}
 use Rattle.zquery.specs.InForce.{alike, in_force}
 use Rattle.zquery.specs.Notation.Grammar.{Phrase, Reads, placed, tokens_in, attr, kept_set}
 use Rattle.zquery.specs.Notation.Table.{error_at}

@@ -1,10 +1,11 @@
 -- The names of attribute sets.
-use Rattle.std.specs.Prelude.{ℕ, ◌^◌, List, [], ◌∷◌, Bool, false, ◌==◌, ◌&&◌, ◌||◌, Option, Some, None, codes, nat_lt, if◌then◌else◌, map}
+use Rattle.std.specs.Prelude.{ℕ, List, [], ◌∷◌, Bool, ◌==◌, ◌&&◌, Option, Some, None, codes, if◌then◌else◌, map}
 use Rattle.std.specs.Char.{to_ascii_lowercase}
-use Rattle.std.specs.List.{list_all, slice_split}
+use Rattle.std.specs.List.{slice_split}
 use Rattle.std.specs.Str.{bytes_eq}
 use Rattle.std.specs.Str.Parse.{digits_value}
 use Rattle.zber.specs.Dotted.{dotted}
+use Rattle.zber.specs.Oids.{is_oid}
 
 -- the attribute set bib-1 (Z39.50-2003, ATR)
 abbrev pub bib1 : List ℕ
@@ -13,15 +14,6 @@ bib1 = 1 ∷ 2 ∷ 840 ∷ 10003 ∷ 3 ∷ 1 ∷ []
 -- its name, in any case
 abbrev pub is_bib1 : List ℕ → Bool
 is_bib1 text = bytes_eq (map to_ascii_lowercase text) (codes "bib-1")
-
-abbrev pub fits : ℕ → Bool
-fits n = nat_lt n (2 ^ 32)
-
--- arcs of an object identifier: the first is 0 to 2, and the second below 40 where the first is 0 or 1
-abbrev pub is_oid : List ℕ → Bool
-is_oid [] = false
-is_oid (a ∷ []) = false
-is_oid (a ∷ b ∷ arcs) = ((a == 2) || (nat_lt a 2 && nat_lt b 40)) && list_all fits (a ∷ b ∷ arcs)
 
 abbrev pub is_dot : ℕ → Bool
 is_dot b = b == 46

@@ -3,7 +3,7 @@ use Rattle.std.specs.Prelude.{◌≡◌, ℕ, List, length, Some, ◌⊎◌}
 use Rattle.zquery.specs.declared.notation.token.Token.{Token}
 use Rattle.zquery.specs.declared.notation.error.PqfError.{PqfError}
 use Rattle.zquery.specs.declared.notation.error.PqfErrorKind.TheVariants as kind
-use Rattle.zrpn.specs.Trees.{RpnQuery}
+use Rattle.zquery_rpn.specs.Trees.{RpnQuery}
 use Rattle.zquery.specs.Notation.Tokens.{AreTokens, IsOpenAt}
 use Rattle.zquery.specs.Notation.Grammar.{IsQuery}
 use Rattle.zquery.specs.Notation.Table.{refusal}

@@ -5,7 +5,7 @@ use Rattle.std.specs.List.{starts_with}
 use Rattle.zquery.specs.declared.notation.token.Token.{Token}
 use Rattle.zquery.specs.declared.notation.word.Word.{Word}
 use Rattle.zquery.specs.declared.notation.word.Word.TheVariants.{AttrSet, Attribute, Op, NamedSet, TypeOfTerm, Unknown, Plain}
-use Rattle.zrpn.specs.declared.operator.Operator.TheVariants.{And, Or, Not}
+use Rattle.zquery_rpn.specs.declared.operator.Operator.TheVariants.{And, Or, Not}
 
 -- a quoted token is a term; another that begins with @ is a word of the notation, or unknown
 unfoldable pub word : Token → Word

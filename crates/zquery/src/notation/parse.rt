@@ -1,13 +1,13 @@
 // Queries from tokens, by descent.
 ghost use Rattle.std.specs.Prelude.{◌≡◌, ℕ, ◌≤◌, length, [], ◌∷◌, List, Bool, Option, Some, Err, IfOk, IfErr, OnOk, ◌⊎◌};
-ghost use Rattle.zrpn.specs.declared.query.Attr.{Attr};
-ghost use Rattle.zrpn.specs.declared.query.TermValue.{TermValue};
+ghost use Rattle.zquery_rpn.specs.declared.query.Attr.{Attr};
+ghost use Rattle.zquery_rpn.specs.declared.query.TermValue.{TermValue};
 ghost use Rattle.zquery.specs.declared.notation.token.Token.{Token};
 ghost use Rattle.zquery.specs.declared.notation.word.Word.TheVariants.{Plain};
 ghost use Rattle.zquery.specs.Notation.Values.{most, value_of};
 ghost use Rattle.zquery.specs.InForce.{in_force};
-ghost use Rattle.zrpn.specs.Trees.{OfTerm, Of, height};
-ghost use Rattle.zrpn.specs.QueryTrees.{seen};
+ghost use Rattle.zquery_rpn.specs.Trees.{OfTerm, Of, height};
+ghost use Rattle.zquery_rpn.specs.QueryTrees.{seen};
 ghost use Rattle.zquery.specs.Notation.Grammar.{attr, set_tree, IsQuery};
 ghost use Rattle.zquery.specs.Notation.Table.{Expected, Operand, walk, fault, below_limit, operand, error_at, refusal};
 ghost use Rattle.zquery.specs.Notation.Faults.{memory, missing, Refuses};
@@ -24,7 +24,7 @@ use crate::notation::word::{TermKind, Word, word_of};
 use bytes::Bytes;
 use std::alloc::{AllocError, Global};
 use zber::{Oid, Seq};
-use zrpn::{Attr, AttrValue, Operator, Query, Rpn, copies};
+use zquery_rpn::{Attr, AttrValue, Operator, Query, Rpn, copies};
 
 /// The lowest level on which an operand or operator may stand.
 const DEEPEST: u32 = 32;

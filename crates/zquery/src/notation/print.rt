@@ -4,7 +4,7 @@ ghost use Rattle.std.specs.Fmt.{signed_decimal};
 ghost use Rattle.std.specs.List.{flat_map};
 ghost use Rattle.zber.specs.Oids.{IsOid};
 ghost use Rattle.zquery.specs.declared.notation.print.PrintError.TheVariants.{NotPrintable, Memory};
-ghost use Rattle.zrpn.specs.QueryTrees.{seen};
+ghost use Rattle.zquery_rpn.specs.QueryTrees.{seen};
 ghost use Rattle.zquery.specs.Notation.Texts.{IsText};
 ghost use Rattle.zquery.specs.Notation.Printing.{escaped, in_quotes, set_text, value_text, attr_text, term_text, operator_text, tree_text, opening_text, query_text, printable};
 
@@ -14,7 +14,7 @@ use std::alloc::{AllocError, Global};
 use thiserror::Error;
 use zber::Oid;
 use zber::text::{put_number, put_oid};
-use zrpn::{Attr, AttrValue, Operator, Query, Rpn, TermValue};
+use zquery_rpn::{Attr, AttrValue, Operator, Query, Rpn, TermValue};
 
 /// Why a query is not printed.
 #[derive(Clone, Copy, Debug, PartialEq, Eq, Error)]

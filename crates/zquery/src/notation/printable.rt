@@ -2,10 +2,10 @@
 ghost use Rattle.std.specs.Prelude.{◌≡◌, ◌∷◌, List, true, not, nat_le, IfOk, OnOk};
 ghost use Rattle.std.specs.List.{list_any};
 ghost use Rattle.std.specs.Option.{option_map};
-ghost use Rattle.zrpn.specs.declared.query.Attr.{Attr};
+ghost use Rattle.zquery_rpn.specs.declared.query.Attr.{Attr};
 ghost use Rattle.zquery.specs.InForce.{alike};
-ghost use Rattle.zrpn.specs.Trees.{height};
-ghost use Rattle.zrpn.specs.QueryTrees.{seen};
+ghost use Rattle.zquery_rpn.specs.Trees.{height};
+ghost use Rattle.zquery_rpn.specs.QueryTrees.{seen};
 ghost use Rattle.zquery.specs.Notation.Printing.{in_range, names, plain_value, plain_attr, plain_attrs, plain_term, plain_tree, printable};
 ghost use Rattle.zquery.specs.Notation.Apart.{AreKeysOf};
 ghost use Rattle.zquery.specs.Lawful.{IsLawfulSet, AreLawful, IsLawfulTerm, IsLawfulTree};
@@ -13,7 +13,7 @@ ghost use Rattle.zquery.specs.Lawful.{IsLawfulSet, AreLawful, IsLawfulTerm, IsLa
 use std::alloc::{AllocError, Global};
 use std::collections::BTreeSet;
 use zber::Oid;
-use zrpn::{Attr, AttrValue, Query, Rpn, TermValue};
+use zquery_rpn::{Attr, AttrValue, Query, Rpn, TermValue};
 
 /// The height of a query that the notation has at most.
 const HIGHEST: u32 = 32;

@@ -8,7 +8,7 @@ use crate::notation::word::TermKind;
 use bytes::Bytes;
 use std::alloc::{AllocError, Global};
 use zber::{Oid, OidError};
-use zrpn::TermValue;
+use zquery_rpn::TermValue;
 
 /// The greatest type and the greatest value of an attribute.
 const MOST: u64 = 2_147_483_647;

@@ -3,7 +3,7 @@ ghost use Rattle.std.specs.Prelude.{◌≡◌};
 ghost use Rattle.zquery.specs.Notation.Words.{word};
 
 use crate::notation::token::Token;
-use zrpn::Operator;
+use zquery_rpn::Operator;
 
 /// How a term is written.
 #[derive(Clone, Copy, Debug, PartialEq, Eq)]

@@ -1,5 +1,5 @@
 use Rattle.std.proofs.Common.{◌≡◌, drop}
-use Rattle.zproductions.specs.Within.{all_of, whole_of}
+use Rattle.zasn_tables.specs.Within.{all_of, whole_of}
 use Rattle.zasn.proofs.Lists.{behind}
 use Rattle.zasn.proofs.sequence_of.all_in.Given as goal
 

@@ -1,5 +1,5 @@
 use Rattle.std.proofs.Common.{◌≡◌, drop}
-use Rattle.zproductions.specs.Within.{all_spelt}
+use Rattle.zasn_tables.specs.Within.{all_spelt}
 use Rattle.zasn.proofs.Lists.{behind}
 use Rattle.zasn.proofs.sequence_of.all_of_them.Given as goal
 

@@ -1,6 +1,6 @@
 use Rattle.std.proofs.Common.{◌≡◌}
 use Rattle.std.specs.Vec.Iter.{into_iter_items}
-use Rattle.zproductions.specs.Within.{all_of, whole_of}
+use Rattle.zasn_tables.specs.Within.{all_of, whole_of}
 use Rattle.zasn.proofs.Lists.{behind}
 use Rattle.zasn.proofs.sequence_of.all_taken.Given as goal
 

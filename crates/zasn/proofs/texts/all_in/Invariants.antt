@@ -1,5 +1,5 @@
 use Rattle.std.proofs.Common.{◌≡◌, drop}
-use Rattle.zproductions.specs.Within.{all_of}
+use Rattle.zasn_tables.specs.Within.{all_of}
 use Rattle.zasn.specs.Places.{text_under}
 use Rattle.zasn.proofs.Lists.{behind}
 use Rattle.zasn.proofs.texts.all_in.Given as goal

@@ -1,6 +1,6 @@
 use Rattle.std.proofs.Common.{◌≡◌, drop}
-use Rattle.zproductions.specs.Within.{all_spelt}
-use Rattle.zproductions.specs.Meanings.{octets_spelt}
+use Rattle.zasn_tables.specs.Within.{all_spelt}
+use Rattle.zasn_tables.specs.Meanings.{octets_spelt}
 use Rattle.zasn.proofs.Lists.{behind}
 use Rattle.zasn.proofs.texts.all_of_them.Given as goal
 

@@ -1,8 +1,8 @@
 use Rattle.std.proofs.Common.{◌≡◌, ◌++◌, ℕ, pos, ◌+ℤ◌, ◌≤ℤ◌, ◌<ℤ◌, ◌≤◌, get_or, length, take, drop, min, to_z, of_z, w64, ap, ◌∙◌, arith}
 use Rattle.std.proofs.lemmas.Int.{ints}
 use Rattle.std.proofs.lemmas.List.{get_or_default, take_min, drop_min}
-use Rattle.zorigin.specs.declared.range.Range.{Range}
-use Rattle.zorigin.specs.Ranges.{natural}
+use Rattle.zplan.specs.declared.range.Range.{Range}
+use Rattle.zplan.specs.Ranges.{natural}
 use Rattle.zorigin.specs.Facts.{seen_from}
 use Rattle.zorigin.proofs.Ranges.{IsGood, good_each, good_in, follows, natural_so}
 use Rattle.zorigin.proofs.Positions.{ranges_step}

@@ -1,5 +1,5 @@
 use Rattle.std.proofs.Common.{◌≡◌, ◌++◌, drop}
-use Rattle.zorigin.specs.Ranges.{positions}
+use Rattle.zplan.specs.Ranges.{positions}
 use Rattle.zorigin.specs.Facts.{seen_at}
 use Rattle.zorigin.proofs.facts.put_seen_in.Given as goal
 

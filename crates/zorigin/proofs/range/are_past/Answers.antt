@@ -1,7 +1,8 @@
 use Rattle.std.proofs.Common.{◌≡◌, ◌+◌, pos, get_or, true, false, sym, ap, ◌∙◌, ◌||◌, drop, to_z, of_z, w64}
 use Rattle.std.proofs.lemmas.Int.{to_z-of_z}
 use Rattle.std.proofs.lemmas.List.{get_or_default}
-use Rattle.zorigin.specs.Ranges.{is_past, positions, positions_of}
+use Rattle.zorigin.specs.Ranges.{is_past}
+use Rattle.zplan.specs.Ranges.{positions, positions_of}
 use Rattle.zorigin.proofs.Ranges.{past_more}
 use Rattle.zorigin.proofs.range.are_past.Goals as goal
 

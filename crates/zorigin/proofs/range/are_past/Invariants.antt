@@ -1,5 +1,6 @@
 use Rattle.std.proofs.Common.{◌≡◌, drop}
-use Rattle.zorigin.specs.Ranges.{positions, is_past}
+use Rattle.zorigin.specs.Ranges.{is_past}
+use Rattle.zplan.specs.Ranges.{positions}
 use Rattle.zorigin.proofs.range.are_past.Given as goal
 
 abbrev pub invariant-loop-range : goal.invariant-loop-range

@@ -1,7 +1,7 @@
 use Rattle.std.proofs.Common.{◌≡◌, ◌≤ℤ◌, pos, ◌-ℤ◌, int_lt, to_z, of_z, w64, ap, ◌∙◌, arith, rules, FitsSigned}
 use Rattle.std.specs.Int.{int_max}
 use Rattle.std.proofs.lemmas.Int.{ints, to_z-of_z}
-use Rattle.zorigin.specs.Ranges.{natural}
+use Rattle.zplan.specs.Ranges.{natural}
 use Rattle.zorigin.proofs.Ranges.{past_test, at_zero}
 use Rattle.zorigin.proofs.range.ends_past.Goals as goal
 

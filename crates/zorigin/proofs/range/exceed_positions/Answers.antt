@@ -2,7 +2,7 @@ use Rattle.std.proofs.Common.{◌≡◌, ℕ, pos, ◌+◌, ◌-◌, ◌<◌, �
 use Rattle.std.proofs.lemmas.Bool.Decides.{nat_tests}
 use Rattle.std.proofs.lemmas.Int.{to_z-of_z}
 use Rattle.std.proofs.lemmas.List.{get_or_default}
-use Rattle.zorigin.specs.Ranges.{natural, positions}
+use Rattle.zplan.specs.Ranges.{natural, positions}
 use Rattle.zorigin.proofs.Ranges.{length_left}
 use Rattle.zorigin.proofs.range.exceed_positions.Goals as goal
 

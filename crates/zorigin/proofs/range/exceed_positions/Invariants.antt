@@ -1,5 +1,5 @@
 use Rattle.std.proofs.Common.{◌≡◌, ltb, length, drop}
-use Rattle.zorigin.specs.Ranges.{positions}
+use Rattle.zplan.specs.Ranges.{positions}
 use Rattle.zorigin.proofs.range.exceed_positions.Given as goal
 
 abbrev pub invariant-loop-range : goal.invariant-loop-range

@@ -1,7 +1,7 @@
 use Rattle.std.proofs.Common.{◌≡◌, ◌∙◌, sym, ap, List, Some}
 use Rattle.std.proofs.Math.ListN.{set}
 use Rattle.std.specs.List.{position}
-use Rattle.zrpn.specs.declared.query.Attr.{Attr}
+use Rattle.zquery_rpn.specs.declared.query.Attr.{Attr}
 use Rattle.zquery.specs.InForce.{alike}
 use Rattle.zquery.proofs.PutLemmas.{put-found, put-new, valued}
 use Rattle.zquery.proofs.attribute.put.Goals as goal

@@ -2,8 +2,7 @@ use Rattle.std.proofs.Common.{◌≡◌, ℕ, pos, ◌+◌, ◌-◌, ◌<◌, �
 use Rattle.std.proofs.lemmas.Bool.Decides.{nat_tests}
 use Rattle.std.proofs.lemmas.Int.{to_z-of_z}
 use Rattle.std.proofs.lemmas.List.{get_or_default}
-use Rattle.ztarget.specs.Initialising.{natural}
-use Rattle.ztarget.specs.Positions.{positions}
+use Rattle.zplan.specs.Ranges.{natural, positions}
 use Rattle.ztarget.proofs.AskedPositions.{length_left}
 use Rattle.ztarget.proofs.positions.are_so_many.Goals as goal
 
@@ -19,10 +18,10 @@ returns-then-left-number c =
     let i = c.loop-range.range-index in
     let x = get_or ranges i (record { starting_position = pos 0; number_of_records = pos 0 }) in
     let is : x ≡ get_or ranges i x = get_or_default ranges i _ x c.loop-range-test.true in
-    let fits : FitsSigned w64 x.number_of_records = search rules in
-    let number : c.natural-number.result ≡ natural x.number_of_records = c.natural-number.ensures ∙ ap natural (to_z-of_z w64 x.number_of_records fits) in
+    let fits : FitsSigned w64 x.n = search rules in
+    let number : c.natural-number.result ≡ natural x.n = c.natural-number.ensures ∙ ap natural (to_z-of_z w64 x.n fits) in
     let rest = length (positions (drop (i + 1) ranges)) in
-    sym (fewer (natural x.number_of_records) rest c.loop-range.left (omega (arith, number, c.if-left-number.true)))
+    sym (fewer (natural x.n) rest c.loop-range.left (omega (arith, number, c.if-left-number.true)))
     ∙ ap (λ k. c.loop-range.left == k) (sym (length_left ranges i x c.loop-range-test.true is)) ∙ c.loop-range.invariant
 
 pub loop-range-preserved : goal.loop-range-preserved
@@ -31,8 +30,8 @@ loop-range-preserved c =
     let i = c.loop-range.range-index in
     let x = get_or ranges i (record { starting_position = pos 0; number_of_records = pos 0 }) in
     let is : x ≡ get_or ranges i x = get_or_default ranges i _ x c.loop-range-test.true in
-    let fits : FitsSigned w64 x.number_of_records = search rules in
-    let number : c.natural-number.result ≡ natural x.number_of_records = c.natural-number.ensures ∙ ap natural (to_z-of_z w64 x.number_of_records fits) in
+    let fits : FitsSigned w64 x.n = search rules in
+    let number : c.natural-number.result ≡ natural x.n = c.natural-number.ensures ∙ ap natural (to_z-of_z w64 x.n fits) in
     let rest = length (positions (drop (i + 1) ranges)) in
-    ap (λ k. c.loop-range.left - k == rest) number ∙ less (natural x.number_of_records) rest c.loop-range.left (omega (arith, number, c.if-left-number.false))
+    ap (λ k. c.loop-range.left - k == rest) number ∙ less (natural x.n) rest c.loop-range.left (omega (arith, number, c.if-left-number.false))
     ∙ ap (λ k. c.loop-range.left == k) (sym (length_left ranges i x c.loop-range-test.true is)) ∙ c.loop-range.invariant

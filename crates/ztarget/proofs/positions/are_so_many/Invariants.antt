@@ -1,5 +1,5 @@
 use Rattle.std.proofs.Common.{◌≡◌, ◌==◌, length, drop}
-use Rattle.ztarget.specs.Positions.{positions}
+use Rattle.zplan.specs.Ranges.{positions}
 use Rattle.ztarget.proofs.positions.are_so_many.Given as goal
 
 abbrev pub invariant-loop-range : goal.invariant-loop-range

@@ -1,5 +1,6 @@
 use Rattle.std.proofs.Common.{◌≡◌, ◌-◌, true, drop, get_or}
-use Rattle.ztarget.specs.Positions.{positions, are_in_set}
+use Rattle.ztarget.specs.Positions.{are_in_set}
+use Rattle.zplan.specs.Ranges.{positions}
 use Rattle.ztarget.proofs.positions.last_of.Given as goal
 
 abbrev pub invariant-loop-range : goal.invariant-loop-range

@@ -1,7 +1,8 @@
 use Rattle.std.proofs.Common.{◌≡◌, pos, get_or, ◌++◌, ap, ◌∙◌, sym, subst, rules}
 use Rattle.std.proofs.lemmas.List.{get_or_default, take_rest}
 use Rattle.ztarget.specs.Keeping.{AllStand, records_at}
-use Rattle.ztarget.specs.Positions.{positions_of, positions, at_positions}
+use Rattle.ztarget.specs.Positions.{at_positions}
+use Rattle.zplan.specs.Ranges.{positions_of, positions}
 use Rattle.ztarget.specs.Showing.{fitting_after}
 use Rattle.ztarget.proofs.AskedPositions.{held_first, first_in_set, stand_at}
 use Rattle.ztarget.proofs.present.held_at.Goals as goal

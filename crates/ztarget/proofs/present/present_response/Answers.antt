@@ -1,7 +1,7 @@
 use Rattle.std.proofs.Common.{◌-◌, ◌≤◌, length, get_or, subst}
 use Rattle.zapdu.specs.declared.apdu.Apdu.TheVariants as apdus
 use Rattle.ztarget.specs.Levels.{HasElement}
-use Rattle.ztarget.specs.Positions.{positions}
+use Rattle.zplan.specs.Ranges.{positions}
 use Rattle.ztarget.proofs.AskedPositions.{within_all}
 use Rattle.ztarget.proofs.ReplyElements.{presented_element}
 use Rattle.ztarget.proofs.Sendable.{known_ok}

@@ -1,7 +1,7 @@
 use Rattle.std.proofs.Common.{◌≡◌, pos, get_or, ◌∙◌, sym, subst}
 use Rattle.std.proofs.lemmas.List.{get_or_default}
 use Rattle.ztarget.specs.Keeping.{AllStand}
-use Rattle.ztarget.specs.Positions.{positions_of}
+use Rattle.zplan.specs.Ranges.{positions_of}
 use Rattle.ztarget.proofs.AskedPositions.{held_step, first_in_set, stand_at}
 use Rattle.ztarget.proofs.present.put_held.Goals as goal
 

@@ -2,7 +2,8 @@ use Rattle.std.proofs.Common.{◌≡◌, ◌++◌, true, drop, length}
 use Rattle.std.specs.List.{All}
 use Rattle.ztarget.specs.Keeping.{records_at}
 use Rattle.ztarget.specs.Levels.{IsShowable}
-use Rattle.ztarget.specs.Positions.{positions, are_in_set, at_positions}
+use Rattle.ztarget.specs.Positions.{are_in_set, at_positions}
+use Rattle.zplan.specs.Ranges.{positions}
 use Rattle.ztarget.specs.Showing.{fitting_after}
 use Rattle.ztarget.proofs.present.put_held.Given as goal
 

@@ -1,6 +1,6 @@
 use Rattle.std.proofs.Common.{◌≡◌, [], ◌∷◌, Some, sym, subst, rules}
-use Rattle.ztalk.specs.declared.among.Phase.TheVariants as phases
-use Rattle.ztalk.specs.Among.{AreAt}
+use Rattle.zoom.specs.Phase.TheVariants as phases
+use Rattle.zoom.specs.Among.{AreAt}
 use Rattle.zvectors.proofs.Pairs.{both_due}
 use Rattle.zvectors.proofs.together.talk_both.Goals as goal
 

@@ -1,5 +1,5 @@
 use Rattle.zber.proofs.Runs.{seen_cons}
-use Rattle.zproductions.specs.Within.{whole_of}
+use Rattle.zasn_tables.specs.Within.{whole_of}
 use Rattle.zasn.proofs.Withins.{list_means}
 use Rattle.zasn.proofs.sequence_of.SeqContents.of_node.Goals as goal
 

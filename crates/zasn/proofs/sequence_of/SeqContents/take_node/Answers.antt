@@ -1,6 +1,6 @@
 use Rattle.std.proofs.Common.{ap}
 use Rattle.zber.proofs.Runs.{seen_cons}
-use Rattle.zproductions.specs.Within.{whole_of}
+use Rattle.zasn_tables.specs.Within.{whole_of}
 use Rattle.zasn.proofs.Withins.{list_means}
 use Rattle.zasn.proofs.sequence_of.SeqContents.take_node.Goals as goal
 

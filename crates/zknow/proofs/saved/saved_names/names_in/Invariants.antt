@@ -1,5 +1,5 @@
 use Rattle.std.proofs.Common.{◌≡◌, drop}
-use Rattle.zproductions.specs.Within.{all_of, whole_of}
+use Rattle.zasn.specs.Within.{all_of, whole_of}
 use Rattle.zasn.proofs.Lists.{behind}
 use Rattle.zknow.specs.Saved.SavedFacts.{saved_name}
 use Rattle.zknow.proofs.saved.saved_names.names_in.Given as goal

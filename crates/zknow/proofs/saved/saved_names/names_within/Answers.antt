@@ -1,4 +1,4 @@
-use Rattle.zproductions.specs.Within.{whole_of}
+use Rattle.zasn.specs.Within.{whole_of}
 use Rattle.zber.proofs.Runs.{seen_cons}
 use Rattle.zasn.proofs.Withins.{list_means}
 use Rattle.zknow.specs.Saved.SavedFacts.{saved_name}

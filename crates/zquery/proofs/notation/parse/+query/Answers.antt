@@ -1,7 +1,7 @@
 use Rattle.std.proofs.Common.{◌≡◌, ◌∙◌, sym, ap, ap₂, subst, ◌∷◌, arith}
 use Rattle.zquery.specs.declared.notation.word.Word.TheVariants.{Op, NamedSet, Plain}
-use Rattle.zrpn.specs.Trees.{Tree, Of}
-use Rattle.zrpn.specs.QueryTrees.{seen}
+use Rattle.zquery_rpn.specs.Trees.{Tree, Of}
+use Rattle.zquery_rpn.specs.QueryTrees.{seen}
 use Rattle.zquery.specs.Notation.Words.{word}
 use Rattle.zquery.specs.Notation.Reading.{IsRead}
 use Rattle.zquery.proofs.NotationTheory.Leading.{read-term, read-set, read-both}

@@ -1,5 +1,5 @@
 use Rattle.std.proofs.Common.{◌≡◌, ℕ, Bool, List, ◌∷◌, length}
-use Rattle.zrpn.specs.declared.query.Attr.{Attr}
+use Rattle.zquery_rpn.specs.declared.query.Attr.{Attr}
 use Rattle.zquery.specs.InForce.{in_force}
 use Rattle.zquery.specs.Notation.Table.{Expected, Operand, walk}
 use Rattle.zquery.specs.Notation.Reading.{Leads}

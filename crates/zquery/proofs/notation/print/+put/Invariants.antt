@@ -1,6 +1,6 @@
 use Rattle.std.proofs.Common.{◌+◌, ◌*◌, max}
-use Rattle.zrpn.specs.Trees.{height}
-use Rattle.zrpn.specs.QueryTrees.{seen}
+use Rattle.zquery_rpn.specs.Trees.{height}
+use Rattle.zquery_rpn.specs.QueryTrees.{seen}
 use Rattle.zquery.proofs.notation.print.+put.Given as goal
 
 abbrev pub decreases-put_both : goal.decreases-put_both

@@ -1,4 +1,4 @@
-use Rattle.zrpn.specs.QueryTrees.{seen}
+use Rattle.zquery_rpn.specs.QueryTrees.{seen}
 use Rattle.zquery.proofs.Heights.{no-room}
 use Rattle.zquery.proofs.notation.printable.+fits.Goals as goal
 

@@ -1,5 +1,5 @@
 use Rattle.std.proofs.Common.{◌≡◌, true, List, ◌++◌, length}
-use Rattle.zrpn.specs.declared.query.Attr.{Attr}
+use Rattle.zquery_rpn.specs.declared.query.Attr.{Attr}
 use Rattle.zquery.specs.Lawful.{AreLawful}
 use Rattle.zquery.specs.Notation.Apart.{AreKeysOf}
 use Rattle.zquery.specs.Notation.Printing.{plain_attrs}

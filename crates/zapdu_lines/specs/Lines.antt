@@ -1,0 +1,111 @@
+-- The lines of an APDU, as `show` prints them.
+use Rattle.std.specs.Prelude.{ℕ, List, [], ◌∷◌, ◌++◌, Option, Some, None, false, codes}
+use Rattle.std.specs.List.{flat_map}
+use Rattle.zapdu.specs.Text.{quoted, record_text, default_text, diag_text}
+use Rattle.zapdu.specs.declared.apdu.Apdu.{Apdu}
+use Rattle.zapdu.specs.declared.apdu.Apdu.TheVariants as apdus
+use Rattle.zapdu.specs.declared.apdu.Kind.TheVariants as kinds
+use Rattle.zapdu.specs.declared.productions.close.Close.{Close}
+use Rattle.zapdu.specs.declared.productions.diagnostic.DefaultDiag.{DefaultDiag}
+use Rattle.zapdu.specs.declared.productions.diagnostic.DiagRec.{DiagRec}
+use Rattle.zapdu.specs.declared.productions.init_request.InitRequest.{InitRequest}
+use Rattle.zapdu.specs.declared.productions.init_response.InitResponse.{InitResponse}
+use Rattle.zapdu.specs.declared.productions.present_request.PresentRequest.{PresentRequest}
+use Rattle.zapdu.specs.declared.productions.range.Range.{Range}
+use Rattle.zapdu.specs.declared.productions.search_response.SearchResponse.{SearchResponse}
+use Rattle.zapdu.specs.declared.productions.present_response.PresentResponse.{PresentResponse}
+use Rattle.zapdu.specs.declared.productions.record.Record.{Record}
+use Rattle.zapdu.specs.declared.productions.record.Records.{Records}
+use Rattle.zapdu.specs.declared.productions.record.Records.TheVariants as records
+use Rattle.zapdu_lines.specs.Fields.{numbers_text, bits_text, truth_text, name_text, start_text, head_line}
+use Rattle.zapdu_lines.specs.Searches.{search_request_text}
+
+abbrev pub record_line : Record → List ℕ
+record_line r = codes "  " ++ record_text false r ++ codes "\n"
+
+abbrev pub record_lines : List Record → List ℕ
+record_lines rs = flat_map record_line rs
+
+-- a diagnostic that stands for no record
+unfoldable pub nonsurrogate : List ℕ
+nonsurrogate = codes "  nonsurrogate "
+
+abbrev pub default_line : DefaultDiag → List ℕ
+default_line d = nonsurrogate ++ default_text d ++ codes "\n"
+
+abbrev pub diag_line : DiagRec → List ℕ
+diag_line d = nonsurrogate ++ diag_text d ++ codes "\n"
+
+abbrev pub diag_lines : List DiagRec → List ℕ
+diag_lines ds = flat_map diag_line ds
+
+abbrev pub records_text : Records → List ℕ
+records_text (records.List rs) = record_lines rs
+records_text (records.OneDiag d) = default_line d
+records_text (records.ManyDiags ds) = diag_lines ds
+
+abbrev pub optional_records : Option Records → List ℕ
+optional_records None = []
+optional_records (Some rs) = records_text rs
+
+abbrev pub response_text : PresentResponse → List ℕ
+response_text v =
+    head_line kinds.PresentResponse v.reference_id
+    (v.number_of_records_returned ∷ v.next_result_set_position ∷ v.present_status ∷ [])
+    ++ optional_records v.records
+
+abbrev pub init_request_text : InitRequest → List ℕ
+init_request_text v =
+    start_text kinds.InitRequest v.reference_id ++ bits_text v.protocol_version ++ bits_text v.options
+    ++ numbers_text (v.preferred_message_size ∷ v.exceptional_record_size ∷ []) ++ name_text v.implementation_name
+    ++ codes "\n"
+
+abbrev pub init_response_text : InitResponse → List ℕ
+init_response_text v =
+    start_text kinds.InitResponse v.reference_id ++ bits_text v.protocol_version ++ bits_text v.options
+    ++ numbers_text (v.preferred_message_size ∷ v.exceptional_record_size ∷ []) ++ truth_text v.result
+    ++ name_text v.implementation_name ++ codes "\n"
+
+abbrev pub found_line : SearchResponse → List ℕ
+found_line v =
+    start_text kinds.SearchResponse v.reference_id
+    ++ numbers_text (v.result_count ∷ v.number_of_records_returned ∷ v.next_result_set_position ∷ [])
+    ++ truth_text v.search_status ++ codes "\n"
+
+abbrev pub search_response_text : SearchResponse → List ℕ
+search_response_text v = found_line v ++ optional_records v.records
+
+abbrev pub range_line : Range → List ℕ
+range_line r = codes "  range" ++ numbers_text (r.starting_position ∷ r.number_of_records ∷ []) ++ codes "\n"
+
+abbrev pub range_lines : List Range → List ℕ
+range_lines rs = flat_map range_line rs
+
+abbrev pub optional_ranges : Option (List Range) → List ℕ
+optional_ranges None = []
+optional_ranges (Some rs) = range_lines rs
+
+abbrev pub present_request_text : PresentRequest → List ℕ
+present_request_text v =
+    start_text kinds.PresentRequest v.reference_id ++ name_text (Some v.result_set_id)
+    ++ numbers_text (v.result_set_start_point ∷ v.number_of_records_requested ∷ []) ++ codes "\n"
+    ++ optional_ranges v.additional_ranges
+
+abbrev pub info_text : List ℕ → List ℕ
+info_text octets = codes "  info " ++ quoted octets ++ codes "\n"
+
+abbrev pub optional_info : Option (List ℕ) → List ℕ
+optional_info None = []
+optional_info (Some octets) = info_text octets
+
+abbrev pub close_text : Close → List ℕ
+close_text v = head_line kinds.Close v.reference_id (v.close_reason ∷ []) ++ optional_info v.diagnostic_information
+
+abbrev pub apdu_text : Apdu → List ℕ
+apdu_text (apdus.InitRequest v) = init_request_text v
+apdu_text (apdus.InitResponse v) = init_response_text v
+apdu_text (apdus.SearchRequest v) = search_request_text v
+apdu_text (apdus.SearchResponse v) = search_response_text v
+apdu_text (apdus.PresentRequest v) = present_request_text v
+apdu_text (apdus.PresentResponse v) = response_text v
+apdu_text (apdus.Close v) = close_text v

@@ -1,0 +1,197 @@
+// APDUs in octets, worked out by hand from Z39.50-2003, 4.1, and X.690, each tag of each production in one of them; and
+// what they stand for. Of each kind one has all parts that may be absent, and one has none.
+use crate::boxes::{apdu_node, apdu_of};
+use crate::parts::Line;
+use crate::plain::apdu_copy;
+use crate::printed::put_apdu;
+use std::alloc::{AllocError, Global};
+use std::process::Abort;
+use std::test::Fail;
+use zapdu::{Apdu, PresentResponse, Record, Records, print_record};
+use zber::{Body, Node};
+use zber_tests::encodings::{PRESENT_RESPONSE, PRESENT_RESPONSE_INDEFINITE};
+use zber_tests::rows::{each_row, element, encoding, message, octets, pair, spells};
+use zber_tests::unread::{Unread, read};
+
+// Canonical encodings, and the fields.
+pub(crate) const APDUS: &str =
+    r#"b421820400000000830205e0840301c006850310000086031000009f6f057a6d657461 initRequest #00000000 111 110000000000011 1048576 1048576 - - "zmeta" - - -
+b51c820400000000830205e0840301c006850310000086031000008c01ff initResponse #00000000 111 110000000000011 1048576 1048576 true - - - - -
+b6418204000000018d01008e01018f01009001ff910131b2049f690164b524a12206072a8648ce130301a017bf6614bf2c0a30089f7801019f7901049f2d0464756e65 searchRequest #00000001 0 1 0 true "1" names "d" - - - query @attr 1=4 "dune" - -
+b7128204000000019701019801009901019601ff searchResponse #00000001 1 0 1 true - - - - -
+b8108204000000029f1f01319e01019d0101 presentRequest #00000002 "1" 1 1 - - - - - - -
+b9268204000000029801019901029b0100bc153013a111a10f280d06072a8648ce13050a81026869 presentResponse #00000002 1 2 0 list record - external 1.2.840.10003.5.10 - - "hi" -
+bf30059f81530100 close - 0 - - - -
+b431820107830205e0840301c00685010a860114a7051a036162639f6e01699f6f016e9f700176ab06280481026869bf814900 initRequest #07 111 110000000000011 10 20 1a03616263 "i" "n" "v" external - - - "hi" bf814900
+b52d820107830205e0840301c00685010a8601148c01ff9f6e01699f6f016e9f700176ab06280481026869bf814900 initResponse #07 111 110000000000011 10 20 true "i" "n" "v" external - - - "hi" bf814900
+b6418201078d01018e01028f0103900100910173b2089f6901649f690165bf6403800142bf65038001469f68072a8648ce13050ab505a003040171bf814b00bf814900 searchRequest #07 1 2 3 false "s" names "d" "e" "B" "F" 1.2.840.10003.5.10 a003040171 bf814b00 bf814900
+b72f8201079701019801029901039601ff9a01049b0105bf81020e06072a8648ce13040102010d1a00bf814b00bf814900 searchResponse #07 1 2 3 true 4 5 one diag 1.2.840.10003.4.1 13 v2 "" bf814b00 bf814900
+b83a8201079f1f01319e01019d0102bf8154083006810103820104b3038001469f68072a8648ce13050a9f814c01059f814e0106bf814f00bf814900 presentRequest #07 "1" 1 2 ranges 3 4 "F" 1.2.840.10003.5.10 9f814c0105 9f814e0106 bf814f00 bf814900
+b8189f1f01319e01019d0102b30ca10a30089f6901649f670146 presentRequest - "1" 1 2 - specific "d" "F" - - - - -
+b80e9f1f01319e01019d0102bf815100 presentRequest - "1" 1 2 - bf815100 - - - - -
+b9279801009901009b0105bf814d16300e06072a8648ce13040102010d1a00280481026869bf814900 presentResponse - 0 0 5 many diag 1.2.840.10003.4.1 13 v2 "" external - - - "hi" bf814900
+bf30208201079f8153010283017884072a8648ce130301a506280481026869bf814900 close #07 2 "x" 1.2.840.10003.3.1 external - - - "hi" bf814900
+b40e830205e0840200c085010a860114 initRequest - 111 11000000 10 20 - - - - - -
+b511830205e0840200c085010a8601148c0100 initResponse - 111 11000000 10 20 false - - - - -
+b6158d01018e01028f0103900100910173b200b5020400 searchRequest - 1 2 3 false "s" names - - - 0400 - -
+b6378d01018e01028f0103900100910173b2049f690164bf6416a11430089f6901649f67014230089f6901659f670146bf6502a100b5028200 searchRequest - 1 2 3 false "s" names "d" specific "d" "B" "e" "F" specific - 8200 - -
+b70c970101980100990101960100 searchResponse - 1 0 1 false - - - - -
+b781a28201079701019801009901019601009a01049b0105bc81823016800164a111a10f280d06072a8648ce13050a81026869301aa118a116281406072a8648ce13050a020103070174a0030401aa300f8000a10ba10928070201ff820205a03019800164a114a212301006072a8648ce13040102010e1b026e6f3008a106a204280281003008800164a1038301613006a104a40205003004a102a500bf814b00bf814900 searchResponse #07 1 0 1 false 4 5 list record "d" external 1.2.840.10003.5.10 - - "hi" record - external 1.2.840.10003.5.10 3 "t" 0401aa record "" external - -1 - 101 record "d" diag 1.2.840.10003.4.1 14 v3 "no" record - external - - - "" record "d" 830161 record - a4020500 record - a500 bf814b00 bf814900
+b80a9f1f01319e01019d0102 presentRequest - "1" 1 2 - - - - - - -
+b8129f1f01319e01019d0102bf815400bf814e00 presentRequest - "1" 1 2 ranges - - - bf814e00 - -
+b9099801009901009b0105 presentResponse - 0 0 5 - -
+b981958201079801089901009b0100bc81823016800164a111a10f280d06072a8648ce13050a81026869301aa118a116281406072a8648ce13050a020103070174a0030401aa300f8000a10ba10928070201ff820205a03019800164a114a212301006072a8648ce13040102010e1b026e6f3008a106a204280281003008800164a1038301613006a104a40205003004a102a500bf814900 presentResponse #07 8 0 0 list record "d" external 1.2.840.10003.5.10 - - "hi" record - external 1.2.840.10003.5.10 3 "t" 0401aa record "" external - -1 - 101 record "d" diag 1.2.840.10003.4.1 14 v3 "no" record - external - - - "" record "d" 830161 record - a4020500 record - a500 bf814900
+b90b9801009901009b0100bc00 presentResponse - 0 0 0 list -
+b91b9801009901009b0105bf81020e06072a8648ce13040102010d1a00 presentResponse - 0 0 5 one diag 1.2.840.10003.4.1 13 v2 "" -
+b90d9801009901009b0105bf814d00 presentResponse - 0 0 5 many -
+"#;
+
+fn apdu_encoding(alloc: Global, apdu: &Apdu) -> Result<String, Unread> {
+    let node = read(apdu_node(alloc, apdu))?;
+    Ok(encoding(alloc, &node)?)
+}
+
+// Whether this is an APDU's canonical encoding and its fields.
+fn has_line(alloc: Global, apdu: &Apdu, due: &str) -> Result<bool, Unread> {
+    let encoding = apdu_encoding(alloc, apdu)?;
+    let mut line = Line::new(alloc);
+    line.put(encoding.as_bytes());
+    put_apdu(alloc, apdu, &mut line);
+    Ok(line.is(due.as_bytes()))
+}
+
+fn has_line_copied(alloc: Global, apdu: &Apdu, due: &str) -> Result<bool, Unread> {
+    let copy = apdu_copy(alloc, apdu)?;
+    has_line(alloc, &copy, due)
+}
+
+// Whether an element is an APDU of which a copy has this line.
+fn stands_for(alloc: Global, node: &Node, due: &str) -> Result<bool, Unread> {
+    let apdu = apdu_of(alloc, node)?;
+    has_line_copied(alloc, &apdu, due)
+}
+
+fn stands_for_copied(alloc: Global, node: &Node, due: &str) -> Result<bool, Unread> {
+    let copy = node.copy(alloc)?;
+    stands_for(alloc, &copy, due)
+}
+
+// Whether octets spell an APDU of this line.
+pub(crate) fn is_line(alloc: Global, octets: &[u8], due: &str) -> Result<bool, Unread> {
+    let node = message(alloc, octets)?;
+    stands_for_copied(alloc, &node, due)
+}
+
+fn is_read(alloc: Global, row: &str) -> Result<bool, Unread> {
+    let (digits, _) = pair(row);
+    let octets = octets(alloc, digits)?;
+    is_line(alloc, octets.as_slice(), row)
+}
+
+#[test]
+fn each_apdu_is_read_and_written(rt: HostRuntime) -> Result<(), Fail> {
+    each_row(rt.alloc(), APDUS, &is_read)
+}
+
+fn put_lines(alloc: Global, records: &[Record], out: &mut Vec<u8>) -> Result<(), AllocError> {
+    for record in records {
+        print_record(alloc, record, false, out)?;
+    }
+    Ok(())
+}
+
+// Appends the texts of a PresentResponse's records.
+fn put_texts(alloc: Global, apdu: &Apdu, out: &mut Vec<u8>) -> Result<(), Unread> {
+    match apdu {
+        Apdu::PresentResponse(
+            PresentResponse {
+                records: Some(Records::List(records)),
+                ..
+            },
+        ) => { Ok(put_lines(alloc, records.as_slice(), out)?) }
+        _ => Err(Unread),
+    }
+}
+
+fn texts(alloc: Global, digits: &str) -> Result<Vec<u8>, Unread> {
+    let node = element(alloc, digits)?;
+    let apdu = apdu_of(alloc, &node)?;
+    let mut out = Vec::new(alloc);
+    put_texts(alloc, &apdu, &mut out)?;
+    Ok(out)
+}
+
+#[test]
+fn both_spellings_print_one_record(rt: HostRuntime) -> Result<(), Fail> {
+    let due = b"rec 1.2.840.10003.5.10 - \"hi\"".as_slice();
+    assert!(rt; spells(texts(rt.alloc(), PRESENT_RESPONSE), due));
+    assert!(rt; spells(texts(rt.alloc(), PRESENT_RESPONSE_INDEFINITE), due));
+    Ok(())
+}
+
+// Appends the identifier octets of an element, which are those of an empty one.
+fn put_identifier(alloc: Global, node: &Node, out: &mut Vec<u8>) -> Result<(), AllocError> {
+    let empty = Node::cons(node.tag, Vec::new(alloc));
+    empty.canonical(alloc, out)?;
+    let _ = out.pop();
+    Ok(())
+}
+
+// Appends an element in which each constructed one has an indefinite length.
+pub(crate) fn put_indefinite(
+    alloc: Global,
+    node: &Node,
+    out: &mut Vec<u8>,
+) -> Result<(), AllocError> {
+    match &node.body {
+        Body::Prim(_) => node.canonical(alloc, out),
+        Body::Cons(nodes) => {
+            put_identifier(alloc, node, out)?;
+            out.push(0x80)?;
+            for node in nodes {
+                put_indefinite(alloc, node, out)?;
+            }
+            out.extend_from_slice(&[0x00, 0x00])
+        }
+    }
+}
+
+// The same element in indefinite lengths.
+fn indefinite(alloc: Global, digits: &str) -> Result<Vec<u8>, Unread> {
+    let octets = octets(alloc, digits)?;
+    let node = message(alloc, octets.as_slice())?;
+    let mut out = Vec::new(alloc);
+    put_indefinite(alloc, &node, &mut out)?;
+    Ok(out)
+}
+
+// Definite and indefinite lengths.
+pub(crate) const LENGTHS: &str = "\
+bf30059f81530100 bf30809f815301000000
+b9268204000000029801019901029b0100bc153013a111a10f280d06072a8648ce13050a81026869 b9808204000000029801019901029b0100bc803080a180a180288006072a8648ce13050a81026869000000000000000000000000
+b8189f1f01319e01019d0102b30ca10a30089f6901649f670146 b8809f1f01319e01019d0102b380a18030809f6901649f6701460000000000000000
+bf814900 bf8149800000
+0400 0400
+";
+
+fn is_respelled(alloc: Global, row: &str) -> Result<bool, Unread> {
+    let (definite, due) = pair(row);
+    let due = octets(alloc, due)?;
+    Ok(spells(indefinite(alloc, definite), due.as_slice()))
+}
+
+#[test]
+fn lengths_are_made_indefinite(rt: HostRuntime) -> Result<(), Fail> {
+    each_row(rt.alloc(), LENGTHS, &is_respelled)
+}
+
+fn is_read_indefinite(alloc: Global, row: &str) -> Result<bool, Unread> {
+    let (digits, _) = pair(row);
+    let octets = indefinite(alloc, digits)?;
+    is_line(alloc, octets.as_slice(), row)
+}
+
+#[test]
+fn indefinite_lengths_say_the_same(rt: HostRuntime) -> Result<(), Fail> {
+    each_row(rt.alloc(), APDUS, &is_read_indefinite)
+}

@@ -1,0 +1,34 @@
+//! Calls of the layers below that tests of several crates make, without their contracts and with large values in boxes:
+//! no test needs the contracts, and what is proved of a function is dear where it owns a large value.
+use std::alloc::Global;
+use zapdu::{Apdu, BuildError, DiagRec, Record};
+use zber::Node;
+use zber_tests::rows::element;
+use zber_tests::unread::{Unread, read};
+pub use zquery_tests::plain::{box_value, parse};
+
+/// The element of an APDU.
+pub fn apdu_node(alloc: Global, apdu: &Apdu) -> Result<Node, BuildError> {
+    zapdu::to_node(alloc, apdu)
+}
+
+/// The APDU of an element.
+pub fn apdu_of(alloc: Global, node: &Node) -> Result<Box<Apdu>, Unread> {
+    let apdu = read(zapdu::from_node(alloc, node))?;
+    Ok(box_value(alloc, apdu)?)
+}
+
+/// The APDU that digits spell.
+pub fn apdu(alloc: Global, digits: &str) -> Result<Box<Apdu>, Unread> {
+    apdu_of(alloc, &element(alloc, digits)?)
+}
+
+/// The element of a record.
+pub fn record_node(alloc: Global, record: &Record) -> Result<Node, BuildError> {
+    zapdu::record_node(alloc, record)
+}
+
+/// The element of a diagnostic.
+pub fn diag_node(alloc: Global, diag: &DiagRec) -> Result<Node, BuildError> {
+    zapdu::diag_node(alloc, diag)
+}

@@ -1,0 +1,23 @@
+-- Building a production from left to right: what is written so far, or nothing where a part has no spelling.
+use Rattle.std.specs.Prelude.{List, [], ◌∷◌, ◌++◌, Option, Some, None, if◌then◌else◌}
+use Rattle.zber.specs.AsnTags.{AsnTag}
+use Rattle.zber.specs.Elements.{Element, Primitive, Constructed}
+use Rattle.zber.specs.Tags.{same_tag}
+use Rattle.zasn_tables.specs.Reading.{option_map}
+
+infixl 10 ◌>>=◌
+abbrev pub ◌>>=◌ : {A B : Type 0} → Option A → (A → Option B) → Option B
+(Some x) >>= f = f x
+None >>= f = None
+
+-- an opaque element is its own spelling, where the place takes it
+abbrev pub constructed_spelt : AsnTag → Element → Option Element
+constructed_spelt tag (Primitive t b) = None
+constructed_spelt tag (Constructed t f) = if same_tag t tag then Some (Constructed t f) else None
+
+abbrev pub required_put : {A : Type 0} → (A → Option Element) → A → List Element → Option (List Element)
+required_put spelt x out = option_map (λ n. out ++ n ∷ []) (spelt x)
+
+abbrev pub optional_put : {A : Type 0} → (A → Option Element) → Option A → List Element → Option (List Element)
+optional_put spelt None out = Some out
+optional_put spelt (Some x) out = required_put spelt x out

@@ -1,0 +1,45 @@
+-- A value of several kinds, each with its own place.
+use Rattle.std.specs.Prelude.{List, ◌++◌, Option, None, Bool, true, ◌&&◌, ◌⊎◌, if◌then◌else◌}
+use Rattle.std.proofs.Common.{inl, inr}
+use Rattle.zber.specs.AsnTags.{AsnTag}
+use Rattle.zber.specs.Elements.{Element, tag_of}
+use Rattle.zber.specs.Tags.{among, apart}
+use Rattle.zasn_tables.specs.Reading.{option_map}
+use Rattle.zasn_tables.specs.Place.{Place}
+
+pub data Choice (C : Type 0) : Type 1 where
+  finally : {A : Type 0} → Place A → (A → C) → Choice C
+  either : {A : Type 0} → Place A → (A → C) → Choice C → Choice C
+
+-- which kind it is, and its value
+abbrev pub Pick : {C : Type 0} → Choice C → Type 0
+Pick (finally {A = A} p wrap) = A
+Pick (either {A = A} p wrap more) = A ⊎ Pick more
+
+abbrev pub picked : {C : Type 0} (c : Choice C) → Pick c → C
+picked (finally p wrap) x = wrap x
+picked (either p wrap more) (inl x) = wrap x
+picked (either p wrap more) (inr y) = picked more y
+
+abbrev pub Says : {C : Type 0} (c : Choice C) → Pick c → Element → Type 0
+Says (finally p wrap) x n = p.stands x n
+Says (either p wrap more) (inl x) n = p.stands x n
+Says (either p wrap more) (inr y) n = Says more y n
+
+abbrev pub choice_of : {C : Type 0} → Choice C → Element → Option C
+choice_of (finally p wrap) n = if among (tag_of n) p.tags then option_map wrap (p.meaning n) else None
+choice_of (either p wrap more) n = if among (tag_of n) p.tags then option_map wrap (p.meaning n) else choice_of more n
+
+abbrev pub choice_spelt : {C : Type 0} (c : Choice C) → Pick c → Option Element
+choice_spelt (finally p wrap) x = p.spelt x
+choice_spelt (either p wrap more) (inl x) = p.spelt x
+choice_spelt (either p wrap more) (inr y) = choice_spelt more y
+
+abbrev pub choice_tags : {C : Type 0} → Choice C → List AsnTag
+choice_tags (finally p wrap) = p.tags
+choice_tags (either p wrap more) = p.tags ++ choice_tags more
+
+-- no two kinds share a tag
+abbrev pub distinct : {C : Type 0} → Choice C → Bool
+distinct (finally p wrap) = true
+distinct (either p wrap more) = apart p.tags (choice_tags more) && distinct more

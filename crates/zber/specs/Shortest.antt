@@ -1,0 +1,62 @@
+-- The canonical encoding is the shortest (X.690, 8.1.2, 8.1.3 and 10.1).
+use Rattle.std.specs.Prelude.{◌≡◌, ℕ, suc, ◌<◌, ◌≤◌, Bool, true, false, List, [], ◌∷◌, ◌++◌, All, length}
+use Rattle.zber.specs.AsnTags.{AsnTag}
+use Rattle.zber.specs.Elements.{Element, prim, cons, height}
+use Rattle.zber.specs.Canonical.{identifier, size, canonical, IsLawful}
+use Rattle.zber.specs.Spelling.{Identifier, Length, Spells}
+
+-- numbers that are octets, as those of a law's list need not be
+abbrev pub AreOctets : List ℕ → Type 0
+AreOctets xs = All (λ x. x < 256) xs
+
+-- octets that spell a length are no fewer than those of the canonical encoding (8.1.3, 10.1)
+abbrev pub ShortestLength : Type 0
+ShortestLength = (n : ℕ) (xs : List ℕ) → Length n xs → AreOctets xs → length (size n) ≤ length xs
+
+-- a tag has one identifier in each form, so none is shorter (8.1.2)
+abbrev pub OneIdentifier : Type 0
+OneIdentifier = (n : AsnTag) (c : Bool) (xs : List ℕ) → Identifier n c xs → xs ≡ identifier n c
+
+-- The octets spell the element with definite lengths alone (8.1.3.3), and at most this many constructed elements
+-- stand within one another.
+mutual
+  pub data SpellsDefinite : ℕ → Element → List ℕ → Type 0 where
+    primitive : {room : ℕ} {n : AsnTag} {i l xs : List ℕ}
+        → Identifier n false i → Length (length xs) l → SpellsDefinite room (prim n xs) (i ++ (l ++ xs))
+    constructed : {room : ℕ} {n : AsnTag} {es : List Element} {i l xs : List ℕ}
+        → Identifier n true i → Length (length xs) l → SpellsAllDefinite room es xs
+        → SpellsDefinite (suc room) (cons n es) (i ++ (l ++ xs))
+
+  pub data SpellsAllDefinite : ℕ → List Element → List ℕ → Type 0 where
+    none : {room : ℕ} → SpellsAllDefinite room [] []
+    more : {room : ℕ} {e : Element} {es : List Element} {xs ys : List ℕ}
+        → SpellsDefinite room e xs → SpellsAllDefinite room es ys → SpellsAllDefinite room (e ∷ es) (xs ++ ys)
+
+-- a spelling with definite lengths alone is a spelling
+abbrev pub DefiniteIsSpelling : Type 0
+DefiniteIsSpelling = (room : ℕ) (e : Element) (xs : List ℕ) → SpellsDefinite room e xs → Spells room e xs
+
+-- the canonical encoding of an element of so many levels at most is one with definite lengths alone
+abbrev pub CanonicalIsDefinite : Type 0
+CanonicalIsDefinite = (room : ℕ) (e : Element) → IsLawful e → height e ≤ room → SpellsDefinite room e (canonical e)
+
+-- No spelling with definite lengths alone is shorter than the canonical encoding (10.1). It is false of indefinite
+-- lengths (8.1.3.6): one takes three octets, 80 before the contents and 00 00 after them in hexadecimal, however long
+-- these are, and the canonical length of 65,536 octets and more takes four and more.
+abbrev pub ShortestSpelling : Type 0
+ShortestSpelling = (room : ℕ) (e : Element) (xs : List ℕ)
+    → SpellsDefinite room e xs → AreOctets xs → length (canonical e) ≤ length xs
+
+-- no spelling, with indefinite lengths too, is shorter than a canonical encoding of 65,535 octets and fewer
+abbrev pub ShortestWithin : Type 0
+ShortestWithin = (room : ℕ) (e : Element) (xs : List ℕ)
+    → Spells room e xs → AreOctets xs → length (canonical e) ≤ 65535 → length (canonical e) ≤ length xs
+
+-- what the canonical encoding is among all spellings
+pub record ShortestLaws : Type 0 where
+  pub one_identifier : OneIdentifier
+  pub shortest_length : ShortestLength
+  pub definite_is_spelling : DefiniteIsSpelling
+  pub canonical_is_definite : CanonicalIsDefinite
+  pub shortest_spelling : ShortestSpelling
+  pub shortest_within : ShortestWithin

@@ -1,5 +1,0 @@
-use Rattle.zcatalogue.proofs.Runs.{run_law}
-use Rattle.zcatalogue.proofs.laws.run_law.Goals as goal
-
-pub returns : goal.returns
-returns c = run_law c.catalogue_laws.ensures.answers c.exchange_laws.ensures.converses c.one_hearing.ensures

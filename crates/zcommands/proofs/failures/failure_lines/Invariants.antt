@@ -1,6 +1,0 @@
-use Rattle.std.proofs.Common.{take}
-use Rattle.zcommands.specs.Finished.{AreLinesFrom}
-use Rattle.zcommands.proofs.failures.failure_lines.Given as goal
-
-abbrev pub invariant-loop-c : goal.invariant-loop-c
-invariant-loop-c l = AreLinesFrom l.meta 0 (take l.c l.names) l.text.items

@@ -1,6 +1,0 @@
-use Rattle.std.proofs.Common.{◌∙◌, ap, sym}
-use Rattle.zworld.specs.Fitness.{target_named}
-use Rattle.zcommands.proofs.serve.serve_world.Goals as goal
-
-pub returns : goal.returns
-returns g c = (c.in-Some.target.now, ap (λ z. target_named z c.args.world.now.targets) (sym c.as_bytes.ensures.value) ∙ sym c.in-Some.ensures.named)

@@ -1,6 +1,0 @@
-use Rattle.std.proofs.Common.{ℕ, ◌<◌, false}
-use Rattle.zcommands.specs.Finished.{IsTroubledAt}
-use Rattle.zcommands.proofs.trouble.has_trouble.Given as goal
-
-abbrev pub invariant-loop-c : goal.invariant-loop-c
-invariant-loop-c l = (k : ℕ) → k < l.c → IsTroubledAt l.addresses k l.meta false

@@ -1,0 +1,10 @@
+use Rattle.std.proofs.Common.{◌≡◌, ◌≤◌, take}
+use Rattle.std.specs.List.{count_by}
+use Rattle.zknow_records.specs.Records.{is_diagnostic}
+use Rattle.zknow_records.proofs.write.count_diagnostics.Given as goal
+
+abbrev pub invariant-loop-record : goal.invariant-loop-record
+invariant-loop-record l = record {
+  counted : l.count ≡ count_by (λ r. is_diagnostic r.now) (take l.record-index l.taken);
+  within : l.count ≤ l.record-index;
+}

@@ -1,0 +1,36 @@
+-- The laws of the records that are taken, of their octets and of what is left out.
+use Rattle.std.specs.Prelude.{◌≡◌, ◌↔◌, ◌+◌, ℕ, Bool, true, false, is_some, Option, List, length, Contains}
+use Rattle.std.specs.List.{count_by}
+use Rattle.zapdu.specs.declared.productions.record.Record.{Record}
+use Rattle.zknow.specs.declared.fact.Fact.{Fact}
+use Rattle.zknow.specs.declared.fact.Fact.TheVariants.{Seen}
+use Rattle.zknow.specs.declared.tables.keys.RowKey.{RowKey}
+use Rattle.zknow.specs.Facts.{AreFacts}
+use Rattle.zknow.specs.List.ListLaws.{IsConflict, StandsIn}
+use Rattle.zknow_records.specs.Records.{is_wanted, own_octets, record_octets, all_taken, records_octets, left_out}
+
+-- the record is seen at a position, it is not one of another syntax than the one that is asked for, and two different
+-- records are seen there only if conflicts are asked for
+pub record IsTaken (asked : Option (List ℕ)) (conflicts : Bool) (facts : List Fact) (r : Record) : Type 0 where
+  pub row : RowKey
+  pub seen : Contains facts (Seen row.target row.set row.position r)
+  pub wanted : is_wanted asked r ≡ true
+  pub alone : conflicts ≡ false → IsConflict row.target row.set row.position facts → ⊥
+
+-- how many of the records have octets of their own
+abbrev pub written : List Record → ℕ
+written records = count_by (λ r. is_some (own_octets r)) records
+
+-- the records that are taken are these, and no others; the octets of each stand among those that are written; and each
+-- is one that has octets, or is counted once: as a surrogate diagnostic, or as another
+pub record RecordLaws (asked : Option (List ℕ)) (conflicts : Bool) (facts : List Fact) : Type 0 where
+  pub members : AreFacts facts → (r : Record)
+      → Contains (all_taken asked conflicts facts) r ↔ IsTaken asked conflicts facts r
+  pub octets : (r : Record) → Contains (all_taken asked conflicts facts) r
+      → StandsIn (record_octets r) (records_octets asked conflicts facts)
+  pub counted : written (all_taken asked conflicts facts)
+      + (left_out asked conflicts facts).diagnostics + (left_out asked conflicts facts).others
+      ≡ length (all_taken asked conflicts facts)
+
+abbrev pub AllRecordLaws : Type 0
+AllRecordLaws = (asked : Option (List ℕ)) (conflicts : Bool) (facts : List Fact) → RecordLaws asked conflicts facts

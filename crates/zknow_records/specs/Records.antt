@@ -1,0 +1,107 @@
+-- The octets of the records that are known, one record after the other, and what is left out of them, as functions of
+-- the facts.
+use Rattle.std.specs.Prelude.{ℕ, Bool, true, false, not, ◌&&◌, nat_lt, if◌then◌else◌, Option, Some, None, is_some, unwrap_or, List, [], length, map, filter}
+use Rattle.std.specs.Borrow.{Bor}
+use Rattle.std.specs.List.{flat_map, filter_map, count_by}
+use Rattle.std.specs.Option.{option_map}
+use Rattle.std.specs.Str.{bytes_eq}
+use Rattle.zapdu.specs.declared.productions.record.Record.{Record}
+use Rattle.zapdu.specs.declared.productions.record.RecordBody.{RecordBody}
+use Rattle.zapdu.specs.declared.productions.record.RecordBody.TheVariants.{Retrieval, Surrogate, Fragment}
+use Rattle.zapdu.specs.Text.{octets_alone}
+use Rattle.zknow.specs.declared.fact.Fact.{Fact}
+use Rattle.zknow.specs.declared.tables.keys.RowKey.{RowKey}
+use Rattle.zknow.specs.Known.{records_at}
+use Rattle.zknow.specs.List.Listing.{ascending, row_of}
+use Rattle.zknow.specs.Tables.Keys.{row_cmp}
+use Rattle.zknow_records.specs.declared.left_out.LeftOut.{LeftOut}
+
+-- ---- one record
+
+-- no syntax is asked for, or the EXTERNAL names none, or names the one that is asked for
+abbrev pub is_in_syntax : Option (List ℕ) → Option (List ℕ) → Bool
+is_in_syntax None direct = true
+is_in_syntax (Some asked) None = true
+is_in_syntax (Some asked) (Some direct) = bytes_eq asked direct
+
+abbrev pub is_body_wanted : Option (List ℕ) → RecordBody → Bool
+is_body_wanted asked (Retrieval v) = is_in_syntax asked v.direct
+is_body_wanted asked (Surrogate d) = true
+is_body_wanted asked (Fragment m) = true
+
+-- the record is not one of another syntax than the one that is asked for
+abbrev pub is_wanted : Option (List ℕ) → Record → Bool
+is_wanted asked r = is_body_wanted asked r.body
+
+abbrev pub body_octets : RecordBody → Option (List ℕ)
+body_octets (Retrieval v) = option_map (λ p. p.1) (octets_alone v.direct v.indirect v.descriptor v.content)
+body_octets (Surrogate d) = None
+body_octets (Fragment m) = None
+
+-- the octets of a record that has octets of its own: an EXTERNAL with a syntax and octets, and no more
+abbrev pub own_octets : Record → Option (List ℕ)
+own_octets r = body_octets r.body
+
+-- the octets that are written of a record
+abbrev pub record_octets : Record → List ℕ
+record_octets r = unwrap_or (own_octets r) []
+
+abbrev pub is_surrogate : RecordBody → Bool
+is_surrogate (Retrieval v) = false
+is_surrogate (Surrogate d) = true
+is_surrogate (Fragment m) = false
+
+-- a surrogate diagnostic stands in the place of the record
+abbrev pub is_diagnostic : Record → Bool
+is_diagnostic r = is_surrogate r.body
+
+-- neither octets nor a surrogate diagnostic: a fragment, or another EXTERNAL
+abbrev pub is_other : Record → Bool
+is_other r = not (is_some (own_octets r)) && not (is_diagnostic r)
+
+-- ---- one position
+
+-- several records are known
+abbrev pub is_conflict : List Record → Bool
+is_conflict records = nat_lt 1 (length records)
+
+-- what is taken of the records at a position: nothing of a conflict, if conflicts are not asked for, else the records
+-- that are wanted
+abbrev pub taken : Option (List ℕ) → Bool → List Record → List Record
+taken asked conflicts records =
+    if is_conflict records && not conflicts then [] else filter (is_wanted asked) records
+
+-- the records that are known in a row of the list
+abbrev pub records_in : List Fact → RowKey → List Record
+records_in facts k = records_at k.target k.set k.position facts
+
+-- ---- all positions
+
+-- the rows of the list: by position, target and set
+abbrev pub rows : List Fact → List RowKey
+rows facts = ascending row_cmp (filter_map row_of facts)
+
+-- the records that are taken, row by row
+abbrev pub all_taken : Option (List ℕ) → Bool → List Fact → List Record
+all_taken asked conflicts facts = flat_map (λ k. taken asked conflicts (records_in facts k)) (rows facts)
+
+-- their octets, one record after the other
+abbrev pub records_octets : Option (List ℕ) → Bool → List Fact → List ℕ
+records_octets asked conflicts facts = flat_map record_octets (all_taken asked conflicts facts)
+
+-- how many positions are in conflict and left out
+abbrev pub conflicts_left : Bool → List Fact → ℕ
+conflicts_left conflicts facts = if conflicts then 0 else count_by (λ k. is_conflict (records_in facts k)) (rows facts)
+
+-- what is left out of the octets: conflicts, and what is taken and has no octets
+abbrev pub left_out : Option (List ℕ) → Bool → List Fact → LeftOut
+left_out asked conflicts facts =
+    record {
+      conflicts = conflicts_left conflicts facts;
+      diagnostics = count_by is_diagnostic (all_taken asked conflicts facts);
+      others = count_by is_other (all_taken asked conflicts facts);
+    }
+
+-- the records behind references
+abbrev pub behind : List (Bor Record) → List Record
+behind found = map (λ r. r.now) found

@@ -1,0 +1,100 @@
+//! The records that are taken, in the order of the rows of the list.
+ghost use Rattle.std.specs.Prelude.{◌≡◌, ◌++◌, IfOk, OnOk, filter};
+ghost use Rattle.std.specs.List.{flat_map, count_by};
+ghost use Rattle.std.specs.Option.{option_copied};
+ghost use Rattle.zknow.specs.Known.{Shows};
+ghost use Rattle.zknow_records.specs.Records.{is_wanted, is_conflict, taken, records_in, behind};
+
+use crate::one_record::is_wanted;
+use std::alloc::{AllocError, Global};
+use zapdu::Record;
+use zber::Oid;
+use zknow::{Knowledge, Known, RowKey};
+
+/// What is known of the record in a row of the list.
+fn known_in<'a>(knowledge: &'a Knowledge, row: &RowKey) -> Known<'a, Record>
+    ensures { Shows result (records_in knowledge.now row.now) }
+{
+    knowledge.at(row.target, row.set, row.position)
+}
+
+fn take_wanted<'a>(
+    asked: Option<&Oid>,
+    records: &'a [Record],
+    found: &mut Vec<&'a Record>,
+) -> Result<(), AllocError>
+    ensures { OnOk result (behind found.new.items
+        ≡ behind found.old.items ++ filter (is_wanted (option_copied asked.entry)) records.now) }
+{
+    for record in records {
+        if is_wanted(asked, record) {
+            found.push(record)?;
+        }
+    }
+    Ok(())
+}
+
+/// Takes the records in a row.
+fn take_row<'a>(
+    knowledge: &'a Knowledge,
+    row: &RowKey,
+    asked: Option<&Oid>,
+    conflicts: bool,
+    found: &mut Vec<&'a Record>,
+) -> Result<(), AllocError>
+    ensures { OnOk result (behind found.new.items
+        ≡ behind found.old.items ++ taken (option_copied asked.entry) conflicts (records_in knowledge.now row.now)) }
+{
+    match known_in(knowledge, row) {
+        Known::Nothing => Ok(()),
+        Known::One(record) => take_wanted(asked, std::slice::from_ref(record), found),
+        Known::Conflict(records) => {
+            if conflicts {
+                take_wanted(asked, records, found)
+            } else {
+                Ok(())
+            }
+        }
+    }
+}
+
+/// The records that are taken, row by row.
+pub(crate) fn take_rows<'a>(
+    alloc: Global,
+    knowledge: &'a Knowledge,
+    rows: &[RowKey],
+    asked: Option<&Oid>,
+    conflicts: bool,
+) -> Result<Vec<&'a Record>, AllocError>
+    ensures { IfOk result (λ found. behind found.items
+        ≡ flat_map (λ k. taken (option_copied asked.entry) conflicts (records_in knowledge.now k)) rows.now) }
+{
+    let mut found = Vec::new(alloc);
+    for row in rows {
+        take_row(knowledge, row, asked, conflicts, &mut found)?;
+    }
+    Ok(found)
+}
+
+/// Whether several records are known in a row.
+fn is_conflict(knowledge: &Knowledge, row: &RowKey) -> bool
+    ensures { result ≡ is_conflict (records_in knowledge.now row.now) }
+{
+    match known_in(knowledge, row) {
+        Known::Nothing | Known::One(_) => false,
+        Known::Conflict(_) => true,
+    }
+}
+
+/// In how many of the rows several records are known.
+pub(crate) fn count_conflicts(knowledge: &Knowledge, rows: &[RowKey]) -> u64
+    ensures { result ≡ count_by (λ k. is_conflict (records_in knowledge.now k)) rows.now }
+{
+    let mut count = 0;
+    for row in rows {
+        if is_conflict(knowledge, row) {
+            count += 1;
+        }
+    }
+    count
+}

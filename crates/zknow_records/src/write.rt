@@ -1,0 +1,100 @@
+//! The records are written.
+ghost use Rattle.std.specs.Prelude.{◌≡◌, ◌++◌, IfOk, OnOk, OnErr};
+ghost use Rattle.std.specs.List.{flat_map, count_by};
+ghost use Rattle.std.specs.Option.{option_copied};
+ghost use Rattle.zknow_records.specs.Records.{behind, record_octets, is_diagnostic, is_other, conflicts_left, rows, records_octets, left_out};
+
+use crate::left_out::LeftOut;
+use crate::one_record::{is_diagnostic, is_other, own_octets};
+use crate::taken::{count_conflicts, take_rows};
+use std::alloc::{AllocError, Global};
+use zapdu::Record;
+use zber::Oid;
+use zknow::{Knowledge, RowKey};
+
+/// Appends the octets of a record, if it has octets of its own.
+fn put_record(record: &Record, out: &mut Vec<u8>) -> Result<(), AllocError>
+    ensures { OnOk result (out.new.items ≡ out.old.items ++ record_octets «record».now) }
+{
+    match own_octets(record) {
+        Some(octets) => out.extend_from_slice(octets.as_slice()),
+        None => Ok(()),
+    }
+}
+
+fn put_records(taken: &[&Record], out: &mut Vec<u8>) -> Result<(), AllocError>
+    ensures { OnOk result (out.new.items ≡ out.old.items ++ flat_map record_octets (behind taken.now)) }
+{
+    for record in taken {
+        put_record(record, out)?;
+    }
+    Ok(())
+}
+
+fn count_diagnostics(taken: &[&Record]) -> u64
+    ensures { result ≡ count_by is_diagnostic (behind taken.now) }
+{
+    let mut count = 0;
+    for record in taken {
+        if is_diagnostic(record) {
+            count += 1;
+        }
+    }
+    count
+}
+
+fn count_others(taken: &[&Record]) -> u64
+    ensures { result ≡ count_by is_other (behind taken.now) }
+{
+    let mut count = 0;
+    for record in taken {
+        if is_other(record) {
+            count += 1;
+        }
+    }
+    count
+}
+
+/// How many conflicts are left out.
+fn conflicts_left(knowledge: &Knowledge, keys: &[RowKey], conflicts: bool) -> u64
+    requires { keys.now ≡ rows knowledge.now }
+    ensures { result ≡ conflicts_left conflicts knowledge.now }
+{
+    if conflicts {
+        0
+    } else {
+        count_conflicts(knowledge, keys)
+    }
+}
+
+/// Appends the octets of the records that are known, one record after the other, and tells what was left out.
+///
+/// They come in the order of the rows of the list: by position, target and set. A position at which several records are
+/// known is left out, or with `conflicts` has all of them, in order of their canonical encodings. Where `syntax` has
+/// one, no record of another syntax is written. Only an EXTERNAL with a direct reference and octet-aligned contents,
+/// and nothing else, has octets to write (Z39.50-2003, 3.6; X.690, 8.18); a surrogate diagnostic has none (4.1:
+/// NamePlusRecord). Where no memory is found, nothing is appended.
+pub fn write_records(
+    alloc: Global,
+    knowledge: &Knowledge,
+    syntax: Option<&Oid>,
+    conflicts: bool,
+    out: &mut Vec<u8>,
+) -> Result<LeftOut, AllocError>
+    ensures ok { OnOk result (out.new.items ≡ out.old.items
+        ++ records_octets (option_copied syntax.entry) conflicts knowledge.now) }
+    ensures left { IfOk result (λ left. left ≡ left_out (option_copied syntax.entry) conflicts knowledge.now) }
+    ensures err { OnErr result (out.new.items ≡ out.old.items) }
+{
+    let rows = knowledge.rows()?;
+    let taken = take_rows(alloc, knowledge, &rows, syntax, conflicts)?;
+    let left = LeftOut {
+        conflicts: conflicts_left(knowledge, &rows, conflicts),
+        diagnostics: count_diagnostics(&taken),
+        others: count_others(&taken),
+    };
+    let mut octets = Vec::new(alloc);
+    put_records(&taken, &mut octets)?;
+    out.extend_from_slice(&octets)?;
+    Ok(left)
+}

@@ -1,0 +1,191 @@
+//! Facts as rows: the kind, the target, the set, then the count, or the position or place and the element.
+ghost use Rattle.std.specs.Prelude.{◌≤ℤ◌, IfOk};
+ghost use Rattle.zapdu.specs.Place.{IsSpellable};
+ghost use Rattle.zapdu.specs.Productions.Records.{whole_record};
+ghost use Rattle.zknow.specs.Facts.{IsFact};
+
+use crate::shown::{put_counts, put_facts, put_known};
+use std::alloc::{AllocError, Global};
+use zapdu::{DiagRec, Record, diag_of, record_of};
+use zapdu_tests::boxes::box_value;
+use zapdu_tests::parts::Line;
+use zber::Node;
+use zber_tests::rows::{element, pair};
+use zber_tests::unread::Unread;
+use zknow::{Fact, Knowledge};
+
+// The element that a word names: digits; or of two octets, a record of them in the syntax 1.2.840.10003.5.10 with the
+// shortest lengths; or behind `~` the same with longer lengths.
+fn digits_of(alloc: Global, word: &str) -> Result<String, AllocError> {
+    match word.as_bytes() {
+        [first, second] => format!(in alloc;
+            "3013a111a10f280d06072a8648ce13050a8102{first:02x}{second:02x}"
+        ),
+        [b'~', first, second] => format!(in alloc;
+            "308115a113a1112882000d06072a8648ce13050a8102{first:02x}{second:02x}"
+        ),
+        _ => word.to_string(alloc),
+    }
+}
+
+fn node_of(alloc: Global, word: &str) -> Result<Node, Unread> {
+    let digits = digits_of(alloc, word)?;
+    element(alloc, digits.as_str())
+}
+
+fn record_in(alloc: Global, node: &Node) -> Result<Record, Unread>
+    ensures { IfOk result (IsSpellable whole_record) }
+{
+    match record_of(alloc, node)? {
+        Some(record) => Ok(record),
+        None => Err(Unread),
+    }
+}
+
+fn record(alloc: Global, word: &str) -> Result<Record, Unread>
+    ensures { IfOk result (IsSpellable whole_record) }
+{
+    let node = node_of(alloc, word)?;
+    record_in(alloc, &node)
+}
+
+fn diag(alloc: Global, digits: &str) -> Result<DiagRec, Unread> {
+    let node = element(alloc, digits)?;
+    let diag = diag_of(alloc, &node)?.ok_or(Unread)?;
+    Ok(diag)
+}
+
+// A number that is not below the least one.
+fn number(text: &str, least: i64) -> Result<i64, Unread>
+    ensures { IfOk result (λ n. least ≤ℤ n) }
+{
+    let number = text.parse::<i64>()?;
+    if number < least {
+        Err(Unread)
+    } else {
+        Ok(number)
+    }
+}
+
+fn count_of(target: u32, set: u32, rest: &str) -> Result<Fact, Unread>
+    ensures { IfOk result IsFact }
+{
+    let count = number(rest, 0)?;
+    Ok(Fact::Count { target, set, count })
+}
+
+fn seen_of(alloc: Global, target: u32, set: u32, rest: &str) -> Result<Fact, Unread>
+    ensures { IfOk result IsFact }
+{
+    let (position, word) = pair(rest);
+    let position = number(position, 1)?;
+    let rec = record(alloc, word)?;
+    Ok(Fact::Seen {
+        target,
+        set,
+        position,
+        rec,
+    })
+}
+
+fn diag_fact(alloc: Global, target: u32, set: u32, rest: &str) -> Result<Fact, Unread>
+    ensures { IfOk result IsFact }
+{
+    let (place, word) = pair(rest);
+    let place = number(place, 0)?;
+    let diag = diag(alloc, word)?;
+    Ok(Fact::Diag {
+        target,
+        set,
+        place,
+        diag,
+    })
+}
+
+// A fact of a kind about a set.
+fn about(alloc: Global, kind: &str, target: u32, set: u32, rest: &str) -> Result<Fact, Unread>
+    ensures { IfOk result IsFact }
+{
+    match kind {
+        "count" => count_of(target, set, rest),
+        "failed" => Ok(Fact::Failed { target, set }),
+        "seen" => seen_of(alloc, target, set, rest),
+        "diag" => diag_fact(alloc, target, set, rest),
+        _ => Err(Unread),
+    }
+}
+
+/// The fact of a row.
+pub(crate) fn fact(alloc: Global, row: &str) -> Result<Fact, Unread>
+    ensures { IfOk result IsFact }
+{
+    let (kind, rest) = pair(row);
+    let (target, rest) = pair(rest);
+    let (set, rest) = pair(rest);
+    about(
+        alloc,
+        kind,
+        target.parse::<u32>()?,
+        set.parse::<u32>()?,
+        rest,
+    )
+}
+
+/// Adds the fact of a row.
+pub(crate) fn add(alloc: Global, knowledge: &mut Knowledge, row: &str) -> Result<(), Unread> {
+    let fact = fact(alloc, row)?;
+    Ok(knowledge.add(&fact)?)
+}
+
+fn add_all(alloc: Global, knowledge: &mut Knowledge, rows: &str) -> Result<(), Unread> {
+    for row in rows.lines() {
+        add(alloc, knowledge, row)?;
+    }
+    Ok(())
+}
+
+/// Nothing known.
+pub(crate) fn nothing(alloc: Global) -> Result<Box<Knowledge>, AllocError> {
+    box_value(alloc, Knowledge::new(alloc))
+}
+
+/// A copy of what is known.
+pub(crate) fn copy_of(alloc: Global, knowledge: &Knowledge) -> Result<Box<Knowledge>, AllocError> {
+    let copy = knowledge.copy()?;
+    box_value(alloc, copy)
+}
+
+/// The knowledge of all facts of a table.
+pub(crate) fn knowledge_of(alloc: Global, rows: &str) -> Result<Box<Knowledge>, Unread> {
+    let mut knowledge = nothing(alloc)?;
+    add_all(alloc, &mut knowledge, rows)?;
+    Ok(knowledge)
+}
+
+/// Whether these are all facts, in fact order, with a space before each.
+pub(crate) fn has_facts(alloc: Global, knowledge: &Knowledge, due: &str) -> Result<bool, Unread> {
+    let facts = knowledge.facts()?;
+    let mut line = Line::new(alloc);
+    put_facts(alloc, facts.as_slice(), &mut line);
+    Ok(line.is(due.as_bytes()))
+}
+
+/// Whether this is known of the count of a set.
+pub(crate) fn is_count(
+    alloc: Global,
+    knowledge: &Knowledge,
+    target: u32,
+    set: u32,
+    due: &str,
+) -> bool {
+    let mut line = Line::new(alloc);
+    put_counts(alloc, knowledge.count(target, set), &mut line);
+    line.is(due.as_bytes())
+}
+
+/// Whether this is known of the record at a position of set 1 of target 0.
+pub(crate) fn is_at(alloc: Global, knowledge: &Knowledge, position: i64, due: &str) -> bool {
+    let mut line = Line::new(alloc);
+    put_known(alloc, knowledge.at(0, 1, position), &mut line);
+    line.is(due.as_bytes())
+}

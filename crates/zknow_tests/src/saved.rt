@@ -1,0 +1,336 @@
+// Saved files, worked out by hand and by a reader of another kind: what is read and written alike, and what is refused.
+use crate::facts::knowledge_of;
+use bytes::Bytes;
+use std::alloc::{AllocError, Global};
+use std::process::Abort;
+use std::test::Fail;
+use zapdu_tests::boxes::box_value;
+use zber::Seq;
+use zber_tests::rows::{each_row, is_true, octets, pair, spells};
+use zber_tests::unread::{Unread, read};
+use zknow::{Knowledge, LoadError, Names, SaveError, load, save};
+
+fn save_octets(alloc: Global, knowledge: &Knowledge, names: &Names) -> Result<Vec<u8>, Unread> {
+    let mut out = Vec::new(alloc);
+    read(save(alloc, knowledge, names, &mut out))?;
+    Ok(out)
+}
+
+// Files: nothing known; a name, and two; a count; the highest target; two counts of a set; a failure; a record; a
+// diagnostic; a count and a failure; a record, a surrogate diagnostic and a fragment.
+const FILES: &str = "\
+a400
+a403800161
+a406800161800162
+a403800161a009800100810101820104
+a400a00d800500ffffffff810101820104
+a400a009800100810101820103a009800100810101820104
+a400a106800103810100
+a400a21e8001008101018201013013a111a10f280d06072a8648ce13050a81027231
+a400a319800101810100820100300e06072a8648ce13040102010d1a00
+a403800161a009800100810101820105a106800100810102
+a403800161a21e8001008101018201013013a111a10f280d06072a8648ce13050a81027232a21f8001008101018201023014a112a210300e06072a8648ce13040102010e1a00a2138001008101018201033008a106a30404027233
+";
+
+// What a file says, or why it says nothing.
+type Loaded = Result<(Knowledge, Names), LoadError>;
+
+fn load_octets(alloc: Global, file: &[u8]) -> Result<Box<Loaded>, AllocError> {
+    box_value(alloc, load(alloc, file))
+}
+
+// Whether the file of what a file says is that file.
+fn is_written(alloc: Global, loaded: &Loaded, file: &[u8]) -> bool {
+    match loaded {
+        Ok((knowledge, names)) => spells(save_octets(alloc, knowledge, names), file),
+        Err(_) => false,
+    }
+}
+
+fn is_file(alloc: Global, row: &str) -> Result<bool, Unread> {
+    let file = octets(alloc, row)?;
+    let loaded = load_octets(alloc, file.as_slice())?;
+    Ok(is_written(alloc, &loaded, file.as_slice()))
+}
+
+#[test]
+fn files_are_read_and_written_alike(rt: HostRuntime) -> Result<(), Fail> {
+    each_row(rt.alloc(), FILES, &is_file)
+}
+
+// Places and files: nothing at all; an end mark; half a header; another element; a fact in the place of names; a name
+// cut off, one in parts, one with another tag; a fact cut off, twice; a negative count; a failure with a count; a count
+// without one; a target above 32 bits, a negative one; names again; an end mark after a fact; position 0; no record;
+// place -1; a record's octets in segments of which one is a UTF8String.
+const NOT_KNOWLEDGE: &str = "\
+0 -
+0 00
+0 30
+0 3000
+0 a009800100810101820104
+0 a404800161
+0 a405a003040161
+0 a403810161
+1 a400a106800100
+1 a400a1068001008101
+1 a400a0098001008101018201ff
+1 a400a109800100810101820104
+1 a400a006800100810101
+1 a400a00d80050100000000810101820104
+1 a400a0098001ff810101820104
+1 a400a400
+2 a400a00980010081010182010400
+1 a400a21e8001008101018201003013a111a10f280d06072a8648ce13050a81027231
+1 a400a20c800100810101820101020101
+1 a400a3198001018101008201ff300e06072a8648ce13040102010d1a00
+1 a400a2228001008101018201013017a115a113281106072a8648ce13050aa1060401720c0131
+";
+
+// Lengths of names not shortest, once with an end mark behind; a target not shortest; a fact below the one before, and
+// one as high; a failure before a count; a record's length not shortest; a record and a diagnostic with a string in
+// segments.
+const NOT_CANONICAL: &str = "\
+0 a48100
+0 a4800000
+1 a400a00a80020000810101820104
+2 a400a009800101810101820100a009800100810101820104
+2 a400a009800100810101820104a009800100810101820104
+2 a400a106800100810100a009800100810101820104
+1 a400a21f800100810101820101308113a111a10f280d06072a8648ce13050a81027231
+1 a400a2228001008101018201013017a115a113281106072a8648ce13050aa106040172040131
+1 a400a319800101810101820100300e06072a8648ce13040102010d3a00
+";
+
+fn is_for(loaded: &Loaded, due: LoadError) -> bool {
+    match loaded {
+        Ok(_) => false,
+        Err(error) => *error == due,
+    }
+}
+
+// Whether a file is refused for this.
+fn is_refused(alloc: Global, file: &str, due: LoadError) -> Result<bool, Unread> {
+    let file = octets(alloc, file)?;
+    let loaded = load_octets(alloc, file.as_slice())?;
+    Ok(is_for(&loaded, due))
+}
+
+fn is_no_knowledge(alloc: Global, row: &str) -> Result<bool, Unread> {
+    let (at, file) = pair(row);
+    let at = at.parse::<usize>()?;
+    is_refused(alloc, file, LoadError::NotKnowledge { at })
+}
+
+#[test]
+fn what_is_no_knowledge_is_refused(rt: HostRuntime) -> Result<(), Fail> {
+    each_row(rt.alloc(), NOT_KNOWLEDGE, &is_no_knowledge)
+}
+
+fn is_not_canonical(alloc: Global, row: &str) -> Result<bool, Unread> {
+    let (at, file) = pair(row);
+    let at = at.parse::<usize>()?;
+    is_refused(alloc, file, LoadError::NotCanonical { at })
+}
+
+#[test]
+fn what_is_not_canonical_is_refused(rt: HostRuntime) -> Result<(), Fail> {
+    each_row(rt.alloc(), NOT_CANONICAL, &is_not_canonical)
+}
+
+// A file with two names and a fact of each kind.
+const WHOLE: &str = "\
+a406800161800162\
+a00a80010081010182020104a009800100810102820104\
+a106800101810100\
+a21e8001008101018201013013a111a10f280d06072a8648ce13050a81027231\
+a319800101810100820100300e06072a8648ce13040102010d1a00";
+
+/// What came of files: those that are written as they were, those of each refusal, and the sum of their places.
+#[derive(Clone, Copy, Debug, PartialEq, Eq)]
+struct Tally {
+    files: u32,
+    not_knowledge: u32,
+    not_canonical: u32,
+    places: usize,
+}
+
+impl Tally {
+    fn put_place(&mut self, at: usize) {
+        self.places = self.places.saturating_add(at);
+    }
+
+    fn put_refusal(&mut self, error: &LoadError) -> Result<(), Unread> {
+        match error {
+            LoadError::NotKnowledge { at } => {
+                self.not_knowledge = self.not_knowledge.saturating_add(1);
+                self.put_place(*at);
+                Ok(())
+            }
+            LoadError::NotCanonical { at } => {
+                self.not_canonical = self.not_canonical.saturating_add(1);
+                self.put_place(*at);
+                Ok(())
+            }
+            LoadError::Memory => Err(Unread),
+        }
+    }
+
+    fn put_file(&mut self, saved: &[u8], file: &[u8]) {
+        if saved == file {
+            self.files = self.files.saturating_add(1);
+        }
+    }
+
+    fn put_loaded(&mut self, alloc: Global, loaded: &Loaded, file: &[u8]) -> Result<(), Unread> {
+        match loaded {
+            Ok((knowledge, names)) => {
+                let saved = save_octets(alloc, knowledge, names)?;
+                self.put_file(saved.as_slice(), file);
+                Ok(())
+            }
+            Err(error) => self.put_refusal(error),
+        }
+    }
+
+    fn put(&mut self, alloc: Global, file: &[u8]) -> Result<(), Unread> {
+        let loaded = load_octets(alloc, file)?;
+        self.put_loaded(alloc, &loaded, file)
+    }
+}
+
+/// The file with each other value of one octet.
+fn put_others(alloc: Global, tally: &mut Tally, file: &[u8], at: usize) -> Result<(), Unread> {
+    let mut changed = file.to_vec(alloc)?;
+    for value in 0..=255_u8 {
+        if let Some(octet) = changed.get_mut(at) {
+            *octet = value;
+        }
+        if changed.as_slice() != file {
+            tally.put(alloc, changed.as_slice())?;
+        }
+    }
+    Ok(())
+}
+
+fn tally_of(alloc: Global, digits: &str) -> Result<Tally, Unread> {
+    let file = octets(alloc, digits)?;
+    let mut tally = Tally {
+        files: 0,
+        not_knowledge: 0,
+        not_canonical: 0,
+        places: 0,
+    };
+    for at in 0..file.len() {
+        put_others(alloc, &mut tally, file.as_slice(), at)?;
+    }
+    Ok(tally)
+}
+
+// The numbers are those of a reader of another kind, written in another language.
+#[test]
+fn each_changed_octet_is_told(rt: HostRuntime) -> Result<(), Fail> {
+    let due = Tally {
+        files: 6368,
+        not_knowledge: 18363,
+        not_canonical: 259,
+        places: 58550,
+    };
+    assert_eq!(rt; tally_of(rt.alloc(), WHOLE)?, due);
+    Ok(())
+}
+
+/// A record whose fragment has so many constructed elements within one another.
+fn nested_row(alloc: Global, levels: usize) -> Result<String, AllocError> {
+    let opens = "3080".repeat(alloc, levels)?;
+    let ends = "0000".repeat(alloc, levels)?;
+    format!(in alloc; "seen 0 1 1 3080a180a380{opens}{ends}000000000000")
+}
+
+/// What is appended to one octet for what is known, or why nothing is.
+fn put_behind(alloc: Global, knowledge: &Knowledge) -> Result<usize, SaveError> {
+    let names = Seq::from_vec(Vec::new(alloc));
+    let mut out = Vec::from_slice(alloc, &[7_u8])?;
+    save(alloc, knowledge, &names, &mut out)?;
+    Ok(out.len())
+}
+
+fn save_levels(alloc: Global, levels: usize) -> Result<Result<usize, SaveError>, Unread> {
+    let row = nested_row(alloc, levels)?;
+    let knowledge = knowledge_of(alloc, row.as_str())?;
+    Ok(put_behind(alloc, &knowledge))
+}
+
+// The fact is one element more: 60 of them are 64 with it, the record and its parts.
+#[test]
+fn more_than_64_levels_are_not_saved(rt: HostRuntime) -> Result<(), Fail> {
+    assert!(rt; matches!(save_levels(rt.alloc(), 60), Ok(Ok(len)) if len > 64));
+    assert!(rt; matches!(save_levels(rt.alloc(), 61), Ok(Err(SaveError::TooDeep))));
+    Ok(())
+}
+
+/// One name of so many octets.
+fn one_name(alloc: Global, len: usize) -> Result<Names, AllocError> {
+    let octets = [b'n'].repeat(alloc, len)?;
+    let mut names = Vec::new(alloc);
+    names.push(Bytes::from_vec(octets)?)?;
+    Ok(Seq::from_vec(names))
+}
+
+/// The octets appended to none for names alone.
+fn save_names(alloc: Global, names: &Names) -> Result<Vec<u8>, SaveError> {
+    let knowledge = Knowledge::new(alloc);
+    let mut out = Vec::new(alloc);
+    save(alloc, &knowledge, names, &mut out)?;
+    Ok(out)
+}
+
+// The headers of an element of 4,194,305 octets and of the one name within.
+const TOO_LONG: [u8; 10] = [0xa4, 0x83, 0x3f, 0xff, 0xfc, 0x80, 0x83, 0x3f, 0xff, 0xf7];
+
+fn has_names(loaded: &Loaded, due: &Names) -> bool {
+    match loaded {
+        Ok((_, names)) => names.as_slice() == due.as_slice(),
+        Err(_) => false,
+    }
+}
+
+fn are_loaded(alloc: Global, file: &[u8], names: &Names) -> Result<bool, Unread> {
+    let loaded = load_octets(alloc, file)?;
+    Ok(file.len() == 4_194_304 && has_names(&loaded, names))
+}
+
+// Whether the file is refused with one octet more.
+fn is_too_long(alloc: Global, file: &mut Vec<u8>) -> Result<bool, Unread> {
+    file.push(b'n')?;
+    for (octet, due) in file.iter_mut().zip(TOO_LONG) {
+        *octet = due;
+    }
+    let loaded = load_octets(alloc, file.as_slice())?;
+    Ok(is_for(&loaded, LoadError::NotKnowledge { at: 0 }))
+}
+
+fn is_longest(alloc: Global, len: usize) -> Result<bool, Unread> {
+    let names = one_name(alloc, len)?;
+    let mut file = read(save_names(alloc, &names))?;
+    Ok(
+        is_true(are_loaded(alloc, file.as_slice(), &names))
+            && is_true(is_too_long(alloc, &mut file)),
+    )
+}
+
+#[test]
+fn an_element_of_4194304_octets_is_saved_and_loaded(rt: HostRuntime) -> Result<(), Fail> {
+    assert!(rt; is_true(is_longest(rt.alloc(), 4_194_294)));
+    Ok(())
+}
+
+fn is_longer(alloc: Global, len: usize) -> Result<bool, Unread> {
+    let names = one_name(alloc, len)?;
+    Ok(matches!(save_names(alloc, &names), Err(SaveError::TooLong)))
+}
+
+#[test]
+fn an_element_of_4194305_octets_is_not_saved(rt: HostRuntime) -> Result<(), Fail> {
+    assert!(rt; is_true(is_longer(rt.alloc(), 4_194_295)));
+    Ok(())
+}

@@ -1,0 +1,123 @@
+// Facts of few keys, so that many meet, in orders of no kind in particular and joined from parts: their list is that of
+// the reference.
+use crate::facts::nothing;
+use crate::known::add_in_order;
+use crate::reference::{facts_of, list};
+use crate::shown::has_list;
+use std::alloc::{AllocError, Global};
+use std::process::Abort;
+use std::test::Fail;
+use zber_tests::dice::Dice;
+use zber_tests::rows::each_row;
+use zber_tests::unread::Unread;
+use zknow::{Knowledge, Mode};
+
+// Records: three with the octets of one syntax, one of them twice in different lengths; a surrogate diagnostic, a
+// fragment and an element.
+const RECORDS: [&str; 7] = [
+    "r1",
+    "x2",
+    "~r1",
+    "\"\\",
+    "301a800164a115a213301106072a8648ce130401020200ee1b02225c",
+    "3005a103830161",
+    "300ca10aa1082806020105810161",
+];
+
+const DIAGS: [&str; 4] = [
+    "300e06072a8648ce13040102010d1a00",
+    "301006072a8648ce13040102010d1b026869",
+    "301006072a8648ce13040102010d1a026869",
+    "28048102686a",
+];
+
+// The row of a fact.
+fn row(alloc: Global, dice: &mut Dice) -> Result<String, AllocError> {
+    let target = dice.number_below(3);
+    let set = dice.number_below(2);
+    let number = dice.number_below(3).saturating_add(1);
+    match dice.number_below(6) {
+        0 => format!(in alloc; "count {target} {set} {number}"),
+        1 => format!(in alloc; "failed {target} {set} -"),
+        2 => format!(in alloc; "diag {target} {set} {number} {}", dice.one(&DIAGS)),
+        _ => format!(in alloc; "seen {target} {set} {number} {}", dice.one(&RECORDS)),
+    }
+}
+
+fn table(alloc: Global, dice: &mut Dice, count: usize) -> Result<String, AllocError> {
+    let mut table = String::new(alloc);
+    for _ in 0..count {
+        table.push_str(row(alloc, dice)?.as_str())?;
+        table.push('\n')?;
+    }
+    Ok(table)
+}
+
+fn join_two(
+    first: Box<Knowledge>,
+    second: Box<Knowledge>,
+    is_turned: bool,
+) -> Result<Box<Knowledge>, AllocError> {
+    let (mut whole, part) = if is_turned {
+        (second, first)
+    } else {
+        (first, second)
+    };
+    whole.absorb(&part)?;
+    Ok(whole)
+}
+
+fn part(alloc: Global, rows: &[&str], places: &[usize]) -> Result<Box<Knowledge>, Unread> {
+    let mut part = nothing(alloc)?;
+    add_in_order(alloc, &mut part, rows, places)?;
+    Ok(part)
+}
+
+// What is known of rows in some order, where so many at a time are known apart and then joined to the others.
+fn known_of_parts(
+    alloc: Global,
+    dice: &mut Dice,
+    rows: &[&str],
+    size: usize,
+) -> Result<Box<Knowledge>, Unread> {
+    let order = dice.order(alloc, rows.len())?;
+    let mut whole = nothing(alloc)?;
+    for places in order.chunks(size.max(1)) {
+        let part = part(alloc, rows, places)?;
+        whole = join_two(whole, part, dice.number_below(2) == 0)?;
+    }
+    Ok(whole)
+}
+
+fn has_list_of_parts(
+    alloc: Global,
+    dice: &mut Dice,
+    rows: &[&str],
+    size: usize,
+    due: &[u8],
+) -> Result<bool, Unread> {
+    let knowledge = known_of_parts(alloc, dice, rows, size)?;
+    Ok(has_list(alloc, &knowledge, "a b", Mode::Text, due))
+}
+
+// How many facts at a time are known apart.
+const SIZES: &str = "400\n200\n90\n13\n2\n1\n";
+
+fn list_of(alloc: Global, rows: &[&str]) -> Result<Vec<u8>, Unread> {
+    let facts = facts_of(alloc, rows)?;
+    list(alloc, &["a", "b"], facts.as_slice())
+}
+
+fn have_list_of_reference(alloc: Global, row: &str) -> Result<bool, Unread> {
+    let mut dice = Dice::new(1);
+    let table = table(alloc, &mut dice, 400)?;
+    let rows: Vec<&str> = table.as_str().lines().collect(alloc)?;
+    let due = list_of(alloc, rows.as_slice())?;
+    let size = row.parse::<usize>()?;
+    has_list_of_parts(alloc, &mut dice, rows.as_slice(), size, due.as_slice())
+}
+
+#[test]
+fn facts_in_any_order_have_the_list_of_the_reference(rt: HostRuntime) -> Result<(), Fail> {
+    each_row(rt.alloc(), SIZES, &have_list_of_reference)
+}

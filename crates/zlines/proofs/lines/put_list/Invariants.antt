@@ -1,8 +1,0 @@
--- the lines of the records so far, before those of the records that are left
-use Rattle.std.proofs.Common.{◌≡◌, ◌++◌}
-use Rattle.std.specs.Vec.Iter.{into_iter_items}
-use Rattle.zlines.specs.Lines.{record_lines}
-use Rattle.zlines.proofs.lines.put_list.Given as goal
-
-abbrev pub invariant-loop-record : goal.invariant-loop-record
-invariant-loop-record l = l.text.items ++ record_lines (into_iter_items l.record-iterator) ≡ l.initial.text.items ++ record_lines l.fn.records

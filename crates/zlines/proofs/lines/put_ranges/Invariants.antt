@@ -1,7 +1,0 @@
--- the lines of the ranges so far
-use Rattle.std.proofs.Common.{◌≡◌, ◌++◌, take}
-use Rattle.zlines.specs.Lines.{range_lines}
-use Rattle.zlines.proofs.lines.put_ranges.Given as goal
-
-abbrev pub invariant-loop-range : goal.invariant-loop-range
-invariant-loop-range l = l.text.items ≡ l.initial.text.items ++ range_lines (take l.range-index l.ranges)

@@ -1,0 +1,43 @@
+-- Connections that have trouble, and the lines of those that failed.
+use Rattle.std.proofs.Common.{◌≡◌, ◌∙◌, sym, ap, subst, refl, ℕ, ◌+◌, ◌<◌, Bool, true, false, not, ◌||◌, Option, List, [], ◌∷◌, ◌++◌, length, take, get_or, arith, append-nil, append_assoc}
+use Rattle.std.proofs.lemmas.List.{take_more, length-take-le}
+use Rattle.zoom.specs.State.{State}
+use Rattle.zoom.specs.Befalling.{IsStateAt}
+use Rattle.zoom.specs.Laws.{OneHearing, UpToLaw}
+use Rattle.zoom.specs.Metas.{MetaLinks, Tells, is_skipped, is_complete}
+use Rattle.zoom.proofs.Metas.{state_tells}
+use Rattle.zmeta_commands.specs.Finished.{is_failed, has_failed, is_troubled, is_asked, IsTroubledAt, failure_line, AreLinesFrom}
+
+pub trouble_tells : UpToLaw → OneHearing → (c : ℕ) (meta : MetaLinks) (state : State) (failed complete skipped answer : Bool) → c < length meta.pool.connections
+    → IsStateAt c meta.pool state → failed ≡ is_failed state → Tells c meta is_complete complete → Tells c meta is_skipped skipped → answer ≡ (failed || not complete || skipped)
+    → Tells c meta is_troubled answer
+trouble_tells law hearing c meta state failed complete skipped answer lt is f k n e q s h p a heard =
+    e ∙ ap (λ z. z || not complete || skipped) (f ∙ state_tells law hearing is_failed c meta state lt is q s h p a heard)
+    ∙ ap (λ z. has_failed p || not z || skipped) (k q s h p a heard)
+    ∙ ap (λ z. has_failed p || not (is_complete p) || z) (n q s h p a heard)
+
+-- of a question that was to be asked
+pub troubled_at : (addresses : List (Option (List ℕ))) (c : ℕ) (meta : MetaLinks) (answer : Bool) → is_asked addresses c ≡ true
+    → Tells c meta is_troubled answer → IsTroubledAt addresses c meta answer
+troubled_at addresses c meta true asked tells = (asked, tells)
+troubled_at addresses c meta false asked tells = λ _. tells
+
+-- ---- lines
+
+-- the lines with those of one connection more
+pub one_line : (meta : MetaLinks) (c at : ℕ) (front : List (List ℕ)) (name : List ℕ) (state : State) (text : List ℕ) → AreLinesFrom meta c front text → at ≡ c + length front → IsStateAt at meta.pool state
+    → AreLinesFrom meta c (front ++ name ∷ []) (text ++ failure_line name state)
+one_line meta c at [] name state text h e is =
+    let here : at ≡ c = omega (arith, e) in
+    (state, [], subst (λ z. IsStateAt z meta.pool state) here is, refl, ap (λ z. z ++ failure_line name state) h ∙ sym (append-nil (failure_line name state)))
+one_line meta c at (n ∷ front) name state text h e is =
+    let rest = one_line meta (c + 1) at front name state h.1 h.3 (omega (arith, e)) is in
+    (h.0, h.1 ++ failure_line name state, h.2, rest, ap (λ z. z ++ failure_line name state) h.4 ∙ append_assoc (failure_line n h.0) h.1 (failure_line name state))
+
+pub next_line : (meta : MetaLinks) (names : List (List ℕ)) (at : ℕ) (name : List ℕ) (state : State) (text new : List ℕ) → at < length names → name ≡ get_or names at name → AreLinesFrom meta 0 (take at names) text → IsStateAt at meta.pool state → new ≡ text ++ failure_line name state
+    → AreLinesFrom meta 0 (take (at + 1) names) new
+next_line meta names at name state text new lt is h stands e =
+    let one : take (at + 1) names ≡ take at names ++ name ∷ [] = take_more names at name lt ∙ ap (λ z. take at names ++ z ∷ []) (sym is) in
+    let size : length (take at names) ≡ at = length-take-le at names (omega (arith, lt)) in
+    let more : AreLinesFrom meta 0 (take at names ++ name ∷ []) (text ++ failure_line name state) = one_line meta 0 at (take at names) name state text h (omega (arith, size)) stands in
+    subst (λ z. AreLinesFrom meta 0 z new) (sym one) (subst (AreLinesFrom meta 0 (take at names ++ name ∷ [])) (sym e) more)

@@ -1,0 +1,6 @@
+-- what is gone from the rest was appended
+use Rattle.zmeta_commands.proofs.DeviceSteps.{HasPut}
+use Rattle.zmeta_commands.proofs.output.write_pieces.Given as goal
+
+abbrev pub invariant-loop : goal.invariant-loop
+invariant-loop g l = HasPut (g.W.Write.contents l.initial.writer) (g.W.Write.contents l.writer) l.text l.rest

@@ -1,0 +1,6 @@
+use Rattle.std.proofs.Common.{◌∙◌, ap, sym}
+use Rattle.zmeta_world.specs.Fitness.{target_named}
+use Rattle.zmeta_commands.proofs.serve.serve_world.Goals as goal
+
+pub returns : goal.returns
+returns g c = (c.in-Some.target.now, ap (λ z. target_named z c.args.world.now.targets) (sym c.as_bytes.ensures.value) ∙ sym c.in-Some.ensures.named)

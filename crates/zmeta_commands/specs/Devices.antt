@@ -1,0 +1,75 @@
+-- What commands do to the devices that they read and write: standard streams and files.
+use Rattle.std.specs.Prelude.{◌≡◌, ◌⊎◌, ℕ, List, ◌++◌, Option, Bool, true, false, Result, Ok, Err, MatchResult, codes}
+use Rattle.std.specs.Io.KnownBytes.{Keeps, Appends}
+use Rattle.zoom.specs.Devices.{AppendsFront}
+use Rattle.zmeta_commands.specs.Faults.{fault_text}
+use Rattle.zmeta_commands.specs.declared.fault.Fault.{Fault}
+use Rattle.zmeta_commands.specs.declared.fault.Fault.TheVariants.{Read, Write}
+use Rattle.zmeta_commands.specs.declared.input.Input.{Input}
+use Rattle.zmeta_commands.specs.declared.output.Output.{Output}
+
+-- a device: the octets that it has left or holds, where they are known, the path that is told of it, and whether a call
+-- of it failed
+pub record Device : Type 0 where
+  pub known : Option (List ℕ)
+  pub path : List ℕ
+  pub has_failed : Bool
+
+-- a stream that is read, by what its reader has left
+abbrev pub left : {R : Type 0} → (R → Option (List ℕ)) → Input R → Device
+left remaining s = record { known = remaining s.reader; path = s.path.now; has_failed = s.has_failed }
+
+-- a stream that is written, by what its writer holds
+abbrev pub held : {W : Type 0} → (W → Option (List ℕ)) → Output W → Device
+held contents s = record { known = contents s.writer; path = s.path.now; has_failed = s.has_failed }
+
+-- nothing is written
+pub record Stays (old new : Device) : Type 0 where
+  pub kept : Keeps old.known new.known
+  pub path : new.path ≡ old.path
+  pub sound : new.has_failed ≡ old.has_failed
+
+-- the whole text is written
+pub record Gains (old new : Device) (text : List ℕ) : Type 0 where
+  pub written : Appends old.known new.known text
+  pub path : new.path ≡ old.path
+  pub sound : new.has_failed ≡ old.has_failed
+
+-- whether the whole text was taken, or a front of it
+abbrev pub PutsPieces : Option (List ℕ) → Option (List ℕ) → List ℕ → Bool → Type 0
+PutsPieces old new text true = Appends old new text
+PutsPieces old new text false = AppendsFront old new text
+
+-- a call of the stream failed, and a front of the text is written
+pub record Stops (old new : Device) (text : List ℕ) : Type 0 where
+  pub written : AppendsFront old.known new.known text
+  pub path : new.path ≡ old.path
+  pub failed : new.has_failed ≡ true
+
+-- the stream failed and is told, and a front of the text is written
+abbrev pub FailsPut : Device → Device → List ℕ → Fault → Type 0
+FailsPut old new text (Write told) = (told.now ≡ old.path) × Stops old new text
+FailsPut old new text _ = ⊥
+
+-- the whole text is written, or a front of it where the stream failed
+abbrev pub Puts : Device → Device → List ℕ → Result (Unit {0}) Fault → Type 0
+Puts old new text result = MatchResult result (λ _. Gains old new text) (FailsPut old new text)
+
+-- the line that is told of a fault
+abbrev pub fault_line : Fault → List ℕ
+fault_line f = codes "zmeta: " ++ fault_text f ++ codes "\n"
+
+-- the line of a fault is written, or a call of the stream failed
+abbrev pub Tells : Device → Device → Fault → Type 0
+Tells old new f = (new.has_failed ≡ true) ⊎ Gains old new (fault_line f)
+
+-- what a command tells of its answer: the line of the fault that stopped it, else nothing
+abbrev pub TellsAnswer : {A : Type 0} → Device → Device → Result A Fault → Type 0
+TellsAnswer old new (Ok _) = new ≡ old
+TellsAnswer old new (Err f) = Tells old new f
+
+-- A stream that is told to have failed is one of which a call failed: the one that is read, or the one that is written.
+abbrev pub IsOfStream : {A : Type 0} → Device → Device → Result A Fault → Type 0
+IsOfStream input output (Err (Read told)) = (told.now ≡ input.path) × (input.has_failed ≡ true)
+IsOfStream input output (Err (Write told)) = (told.now ≡ output.path) × (output.has_failed ≡ true)
+IsOfStream input output _ = Unit {0}

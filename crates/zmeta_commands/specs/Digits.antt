@@ -1,0 +1,52 @@
+-- Octets given as hexadecimal text.
+use Rattle.std.specs.Prelude.{◌≡◌, ℕ, ◌+◌, ◌*◌, ◌≤◌, List, [], ◌∷◌, length, filter, false, not, if◌then◌else◌}
+use Rattle.std.specs.Prelude.{Some, Result, Ok, Err, Vec, vec_items}
+use Rattle.std.specs.Option.{unwrap_or}
+use Rattle.std.specs.Char.{is_ascii_whitespace}
+use Rattle.hex.specs.Hex.{hex_digit_value, decode_pairs, decode_of}
+use Rattle.hex.specs.declared.error.FromHexError.{FromHexError}
+use Rattle.zmeta_commands.specs.declared.fault.Fault.{Fault}
+use Rattle.zmeta_commands.specs.declared.fault.Fault.TheVariants.{Hex, Memory}
+
+-- a text without its white space
+abbrev pub digits : List ℕ → List ℕ
+digits text = filter (λ b. not (is_ascii_whitespace b)) text
+
+-- the octets that the digits of a text stand for, its white space aside
+abbrev pub octets_of : List ℕ → Result (List ℕ) FromHexError
+octets_of text = decode_of (digits text)
+
+-- the octets of a text, or why it has none
+abbrev pub IsDecoded : {A : Type 0} → List ℕ → Result (Vec ℕ A) Fault → Type 0
+IsDecoded text (Ok v) = octets_of text ≡ Ok (vec_items v)
+IsDecoded text (Err Hex) = (xs : List ℕ) → octets_of text ≡ Ok xs → ⊥
+IsDecoded text (Err Memory) = Unit {0}
+IsDecoded text (Err _) = ⊥
+
+-- the value of a digit in either case, else 16 for white space and 17 for any other octet
+unfoldable pub digit_value : ℕ → ℕ
+digit_value c = unwrap_or (hex_digit_value c) (if is_ascii_whitespace c then 16 else 17)
+
+-- two digits, and the octet that they stand for
+pub record IsOctetOf (high low octet : ℕ) : Type 0 where
+  pub first : ℕ
+  pub second : ℕ
+  pub high_is : hex_digit_value high ≡ Some first
+  pub low_is : hex_digit_value low ≡ Some second
+  pub octet_is : octet ≡ first * 16 + second
+
+abbrev pub BeginsWithNoSpace : List ℕ → Type 0
+BeginsWithNoSpace [] = Unit {0}
+BeginsWithNoSpace (x ∷ xs) = is_ascii_whitespace x ≡ false
+
+-- the first two digits of a text stand for the octet, and the rest is behind them
+pub record BeginsWith (text : List ℕ) (octet : ℕ) (rest : List ℕ) : Type 0 where
+  pub high : ℕ
+  pub low : ℕ
+  pub cut : digits text ≡ high ∷ low ∷ digits rest
+  pub spell : IsOctetOf high low octet
+  pub shorter : length rest + 2 ≤ length text
+
+-- a text whose digits stand for no octets, wherever they are counted from
+abbrev pub StandsForNone : List ℕ → Type 0
+StandsForNone text = (i : ℕ) (xs : List ℕ) → decode_pairs i (digits text) ≡ Ok xs → ⊥

@@ -1,0 +1,113 @@
+-- The texts and the statuses of faults.
+use Rattle.std.specs.Prelude.{ℕ, List, ◌++◌, Result, Ok, Err, codes}
+use Rattle.std.specs.Fmt.{decimal}
+use Rattle.zber.specs.Faults.{kind_word as fault_word}
+use Rattle.zber.specs.declared.fault.FrameError.{FrameError}
+use Rattle.zber.specs.declared.fault.FrameError.TheVariants as frames
+use Rattle.zapdu.specs.Apdus.{kind_word}
+use Rattle.zapdu.specs.declared.apdu.ApduError.{ApduError}
+use Rattle.zapdu.specs.declared.apdu.ApduError.TheVariants as apdus
+use Rattle.zquery.specs.BuildError.{BuildError}
+use Rattle.zquery.specs.BuildError.TheVariants as builds
+use Rattle.zquery.specs.declared.notation.error.PqfError.{PqfError}
+use Rattle.zquery.specs.Notation.Errors.{kind_word as query_word}
+use Rattle.zquery.specs.declared.notation.error.PqfErrorKind.{PqfErrorKind}
+use Rattle.zquery.specs.declared.notation.error.PqfErrorKind.TheVariants as queries
+use Rattle.zquery.specs.declared.notation.print.PrintError.{PrintError}
+use Rattle.zquery.specs.declared.notation.print.PrintError.TheVariants as prints
+use Rattle.zknow.specs.declared.saved.loading.LoadError.{LoadError}
+use Rattle.zknow.specs.declared.saved.loading.LoadError.TheVariants as loads
+use Rattle.zknow.specs.Saved.Refusals.{load_word}
+use Rattle.zmeta_world.specs.declared.world.WorldError.{WorldError}
+use Rattle.zmeta_world.specs.declared.world.WorldError.TheVariants as worlds
+use Rattle.zoom.specs.ServeError.{ServeError}
+use Rattle.zoom.specs.ServeError.TheVariants as serves
+use Rattle.zmeta_commands.specs.declared.fault.Fault.{Fault}
+use Rattle.zmeta_commands.specs.declared.fault.Fault.TheVariants.{Read, Write, Hex, Frame, NotApdu, Malformed, Query}
+use Rattle.zmeta_commands.specs.declared.fault.Fault.TheVariants.{NotPrintable, NotKnowledge, NotCanonical, NamesDiffer}
+use Rattle.zmeta_commands.specs.declared.fault.Fault.TheVariants.{Line, NoQuestion, NotOid, Serve, Memory}
+use Rattle.zmeta_commands.specs.declared.fault.Status.{Status}
+use Rattle.zmeta_commands.specs.declared.fault.Status.TheVariants as statuses
+
+-- the exit status
+abbrev pub code_of : Status → ℕ
+code_of statuses.Done = 0
+code_of statuses.Failed = 1
+code_of statuses.Words = 2
+code_of statuses.Refused = 3
+code_of statuses.Memory = 4
+
+-- what is told of a fault on standard error
+abbrev pub fault_text : Fault → List ℕ
+fault_text (Read path) = codes "cannot read " ++ path.now
+fault_text (Write path) = codes "cannot write " ++ path.now
+fault_text Hex = codes "hex refused"
+fault_text (Frame kind at) = fault_word kind ++ codes " at " ++ decimal at
+fault_text NotApdu = codes "not an APDU"
+fault_text (Malformed kind at) = kind_word kind ++ codes " malformed at " ++ decimal at
+fault_text (Query kind at) = query_word kind ++ codes " at " ++ decimal at
+fault_text NotPrintable = codes "not printable"
+fault_text (NotKnowledge at) =
+    codes "knowledge refused: " ++ load_word (loads.NotKnowledge at) ++ codes " at " ++ decimal at
+fault_text (NotCanonical at) =
+    codes "knowledge refused: " ++ load_word (loads.NotCanonical at) ++ codes " at " ++ decimal at
+fault_text NamesDiffer = codes "names differ"
+fault_text (Line number) = codes "line " ++ decimal number ++ codes " refused"
+fault_text (NoQuestion name) = codes "no question " ++ name.now
+fault_text (NotOid text) = codes "no OID " ++ text.now
+fault_text Serve = codes "cannot serve"
+fault_text Memory = codes "out of memory"
+
+abbrev pub of_frame : FrameError → Fault
+of_frame (frames.Fault kind at) = Frame kind at
+of_frame frames.Memory = Memory
+
+abbrev pub of_apdu : ApduError → Fault
+of_apdu apdus.NotApdu = NotApdu
+of_apdu (apdus.Malformed kind at) = Malformed kind at
+of_apdu apdus.Memory = Memory
+
+-- a text that wants memory is no text at fault
+abbrev pub of_kind : PqfErrorKind → ℕ → Fault
+of_kind queries.Memory at = Memory
+of_kind kind at = Query kind at
+
+abbrev pub of_query : PqfError → Fault
+of_query e = of_kind e.kind e.at
+
+abbrev pub of_print : PrintError → Fault
+of_print prints.NotPrintable = NotPrintable
+of_print prints.Memory = Memory
+
+-- a query that was read has a spelling, so that this never tells of one
+abbrev pub of_build : BuildError → Fault
+of_build builds.NotSpellable = NotPrintable
+of_build builds.Memory = Memory
+
+abbrev pub of_load : LoadError → Fault
+of_load (loads.NotKnowledge at) = NotKnowledge at
+of_load (loads.NotCanonical at) = NotCanonical at
+of_load loads.Memory = Memory
+
+abbrev pub of_world : WorldError → Fault
+of_world (worlds.Refused line) = Line line
+of_world worlds.Memory = Memory
+
+abbrev pub of_serve : ServeError → Fault
+of_serve serves.Listen = Serve
+of_serve serves.Memory = Memory
+
+-- the status of a command that a fault stopped
+abbrev pub status_of : Fault → Status
+status_of Memory = statuses.Memory
+status_of _ = statuses.Refused
+
+-- the status of a command that answers so
+abbrev pub answer_status : Result (Unit {0}) Fault → Status
+answer_status (Ok _) = statuses.Done
+answer_status (Err f) = status_of f
+
+-- the status of a command that answers its own where no fault stopped it
+abbrev pub end_status : Result Status Fault → Status
+end_status (Ok status) = status
+end_status (Err f) = status_of f

@@ -1,0 +1,138 @@
+-- What `join` prints of saved files.
+use Rattle.std.specs.Prelude.{◌≡◌, ◌≢◌, ℕ, List, [], ◌∷◌, ◌++◌, Contains, Option, IfSome, Result, Ok, Err, MatchResult}
+use Rattle.zknow.specs.declared.fact.Fact.{Fact}
+use Rattle.zber.specs.declared.text.Mode.{Mode}
+use Rattle.zknow.specs.Facts.{AreFacts}
+use Rattle.zknow.specs.Tables.Join.{IsUnion}
+use Rattle.zknow.specs.Known.{HasFailed}
+use Rattle.zknow.specs.List.Listing.{listing}
+use Rattle.zknow.specs.Saved.Saved.{IsSaved}
+use Rattle.zknow.specs.Saved.Loaded.{IsNotKnowledge, IsNotCanonical}
+use Rattle.zmeta_commands.specs.Faults.{end_status}
+use Rattle.zmeta_commands.specs.Devices.{Device, Stays, Gains, FailsPut, TellsAnswer}
+use Rattle.zmeta_commands.specs.declared.fault.Fault.{Fault}
+use Rattle.zmeta_commands.specs.declared.fault.Fault.TheVariants.{Read, Write, NotKnowledge, NotCanonical}
+use Rattle.zmeta_commands.specs.declared.fault.Fault.TheVariants.{NamesDiffer, Memory}
+use Rattle.zmeta_commands.specs.declared.fault.Status.{Status}
+use Rattle.zmeta_commands.specs.declared.fault.Status.TheVariants as statuses
+
+-- ---- one file
+
+-- what a file says, or why it is refused
+abbrev pub Loads : List ℕ → Result (List Fact × List (List ℕ)) Fault → Type 0
+Loads file (Ok r) = IsSaved r.1 r.0 file
+Loads file (Err (NotKnowledge at)) = IsNotKnowledge file at
+Loads file (Err (NotCanonical at)) = IsNotCanonical file at
+Loads file (Err (Read path)) = Unit {0}
+Loads file (Err Memory) = Unit {0}
+Loads file (Err _) = ⊥
+
+-- a fault of the file at a path: it cannot be read, is no saved one, or memory ran out on it
+abbrev pub IsOfFile : List ℕ → Fault → Type 0
+IsOfFile path (Read told) = told.now ≡ path
+IsOfFile path (NotKnowledge at) = Unit {0}
+IsOfFile path (NotCanonical at) = Unit {0}
+IsOfFile path Memory = Unit {0}
+IsOfFile path _ = ⊥
+
+-- Files by their paths, each with its octets where they are known.
+module _ (octets : List ℕ → Option (List ℕ)) where
+  -- the file at the path is a saved one of these names and facts
+  abbrev pub IsSavedAt : List ℕ → List (List ℕ) → List Fact → Type 0
+  IsSavedAt path names facts = IfSome (octets path) (λ file. IsSaved names facts file)
+
+  -- the fault of the file at the path
+  abbrev pub IsFaultAt : List ℕ → Fault → Type 0
+  IsFaultAt path (Read told) = told.now ≡ path
+  IsFaultAt path (NotKnowledge at) = IfSome (octets path) (λ file. IsNotKnowledge file at)
+  IsFaultAt path (NotCanonical at) = IfSome (octets path) (λ file. IsNotCanonical file at)
+  IsFaultAt path Memory = Unit {0}
+  IsFaultAt path _ = ⊥
+
+  -- what the file at the path says, or why it is refused
+  abbrev pub LoadsAt : List ℕ → Result (List Fact × List (List ℕ)) Fault → Type 0
+  LoadsAt path (Ok r) = IsSavedAt path r.1 r.0
+  LoadsAt path (Err f) = IsFaultAt path f
+
+  -- the file at the path is a saved one of other names
+  pub record HasOtherNames (names : List (List ℕ)) (path : List ℕ) : Type 0 where
+    pub others : List (List ℕ)
+    pub facts : List Fact
+    pub saved : IsSavedAt path others facts
+    pub differ : names ≢ others
+
+  -- what the file at the path says is added; or why it is not
+  abbrev pub Absorbs
+      : List (List ℕ) → List ℕ → List Fact → List Fact → Result (Unit {0}) Fault → Type 0
+  Absorbs names path old new (Ok u) = (theirs : List Fact) × IsSavedAt path names theirs × AreFacts new
+      × IsUnion (Contains old) (Contains theirs) (Contains new)
+  Absorbs names path old new (Err NamesDiffer) = HasOtherNames names path
+  Absorbs names path old new (Err f) = IsFaultAt path f
+
+  -- ---- several files
+
+  -- the files at these paths are saved ones of the same names, and these are the facts of all of them
+  pub data AreJoined (names : List (List ℕ)) : List (List ℕ) → List Fact → Type 0 where
+    one : {facts : List Fact} (path : List ℕ) → IsSavedAt path names facts → AreJoined names (path ∷ []) facts
+    more : {paths : List (List ℕ)} {facts : List Fact} (path : List ℕ) (mine theirs : List Fact)
+        → AreJoined names paths mine → IsSavedAt path names theirs → AreFacts facts
+        → IsUnion (Contains mine) (Contains theirs) (Contains facts) → AreJoined names (paths ++ path ∷ []) facts
+
+  -- The fault is that of the first file; or those before some file are saved ones of the same names, and it is that
+  -- file's, which may be that it has other names.
+  pub data IsRefusedAmong : List (List ℕ) → Fault → Type 0 where
+    first : {fault : Fault} (path : List ℕ) (rest : List (List ℕ))
+        → IsFaultAt path fault → IsRefusedAmong (path ∷ rest) fault
+    later : {fault : Fault} (paths names rest : List (List ℕ)) (facts : List Fact) (path : List ℕ)
+        → AreJoined names paths facts → IsFaultAt path fault → IsRefusedAmong (paths ++ path ∷ rest) fault
+    differs : (paths names rest : List (List ℕ)) (facts : List Fact) (path : List ℕ)
+        → AreJoined names paths facts → HasOtherNames names path
+        → IsRefusedAmong (paths ++ path ∷ rest) NamesDiffer
+
+  -- what the files at these paths say is added to that of others before them; or why not
+  abbrev pub AbsorbsAll
+      : List (List ℕ) → List (List ℕ) → List Fact → List Fact → Result (Unit {0}) Fault → Type 0
+  AbsorbsAll names paths old new (Ok u) =
+      (before : List (List ℕ)) → AreJoined names before old → AreJoined names (before ++ paths) new
+  AbsorbsAll names paths old new (Err f) =
+      (before : List (List ℕ)) → AreJoined names before old → IsRefusedAmong (before ++ paths) f
+
+  -- what all files say together, or why one is refused
+  abbrev pub LoadsAll : List (List ℕ) → Result (List Fact × List (List ℕ)) Fault → Type 0
+  LoadsAll paths (Ok r) = AreJoined r.1 paths r.0
+  LoadsAll paths (Err f) = IsRefusedAmong paths f
+
+  -- the list of what all files say together
+  abbrev pub IsListOf : Mode → List (List ℕ) → List Fact → List ℕ → Type 0
+  IsListOf mode paths facts text =
+      (names : List (List ℕ)) × AreJoined names paths facts × (text ≡ listing names mode facts)
+
+-- ---- the command
+
+-- the status of a command that knows these facts: whether a search or an association failed
+abbrev pub IsKnownStatus : List Fact → Status → Type 0
+IsKnownStatus known statuses.Failed = HasFailed known
+IsKnownStatus known statuses.Done = HasFailed known → ⊥
+IsKnownStatus known _ = ⊥
+
+-- the list is written and the status stands, or a front of it where the stream failed
+abbrev pub PutsList : List ℕ → Status → Device → Device → Result Status Fault → Type 0
+PutsList text status old new result =
+    MatchResult result (λ s. (s ≡ status) × Gains old new text) (FailsPut old new text)
+
+-- What an answer of `join` says of the files at these paths, and of what was written: the list of all of them; a front
+-- of it, where the stream failed; nothing, where a file is refused or memory ran out.
+abbrev pub Joins
+    : Mode → (List ℕ → Option (List ℕ)) → List (List ℕ) → Device → Device → Result Status Fault → Type 0
+Joins mode octets paths old new (Ok status) = (facts : List Fact) × (text : List ℕ)
+    × IsListOf octets mode paths facts text × IsKnownStatus facts status × Gains old new text
+Joins mode octets paths old new (Err (Write told)) = (facts : List Fact) × (text : List ℕ)
+    × IsListOf octets mode paths facts text × FailsPut old new text (Write told)
+Joins mode octets paths old new (Err Memory) = Stays old new
+Joins mode octets paths old new (Err f) = IsRefusedAmong octets paths f × Stays old new
+
+-- what `join` does with the files at these paths: what it writes and tells, and its status
+abbrev pub DoesJoin
+    : Mode → (List ℕ → Option (List ℕ)) → List (List ℕ) → Device → Device → Device → Device → Status → Type 0
+DoesJoin mode octets paths output printed errors told status = (answer : Result Status Fault)
+    × (status ≡ end_status answer) × Joins mode octets paths output printed answer × TellsAnswer errors told answer

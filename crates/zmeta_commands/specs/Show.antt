@@ -1,0 +1,60 @@
+-- What `show` prints of octets, and how it ends.
+use Rattle.std.specs.Prelude.{◌≡◌, ℕ, ◌<◌, List, [], ◌++◌, length, Result, Ok, Err, IfSome}
+use Rattle.zber.specs.declared.framer.TheConstants.{MESSAGE_LIMIT}
+use Rattle.zber.specs.declared.fault.FaultKind.{FaultKind}
+use Rattle.zber.specs.declared.fault.FaultKind.TheVariants as kinds
+use Rattle.zber.specs.Elements.{Element}
+use Rattle.zber.specs.Spelling.{Begins}
+use Rattle.zber.specs.Shown.{Shows}
+use Rattle.zber.specs.Unfinished.{IsUnfinished}
+use Rattle.zapdu.specs.declared.apdu.Apdu.{Apdu}
+use Rattle.zapdu.specs.declared.apdu.Kind.{Kind}
+use Rattle.zapdu.specs.Writes.{Writes, IsNoApdu, IsMalformed}
+use Rattle.zmeta_commands.specs.Digits.{octets_of}
+use Rattle.zapdu_lines.specs.Lines.{apdu_text}
+use Rattle.zmeta_commands.specs.Faults.{answer_status}
+use Rattle.zmeta_commands.specs.Devices.{Device, Stays, Gains, Stops, IsOfStream, TellsAnswer}
+use Rattle.zmeta_commands.specs.declared.fault.Fault.{Fault}
+use Rattle.zmeta_commands.specs.declared.fault.Fault.TheVariants.{Read, Write, Hex, Frame, NotApdu, Malformed, Memory}
+use Rattle.zmeta_commands.specs.declared.fault.Status.{Status}
+
+-- The octets, the text of the APDUs that they begin with, and how they end: with nothing left, or at a fault.
+pub data Shown : List ℕ → List ℕ → Result (Unit {0}) Fault → Type 0 where
+  nothing_left : Shown [] [] (Ok tt)
+  apdu : {xs rest text : List ℕ} {e : Element} {end : Result (Unit {0}) Fault} (v : Apdu)
+      → Begins MESSAGE_LIMIT xs e rest → Writes v e → Shown rest text end → Shown xs (apdu_text v ++ text) end
+  fault : {xs : List ℕ} {kind : FaultKind} {at : ℕ} → Shows MESSAGE_LIMIT xs kind at → Shown xs [] (Err (Frame kind at))
+  unfinished : {xs : List ℕ}
+      → 0 < length xs → IsUnfinished MESSAGE_LIMIT xs → Shown xs [] (Err (Frame kinds.Truncated (length xs)))
+  no_apdu : {xs rest : List ℕ} {e : Element} → Begins MESSAGE_LIMIT xs e rest → IsNoApdu e → Shown xs [] (Err NotApdu)
+  malformed : {xs rest : List ℕ} {e : Element} {kind : Kind} {at : ℕ}
+      → Begins MESSAGE_LIMIT xs e rest → ((v : Apdu) → Writes v e → ⊥) → IsMalformed kind at e
+      → Shown xs [] (Err (Malformed kind at))
+
+-- octets have one text and one end
+abbrev pub OneShowing : Type 0
+OneShowing = (xs s t : List ℕ) (f g : Result (Unit {0}) Fault) → Shown xs s f → Shown xs t g → (s ≡ t) × (f ≡ g)
+
+-- the digits' octets are shown
+abbrev pub ShowsDigits : List ℕ → Device → Device → Result (Unit {0}) Fault → Type 0
+ShowsDigits digits old new answer =
+    (xs text : List ℕ) × (octets_of digits ≡ Ok xs) × Shown xs text answer × Gains old new text
+
+-- the digits' octets have a text, and a front of it is written where the stream failed
+abbrev pub ShowsFront : List ℕ → Device → Device → Type 0
+ShowsFront digits old new = (xs text : List ℕ) × (end : Result (Unit {0}) Fault) × (octets_of digits ≡ Ok xs)
+    × Shown xs text end × Stops old new text
+
+-- what an answer of `show` says of its input, and of what was written
+abbrev pub ShowsText : List ℕ → Device → Device → Result (Unit {0}) Fault → Type 0
+ShowsText digits old new (Err Hex) = ((xs : List ℕ) → octets_of digits ≡ Ok xs → ⊥) × Stays old new
+ShowsText digits old new (Err (Read path)) = Stays old new
+ShowsText digits old new (Err (Write path)) = ShowsFront digits old new
+ShowsText digits old new (Err Memory) = Stays old new
+ShowsText digits old new answer = ShowsDigits digits old new answer
+
+-- what `show` does: of its input from before and after it, of what is written and told, and of its status
+abbrev pub DoesShow : Device → Device → Device → Device → Device → Device → Status → Type 0
+DoesShow input rest output printed errors told status = (answer : Result (Unit {0}) Fault)
+    × (status ≡ answer_status answer) × IfSome input.known (λ digits. ShowsText digits output printed answer)
+    × (rest.path ≡ input.path) × IsOfStream rest printed answer × TellsAnswer errors told answer

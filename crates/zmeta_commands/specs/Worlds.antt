@@ -1,0 +1,13 @@
+-- What a world file says.
+use Rattle.std.specs.Prelude.{ℕ, List, Result, Ok, Err}
+use Rattle.zmeta_world.specs.declared.world.World.{World}
+use Rattle.zmeta_world.specs.Worlds.{IsWorld, IsRefused}
+use Rattle.zmeta_commands.specs.declared.fault.Fault.{Fault}
+use Rattle.zmeta_commands.specs.declared.fault.Fault.TheVariants.{Read, Line, Memory}
+
+abbrev pub SaysWorld : List ℕ → Result World Fault → Type 0
+SaysWorld file (Ok world) = IsWorld file world
+SaysWorld file (Err (Line number)) = IsRefused file number
+SaysWorld file (Err (Read path)) = Unit {0}
+SaysWorld file (Err Memory) = Unit {0}
+SaysWorld file (Err _) = ⊥

@@ -1,0 +1,244 @@
+//! Why a command stopped, and the status that it ends with.
+ghost use Rattle.std.specs.Prelude.{◌≡◌, Some};
+ghost use Rattle.zmeta_commands.specs.Faults.{code_of, status_of, fault_text, of_frame, of_apdu, of_query, of_print, of_build, of_load, of_world, of_serve};
+ghost use Rattle.zmeta_commands.specs.Devices.{held, Tells};
+ghost use Rattle.zmeta_commands.specs.declared.fault.Fault.TheVariants.{Memory};
+
+use crate::output::Output;
+use std::alloc::AllocError;
+use std::fmt;
+use std::io::Write;
+use zapdu::{ApduError, Kind};
+use zber::{FaultKind, FrameError};
+use zknow::LoadError;
+use zmeta_world::world::WorldError;
+use zoom::ServeError;
+use zquery::{BuildError, PqfError, PqfErrorKind, PrintError};
+
+/// How a command ends. Where several hold, `Memory` comes before `Refused`, and that before `Failed`.
+#[derive(Clone, Copy, Debug, PartialEq, Eq)]
+pub enum Status {
+    /// All was done.
+    Done,
+    /// A search, an association or a connection failed, or a question was not asked; the rest was done.
+    Failed,
+    /// The words of the command are wrong.
+    Words,
+    /// Input was refused, or a file or a stream failed.
+    Refused,
+    /// Memory ran out.
+    Memory,
+}
+
+impl Status {
+    /// The exit status, 0 to 4.
+    pub fn code(self) -> u8
+        ensures { result ≡ code_of self }
+    {
+        match self {
+            Status::Done => 0,
+            Status::Failed => 1,
+            Status::Words => 2,
+            Status::Refused => 3,
+            Status::Memory => 4,
+        }
+    }
+}
+
+/// Why a command stopped before its end.
+#[derive(Clone, Copy, Debug)]
+pub enum Fault<'a> {
+    /// The file, or for `-` the standard stream, could not be read.
+    Read(&'a str),
+    /// The file, or for `-` the standard stream, could not be written.
+    Write(&'a str),
+    /// The text is no even number of hexadecimal digits.
+    Hex,
+    /// The octets are no message; the place counts from the message's first octet.
+    Frame { kind: FaultKind, at: usize },
+    /// The message is not an APDU that is known.
+    NotApdu,
+    /// The message has an APDU's tag, and is none from this element on.
+    Malformed { kind: Kind, at: usize },
+    /// The text is no query; the place counts octets from its first.
+    Query { kind: PqfErrorKind, at: usize },
+    /// The query has no text in the prefix notation.
+    NotPrintable,
+    /// The element of a saved file with this index is no element, or not one of its place.
+    NotKnowledge { at: usize },
+    /// The element of a saved file with this index is not spelled canonically, or out of order.
+    NotCanonical { at: usize },
+    /// Two saved files name their targets differently.
+    NamesDiffer,
+    /// The line of a world file, from 1, says nothing, or cannot stand where it does, or asks whom the command does
+    /// not.
+    Line(u64),
+    /// There is no question of this name.
+    NoQuestion(&'a str),
+    /// The text is no object identifier in dotted form.
+    NotOid(&'a str),
+    /// There is no such target, the address cannot be taken, or no connection can.
+    Serve,
+    /// No memory was found.
+    Memory,
+}
+
+impl fmt::Display for Fault<'_> {
+    ghost output = { λ x. Some (fault_text x) };
+
+    fn fmt<W: fmt::Write>(&self, f: &mut fmt::Formatter<W>) -> fmt::Result {
+        match self {
+            Fault::Read(path) => write!(f, "cannot read {path}"),
+            Fault::Write(path) => write!(f, "cannot write {path}"),
+            Fault::Hex => write!(f, "hex refused"),
+            Fault::Frame { kind, at } => {
+                let word = kind.word();
+                write!(f, "{word} at {at}")
+            }
+            Fault::NotApdu => write!(f, "not an APDU"),
+            Fault::Malformed { kind, at } => {
+                let word = kind.word();
+                write!(f, "{word} malformed at {at}")
+            }
+            Fault::Query { kind, at } => {
+                let word = kind.word();
+                write!(f, "{word} at {at}")
+            }
+            Fault::NotPrintable => write!(f, "not printable"),
+            Fault::NotKnowledge { at } => {
+                let word = LoadError::NotKnowledge { at: *at }.word();
+                write!(f, "knowledge refused: {word} at {at}")
+            }
+            Fault::NotCanonical { at } => {
+                let word = LoadError::NotCanonical { at: *at }.word();
+                write!(f, "knowledge refused: {word} at {at}")
+            }
+            Fault::NamesDiffer => write!(f, "names differ"),
+            Fault::Line(number) => write!(f, "line {number} refused"),
+            Fault::NoQuestion(name) => write!(f, "no question {name}"),
+            Fault::NotOid(text) => write!(f, "no OID {text}"),
+            Fault::Serve => write!(f, "cannot serve"),
+            Fault::Memory => write!(f, "out of memory"),
+        }
+    }
+}
+
+impl From<AllocError> for Fault<'_> {
+    ghost from_gives = { λ _ f. f ≡ Memory };
+
+    fn from(_error: AllocError) -> Self {
+        Fault::Memory
+    }
+}
+
+impl From<FrameError> for Fault<'_> {
+    ghost from_gives = { λ e f. f ≡ of_frame e };
+
+    fn from(error: FrameError) -> Self {
+        match error {
+            FrameError::Fault { kind, at } => Fault::Frame { kind, at },
+            FrameError::Memory => Fault::Memory,
+        }
+    }
+}
+
+impl From<ApduError> for Fault<'_> {
+    ghost from_gives = { λ e f. f ≡ of_apdu e };
+
+    fn from(error: ApduError) -> Self {
+        match error {
+            ApduError::NotApdu => Fault::NotApdu,
+            ApduError::Malformed { kind, at } => Fault::Malformed { kind, at },
+            ApduError::Memory => Fault::Memory,
+        }
+    }
+}
+
+impl From<PqfError> for Fault<'_> {
+    ghost from_gives = { λ e f. f ≡ of_query e };
+
+    fn from(error: PqfError) -> Self {
+        match error.kind {
+            PqfErrorKind::Memory => Fault::Memory,
+            kind => Fault::Query { kind, at: error.at },
+        }
+    }
+}
+
+impl From<PrintError> for Fault<'_> {
+    ghost from_gives = { λ e f. f ≡ of_print e };
+
+    fn from(error: PrintError) -> Self {
+        match error {
+            PrintError::NotPrintable => Fault::NotPrintable,
+            PrintError::Memory => Fault::Memory,
+        }
+    }
+}
+
+impl From<BuildError> for Fault<'_> {
+    ghost from_gives = { λ e f. f ≡ of_build e };
+
+    fn from(error: BuildError) -> Self {
+        match error {
+            BuildError::NotSpellable => Fault::NotPrintable,
+            BuildError::Memory => Fault::Memory,
+        }
+    }
+}
+
+impl From<LoadError> for Fault<'_> {
+    ghost from_gives = { λ e f. f ≡ of_load e };
+
+    fn from(error: LoadError) -> Self {
+        match error {
+            LoadError::NotKnowledge { at } => Fault::NotKnowledge { at },
+            LoadError::NotCanonical { at } => Fault::NotCanonical { at },
+            LoadError::Memory => Fault::Memory,
+        }
+    }
+}
+
+impl From<WorldError> for Fault<'_> {
+    ghost from_gives = { λ e f. f ≡ of_world e };
+
+    fn from(error: WorldError) -> Self {
+        match error {
+            WorldError::Refused { line } => Fault::Line(line),
+            WorldError::Memory => Fault::Memory,
+        }
+    }
+}
+
+impl From<ServeError> for Fault<'_> {
+    ghost from_gives = { λ e f. f ≡ of_serve e };
+
+    fn from(error: ServeError) -> Self {
+        match error {
+            ServeError::Listen => Fault::Serve,
+            ServeError::Memory => Fault::Memory,
+        }
+    }
+}
+
+impl Fault<'_> {
+    /// The status of a command that the fault stopped.
+    fn status(&self) -> Status
+        ensures { result ≡ status_of self.now }
+    {
+        match self {
+            Fault::Memory => Status::Memory,
+            _ => Status::Refused,
+        }
+    }
+
+    /// Tells the fault in a line after the program's name, and answers its status. A fault that cannot be told keeps
+    /// it.
+    pub fn report<E: Write>(&self, errors: &mut Output<'_, E>) -> Status
+        ensures status { result ≡ status_of self.now }
+        ensures told { Tells (held E.contents errors.old) (held E.contents errors.new) self.now }
+    {
+        errors.tell(self);
+        self.status()
+    }
+}

@@ -1,0 +1,167 @@
+//! The command `join`: what saved files know together.
+ghost use Rattle.std.specs.Prelude.{◌≡◌, ◌↔◌, ◌∷◌, IsTrue, IfSome, IfErr, Result};
+ghost use Rattle.zmeta_args.specs.Texts.{texts_of};
+ghost use Rattle.zmeta_commands.specs.Join.{IsKnownStatus, Loads, LoadsAt, LoadsAll, Absorbs, AbsorbsAll, IsOfFile, PutsList, Joins, DoesJoin};
+ghost use Rattle.zmeta_commands.specs.Devices.{held};
+ghost use Rattle.zmeta_commands.specs.declared.fault.Fault.{Fault};
+ghost use Rattle.zmeta_commands.specs.declared.fault.Status.{Status};
+
+use crate::fault::{Fault, Status};
+use crate::files::{Folder, file_at};
+use crate::input::Input;
+use crate::output::Output;
+use std::alloc::Global;
+use std::io::{Read, Write};
+use zknow::{Knowledge, Mode, Names, load, print_list};
+
+/// Prints the list of what the saved files at these paths know together, or tells on standard error why there is none:
+/// a file is refused, each before the next is opened, or has other names than those before it. Nothing is printed then.
+///
+/// The status is `Failed` where the list has a search or an association that failed.
+pub fn join_named<'a, 'o: 'a, F: Folder, W: Write, E: Write>(
+    alloc: Global,
+    files: &'a F,
+    first: &'a str,
+    others: &[&'a str],
+    mode: Mode,
+    output: &mut Output<'o, W>,
+    errors: &mut Output<'_, E>,
+) -> Status
+    ensures { DoesJoin mode (F.octets files.now) (first.entry.now ∷ texts_of others.now)
+        (held W.contents output.old) (held W.contents output.new)
+        (held E.contents errors.old) (held E.contents errors.new) result }
+{
+    match join_files(alloc, files, first, others, mode, output) {
+        Ok(status) => status,
+        Err(fault) => fault.report(errors),
+    }
+}
+
+/// Prints the list, and answers the status.
+fn join_files<'a, 'o: 'a, F: Folder, W: Write>(
+    alloc: Global,
+    files: &'a F,
+    first: &'a str,
+    others: &[&'a str],
+    mode: Mode,
+    output: &mut Output<'o, W>,
+) -> Result<Status, Fault<'a>>
+    ensures { Joins mode (F.octets files.now) (first.entry.now ∷ texts_of others.now)
+        (held W.contents output.old) (held W.contents output.new) result }
+{
+    let known = load_all(alloc, files, first, others)?;
+    let status = known_status(&known.0);
+    let mut text = Vec::new(alloc);
+    let printed = print_list(alloc, &known.0, &known.1, mode, &mut text);
+    drop(known);
+    printed?;
+    put_list(output, text.as_slice(), status)
+}
+
+/// Writes the list, and answers the status.
+fn put_list<'o, W: Write>(
+    output: &mut Output<'o, W>,
+    text: &[u8],
+    status: Status,
+) -> Result<Status, Fault<'o>>
+    ensures { PutsList text.now status (held W.contents output.old) (held W.contents output.new) result }
+{
+    match output.put(text) {
+        Ok(()) => Ok(status),
+        Err(fault) => Err(fault),
+    }
+}
+
+/// The status of a command that knows this.
+pub(crate) fn known_status(knowledge: &Knowledge) -> Status
+    ensures { IsKnownStatus knowledge.now result }
+{
+    if knowledge.has_failed() {
+        Status::Failed
+    } else {
+        Status::Done
+    }
+}
+
+/// What the files at all paths say together.
+pub(crate) fn load_all<'a, F: Folder>(
+    alloc: Global,
+    files: &'a F,
+    first: &'a str,
+    others: &[&'a str],
+) -> Result<(Knowledge, Names), Fault<'a>>
+    ensures { LoadsAll (F.octets files.now) (first.entry.now ∷ texts_of others.now) result }
+{
+    let (mut knowledge, names) = load_named(alloc, files, first)?;
+    absorb_all(alloc, files, others, &mut knowledge, &names)?;
+    Ok((knowledge, names))
+}
+
+/// Adds what the files at these paths say, which are to have these names.
+fn absorb_all<'a, F: Folder>(
+    alloc: Global,
+    files: &'a F,
+    paths: &[&'a str],
+    knowledge: &mut Knowledge,
+    names: &Names,
+) -> Result<(), Fault<'a>>
+    ensures { AbsorbsAll (F.octets files.now) names.now (texts_of paths.now)
+        knowledge.old knowledge.new result }
+{
+    for path in paths {
+        absorb_named(alloc, files, *path, knowledge, names)?;
+    }
+    Ok(())
+}
+
+/// Adds what the file at a path says, which is to have these names.
+fn absorb_named<'a, F: Folder>(
+    alloc: Global,
+    files: &'a F,
+    path: &'a str,
+    knowledge: &mut Knowledge,
+    names: &Names,
+) -> Result<(), Fault<'a>>
+    ensures { Absorbs (F.octets files.now) names.now path.entry.now knowledge.old knowledge.new result }
+{
+    let other = load_named(alloc, files, path)?;
+    if !are_same(names, &other.1) {
+        drop(other);
+        return Err(Fault::NamesDiffer);
+    }
+    let absorbed = knowledge.absorb(&other.0);
+    drop(other);
+    absorbed?;
+    knowledge.lawful();
+    Ok(())
+}
+
+/// What the file at a path says.
+fn load_named<'a, F: Folder>(
+    alloc: Global,
+    files: &'a F,
+    path: &'a str,
+) -> Result<(Knowledge, Names), Fault<'a>>
+    ensures { LoadsAt (F.octets files.now) path.entry.now result }
+{
+    let mut file = file_at(files, path);
+    load_file(alloc, &mut file)
+}
+
+/// What one file says.
+fn load_file<'a, R: Read>(
+    alloc: Global,
+    file: &mut Input<'a, R>,
+) -> Result<(Knowledge, Names), Fault<'a>>
+    ensures loaded { IfSome (R.remaining file.old.reader) (λ octets. Loads octets result) }
+    ensures fault { IfErr result (λ f. IsOfFile file.old.path.now f) }
+{
+    let octets = file.read_all(alloc)?;
+    Ok(load(alloc, octets.as_slice())?)
+}
+
+fn are_same(names: &Names, others: &Names) -> bool
+    ensures { IsTrue result ↔ (names.now ≡ others.now) }
+{
+    names.as_slice() == others.as_slice()
+}

@@ -1,0 +1,107 @@
+//! Devices that are written.
+ghost use Rattle.std.specs.Prelude.{◌≡◌, ◌≤◌, OnOk, IfSome, IfErr, true, false, length};
+ghost use Rattle.std.specs.Io.KnownBytes.{Appends};
+ghost use Rattle.zmeta_commands.specs.Devices.{held, PutsPieces, Puts, Tells};
+ghost use Rattle.zmeta_commands.specs.Pieces.{PutsPiece};
+
+use crate::fault::Fault;
+use std::fmt::Display;
+use std::io::{ErrorKind, Write};
+
+/// A stream that is written, and whether writing it failed.
+#[derive(Drop)]
+pub struct Output<'a, W> {
+    /// What is told of it: a file's path, `-` for a standard stream.
+    pub path: &'a str,
+    /// What takes the octets.
+    pub writer: W,
+    /// Whether a write failed.
+    pub has_failed: bool,
+}
+
+impl<'a, W: Write> Output<'a, W> {
+    /// The stream of a writer.
+    pub fn new(path: &'a str, writer: W) -> Output<'a, W>
+        ensures path { result.path ≡ path.entry }
+        ensures writer { result.writer ≡ writer }
+        ensures sound { result.has_failed ≡ false }
+    {
+        Output {
+            path,
+            writer,
+            has_failed: false,
+        }
+    }
+
+    /// Writes the whole text, or where the stream fails a front of it: then `Write` of the stream's path.
+    pub fn put(&mut self, text: &[u8]) -> Result<(), Fault<'a>>
+        ensures { Puts (held W.contents self.old) (held W.contents self.new) text.now result }
+    {
+        if write_pieces(&mut self.writer, text) {
+            return Ok(());
+        }
+        self.has_failed = true;
+        Err(Fault::Write(self.path))
+    }
+
+    /// Writes the line that tells of a fault; a failure is noted alone.
+    pub fn tell(&mut self, fault: &Fault<'_>)
+        ensures { Tells (held W.contents self.old) (held W.contents self.new) fault.now }
+    {
+        if writeln!(self.writer, "zmeta: {fault}").is_err() {
+            self.has_failed = true;
+        }
+    }
+
+    /// Writes what a value is shown as. Where the stream fails `Write` of its path.
+    pub fn show<D: Display>(&mut self, value: &D) -> Result<(), Fault<'a>>
+        ensures path { self.new.path ≡ self.old.path }
+        ensures written { OnOk result (IfSome (D.output value.now)
+            (Appends (W.contents self.old.writer) (W.contents self.new.writer))) }
+        ensures sound { OnOk result (self.new.has_failed ≡ self.old.has_failed) }
+        ensures err { IfErr result (λ f. (f ≡ Fault.Write self.old.path) × (self.new.has_failed ≡ true)) }
+    {
+        if write!(self.writer, "{value}").is_ok() {
+            return Ok(());
+        }
+        self.has_failed = true;
+        Err(Fault::Write(self.path))
+    }
+}
+
+/// Writes a text in pieces; whether all of it was taken. What was taken is its front.
+#[tactic(auto, using(crate::proofs::DeviceSteps::put_front, crate::proofs::DeviceSteps::stopped_front, crate::proofs::DeviceSteps::none_put))]
+fn write_pieces<W: Write>(writer: &mut W, text: &[u8]) -> bool
+    ensures { PutsPieces (W.contents writer.old) (W.contents writer.new) text.now result }
+{
+    let mut rest = text;
+    for _ in 0..u64::MAX {
+        if rest.is_empty() {
+            return true;
+        }
+        let Some(count) = write_piece(writer, rest) else {
+            return false;
+        };
+        rest = &rest[count..];
+    }
+    false
+}
+
+/// Writes a front of the text, and answers its length: none where the call was interrupted. `None` where it failed.
+#[tactic(auto, using(crate::proofs::DeviceSteps::nothing_put))]
+fn write_piece<W: Write>(writer: &mut W, text: &[u8]) -> Option<usize>
+    ensures bound { IfSome result (λ count. count ≤ length text.now) }
+    ensures bytes { PutsPiece (W.contents writer.old) (W.contents writer.new) text.now result }
+{
+    match writer.write(text) {
+        Ok(0) => None,
+        Ok(count) => Some(count),
+        Err(error) => {
+            if error.kind() == ErrorKind::Interrupted {
+                Some(0)
+            } else {
+                None
+            }
+        }
+    }
+}

@@ -1,0 +1,103 @@
+//! The command `pqf`: a query in the prefix notation, as it is understood and as it goes out.
+ghost use Rattle.std.specs.Prelude.{◌≡◌, ℕ, List, ◌++◌, Some, OnOk, IfOk, IfErr};
+ghost use Rattle.zber.specs.Elements.{Element};
+ghost use Rattle.zquery.specs.Notation.Printing.{query_text};
+ghost use Rattle.zquery.specs.Element.Type1.{WritesQuery};
+ghost use Rattle.zquery.specs.Element.Type1Reading.{query_spelt};
+ghost use Rattle.zmeta_commands.specs.Pqf.{IsQueryOf, element_text, PutsQuery, TellsQuery, PrintsQuery, DoesPqf};
+ghost use Rattle.zmeta_commands.specs.Devices.{held};
+
+use crate::fault::{Fault, Status};
+use crate::output::Output;
+use std::alloc::{AllocError, Global};
+use std::io::Write;
+use zapdu::put_node;
+use zber::{Node, Tag};
+use zquery::laws::{text_printable, text_spellable};
+use zquery::{BuildError, PrintError, Query, parse_pqf, print_pqf, to_node};
+
+/// Prints the query of a text in the prefix notation, and in hexadecimal the element `[21]` that a SearchRequest holds
+/// it in, as `zquery::to_node` makes it; or tells on standard error why the text is no query. Nothing is printed then.
+pub fn pqf<W: Write, E: Write>(
+    alloc: Global,
+    text: &str,
+    output: &mut Output<'_, W>,
+    errors: &mut Output<'_, E>,
+) -> Status
+    ensures { DoesPqf text.now (held W.contents output.old) (held W.contents output.new)
+        (held E.contents errors.old) (held E.contents errors.new) result }
+{
+    match pqf_text(alloc, text.as_bytes(), output) {
+        Ok(()) => Status::Done,
+        Err(fault) => fault.report(errors),
+    }
+}
+
+fn pqf_text<'a, W: Write>(
+    alloc: Global,
+    text: &[u8],
+    output: &mut Output<'a, W>,
+) -> Result<(), Fault<'a>>
+    ensures printed { PrintsQuery text.now (held W.contents output.old) (held W.contents output.new) result }
+{
+    let mut lines = Vec::new(alloc);
+    match put_query(alloc, text, &mut lines) {
+        Ok(()) => output.put(lines.as_slice()),
+        Err(fault) => Err(fault),
+    }
+}
+
+/// Appends both lines of a text.
+fn put_query(alloc: Global, text: &[u8], lines: &mut Vec<u8>) -> Result<(), Fault<'static>>
+    ensures { TellsQuery text.now lines.old.items lines.new.items result }
+{
+    let query = parse_pqf(alloc, text)?;
+    let put = put_both(alloc, &query, lines);
+    drop(query);
+    put
+}
+
+/// Appends both lines of a query that a text stands for.
+#[tactic(auto, unfolding(crate::specs::Pqf::query_lines))]
+fn put_both(alloc: Global, query: &Query, lines: &mut Vec<u8>) -> Result<(), Fault<'static>>
+    requires { (text : List ℕ) × IsQueryOf text query.now }
+    ensures { PutsQuery query.now lines.old.items lines.new.items result }
+{
+    put_text(alloc, query, lines)?;
+    lines.extend_from_slice(b"\n")?;
+    let node = node_of(alloc, query)?;
+    put_element(alloc, node, lines)?;
+    lines.extend_from_slice(b"\n")?;
+    Ok(())
+}
+
+/// Appends a query that a text stands for, so that it can be printed.
+fn put_text(alloc: Global, query: &Query, lines: &mut Vec<u8>) -> Result<(), PrintError>
+    requires { (text : List ℕ) × IsQueryOf text query.now }
+    ensures ok { OnOk result (lines.new.items ≡ lines.old.items ++ query_text query.now) }
+    ensures memory { IfErr result (λ e. e ≡ PrintError.Memory) }
+{
+    text_printable();
+    print_pqf(alloc, query, lines)
+}
+
+/// The element of a query that a text stands for, so that there is one.
+fn node_of(alloc: Global, query: &Query) -> Result<Node, BuildError>
+    requires { (text : List ℕ) × IsQueryOf text query.now }
+    ensures written { IfOk result (WritesQuery query.now) }
+    ensures spelled { IfOk result (λ node. query_spelt query.now ≡ Some node) }
+    ensures memory { IfErr result (λ e. e ≡ BuildError.Memory) }
+{
+    text_spellable();
+    to_node(alloc, query)
+}
+
+/// Appends the element `[21]` around an element.
+fn put_element(alloc: Global, node: Node, lines: &mut Vec<u8>) -> Result<(), AllocError>
+    ensures { OnOk result (lines.new.items ≡ lines.old.items ++ element_text node) }
+{
+    let mut nodes = Vec::new(alloc);
+    nodes.push(node)?;
+    let outer = Node::cons(Tag::context(21), nodes);
+    put_node(alloc, &outer, lines)
+}

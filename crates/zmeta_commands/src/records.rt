@@ -1,0 +1,160 @@
+//! The command `records`: the octets of the records that saved files know.
+
+ghost use Rattle.std.specs.Prelude.{◌≡◌, ◌++◌, ◌∷◌, IfOk, OnOk, Ok, Err};
+ghost use Rattle.std.specs.Option.{option_map};
+ghost use Rattle.zmeta_commands.specs.Devices.{held};
+ghost use Rattle.zknow_records.specs.Records.{records_octets, left_out};
+ghost use Rattle.zmeta_args.specs.Texts.{texts_of};
+ghost use Rattle.zmeta_commands.specs.Records.{ReadsSyntax, left_line, left_text, extract, PutsRecords, Extracts, DoesRecords};
+
+use crate::fault::{Fault, Status};
+use crate::files::Folder;
+use crate::join::{known_status, load_all};
+use crate::output::Output;
+use std::alloc::{AllocError, Global};
+use std::io::Write;
+use zber::{Oid, OidError};
+use zknow::Knowledge;
+use zknow_records::{LeftOut, write_records};
+
+/// Which records are written.
+#[derive(Clone, Copy)]
+pub struct Extract<'a> {
+    /// The object identifier of their syntax, in dotted form; any, where there is none.
+    pub syntax: Option<&'a str>,
+    /// Whether all records of a position that has several are written, and not none of them.
+    pub conflicts: bool,
+}
+
+/// Saved files: the first, and the others.
+#[derive(Clone, Copy)]
+pub struct SavedFiles<'a, 'w> {
+    /// The path of the first.
+    pub first: &'a str,
+    /// The paths of the others, in order.
+    pub others: &'w [&'a str],
+}
+
+/// Writes the octets of the records that saved files know together, one after the other in the order of the list, and
+/// tells on standard error how many were left out. Or tells why a file is refused, or that the syntax is none.
+///
+/// The status is that of `join_named`: `Failed` where a search or an association failed.
+pub fn records_named<'a, 'o: 'a, F: Folder, W: Write, E: Write>(
+    alloc: Global,
+    files: &'a F,
+    saved: SavedFiles<'a, '_>,
+    wanted: Extract<'a>,
+    output: &mut Output<'o, W>,
+    errors: &mut Output<'_, E>,
+) -> Status
+    ensures { DoesRecords (extract wanted.entry) (F.octets files.now)
+        (saved.entry.first.now ∷ texts_of saved.entry.others.now)
+        (held W.contents output.old) (held W.contents output.new)
+        (held E.contents errors.old) (held E.contents errors.new) result }
+{
+    match records_files(alloc, files, saved, wanted, output, errors) {
+        Ok(status) => status,
+        Err(fault) => fault.report(errors),
+    }
+}
+
+/// Writes the records, tells what was left out, and answers the status.
+fn records_files<'a, 'o: 'a, F: Folder, W: Write, E: Write>(
+    alloc: Global,
+    files: &'a F,
+    saved: SavedFiles<'a, '_>,
+    wanted: Extract<'a>,
+    output: &mut Output<'o, W>,
+    errors: &mut Output<'_, E>,
+) -> Result<Status, Fault<'a>>
+    ensures { Extracts (extract wanted.entry) (F.octets files.now)
+        (saved.entry.first.now ∷ texts_of saved.entry.others.now)
+        (held W.contents output.old) (held W.contents output.new)
+        (held E.contents errors.old) (held E.contents errors.new) result }
+{
+    let syntax = syntax_of(alloc, wanted.syntax)?;
+    let (knowledge, _) = load_all(alloc, files, saved.first, saved.others)?;
+    let status = known_status(&knowledge);
+    let taken = take_records(alloc, &knowledge, &syntax, wanted.conflicts);
+    drop(knowledge);
+    let (octets, left) = taken?;
+    let lines = left_lines(alloc, &left)?;
+    put_records(octets.as_slice(), lines.as_slice(), output, errors)?;
+    Ok(status)
+}
+
+/// The octets of the records, and what was left out.
+fn take_records(
+    alloc: Global,
+    knowledge: &Knowledge,
+    syntax: &Option<Oid>,
+    conflicts: bool,
+) -> Result<(Vec<u8>, LeftOut), AllocError>
+    ensures octets { IfOk result (λ taken. taken.0.items ≡ records_octets syntax.now conflicts knowledge.now) }
+    ensures left { IfOk result (λ taken. taken.1 ≡ left_out syntax.now conflicts knowledge.now) }
+{
+    let mut octets = Vec::new(alloc);
+    let left = write_records(alloc, knowledge, syntax.as_ref(), conflicts, &mut octets)?;
+    Ok((octets, left))
+}
+
+/// The object identifier of a text, where there is a text.
+fn syntax_of<'a>(alloc: Global, text: Option<&'a str>) -> Result<Option<Oid>, Fault<'a>>
+    ensures { ReadsSyntax (option_map (λ text. text.now) text.entry) result }
+{
+    let Some(text) = text else {
+        return Ok(None);
+    };
+    match Oid::parse_dotted(alloc, text.as_bytes()) {
+        Ok(oid) => Ok(Some(oid)),
+        Err(e) if e == OidError::Memory => Err(Fault::Memory),
+        Err(_) => Err(Fault::NotOid(text)),
+    }
+}
+
+/// Appends the line of so many of a kind that were left out, where there are any.
+fn put_left(alloc: Global, kind: &str, count: u64, text: &mut Vec<u8>) -> Result<(), AllocError>
+    ensures { OnOk result (text.new.items ≡ text.old.items ++ left_line kind.now count) }
+{
+    if count == 0 {
+        return Ok(());
+    }
+    let number = count.to_string(alloc)?;
+    text.extend_from_slice(b"zmeta: ")?;
+    text.extend_from_slice(kind.as_bytes())?;
+    text.extend_from_slice(b" left out: ")?;
+    text.extend_from_slice(number.as_bytes())?;
+    text.extend_from_slice(b"\n")
+}
+
+/// The lines of what was left out.
+fn left_lines(alloc: Global, left: &LeftOut) -> Result<Vec<u8>, AllocError>
+    ensures { IfOk result (λ text. text.items ≡ left_text left.now) }
+{
+    let mut text = Vec::new(alloc);
+    put_left(
+        alloc,
+        "positions with several records",
+        left.conflicts,
+        &mut text,
+    )?;
+    put_left(alloc, "diagnostics", left.diagnostics, &mut text)?;
+    put_left(alloc, "records without octets", left.others, &mut text)?;
+    Ok(text)
+}
+
+/// Writes the octets, and tells the lines.
+fn put_records<'o, W: Write, E: Write>(
+    octets: &[u8],
+    lines: &[u8],
+    output: &mut Output<'o, W>,
+    errors: &mut Output<'_, E>,
+) -> Result<(), Fault<'o>>
+    ensures { PutsRecords octets.now lines.now (held W.contents output.old) (held W.contents output.new)
+        (held E.contents errors.old) (held E.contents errors.new) result }
+{
+    output.put(octets)?;
+    // What cannot be told is noted of the stream alone.
+    let _ = errors.put(lines);
+    Ok(())
+}

@@ -1,0 +1,91 @@
+//! The command `serve`: a target of a world file answers clients over TCP.
+
+ghost use Rattle.std.specs.Prelude.{IfSome};
+ghost use Rattle.zmeta_world.specs.Fitness.{IsFit};
+ghost use Rattle.zmeta_commands.specs.Devices.{held};
+ghost use Rattle.zmeta_commands.specs.Serve.{Serves, ServesWorld, EndsOf, DoesServe};
+
+use crate::fault::{Fault, Status};
+use crate::files::{Folder, file_at};
+use crate::output::Output;
+use crate::worlds::world_in;
+use std::alloc::Global;
+use std::io::Write;
+use std::net::{Net, TcpListener};
+use std::time::Clock;
+use zmeta_world::world::World;
+use zoom::serve;
+
+/// Which target of which world file is served, at which address, and how many connections are taken.
+#[derive(Clone, Copy)]
+pub struct Service<'a> {
+    /// `host:port`.
+    pub address: &'a str,
+    /// The target's name.
+    pub name: &'a str,
+    /// The world file.
+    pub world: &'a str,
+    /// How many connections are taken, up to 1,000,000.
+    pub count: u32,
+}
+
+/// Lets a target of a world file answer so many connections at an address, one after the other, each with a target that
+/// has received nothing yet. A connection that fails costs itself alone. Or tells on standard error why it was not
+/// served.
+pub fn serve_named<'a, S: Folder + Net + Clock, E: Write>(
+    alloc: Global,
+    system: &'a S,
+    service: Service<'a>,
+    errors: &mut Output<'_, E>,
+) -> Status
+    ensures { DoesServe service.entry.name.now service.entry.world.now (S.octets system.now service.entry.world.now)
+        (held E.contents errors.old) (held E.contents errors.new) result }
+{
+    match serve_target(alloc, system, service) {
+        Ok(()) => Status::Done,
+        Err(fault) => fault.report(errors),
+    }
+}
+
+/// Reads the world, and serves its target.
+fn serve_target<'a, S: Folder + Net + Clock>(
+    alloc: Global,
+    system: &'a S,
+    service: Service<'a>,
+) -> Result<(), Fault<'a>>
+    ensures serves { IfSome (S.octets system.now service.entry.world.now)
+        (λ octets. Serves service.entry.name.now octets result) }
+    ensures path { EndsOf service.entry.world.now result }
+{
+    let mut file = file_at(system, service.world);
+    let world = world_in(alloc, &mut file)?;
+    let served = serve_world(alloc, system, service, &world);
+    drop(world);
+    served
+}
+
+/// Serves a target of the world.
+fn serve_world<'a, S: Net + Clock>(
+    alloc: Global,
+    system: &'a S,
+    service: Service<'a>,
+    world: &World,
+) -> Result<(), Fault<'a>>
+    requires { IsFit world.now }
+    ensures { ServesWorld service.entry.name.now world.now result }
+{
+    let Some(target) = world.target(service.name.as_bytes()) else {
+        return Err(Fault::Serve);
+    };
+    let Ok(listener) = TcpListener::bind(system, service.address) else {
+        return Err(Fault::Serve);
+    };
+    Ok(serve(
+        alloc,
+        system,
+        &listener,
+        &target.databases,
+        target.settings,
+        service.count,
+    )?)
+}

@@ -1,0 +1,105 @@
+//! The command `show`: what the messages say that octets begin with.
+ghost use Rattle.std.specs.Prelude.{◌≡◌, None, IfSome};
+ghost use Rattle.zmeta_commands.specs.Show.{ShowsText, DoesShow, OneShowing};
+ghost use Rattle.zber.specs.declared.framer.TheConstants.{MESSAGE_LIMIT};
+ghost use Rattle.zmeta_commands.specs.Steps.{PrintsLines, ShowsOctets, ShowsNext};
+ghost use Rattle.zmeta_commands.specs.Devices.{left, held, IsOfStream};
+
+use crate::digits::decode;
+use crate::fault::{Fault, Status};
+use crate::input::Input;
+use crate::output::Output;
+use std::alloc::Global;
+use std::io::{Read, Write};
+use zapdu::from_element;
+use zapdu::laws::{one_refusal, one_value};
+use zapdu_lines::print_apdu;
+use zber::laws::one_answer;
+use zber::{Framer, MESSAGE_LIMIT};
+
+/// Prints each APDU of the octets whose hexadecimal digits the input has, and tells on standard error why it stopped
+/// before their end. What was printed before a fault stands; where memory runs out, nothing is printed.
+pub fn show<'a, R: Read, W: Write, E: Write>(
+    alloc: Global,
+    input: &mut Input<'a, R>,
+    output: &mut Output<'a, W>,
+    errors: &mut Output<'_, E>,
+) -> Status
+    ensures { DoesShow (left R.remaining input.old) (left R.remaining input.new)
+        (held W.contents output.old) (held W.contents output.new)
+        (held E.contents errors.old) (held E.contents errors.new) result }
+{
+    match show_text(alloc, input, output) {
+        Ok(()) => Status::Done,
+        Err(fault) => fault.report(errors),
+    }
+}
+
+/// Octets have one text and one end.
+pub fn one_showing()
+    ensures { OneShowing }
+{
+    one_answer();
+    one_value();
+    one_refusal();
+}
+
+fn show_text<'a, R: Read, W: Write>(
+    alloc: Global,
+    input: &mut Input<'a, R>,
+    output: &mut Output<'a, W>,
+) -> Result<(), Fault<'a>>
+    ensures shown { IfSome (R.remaining input.old.reader)
+        (λ text. ShowsText text (held W.contents output.old) (held W.contents output.new) result) }
+    ensures path { input.new.path ≡ input.old.path }
+    ensures failed { IsOfStream (left R.remaining input.new) (held W.contents output.new) result }
+{
+    let text = input.read_all(alloc)?;
+    let octets = decode(alloc, text.as_slice())?;
+    let mut lines = Vec::new(alloc);
+    let answer = show_octets(alloc, octets.as_slice(), &mut lines);
+    print_lines(output, lines.as_slice(), answer)
+}
+
+/// Writes the lines that come before an answer, but none where memory ran out.
+fn print_lines<'a, W: Write>(
+    output: &mut Output<'a, W>,
+    lines: &[u8],
+    answer: Result<(), Fault<'a>>,
+) -> Result<(), Fault<'a>>
+    ensures { PrintsLines lines.now answer.entry (held W.contents output.old)
+        (held W.contents output.new) result }
+{
+    if matches!(answer, Err(Fault::Memory)) {
+        return answer;
+    }
+    match output.put(lines) {
+        Ok(()) => answer,
+        Err(fault) => Err(fault),
+    }
+}
+
+/// Appends the lines of each message in turn, up to the fault that ends them.
+fn show_octets(alloc: Global, octets: &[u8], text: &mut Vec<u8>) -> Result<(), Fault<'static>>
+    ensures { ShowsOctets octets.now text.old.items text.new.items result }
+{
+    let mut framer = Framer::new(alloc, MESSAGE_LIMIT);
+    framer.feed(octets)?;
+    while show_next(alloc, &mut framer, text)? {}
+    framer.finish()?;
+    Ok(())
+}
+
+/// Appends the lines of the next message. `false` where no message is whole and no fault is shown.
+fn show_next(alloc: Global, framer: &mut Framer, text: &mut Vec<u8>) -> Result<bool, Fault<'static>>
+    requires limited { framer.old.stream.limit ≡ MESSAGE_LIMIT }
+    requires sound { framer.old.stream.fault ≡ None }
+    ensures { ShowsNext framer.old.stream framer.new.stream text.old.items text.new.items result }
+{
+    let Some(message) = framer.next()? else {
+        return Ok(false);
+    };
+    let apdu = from_element(alloc, message)?;
+    print_apdu(alloc, apdu, text)?;
+    Ok(true)
+}

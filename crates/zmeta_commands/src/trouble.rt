@@ -1,0 +1,93 @@
+//! Whether all that was to be asked was asked and answered.
+ghost use Rattle.std.specs.Prelude.{◌≡◌, ◌<◌, ◌^◌, not, ◌||◌, length};
+ghost use Rattle.zoom.specs.Metas.{Tells};
+ghost use Rattle.zmeta_commands.specs.Finished.{is_failed, is_troubled, is_asked, IsTroubledAt, HasTrouble, IsStatusOf, IsFinishedStatus};
+
+use crate::fault::Status;
+use crate::finished::Finished;
+use bytes::Bytes;
+use zoom::laws::{one_hearing, up_to};
+use zoom::{Meta, State};
+
+fn is_failed(state: State) -> bool
+    ensures { result ≡ is_failed state }
+{
+    matches!(state, State::Failed(_))
+}
+
+fn is_any(failed: bool, complete: bool, skipped: bool) -> bool
+    ensures { result ≡ (failed || not complete || skipped) }
+{
+    failed || !complete || skipped
+}
+
+/// Whether a connection failed, its target closed it first, or its question was not asked.
+fn is_troubled(meta: &Meta, c: u32) -> bool
+    requires { c < length meta.now.pool.connections }
+    ensures { Tells c meta.now is_troubled result }
+{
+    up_to();
+    one_hearing();
+    let failed = is_failed(meta.state(c));
+    let complete = meta.complete(c);
+    let skipped = meta.skipped(c);
+    is_any(failed, complete, skipped)
+}
+
+/// Whether a question was to be asked: it was not left out of those at addresses.
+pub(crate) fn is_asked(addresses: &[Option<Bytes>], c: u32) -> bool
+    ensures { result ≡ is_asked addresses.now c }
+{
+    match addresses.get(c as usize) {
+        Some(None) => false,
+        _ => true,
+    }
+}
+
+/// Whether a question was to be asked, and its connection has trouble.
+fn is_troubled_at(meta: &Meta, addresses: &[Option<Bytes>], c: u32) -> bool
+    requires { c < length meta.now.pool.connections }
+    ensures { IsTroubledAt addresses.now c meta.now result }
+{
+    if is_asked(addresses, c) {
+        is_troubled(meta, c)
+    } else {
+        false
+    }
+}
+
+/// Whether some connection has trouble whose question was to be asked.
+fn has_trouble(meta: &Meta, addresses: &[Option<Bytes>]) -> bool
+    requires { length meta.now.pool.connections < 2 ^ 32 }
+    ensures { HasTrouble addresses.now meta.now result }
+{
+    for c in 0..meta.connections() {
+        if is_troubled_at(meta, addresses, c as u32) {
+            return true;
+        }
+    }
+    false
+}
+
+/// The status of a command after which connections stand so, of questions at these addresses.
+fn status_of(meta: &Meta, addresses: &[Option<Bytes>]) -> Status
+    requires { length meta.now.pool.connections < 2 ^ 32 }
+    ensures { IsStatusOf addresses.now meta.now result }
+{
+    if meta.knowledge().has_failed() {
+        return Status::Failed;
+    }
+    if has_trouble(meta, addresses) {
+        Status::Failed
+    } else {
+        Status::Done
+    }
+}
+
+/// The status of a command that finished so.
+pub(crate) fn finished_status(finished: &Finished) -> Status
+    requires { length finished.now.meta.pool.connections < 2 ^ 32 }
+    ensures { IsFinishedStatus finished.now result }
+{
+    status_of(&finished.meta, finished.addresses.as_slice())
+}

@@ -1,0 +1,25 @@
+//! World files, read by the commands.
+
+ghost use Rattle.std.specs.Prelude.{IfOk, IfErr, IfSome};
+ghost use Rattle.zmeta_world.specs.Fitness.{IsFit};
+ghost use Rattle.zmeta_commands.specs.Finished.{IsOfWorld};
+ghost use Rattle.zmeta_commands.specs.Worlds.{SaysWorld};
+
+use crate::fault::Fault;
+use crate::input::Input;
+use std::alloc::Global;
+use std::io::Read;
+use zmeta_world::world::{World, read_world};
+
+/// The world that a file says.
+pub(crate) fn world_in<'a, R: Read>(
+    alloc: Global,
+    file: &mut Input<'a, R>,
+) -> Result<World, Fault<'a>>
+    ensures says { IfSome (R.remaining file.old.reader) (λ octets. SaysWorld octets result) }
+    ensures fit { IfOk result IsFit }
+    ensures path { IfErr result (IsOfWorld file.old.path.now) }
+{
+    let octets = file.read_all(alloc)?;
+    Ok(read_world(alloc, octets.as_slice())?)
+}

@@ -1,0 +1,21 @@
+-- What a world file says.
+use Rattle.std.specs.Prelude.{◌≡◌, ℕ, ◌==◌, List, [], ◌∷◌, Option, Some, None, Result, Ok, Err}
+use Rattle.std.specs.List.{slice_split}
+use Rattle.zmeta_world.specs.declared.world.fault.LineFault.{LineFault}
+use Rattle.zmeta_world.specs.declared.world.fault.LineFault.TheVariants as faults
+
+-- what is due is answered; where nothing is due, the line is refused
+abbrev pub Answers : {A : Type 0} → Option A → Result A LineFault → Type 0
+Answers due (Ok value) = due ≡ Some value
+Answers due (Err faults.Refused) = due ≡ None
+Answers due (Err faults.Memory) = Unit {0}
+
+-- the pieces of a rest
+abbrev pub pieces : ℕ → Option (List ℕ) → List (List ℕ)
+pieces at None = []
+pieces at (Some rest) = slice_split (λ b. b == at) rest
+
+-- an octet and the rest behind it
+abbrev pub behind : ℕ → Option (List ℕ) → List ℕ
+behind at None = []
+behind at (Some rest) = at ∷ rest

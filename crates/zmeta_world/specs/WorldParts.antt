@@ -1,0 +1,21 @@
+-- The parts of targets, as the code keeps them.
+use Rattle.std.specs.Prelude.{ℕ, List, [], Option, Some, None}
+use Rattle.ztarget.specs.declared.database.Database.{Database}
+use Rattle.ztarget.specs.declared.database.Entry.{Entry}
+use Rattle.ztarget.specs.declared.database.Field.{Field}
+use Rattle.ztarget.specs.declared.settings.TargetSettings.{TargetSettings}
+use Rattle.zmeta_world.specs.declared.world.NamedTarget.{NamedTarget}
+
+-- the list, empty where there is none yet
+abbrev pub listed : {A : Type 0} → Option (List A) → List A
+listed None = []
+listed (Some xs) = xs
+
+abbrev pub entry : List ℕ → List ℕ → List Field → Entry
+entry syntax octets fields = record { syntax = syntax; octets = octets; fields = fields }
+
+abbrev pub database : List ℕ → List Entry → Database
+database name entries = record { name = name; entries = entries }
+
+abbrev pub target : List ℕ → TargetSettings → List Database → NamedTarget
+target name settings databases = record { name = name; settings = settings; databases = databases }

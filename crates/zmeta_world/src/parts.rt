@@ -1,0 +1,64 @@
+//! Questions of a world, apart from whom they are put to.
+
+ghost use Rattle.std.specs.Prelude.{◌≡◌, [], ◌++◌, ◌∷◌, IfOk, OnOk};
+ghost use Rattle.zmeta_world.specs.Finding.{AreParts, IsOneMore};
+
+use crate::world::AskedQuestion;
+use bytes::Bytes;
+use std::alloc::{AllocError, Global};
+use zoom_questions::Question;
+
+/// The questions, and the name that each is put to, in order.
+#[derive(Drop)]
+pub(crate) struct Parts {
+    pub questions: Vec<Question>,
+    pub names: Vec<Bytes>,
+}
+
+impl Parts {
+    /// Of no questions. It takes no memory.
+    fn new(alloc: Global) -> Parts
+        ensures { AreParts [] result }
+    {
+        Parts {
+            questions: Vec::new(alloc),
+            names: Vec::new(alloc),
+        }
+    }
+
+    /// Puts a question last.
+    fn put(&mut self, asked_question: AskedQuestion) -> Result<(), AllocError>
+        ensures { OnOk result (IsOneMore asked_question self.old self.new) }
+    {
+        let AskedQuestion {
+            line: _,
+            name,
+            end: _,
+            question,
+        } = asked_question;
+        self.questions.push(question)?;
+        self.names.push(name)?;
+        Ok(())
+    }
+}
+
+/// Puts one more last.
+pub(crate) fn add<A: Drop>(all: &mut Vec<A>, one: A) -> Result<(), AllocError>
+    ensures { OnOk result (all.new.items ≡ all.old.items ++ one ∷ []) }
+{
+    Ok(all.push(one)?)
+}
+
+/// The parts of questions.
+pub(crate) fn split_questions(
+    alloc: Global,
+    asked_questions: Vec<AskedQuestion>,
+) -> Result<Parts, AllocError>
+    ensures { IfOk result (AreParts asked_questions.items) }
+{
+    let mut parts = Parts::new(alloc);
+    for asked_question in asked_questions {
+        parts.put(asked_question)?;
+    }
+    Ok(parts)
+}

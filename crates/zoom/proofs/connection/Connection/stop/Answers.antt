@@ -1,5 +1,0 @@
-use Rattle.zoom.proofs.Stopping.{stopped}
-use Rattle.zoom.proofs.connection.Connection.stop.Goals as goal
-
-pub returns-clause-after : goal.returns-clause-after
-returns-clause-after c = rw (← c.self.view_is) (λ settings deeds p l. stopped settings deeds p _ c.args.reason l)

@@ -1,6 +1,0 @@
-use Rattle.std.proofs.Common.{refl}
-use Rattle.zoom.proofs.Kept.{knows_refused}
-use Rattle.zoom.proofs.driver.Driver.note_refused.Goals as goal
-
-pub returns : goal.returns
-returns c = rw (← c.self.view_is) (knows_refused _ _ refl refl refl refl refl)

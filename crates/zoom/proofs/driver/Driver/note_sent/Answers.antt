@@ -1,9 +1,0 @@
-use Rattle.std.proofs.Common.{refl, rules}
-use Rattle.zoom.specs.CallsOf.{call_of}
-use Rattle.zoom.proofs.Kept.{knows_sent}
-use Rattle.zoom.proofs.driver.Driver.note_sent.Goals as goal
-
-pub returns : goal.returns
-returns c = rw (← c.self.view_is) (
-    knows_sent c.agenda_laws.ensures c.driven_laws.ensures c.number_law.ensures (call_of c.args.call.now) _ _ c.send.ensures
-    refl refl (search rules) refl)

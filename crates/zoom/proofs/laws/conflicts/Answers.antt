@@ -1,5 +1,0 @@
-use Rattle.zoom.proofs.Rows.{conflicts}
-use Rattle.zoom.proofs.laws.conflicts.Goals as goal
-
-pub returns : goal.returns
-returns c = conflicts c.place_laws.ensures c.list_laws.ensures

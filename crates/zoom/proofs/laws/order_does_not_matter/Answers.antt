@@ -1,5 +1,0 @@
-use Rattle.zoom.proofs.Orders.{order_free}
-use Rattle.zoom.proofs.laws.order_does_not_matter.Goals as goal
-
-pub returns : goal.returns
-returns c = order_free

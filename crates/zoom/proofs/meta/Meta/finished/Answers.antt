@@ -1,8 +1,0 @@
-use Rattle.zoom.specs.Metas.{MetaLinks}
-use Rattle.zoom.proofs.Advancing.{finished_meta}
-use Rattle.zoom.proofs.meta.Meta.finished.Goals as goal
-
-pub returns : goal.returns
-returns c =
-    let old : MetaLinks = record { pool = c.self.inside.pool; drivers = c.self.inside.drivers.items } in
-    rw (← c.self.view_is) (finished_meta c.one_hearing.ensures old c.is_finished.result c.is_finished.ensures)

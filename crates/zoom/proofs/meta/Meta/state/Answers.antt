@@ -1,4 +1,0 @@
-use Rattle.zoom.proofs.meta.Meta.state.Goals as goal
-
-pub returns : goal.returns
-returns c = rw (← c.self.view_is) c.state.ensures

@@ -1,5 +1,0 @@
-use Rattle.zoom.proofs.Pools.{AllStopped}
-use Rattle.zoom.proofs.pool.Pool.is_finished.Given as goal
-
-abbrev pub invariant-loop-connection : goal.invariant-loop-connection
-invariant-loop-connection l = AllStopped l.connection-index l.connection-items

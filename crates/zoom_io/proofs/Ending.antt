@@ -1,0 +1,285 @@
+-- How a talk ends.
+use Rattle.std.proofs.Common.{◌≡◌, ◌∙◌, sym, subst, ℕ, suc, ◌+◌, ◌<◌, ◌≤◌, Bool, true, false, List, ◌∷◌, ◌++◌, length, Some, Result, Ok, Err, refl, true≢false, arith}
+use Rattle.std.specs.Io.KnownBytes.{Keeps, IsAtEnd, Consumes}
+use Rattle.std.proofs.KnownBytes.{Consumes-trans, Consumes-kept}
+use Rattle.zoom_questions.specs.declared.question.Question.{Question}
+use Rattle.zoom_questions.specs.declared.question.MetaSettings.{MetaSettings}
+use Rattle.zoom_pool.specs.declared.state.Reason.{Reason}
+use Rattle.zoom_pool.specs.declared.state.Reason.TheVariants as reasons
+use Rattle.zoom_pool.specs.declared.state.State.{State}
+use Rattle.zoom_pool.specs.declared.state.State.TheVariants as states
+use Rattle.zoom_pool.specs.States.{is_stopped}
+use Rattle.zoom_pool.specs.Heard.{Feeds, Takes, Ends, Stops, state_at}
+use Rattle.zoom_pool.specs.Links.{stop_at, OthersStay}
+use Rattle.zoom_pool.specs.Befalling.{IsStateAt}
+use Rattle.zoom_pool.specs.Laws.{OneHearing, OneMeeting, UpToLaw}
+use Rattle.zoom_pool.specs.History.{History}
+use Rattle.zoom_pool.specs.Metas.{MetaLinks, MetaAfter, MetaAfterUpTo, MetaBefell, MetaTook, settings_of}
+use Rattle.zoom_pool.proofs.Metas.{state_tells}
+use Rattle.zoom_io.specs.declared.conversation.TalkError.TheVariants as errors
+use Rattle.zoom_io.specs.Devices.{DeviceState, HasFailed, Rests}
+use Rattle.zoom_io.specs.Talks.{reason_of, ended_well, IsStoppedFor, Stage, Due, Waiting, Over, Ended, Talk, GoesOn, Stopped, Talks, reads, ends, same}
+use Rattle.zoom_io.specs.Turns.{GoesAlone}
+use Rattle.zoom_io.specs.declared.conversation.TalkError.{TalkError}
+use Rattle.zoom_io.specs.declared.outgoing.PushError.{PushError}
+use Rattle.zoom_io.specs.declared.outgoing.PushError.TheVariants as pushes
+use Rattle.zoom_io.specs.Pushes.{IsBroken}
+use Rattle.zoom_io.specs.Talking.{EndedWell, Settles, Listens, Finishes, talk_error}
+use Rattle.zoom_io.proofs.Hearing.{ends_stopped}
+use Rattle.zoom_io.proofs.Speaking.{Begun, begun_on}
+
+-- the same, of a reader that gave nothing more
+kept : (c n : ℕ) (stage : Stage) (a b : MetaLinks) (l l2 l3 k k2 : DeviceState)
+    → Begun c n stage a b l l2 k k2 → Keeps l2.octets l3.octets
+    → (q : List Question) (s : MetaSettings) (h : History) → MetaAfter q s h a → Talk q s c h n stage b l l3 k k2
+kept c n stage a b l l2 l3 k k2 one still q s h x =
+    let t = one.on q s h x in
+    record {
+      more = t.more;
+      read = t.read;
+      written = t.written;
+      follows = t.follows;
+      after = t.after;
+      stands = t.stands;
+      came = Consumes-kept l.octets l2.octets l3.octets t.read t.came still;
+      went = t.went;
+    }
+
+-- octets were read and fed
+pub fed_on : (c : ℕ) (old new : MetaLinks) (piece : List ℕ) (l l2 : DeviceState) → MetaBefell c (Feeds piece) old new
+    → Consumes l.octets l2.octets piece → l2.failures ≡ l.failures → 0 < length piece → length piece ≤ 4096
+    → (held : DeviceState) → GoesOn c Waiting Due suc old new l l2 held held
+fed_on c old new piece l l2 befell came sound some few held = record {
+  on = λ q s h n source sink t. record {
+    more = (c, Feeds piece) ∷ t.more;
+    read = t.read ++ piece;
+    written = t.written;
+    follows = reads piece t.follows some few;
+    after = befell q s (t.more ++ h) t.after;
+    stands = tt;
+    came = Consumes-trans source.octets l.octets l2.octets t.read piece t.came came;
+    went = t.went;
+  };
+  reader = sound;
+  writer = refl;
+}
+
+-- ---- how it ends
+
+-- the connection was stopped by its messages
+pub ends_over : (c n turns : ℕ) (a b d : MetaLinks) (l l2 k k2 k3 : DeviceState) → n ≤ turns
+    → Begun c n Due a b l l2 k k2 → (r : Bool) → Settles c (Ok r) b d k2 k3 → r ≡ true
+    → Talks c turns (Ok tt) a d l l2 k k3
+ends_over c n turns a b d l l2 k k2 k3 few one true s e = record {
+  on = λ q s' h x.
+      let t = (s l2).on q s' h n l k (one.on q s' h x) in
+      record { reads = n; stage = Over; talk = t; at = few; over = t.stands };
+  blamed = (one.reader, (s l2).writer ∙ one.writer);
+  stopped = tt;
+}
+ends_over c n turns a b d l l2 k k2 k3 few one false s e = absurd (true≢false (sym e))
+
+-- no message is there
+pub waits_on : (c n : ℕ) (a b d : MetaLinks) (l l2 k k2 k3 : DeviceState) → Begun c n Due a b l l2 k k2
+    → (r : Bool) → Settles c (Ok r) b d k2 k3 → r ≡ false → Begun c n Waiting a d l l2 k k3
+waits_on c n a b d l l2 k k2 k3 one true s e = absurd (true≢false e)
+waits_on c n a b d l l2 k k2 k3 one false s e =
+    begun_on c n Due Waiting same a b d l l2 l2 k k2 k3 one (s l2)
+
+-- a write failed, or memory was wanting
+pub ends_unsettled : (c n turns : ℕ) (a b d : MetaLinks) (l l2 k k2 k3 : DeviceState) → n ≤ turns
+    → Begun c n Due a b l l2 k k2 → (e : PushError) → Settles c (Err e) b d k2 k3 → IsBroken {A = Bool} c (Err e) d
+    → Talks c turns (Err (talk_error e)) a d l l2 k k3
+ends_unsettled c n turns a b d l l2 k k2 k3 few one pushes.Write off broken = record {
+  on = λ q s h x. (n, few, off.on q s h n l l2 k (one.on q s h x));
+  blamed = (subst (λ z. HasFailed z k3.failures) one.writer off.failed, one.reader);
+  stopped = broken;
+}
+ends_unsettled c n turns a b d l l2 k k2 k3 few one pushes.Memory off broken = record {
+  on = λ q s h x. record { meta = d; halted = off q s h n l l2 k (one.on q s h x); known = refl; others = λ i far. refl; drivers = refl };
+  blamed = tt;
+  stopped = tt;
+}
+
+stopped_by : (c n : ℕ) (stage : Stage) (reason : Reason) (a b d : MetaLinks) (l l2 k k2 : DeviceState)
+    → ((q : List Question) (s : MetaSettings) (h : History) → MetaAfter q s h a → Talk q s c h n stage b l l2 k k2)
+    → MetaBefell c (Stops reason) b d
+    → (q : List Question) (s : MetaSettings) (h : History) → MetaAfter q s h a
+    → Stopped q s c h n stage reason d l l2 k k2
+stopped_by c n stage reason a b d l l2 k k2 talk befell q s h x =
+    let t = talk q s h x in
+    record { meta = b; talk = t; after = befell q s (t.more ++ h) t.after }
+
+-- as many reads gave octets as may be made
+pub ends_turned : (c n : ℕ) (a b d : MetaLinks) (l l2 k k2 : DeviceState) → Begun c n Waiting a b l l2 k k2
+    → MetaBefell c (Stops reasons.Turns) b d → stop_at d.pool c ≡ Some (states.Failed reasons.Turns)
+    → Talks c n (Err errors.Turns) a d l l2 k k2
+ends_turned c n a b d l l2 k k2 one befell is = record {
+  on = λ q s h x. stopped_by c n Waiting reasons.Turns a b d l l2 k k2 (λ q s h x. one.on q s h x) befell q s h x;
+  blamed = (one.reader, one.writer);
+  stopped = is;
+}
+
+-- a read failed, or memory was wanting
+pub ends_unheard : (c n turns : ℕ) (a b d : MetaLinks) (l l2 l3 k k2 : DeviceState) → n < turns
+    → Begun c n Waiting a b l l2 k k2 → (e : TalkError) → Listens c (Err e) b d l2 l3
+    → Talks c turns (Err e) a d l l3 k k2
+ends_unheard c n turns a b d l l2 l3 k k2 few one errors.Read h = record {
+  on = λ q s g x. (
+    n,
+    few,
+    stopped_by c n Waiting reasons.Read a b d l l3 k k2 (kept c n Waiting a b l l2 l3 k k2 one h.1) h.0 q s g x,
+  );
+  blamed = (subst (λ z. HasFailed z l3.failures) one.reader h.2, one.writer);
+  stopped = h.3;
+}
+ends_unheard c n turns a b d l l2 l3 k k2 few one errors.Write h = absurd h
+ends_unheard c n turns a b d l l2 l3 k k2 few one errors.Ended h = absurd h
+ends_unheard c n turns a b d l l2 l3 k k2 few one errors.Turns h = absurd h
+ends_unheard c n turns a b d l l2 l3 k k2 few one errors.Memory h = record {
+  on = λ q s g x. record { meta = d; halted = h k2 q s g n l l2 k (one.on q s g x); known = refl; others = λ i far. refl; drivers = refl };
+  blamed = tt;
+  stopped = tt;
+}
+
+-- octets were read
+pub hears_on : (c n : ℕ) (a b d : MetaLinks) (l l2 l3 k k2 : DeviceState) → Begun c n Waiting a b l l2 k k2
+    → (r : Bool) → Listens c (Ok r) b d l2 l3 → r ≡ true → Begun c (n + 1) Due a d l l3 k k2
+hears_on c n a b d l l2 l3 k k2 one true h e =
+    let one_more : suc n ≡ n + 1 = omega arith in
+    subst (λ z. Begun c z Due a d l l3 k k2) one_more (begun_on c n Waiting Due suc a b d l l2 l3 k k2 k2 one (h k2))
+hears_on c n a b d l l2 l3 k k2 one false h e = absurd (true≢false (sym e))
+
+-- ended, and that for the end of its input
+pub cut_off : (state : State) → is_stopped state ≡ true → ended_well state ≡ false → state ≡ states.Failed reasons.Ended
+cut_off states.Fresh over e = absurd (true≢false (sym over))
+cut_off states.Initialising over e = absurd (true≢false (sym over))
+cut_off (states.Ready v3 concurrent named) over e = absurd (true≢false (sym over))
+cut_off states.Closing over e = absurd (true≢false (sym over))
+cut_off states.Closed over e = absurd (true≢false e)
+cut_off (states.Failed reasons.Ended) over e = refl
+cut_off (states.Failed (reasons.Frame kind at)) over e = absurd (true≢false e)
+cut_off (states.Failed (reasons.Decode error)) over e = absurd (true≢false e)
+cut_off (states.Failed (reasons.Refused reason)) over e = absurd (true≢false e)
+cut_off (states.Failed reasons.Connect) over e = absurd (true≢false e)
+cut_off (states.Failed reasons.Read) over e = absurd (true≢false e)
+cut_off (states.Failed reasons.Write) over e = absurd (true≢false e)
+cut_off (states.Failed reasons.Turns) over e = absurd (true≢false e)
+cut_off (states.Failed reasons.Memory) over e = absurd (true≢false e)
+
+-- the input ended
+module _ (c n turns : ℕ) (a b : MetaLinks) (l l2 l3 k k2 : DeviceState) (few : n < turns)
+    (one : Begun c n Waiting a b l l2 k k2) (still : Rests l2 l3) (end : IsAtEnd l3.octets)
+  where
+    at_end : (d : MetaLinks) → GoesAlone c Waiting Ended b d
+        → (q : List Question) (s : MetaSettings) (h : History) → MetaAfter q s h a → Talk q s c h n Ended d l l3 k k2
+    at_end d goes q s h x =
+        (goes l3 k2).on q s h n l k (kept c n Waiting a b l l2 l3 k k2 one still.octets q s h x)
+
+    finished : (d : MetaLinks) (r : Result (Unit {0}) TalkError) → Finishes c r b d → Talks c turns r a d l l3 k k2
+    finished d (Ok u) f = record {
+      on = λ q s h x.
+          let t = at_end d f.0 q s h x in
+          record {
+            reads = n;
+            stage = Ended;
+            talk = t;
+            at = (few, end, λ p heard. sym (f.1 q s (t.more ++ h) p t.after heard));
+            over = t.stands;
+          };
+      blamed = (still.failures ∙ one.reader, one.writer);
+      stopped = tt;
+    }
+    finished d (Err errors.Ended) f = record {
+      on = λ q s h x.
+          let t = at_end f.0.0 f.0.1 q s h x in
+          record {
+            reads = n;
+            few = few;
+            stopped = record { meta = f.0.0; talk = t; after = f.0.3 q s (t.more ++ h) t.after };
+            cut = λ p heard.
+                cut_off (state_at p) (t.stands p heard) (sym (f.0.2 q s (t.more ++ h) p t.after heard));
+          };
+      blamed = (end, still.failures ∙ one.reader, one.writer);
+      stopped = f.1;
+    }
+    finished d (Err errors.Read) f = absurd f
+    finished d (Err errors.Write) f = absurd f
+    finished d (Err errors.Turns) f = absurd f
+    finished d (Err errors.Memory) f = record {
+      on = λ q s h x. record { meta = d; halted = f k2 q s h n l l2 k (one.on q s h x); known = refl; others = λ i far. refl; drivers = refl };
+      blamed = tt;
+      stopped = tt;
+    }
+
+pub ends_finished : (c n turns : ℕ) (a b d g : MetaLinks) (l l2 l3 k k2 : DeviceState) → n < turns
+    → Begun c n Waiting a b l l2 k k2 → (r : Bool) → Listens c (Ok r) b d l2 l3 → r ≡ false
+    → (f : Result (Unit {0}) TalkError) → Finishes c f d g → Talks c turns f a g l l3 k k2
+ends_finished c n turns a b d g l l2 l3 k k2 few one true h e f fin = absurd (true≢false e)
+ends_finished c n turns a b d g l l2 l3 k k2 few one false h e f fin =
+    finished c n turns a b l l2 l3 k k2 few one h.1 h.2 g f (subst (λ z. Finishes c f z g) h.0 fin)
+
+-- memory was wanting, and the connection was stopped for that
+pub ends_starved : (c turns : ℕ) (a b d : MetaLinks) (l l2 k k2 : DeviceState)
+    → Talks c turns (Err errors.Memory) a b l l2 k k2 → d.pool.knowledge ≡ b.pool.knowledge
+    → OthersStay c b.pool d.pool → d.drivers ≡ b.drivers → Talks c turns (Err errors.Memory) a d l l2 k k2
+ends_starved c turns a b d l l2 k k2 t same_known stay same_drivers = record {
+  on = λ q s h x.
+      let starved = t.on q s h x in
+      record {
+        meta = starved.meta;
+        halted = starved.halted;
+        known = same_known ∙ starved.known;
+        others = λ i far. stay i far ∙ starved.others i far;
+        drivers = same_drivers ∙ starved.drivers;
+      };
+  blamed = tt;
+  stopped = tt;
+}
+
+-- ---- the end of the input
+
+-- what was left of it was taken
+pub goes_ended : UpToLaw → OneMeeting → (c : ℕ) (old mid new : MetaLinks) → MetaBefell c Ends old mid
+    → MetaTook c mid new → GoesAlone c Waiting Ended old new
+goes_ended law meeting c old mid new befell took left held = record {
+  on = λ q s h n source sink t.
+      let a : MetaAfter q s ((c, Ends) ∷ (t.more ++ h)) mid = befell q s (t.more ++ h) t.after in
+      record {
+        more = (c, Takes) ∷ (c, Ends) ∷ t.more;
+        read = t.read;
+        written = t.written;
+        follows = ends t.follows;
+        after = took q s ((c, Ends) ∷ (t.more ++ h)) (up q s ((c, Ends) ∷ (t.more ++ h)) a);
+        stands = ends_stopped meeting t.follows refl;
+        came = t.came;
+        went = t.went;
+      };
+  reader = refl;
+  writer = refl;
+}
+  where
+    up : (q : List Question) (s : MetaSettings) (h : History) → MetaAfter q s h mid → MetaAfterUpTo q s c h mid
+    up q s h a = record {
+      fit = a.fit;
+      askable = a.askable;
+      pool = law (settings_of s) c h mid.pool a.pool;
+      driven = a.driven;
+      size = a.size;
+    }
+
+-- what is told of the connection's state
+pub well_tells : UpToLaw → OneHearing → (c : ℕ) (meta : MetaLinks) (state : State) (well : Bool)
+    → c < length meta.pool.connections → IsStateAt c meta.pool state → ended_well state ≡ well → EndedWell c meta well
+well_tells law hearing c meta state well lt is e q s h p a heard =
+    sym e ∙ state_tells law hearing ended_well c meta state lt is q s h p a heard
+
+-- ---- the reason
+
+pub stopped_as : (c : ℕ) (e : TalkError) (new : MetaLinks) → (e ≡ errors.Memory → ⊥) → IsStoppedFor c (Err e) new
+    → stop_at new.pool c ≡ Some (states.Failed (reason_of e))
+stopped_as c errors.Read new other s = s
+stopped_as c errors.Write new other s = s
+stopped_as c errors.Ended new other s = s
+stopped_as c errors.Turns new other s = s
+stopped_as c errors.Memory new other s = absurd (other refl)

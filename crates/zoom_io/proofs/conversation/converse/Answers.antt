@@ -1,0 +1,110 @@
+use Rattle.std.proofs.Common.{◌≡◌, ◌∙◌, ◌<◌, ap, subst, sym, refl, Err, arith, rules}
+use Rattle.std.proofs.lemmas.Result.{err_from_is_err_and}
+use Rattle.zoom_io.specs.Talks.{Talks, Due}
+use Rattle.zoom_io.proofs.Speaking.{Begun, begun}
+use Rattle.zoom_io.proofs.Ending.{ends_over, waits_on, ends_unsettled, ends_turned, ends_unheard, hears_on, ends_finished}
+use Rattle.zoom_io.proofs.conversation.converse.Goals as goal
+
+pub loop-init : goal.loop-init
+loop-init g c =
+    (begun c.args.c c.args.meta.now (g.R.Source.state c.args.source.now) (g.W.Sink.state c.args.sink.now), refl)
+
+pub settle-requires : goal.settle-requires
+settle-requires g c = subst (λ n. c.args.c < n) (sym c.loop.invariant.1) c.requires
+
+pub returns-then-branch : goal.returns-then-branch
+returns-then-branch g c =
+    let few : c.loop.counter < c.args.turns = search rules in
+    record {
+      talks = ends_over c.args.c c.loop.counter c.args.turns c.args.meta.now c.loop.meta c.settle.new.meta
+          (g.R.Source.state c.args.source.now) (g.R.Source.state c.loop.source) (g.W.Sink.state c.args.sink.now)
+          (g.W.Sink.state c.loop.sink) (g.W.Sink.state c.settle.new.sink) (omega (arith, few)) c.loop.invariant.0
+          c.in_ok-settle.field-0 c.in_ok-settle.ensures.settles c.if-branch.true;
+      size = c.settle.ensures.size ∙ c.loop.invariant.1;
+    }
+
+pub returns-in_err-settle-clause-talks : goal.returns-in_err-settle-clause-talks
+returns-in_err-settle-clause-talks g c =
+    let few : c.loop.counter < c.args.turns = search rules in
+    let p = err_from_is_err_and c.from_residual.result c.from_residual.ensures.1 in
+    subst (λ z. Talks c.args.c c.args.turns z c.args.meta.now c.settle.new.meta (g.R.Source.state c.args.source.now)
+    (g.R.Source.state c.loop.source) (g.W.Sink.state c.args.sink.now) (g.W.Sink.state c.settle.new.sink))
+    (sym (p.1 ∙ ap Err p.2))
+    (ends_unsettled c.args.c c.loop.counter c.args.turns c.args.meta.now c.loop.meta c.settle.new.meta
+    (g.R.Source.state c.args.source.now) (g.R.Source.state c.loop.source) (g.W.Sink.state c.args.sink.now)
+    (g.W.Sink.state c.loop.sink) (g.W.Sink.state c.settle.new.sink) (omega (arith, few)) c.loop.invariant.0
+    c.in_err-settle.field-0.0 c.in_err-settle.ensures.settles c.in_err-settle.ensures.stopped)
+
+pub returns-in_err-listen-clause-talks : goal.returns-in_err-listen-clause-talks
+returns-in_err-listen-clause-talks g c =
+    let few : c.loop.counter < c.args.turns = search rules in
+    let p = err_from_is_err_and c.from_residual-in_err-listen.result c.from_residual-in_err-listen.ensures.1 in
+    subst (λ z. Talks c.args.c c.args.turns z c.args.meta.now c.listen.new.meta (g.R.Source.state c.args.source.now)
+    (g.R.Source.state c.listen.new.source) (g.W.Sink.state c.args.sink.now) (g.W.Sink.state c.settle.new.sink))
+    (sym (p.1 ∙ ap Err p.2))
+    (ends_unheard c.args.c c.loop.counter c.args.turns c.args.meta.now c.settle.new.meta c.listen.new.meta
+    (g.R.Source.state c.args.source.now) (g.R.Source.state c.loop.source) (g.R.Source.state c.listen.new.source)
+    (g.W.Sink.state c.args.sink.now) (g.W.Sink.state c.settle.new.sink) few
+    (waits_on c.args.c c.loop.counter c.args.meta.now c.loop.meta c.settle.new.meta (g.R.Source.state c.args.source.now)
+    (g.R.Source.state c.loop.source) (g.W.Sink.state c.args.sink.now) (g.W.Sink.state c.loop.sink)
+    (g.W.Sink.state c.settle.new.sink) c.loop.invariant.0 c.in_ok-settle.field-0 c.in_ok-settle.ensures.settles
+    c.if-branch.false) c.in_err-listen.field-0.0 c.in_err-listen.ensures.listens)
+
+pub returns-then-not-branch-clause-talks : goal.returns-then-not-branch-clause-talks
+returns-then-not-branch-clause-talks g c =
+    let few : c.loop.counter < c.args.turns = search rules in
+    ends_finished c.args.c c.loop.counter c.args.turns c.args.meta.now c.settle.new.meta c.listen.new.meta c.finish.new.meta
+    (g.R.Source.state c.args.source.now) (g.R.Source.state c.loop.source) (g.R.Source.state c.listen.new.source)
+    (g.W.Sink.state c.args.sink.now) (g.W.Sink.state c.settle.new.sink) few
+    (waits_on c.args.c c.loop.counter c.args.meta.now c.loop.meta c.settle.new.meta (g.R.Source.state c.args.source.now)
+    (g.R.Source.state c.loop.source) (g.W.Sink.state c.args.sink.now) (g.W.Sink.state c.loop.sink)
+    (g.W.Sink.state c.settle.new.sink) c.loop.invariant.0 c.in_ok-settle.field-0 c.in_ok-settle.ensures.settles
+    c.if-branch.false) c.in_ok-listen.field-0 c.in_ok-listen.ensures.listens c.if-not-branch.true c.finish.result
+    c.finish.ensures.finishes
+
+pub loop-preserved : goal.loop-preserved
+loop-preserved g c = (
+  hears_on c.args.c c.loop.counter c.args.meta.now c.settle.new.meta c.listen.new.meta
+      (g.R.Source.state c.args.source.now) (g.R.Source.state c.loop.source) (g.R.Source.state c.listen.new.source)
+      (g.W.Sink.state c.args.sink.now) (g.W.Sink.state c.settle.new.sink)
+      (waits_on c.args.c c.loop.counter c.args.meta.now c.loop.meta c.settle.new.meta
+      (g.R.Source.state c.args.source.now) (g.R.Source.state c.loop.source) (g.W.Sink.state c.args.sink.now)
+      (g.W.Sink.state c.loop.sink) (g.W.Sink.state c.settle.new.sink) c.loop.invariant.0 c.in_ok-settle.field-0
+      c.in_ok-settle.ensures.settles c.if-branch.false) c.in_ok-listen.field-0 c.in_ok-listen.ensures.listens
+      c.if-not-branch.false,
+  c.listen.ensures.size ∙ c.settle.ensures.size ∙ c.loop.invariant.1,
+)
+
+pub returns-in_err-settle-2-clause-talks : goal.returns-in_err-settle-2-clause-talks
+returns-in_err-settle-2-clause-talks g c =
+    let all : c.loop.counter ≡ c.args.turns = search rules in
+    let p = err_from_is_err_and c.from_residual-in_err-settle-2.result c.from_residual-in_err-settle-2.ensures.1 in
+    subst (λ z. Talks c.args.c c.args.turns z c.args.meta.now c.settle-2.new.meta (g.R.Source.state c.args.source.now)
+    (g.R.Source.state c.loop.source) (g.W.Sink.state c.args.sink.now) (g.W.Sink.state c.settle-2.new.sink))
+    (sym (p.1 ∙ ap Err p.2))
+    (ends_unsettled c.args.c c.loop.counter c.args.turns c.args.meta.now c.loop.meta c.settle-2.new.meta
+    (g.R.Source.state c.args.source.now) (g.R.Source.state c.loop.source) (g.W.Sink.state c.args.sink.now)
+    (g.W.Sink.state c.loop.sink) (g.W.Sink.state c.settle-2.new.sink) (omega (arith, all)) c.loop.invariant.0
+    c.in_err-settle-2.field-0.0 c.in_err-settle-2.ensures.settles c.in_err-settle-2.ensures.stopped)
+
+pub returns-then-branch-2-clause-talks : goal.returns-then-branch-2-clause-talks
+returns-then-branch-2-clause-talks g c =
+    let all : c.loop.counter ≡ c.args.turns = search rules in
+    ends_over c.args.c c.loop.counter c.args.turns c.args.meta.now c.loop.meta c.settle-2.new.meta
+    (g.R.Source.state c.args.source.now) (g.R.Source.state c.loop.source) (g.W.Sink.state c.args.sink.now)
+    (g.W.Sink.state c.loop.sink) (g.W.Sink.state c.settle-2.new.sink) (omega (arith, all)) c.loop.invariant.0
+    c.in_ok-settle-2.field-0 c.in_ok-settle-2.ensures.settles c.if-branch-2.true
+
+pub returns-clause-talks : goal.returns-clause-talks
+returns-clause-talks g c =
+    let all : c.loop.counter ≡ c.args.turns = search rules in
+    ends_turned c.args.c c.args.turns c.args.meta.now c.settle-2.new.meta c.stop.new.self
+    (g.R.Source.state c.args.source.now) (g.R.Source.state c.loop.source) (g.W.Sink.state c.args.sink.now)
+    (g.W.Sink.state c.settle-2.new.sink)
+    (waits_on c.args.c c.args.turns c.args.meta.now c.loop.meta c.settle-2.new.meta (g.R.Source.state c.args.source.now)
+    (g.R.Source.state c.loop.source) (g.W.Sink.state c.args.sink.now) (g.W.Sink.state c.loop.sink)
+    (g.W.Sink.state c.settle-2.new.sink)
+    (subst (λ n. Begun c.args.c n Due c.args.meta.now c.loop.meta (g.R.Source.state c.args.source.now)
+    (g.R.Source.state c.loop.source) (g.W.Sink.state c.args.sink.now) (g.W.Sink.state c.loop.sink)) all
+    c.loop.invariant.0) c.in_ok-settle-2.field-0
+    c.in_ok-settle-2.ensures.settles c.if-branch-2.false) c.stop.ensures.after c.stop.ensures.stopped

@@ -1,0 +1,10 @@
+use Rattle.std.proofs.Common.{◌≡◌, length}
+use Rattle.zoom_io.specs.Talks.{Due}
+use Rattle.zoom_io.proofs.Speaking.{Begun}
+use Rattle.zoom_io.proofs.conversation.converse.Given as goal
+
+abbrev pub invariant-loop : goal.invariant-loop
+invariant-loop g l =
+    Begun l.c l.counter Due l.initial.meta l.meta (g.R.Source.state l.initial.source) (g.R.Source.state l.source)
+    (g.W.Sink.state l.initial.sink) (g.W.Sink.state l.sink)
+    × (length l.meta.pool.connections ≡ length l.initial.meta.pool.connections)

@@ -1,0 +1,250 @@
+//! One connection's part of talks that go on at once.
+ghost use Rattle.std.specs.Prelude.{◌≡◌, ◌<◌, ◌≤◌, ℕ, ◌+◌, length, if◌then◌else◌, IfOk, OnOk};
+ghost use Rattle.zoom_io.specs.declared.among.Phase.TheVariants as phases;
+ghost use Rattle.zoom_io.specs.Among.{seen, StepsAmong};
+ghost use Rattle.zoom_io.specs.Arrivals.{Arrives, Drains};
+ghost use Rattle.zoom_io.specs.Devices.{raised};
+
+use crate::conversation::{TalkError, finish, settle};
+use crate::device::{Polled, Sink};
+use crate::outgoing::PushError;
+use std::alloc::{AllocError, Global};
+use zoom_pool::{Meta, Reason};
+
+/// The most octets of one poll.
+const PIECE: usize = 4096;
+
+/// Where a talk stands.
+#[derive(Clone, Copy, Debug, PartialEq, Eq)]
+pub enum Phase {
+    /// Calls may be due, and octets may wait to go out: before the talk, and after octets came.
+    Due,
+    /// All that was due is written, and no message is there.
+    Waiting,
+    /// The connection is Closed or Failed.
+    Over,
+}
+
+/// The devices of a connection, and where its talk stands.
+#[derive(Drop)]
+pub struct Ends<R, W> {
+    /// What octets come from.
+    pub source: R,
+    /// What octets go to.
+    pub sink: W,
+    /// Where the talk stands: Due before it.
+    pub phase: Phase,
+}
+
+impl<R, W> Ends<R, W> {
+    /// The devices of a connection that was not talked over yet. It takes no memory.
+    pub fn new(source: R, sink: W) -> Ends<R, W>
+        ensures source { result.source ≡ source }
+        ensures sink { result.sink ≡ sink }
+        ensures phase { result.phase ≡ phases.Due }
+    {
+        Ends {
+            source,
+            sink,
+            phase: Phase::Due,
+        }
+    }
+}
+
+/// What one poll came to.
+#[derive(Clone, Copy, Debug, PartialEq, Eq)]
+pub(crate) enum Arrival {
+    /// Octets came, and were fed to the connection.
+    Octets,
+    /// None came yet.
+    Nothing,
+    /// None are left.
+    End,
+    /// The poll failed, for which the connection was stopped.
+    Failure,
+}
+
+/// How a connection took part in a round.
+#[derive(Clone, Copy, Debug, PartialEq, Eq)]
+pub(crate) enum Part {
+    /// It was not polled.
+    Out,
+    /// It was polled, and no octets came.
+    Idle,
+    /// Octets came.
+    Busy,
+}
+
+/// Polls a source once, and feeds what came to its connection.
+fn arrive<R: Polled>(
+    meta: &mut Meta,
+    c: u32,
+    source: &mut R,
+    wait: bool,
+) -> Result<Arrival, AllocError>
+    requires { c < length meta.old.pool.connections }
+    ensures arrives { IfOk result (λ arrival. Arrives c arrival meta.old meta.new
+        (R.state source.old) (R.state source.new)) }
+    ensures counts { R.polls source.new ≡ raised (R.polls source.old) }
+    ensures size { length meta.new.pool.connections ≡ length meta.old.pool.connections }
+{
+    let mut piece = [0u8; PIECE];
+    match source.poll(&mut piece, wait) {
+        Ok(None) => Ok(Arrival::Nothing),
+        Ok(Some(0)) => Ok(Arrival::End),
+        Ok(Some(count)) => {
+            meta.feed(c, &piece[..count])?;
+            Ok(Arrival::Octets)
+        }
+        Err(_) => {
+            meta.stop(c, Reason::Read);
+            Ok(Arrival::Failure)
+        }
+    }
+}
+
+/// Makes the calls that are due and writes what waits, first and after each message; whether the connection goes on.
+fn settle_ends<R: Polled, W: Sink>(
+    alloc: Global,
+    meta: &mut Meta,
+    c: u32,
+    ends: &mut Ends<R, W>,
+) -> Result<bool, AllocError>
+    requires c { c < length meta.old.pool.connections }
+    requires phase { ends.old.phase ≡ phases.Due }
+    ensures steps { OnOk result ((n turns : ℕ) → n ≤ turns → StepsAmong c n n turns meta.old meta.new
+        (seen R.state R.polls W.state ends.old) (seen R.state R.polls W.state ends.new)) }
+    ensures phase { IfOk result (λ on. ends.new.phase ≡ (if on then phases.Waiting else phases.Over)) }
+    ensures size { length meta.new.pool.connections ≡ length meta.old.pool.connections }
+{
+    match settle(alloc, meta, c, &mut ends.sink) {
+        Ok(false) => {
+            ends.phase = Phase::Waiting;
+            Ok(true)
+        }
+        Ok(true) => {
+            ends.phase = Phase::Over;
+            Ok(false)
+        }
+        Err(error) => match error {
+            PushError::Write => {
+                ends.phase = Phase::Over;
+                Ok(false)
+            }
+            PushError::Memory => Err(AllocError),
+        },
+    }
+}
+
+/// Ends the input of a connection, and takes what is left of it; an error for want of memory.
+fn drain(meta: &mut Meta, c: u32) -> Result<(), AllocError>
+    requires { c < length meta.old.pool.connections }
+    ensures drains { OnOk result (Drains c meta.old meta.new) }
+    ensures size { length meta.new.pool.connections ≡ length meta.old.pool.connections }
+{
+    match finish(meta, c) {
+        Ok(()) => Ok(()),
+        Err(error) => match error {
+            TalkError::Memory => Err(AllocError),
+            _ => Ok(()),
+        },
+    }
+}
+
+/// Polls the source once, and feeds what came; at the end of the input takes what is left of it.
+fn hear_ends<R: Polled, W: Sink>(
+    meta: &mut Meta,
+    c: u32,
+    ends: &mut Ends<R, W>,
+    wait: bool,
+) -> Result<Part, AllocError>
+    requires c { c < length meta.old.pool.connections }
+    requires phase { ends.old.phase ≡ phases.Waiting }
+    ensures steps { OnOk result ((n turns : ℕ) → n < turns → StepsAmong c n (n + 1) turns meta.old meta.new
+        (seen R.state R.polls W.state ends.old) (seen R.state R.polls W.state ends.new)) }
+    ensures size { length meta.new.pool.connections ≡ length meta.old.pool.connections }
+{
+    match arrive(meta, c, &mut ends.source, wait)? {
+        Arrival::Octets => {
+            ends.phase = Phase::Due;
+            Ok(Part::Busy)
+        }
+        Arrival::Nothing => Ok(Part::Idle),
+        Arrival::End => {
+            drain(meta, c)?;
+            ends.phase = Phase::Over;
+            Ok(Part::Idle)
+        }
+        Arrival::Failure => {
+            ends.phase = Phase::Over;
+            Ok(Part::Idle)
+        }
+    }
+}
+
+/// Takes part in a round: what is due is written, and the source is polled once.
+pub(crate) fn take_part<R: Polled, W: Sink>(
+    alloc: Global,
+    meta: &mut Meta,
+    c: u32,
+    ends: &mut Ends<R, W>,
+    wait: bool,
+) -> Result<Part, AllocError>
+    requires { c < length meta.old.pool.connections }
+    ensures steps { OnOk result ((n turns : ℕ) → n < turns → StepsAmong c n (n + 1) turns meta.old meta.new
+        (seen R.state R.polls W.state ends.old) (seen R.state R.polls W.state ends.new)) }
+    ensures size { length meta.new.pool.connections ≡ length meta.old.pool.connections }
+{
+    match ends.phase {
+        Phase::Over => Ok(Part::Out),
+        Phase::Waiting => hear_ends(meta, c, ends, wait),
+        Phase::Due => {
+            if settle_ends(alloc, meta, c, ends)? {
+                hear_ends(meta, c, ends, wait)
+            } else {
+                Ok(Part::Out)
+            }
+        }
+    }
+}
+
+/// Stops a connection that was polled as many times as it may be.
+fn turn_out<R: Polled, W: Sink>(meta: &mut Meta, c: u32, ends: &mut Ends<R, W>)
+    requires c { c < length meta.old.pool.connections }
+    requires phase { ends.old.phase ≡ phases.Waiting }
+    ensures steps { (n : ℕ) → StepsAmong c n n n meta.old meta.new
+        (seen R.state R.polls W.state ends.old) (seen R.state R.polls W.state ends.new) }
+    ensures phase { ends.new.phase ≡ phases.Over }
+    ensures size { length meta.new.pool.connections ≡ length meta.old.pool.connections }
+{
+    meta.stop(c, Reason::Turns);
+    ends.phase = Phase::Over;
+}
+
+/// Takes leave: what is due is written, and the connection is then stopped where it is not over.
+pub(crate) fn take_leave<R: Polled, W: Sink>(
+    alloc: Global,
+    meta: &mut Meta,
+    c: u32,
+    ends: &mut Ends<R, W>,
+) -> Result<(), AllocError>
+    requires { c < length meta.old.pool.connections }
+    ensures steps { OnOk result ((n : ℕ) → StepsAmong c n n n meta.old meta.new
+        (seen R.state R.polls W.state ends.old) (seen R.state R.polls W.state ends.new)) }
+    ensures phase { OnOk result (ends.new.phase ≡ phases.Over) }
+    ensures size { length meta.new.pool.connections ≡ length meta.old.pool.connections }
+{
+    match ends.phase {
+        Phase::Over => Ok(()),
+        Phase::Waiting => {
+            turn_out(meta, c, ends);
+            Ok(())
+        }
+        Phase::Due => {
+            if settle_ends(alloc, meta, c, ends)? {
+                turn_out(meta, c, ends);
+            }
+            Ok(())
+        }
+    }
+}

@@ -1,0 +1,218 @@
+//! A connection is driven over devices until it ends.
+ghost use Rattle.std.specs.Prelude.{◌≡◌, ◌<◌, length, Some, IfErr, OnOk, OnErr};
+ghost use Rattle.zoom_pool.specs.declared.state.State.TheVariants as states;
+ghost use Rattle.zoom_pool.specs.Links.{stop_at};
+ghost use Rattle.zoom_pool.specs.Metas.{MetaTook, MetaKeeps};
+ghost use Rattle.zoom_io.specs.declared.conversation.TalkError.TheVariants as errors;
+ghost use Rattle.zoom_io.specs.Pushes.{IsBroken};
+ghost use Rattle.zoom_io.specs.Talks.{Talks, ended_well, reason_of};
+ghost use Rattle.zoom_io.specs.Talking.{talk_error, Settles, Listens, Finishes};
+
+use crate::device::{Sink, Source};
+use crate::outgoing::PushError;
+use crate::turns::{Turn, take_turn};
+use std::alloc::{AllocError, Global};
+use thiserror::Error;
+use zoom_pool::laws::{one_hearing, one_meeting, up_to};
+use zoom_pool::{Meta, Reason, State, TakeError};
+
+/// The most octets of one read.
+const PIECE: usize = 4096;
+
+/// Why a talk ended before the connection did. The connection has then failed for this reason, and what is known is
+/// what the last take left.
+#[derive(Clone, Copy, Debug, PartialEq, Eq, Error)]
+pub enum TalkError {
+    /// The reader failed.
+    #[error("the reader failed")]
+    Read,
+    /// The writer failed. How much of what waited went out is not known.
+    #[error("the writer failed")]
+    Write,
+    /// The input ended behind a whole message, and the connection was not Closing.
+    #[error("the input ended")]
+    Ended,
+    /// So many reads were made, and the connection did not end.
+    #[error("too many reads")]
+    Turns,
+    /// No memory was found.
+    #[error("out of memory")]
+    Memory,
+}
+
+impl From<AllocError> for TalkError {
+    ghost from_gives = { λ _ e. e ≡ errors.Memory };
+
+    fn from(_: AllocError) -> TalkError {
+        TalkError::Memory
+    }
+}
+
+impl From<PushError> for TalkError {
+    ghost from_gives = { λ error e. e ≡ talk_error error };
+
+    fn from(error: PushError) -> TalkError {
+        match error {
+            PushError::Write => TalkError::Write,
+            PushError::Memory => TalkError::Memory,
+        }
+    }
+}
+
+/// Makes the calls that are due and writes what waits, first and after each message; whether the connection was
+/// stopped, or else no message is there.
+pub(crate) fn settle<W: Sink>(
+    alloc: Global,
+    meta: &mut Meta,
+    c: u32,
+    sink: &mut W,
+) -> Result<bool, PushError>
+    requires { c < length meta.old.pool.connections }
+    ensures settles { Settles c result meta.old meta.new (W.state sink.old) (W.state sink.new) }
+    ensures stopped { IsBroken c result meta.new }
+    ensures size { length meta.new.pool.connections ≡ length meta.old.pool.connections }
+{
+    up_to();
+    for _ in 0..u64::MAX {
+        match take_turn(alloc, meta, c, sink)? {
+            Turn::Message => {}
+            Turn::Nothing => return Ok(false),
+            Turn::Over => return Ok(true),
+        }
+    }
+    // more messages than memory holds
+    Err(PushError::Memory)
+}
+
+/// Reads a piece of octets, and feeds it to the connection; `false` where none are left.
+fn listen<R: Source>(meta: &mut Meta, c: u32, source: &mut R) -> Result<bool, TalkError>
+    requires { c < length meta.old.pool.connections }
+    ensures listens { Listens c result meta.old meta.new (R.state source.old) (R.state source.new) }
+    ensures size { length meta.new.pool.connections ≡ length meta.old.pool.connections }
+{
+    up_to();
+    let mut piece = [0u8; PIECE];
+    match source.read(&mut piece) {
+        Ok(0) => Ok(false),
+        Ok(count) => {
+            meta.feed(c, &piece[..count])?;
+            Ok(true)
+        }
+        Err(_) => {
+            meta.stop(c, Reason::Read);
+            Err(TalkError::Read)
+        }
+    }
+}
+
+/// Whether the connection ended, and not for the end of its input.
+fn ended_well(state: State) -> bool
+    ensures { result ≡ ended_well state }
+{
+    match state {
+        State::Closed => true,
+        State::Failed(reason) => reason != Reason::Ended,
+        _ => false,
+    }
+}
+
+/// Takes what is left of the input; an error for want of memory.
+fn take_last(meta: &mut Meta, c: u32) -> Result<(), AllocError>
+    requires { c < length meta.old.pool.connections }
+    ensures took { OnOk result (MetaTook c meta.old meta.new) }
+    ensures keeps { OnErr result (MetaKeeps c meta.old meta.new) }
+    ensures size { length meta.new.pool.connections ≡ length meta.old.pool.connections }
+{
+    match meta.take(c) {
+        Ok(_) => Ok(()),
+        Err(error) => match error {
+            TakeError::Memory => Err(AllocError),
+            _ => Ok(()),
+        },
+    }
+}
+
+/// Ends the input of a connection, and takes what is left of it.
+pub(crate) fn finish(meta: &mut Meta, c: u32) -> Result<(), TalkError>
+    requires { c < length meta.old.pool.connections }
+    ensures finishes { Finishes c result meta.old meta.new }
+    ensures size { length meta.new.pool.connections ≡ length meta.old.pool.connections }
+{
+    up_to();
+    one_hearing();
+    one_meeting();
+    meta.end(c);
+    take_last(meta, c)?;
+    if ended_well(meta.state(c)) {
+        return Ok(());
+    }
+    meta.stop(c, Reason::Ended);
+    Err(TalkError::Ended)
+}
+
+/// Drives a connection over its devices until it ends, or something fails.
+fn converse<R: Source, W: Sink>(
+    alloc: Global,
+    meta: &mut Meta,
+    c: u32,
+    source: &mut R,
+    sink: &mut W,
+    turns: u32,
+) -> Result<(), TalkError>
+    requires { c < length meta.old.pool.connections }
+    ensures talks { Talks c turns result meta.old meta.new (R.state source.old) (R.state source.new)
+        (W.state sink.old) (W.state sink.new) }
+    ensures size { length meta.new.pool.connections ≡ length meta.old.pool.connections }
+{
+    for _ in 0..turns {
+        if settle(alloc, meta, c, sink)? {
+            return Ok(());
+        }
+        if !listen(meta, c, source)? {
+            return finish(meta, c);
+        }
+    }
+    if settle(alloc, meta, c, sink)? {
+        return Ok(());
+    }
+    meta.stop(c, Reason::Turns);
+    Err(TalkError::Turns)
+}
+
+/// Drives a connection over its devices (Z39.50-2003, 3.2) until it is Closed or Failed: makes the calls that are due,
+/// writes what waits, and takes the messages that are there, doing the first two again after each; then reads up to
+/// 4,096 octets, at most so many times, and goes on. A reader that has none left ends the connection's input.
+///
+/// `Ok` where the connection is Closed, or failed for its messages, or was stopped before. What was read is what it was
+/// fed, and all that it sent was written. Else the connection has failed for the reason that is answered. `Memory`
+/// aside it reads no more often than that, and no second call of a device fails.
+///
+/// Refusals: `Read` and `Write`, where that device failed, and the other did not; `Ended`, where the input ended behind
+/// a whole message and the connection was not Closing; `Turns`, where that many reads gave octets, and the connection
+/// did not end after them; `Memory`, where what is known is what the messages taken say, and perhaps a part of what the
+/// next one says. Whatever is answered, nothing befalls the other connections.
+pub fn talk<R: Source, W: Sink>(
+    alloc: Global,
+    meta: &mut Meta,
+    c: u32,
+    source: &mut R,
+    sink: &mut W,
+    turns: u32,
+) -> Result<(), TalkError>
+    requires { c < length meta.old.pool.connections }
+    ensures talks { Talks c turns result meta.old meta.new (R.state source.old) (R.state source.new)
+        (W.state sink.old) (W.state sink.new) }
+    ensures stopped { IfErr result (λ e. stop_at meta.new.pool c ≡ Some (states.Failed (reason_of e))) }
+    ensures size { length meta.new.pool.connections ≡ length meta.old.pool.connections }
+{
+    match converse(alloc, meta, c, source, sink, turns) {
+        Ok(()) => Ok(()),
+        Err(error) => match error {
+            TalkError::Memory => {
+                meta.stop(c, Reason::Memory);
+                Err(TalkError::Memory)
+            }
+            _ => Err(error),
+        },
+    }
+}

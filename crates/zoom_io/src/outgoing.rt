@@ -1,0 +1,66 @@
+//! What waits to go out on a connection is written to a device.
+ghost use Rattle.std.specs.Prelude.{◌≡◌, ◌<◌, [], length, OnOk};
+ghost use Rattle.zoom_pool.specs.Links.{waiting_at};
+ghost use Rattle.zoom_io.specs.declared.outgoing.PushError.TheVariants as errors;
+ghost use Rattle.zoom_io.specs.Devices.{WritesAll};
+ghost use Rattle.zoom_io.specs.Pushes.{Pushes, IsBroken};
+
+use crate::device::{Failed, Sink};
+use std::alloc::{AllocError, Global};
+use thiserror::Error;
+use zoom_pool::{Meta, Reason};
+
+/// Why what waited was not written.
+#[derive(Clone, Copy, Debug, PartialEq, Eq, Error)]
+pub enum PushError {
+    /// The device failed: the connection has then failed for that reason, and how much of what waited went out is not
+    /// known.
+    #[error("the device failed")]
+    Write,
+    /// No memory was found: nothing was written or forgotten.
+    #[error("out of memory")]
+    Memory,
+}
+
+impl From<AllocError> for PushError {
+    ghost from_gives = { λ _ e. e ≡ errors.Memory };
+
+    fn from(_: AllocError) -> PushError {
+        PushError::Memory
+    }
+}
+
+/// Writes all the octets, in as many calls as the device wants.
+pub(crate) fn write_all<W: Sink>(sink: &mut W, octets: &[u8]) -> Result<(), Failed>
+    ensures { WritesAll (W.state sink.old) (W.state sink.new) octets.now result }
+{
+    let mut rest = octets;
+    while !rest.is_empty() {
+        let count = sink.write(rest)?;
+        rest = &rest[count..];
+    }
+    Ok(())
+}
+
+/// Writes what waits to go out on a connection: each octet is written once, and then nothing waits.
+///
+/// Refusals: `Write`, where the device failed; the connection has then failed for that reason. `Memory`; nothing was
+/// written or forgotten then.
+pub fn push<W: Sink>(alloc: Global, meta: &mut Meta, c: u32, sink: &mut W) -> Result<(), PushError>
+    requires { c < length meta.old.pool.connections }
+    ensures pushes { Pushes c result meta.old meta.new (W.state sink.old) (W.state sink.new) }
+    ensures none { OnOk result (waiting_at meta.new.pool c ≡ []) }
+    ensures stopped { IsBroken c result meta.new }
+    ensures known { meta.new.pool.knowledge ≡ meta.old.pool.knowledge }
+    ensures size { length meta.new.pool.connections ≡ length meta.old.pool.connections }
+{
+    let mut octets = Vec::new(alloc);
+    meta.outgoing(c, &mut octets)?;
+    match write_all(sink, &octets) {
+        Ok(()) => Ok(()),
+        Err(_) => {
+            meta.stop(c, Reason::Write);
+            Err(PushError::Write)
+        }
+    }
+}

@@ -1,0 +1,7 @@
+pub mod Owing
+pub mod Sent
+pub mod Standings
+pub mod Members
+pub mod Presents
+pub mod Replied
+pub mod Brought

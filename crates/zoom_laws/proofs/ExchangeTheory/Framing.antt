@@ -1,0 +1,161 @@
+-- Octets that are the encodings of APDUs begin with these, and with nothing else.
+use Rattle.std.proofs.Common.{◌≡◌, ℕ, List, [], ◌∷◌, ◌++◌, length, reverse, refl, sym, ap, subst, ◌∙◌, append_assoc, arith}
+use Rattle.std.specs.List.{flat_map}
+use Rattle.std.proofs.lemmas.List.{reverse-append}
+use Rattle.zber.specs.declared.fault.FaultKind.{FaultKind}
+use Rattle.zber.specs.Elements.{Element}
+use Rattle.zber.specs.Spelling.{Begins}
+use Rattle.zber.specs.Shown.{Shows}
+use Rattle.zber.specs.Laws.{Gave, nothing, one}
+use Rattle.zber.proofs.OneOutcome.{one_message, message_or_fault}
+use Rattle.zber.proofs.Stays.{fault_stays}
+use Rattle.zapdu.specs.declared.apdu.Apdu.{Apdu}
+use Rattle.zapdu.specs.declared.apdu.ApduError.{ApduError}
+use Rattle.zapdu.specs.declared.apdu.ApduError.TheVariants as decode
+use Rattle.zapdu.specs.Writes.{Writes}
+use Rattle.zapdu.proofs.Decoding.{one_value}
+use Rattle.zapdu.proofs.Refusals.{one_refusal}
+use Rattle.zorigin.specs.Sending.{encoding_of, sent_of, IsReadBack}
+use Rattle.zoom_pool.specs.Coming.{Met, Stopped, Message, Foreign, Fault, Rest, Nothing, IsForeign, AreMetAs}
+use Rattle.zber.specs.declared.framer.TheConstants.{MESSAGE_LIMIT}
+use Rattle.zoom_pool.specs.Hosts as hosts
+use Rattle.zoom_pool.specs.Hosts.{Holdings, Received}
+use Rattle.zoom_pool.proofs.Meetings.{none_begins}
+use Rattle.zoom_pool.proofs.Streams.{begins_longer}
+use Rattle.zoom_pool.specs.Leaving.{AreReadBack}
+
+-- the encodings begin with this element, which the first of the APDUs is written as
+pub record IsNext (vs : List Apdu) (e : Element) (rest : List ℕ) : Type 0 where
+  pub first : Apdu
+  pub others : List Apdu
+  pub are : vs ≡ first ∷ others
+  pub writes : Writes first e
+  pub rest_is : rest ≡ flat_map encoding_of others
+  pub read : AreReadBack others
+
+pub next_is : (vs : List Apdu) (xs rest : List ℕ) (e : Element) → AreReadBack vs → xs ≡ flat_map encoding_of vs
+    → Begins MESSAGE_LIMIT xs e rest → IsNext vs e rest
+next_is [] xs rest e all is b = absurd (none_begins e rest (subst (λ z. Begins MESSAGE_LIMIT z e rest) is b))
+next_is (v ∷ vs) xs rest e all is b =
+    let mine : IsReadBack (sent_of v) = all.0 in
+    let behind = flat_map encoding_of vs in
+    let same = one_message MESSAGE_LIMIT (encoding_of v ++ behind) e mine.element rest behind
+    (subst (λ z. Begins MESSAGE_LIMIT z e rest) is b) (mine.framed behind) in
+    record {
+      first = v;
+      others = vs;
+      are = refl;
+      writes = subst (λ z. Writes v z) (sym same.0) mine.stands;
+      rest_is = same.1;
+      read = all.1;
+    }
+
+-- ---- so many messages
+
+-- the messages are the front of the APDUs, and the others are behind them
+pub record IsCut (vs : List Apdu) (es : List Element) (rest : List ℕ) : Type 0 where
+  pub front : List Apdu
+  pub others : List Apdu
+  pub are : vs ≡ front ++ others
+  pub count : length front ≡ length es
+  pub rest_is : rest ≡ flat_map encoding_of others
+  pub read : AreReadBack others
+
+pub cut_by : {xs rest : List ℕ} {es : List Element} (vs : List Apdu) → AreReadBack vs → xs ≡ flat_map encoding_of vs
+    → Gave MESSAGE_LIMIT xs es rest → IsCut vs es rest
+cut_by vs all is nothing = record { front = []; others = vs; are = refl; count = refl; rest_is = is; read = all }
+cut_by vs all is (one {xs = xs} {rest = rest} {e = e} {es = es} b g) =
+    let n = next_is vs xs rest e all is b in
+    let c = cut_by n.others n.read n.rest_is g in
+    record {
+      front = n.first ∷ c.front;
+      others = c.others;
+      are = n.are ∙ ap (λ z. n.first ∷ z) c.are;
+      count = omega (arith, c.count);
+      rest_is = c.rest_is;
+      read = c.read;
+    }
+
+-- ---- what a target received
+
+pub record IsReceived (vs received : List Apdu) (rest : List ℕ) : Type 0 where
+  pub front : List Apdu
+  pub others : List Apdu
+  pub are : vs ≡ front ++ others
+  pub turned : received ≡ reverse front
+  pub rest_is : rest ≡ flat_map encoding_of others
+  pub read : AreReadBack others
+
+pub received_cut : {holdings : Holdings} {stream : List ℕ} {received : List Apdu} {rest : List ℕ} (vs : List Apdu)
+    → AreReadBack vs → stream ≡ flat_map encoding_of vs → Received holdings stream received rest
+    → IsReceived vs received rest
+received_cut vs all is hosts.nothing =
+    record { front = []; others = vs; are = refl; turned = refl; rest_is = is; read = all }
+received_cut vs all is (hosts.message {received = received} {rest = rest} {last = last} {e = e} {v = v} r b w t) =
+    let c = received_cut vs all is r in
+    let n = next_is c.others rest last e c.read c.rest_is b in
+    let same : v ≡ n.first = one_value v n.first e w n.writes in
+    record {
+      front = c.front ++ n.first ∷ [];
+      others = n.others;
+      are = c.are ∙ ap (λ z. c.front ++ z) n.are ∙ sym (append_assoc c.front (n.first ∷ []) n.others);
+      turned = ap (λ z. z ∷ received) same ∙ ap (λ z. n.first ∷ z) c.turned ∙ sym
+          (reverse-append c.front (n.first ∷ []));
+      rest_is = n.rest_is;
+      read = n.read;
+    }
+
+-- the newest first
+pub turned_cut : (vs received : List Apdu) (rest : List ℕ) (c : IsReceived vs received rest)
+    → reverse vs ≡ reverse c.others ++ received
+turned_cut vs received rest c =
+    ap reverse c.are ∙ reverse-append c.front c.others ∙ ap (λ z. reverse c.others ++ z) (sym c.turned)
+
+-- ---- what is met
+
+-- an APDU that is met is the first of them, and neither a fault is met nor a message that is no APDU
+abbrev pub IsMetOf : List Apdu → Met → Type 0
+IsMetOf vs (Message v) = (others : List Apdu) × (vs ≡ v ∷ others)
+IsMetOf vs (Foreign error) = ⊥
+IsMetOf vs (Fault kind at) = ⊥
+IsMetOf vs _ = Unit {0}
+
+-- an element that is refused is written of no APDU
+pub written_foreign : (v : Apdu) (e : Element) (error : ApduError) → Writes v e → IsForeign e error → ⊥
+written_foreign v e decode.NotApdu w f = one_refusal.written v e w f
+written_foreign v e (decode.Malformed kind at) w f = f.0 v w
+written_foreign v e decode.Memory w f = f
+
+no_fault : (vs : List Apdu) (xs : List ℕ) (kind : FaultKind) (at : ℕ) → AreReadBack vs → xs ≡ flat_map encoding_of vs
+    → Shows MESSAGE_LIMIT xs kind at → ⊥
+no_fault [] xs kind at all is f = absurd (omega (arith, f.some, ap length is))
+no_fault (v ∷ vs) xs kind at all is f =
+    let mine : IsReadBack (sent_of v) = all.0 in
+    let behind = flat_map encoding_of vs in
+    message_or_fault MESSAGE_LIMIT (encoding_of v ++ behind) mine.element behind kind at (mine.framed behind)
+    (subst (λ z. Shows MESSAGE_LIMIT z kind at) is f)
+
+pub met_is : (vs : List Apdu) (rest more : List ℕ) (met : Met) → AreReadBack vs → rest ++ more ≡ flat_map encoding_of vs
+    → AreMetAs rest met → IsMetOf vs met
+met_is vs rest more Stopped all is m = tt
+met_is vs rest more (Message v) all is m =
+    let n = next_is vs (rest ++ more) (m.rest ++ more) m.element all is
+    (begins_longer rest m.rest more m.element m.begins) in
+    (n.others, n.are ∙ ap (λ z. z ∷ n.others) (one_value n.first v m.element n.writes m.read))
+met_is vs rest more (Foreign error) all is m =
+    let n = next_is vs (rest ++ more) (m.rest ++ more) m.element all is
+    (begins_longer rest m.rest more m.element m.begins) in
+    written_foreign n.first m.element error n.writes m.read
+met_is vs rest more (Fault kind at) all is m = no_fault vs (rest ++ more) kind at all is
+    (fault_stays MESSAGE_LIMIT rest more kind at m)
+met_is vs rest more (Rest n) all is m = tt
+met_is vs rest more Nothing all is m = tt
+
+-- encodings that begin with no message are none
+pub all_taken : (vs : List Apdu) (xs : List ℕ) → AreReadBack vs → xs ≡ flat_map encoding_of vs
+    → ((e : Element) (rest : List ℕ) → Begins MESSAGE_LIMIT xs e rest → ⊥) → vs ≡ []
+all_taken [] xs all is none = refl
+all_taken (v ∷ vs) xs all is none =
+    let mine : IsReadBack (sent_of v) = all.0 in
+    let behind = flat_map encoding_of vs in
+    absurd (none mine.element behind (subst (λ z. Begins MESSAGE_LIMIT z mine.element behind) (sym is) (mine.framed behind)))

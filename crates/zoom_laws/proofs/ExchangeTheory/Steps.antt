@@ -1,0 +1,395 @@
+-- What is done keeps a connection and a host sound.
+use Rattle.std.proofs.Common.{◌≡◌, ◌⊎◌, inl, inr, ℕ, suc, Bool, true, false, cond, is_some, List, [], ◌∷◌, ◌++◌, reverse, Option, None, Some, Ok, refl, sym, ap, subst, ◌∙◌, append_assoc, append-nil, length-append, true≢false, arith}
+use Rattle.std.specs.Prelude.{Contains, IsPermutation, ◌||◌}
+use Rattle.std.specs.List.{flat_map, list_any}
+use Rattle.std.proofs.lemmas.List.{reverse-append}
+use Rattle.std.proofs.lemmas.List.Concat.{flat_map-append}
+use Rattle.std.proofs.lemmas.List.Elements.{Contains-append_left, Contains-append_right}
+use Rattle.zapdu.specs.declared.apdu.Apdu.{Apdu}
+use Rattle.zorigin.specs.declared.settings.Settings.{Settings}
+use Rattle.zorigin.specs.declared.answer.Taken.{Taken}
+use Rattle.zorigin.specs.declared.answer.Taken.TheVariants as taken
+use Rattle.zorigin.specs.declared.refusal.CallRefused.{CallRefused}
+use Rattle.zorigin.specs.Standings.{Call}
+use Rattle.zorigin.specs.Calls.{refusal}
+use Rattle.zorigin.specs.Replies.{verdict}
+use Rattle.zorigin.specs.Sending.{encoding_of, request_of}
+use Rattle.zorigin.specs.Log.{Made, Got, Past, standing, state_of, opening, request_list, admit_unless, after_verdict, is_close_call, is_init_call}
+use Rattle.zorigin.proofs.Members.{contained}
+use Rattle.zorigin.proofs.Accepting.{accepted_so}
+use Rattle.ztarget.specs.declared.database.Database.{Database}
+use Rattle.ztarget.specs.declared.settings.TargetSettings.{TargetSettings}
+use Rattle.zoom_pool.specs.States.{state_as, is_stopped, or_else}
+use Rattle.zoom_pool.specs.Coming.{Met, Stopped, Message, Foreign, Fault, Rest, Nothing, IsBehind, AreMetAs}
+use Rattle.zoom_pool.specs.Heard.{Deed, Calls, Feeds, Takes, Gives, Heard, HasHeard, Meets, past_of, state_at, take_at, heed, end_by, stop_by, truncated, hears_call}
+use Rattle.zoom_pool.specs.Hosts.{HostState, Holdings, HostAfter, HasReceived, IsStopping, Event, Fed, Released, HandedOut, Served, HasServed, Hears, Ignores, Sends}
+use Rattle.zoom_pool.proofs.Hosts.{messages_longer}
+use Rattle.zoom_laws.specs.Accord.{requests, replies_due, AreTaken, AccordLaws}
+use Rattle.zoom_pool.specs.Leaving.{AreReadBack}
+use Rattle.zoom_pool.proofs.Calling.{read_append}
+use Rattle.zoom_laws.specs.Exchange.{IsSound, got_in, fed_to, StartsLaw, CallsLaw, GivesLaw, HostFedLaw, HandedLaw, FedLaw, TakesLaw, ReleasedLaw}
+use Rattle.zoom_laws.proofs.ExchangeTheory.Logs.{accepted_got}
+use Rattle.zoom_laws.proofs.ExchangeTheory.States.{closed_so}
+use Rattle.zoom_laws.proofs.ExchangeTheory.Framing.{received_cut, turned_cut, IsMetOf, met_is}
+use Rattle.zoom_laws.proofs.ExchangeTheory.Events.{no_both, one_served}
+use Rattle.zoom_laws.proofs.ExchangeTheory.Sounds.{stream_is, due, put_owed, converses, coming_is}
+
+pub starts : StartsLaw
+starts holdings settings host a = record {
+  heard = refl;
+  served = a;
+  plain = tt;
+  to = [];
+  sends = refl;
+  from = [];
+  comes = refl;
+  goes = refl;
+  goes_on = refl;
+  sound = refl;
+  serves = ap (λ z. z.stopped) a.happened;
+  coming = [];
+  got = ap (λ z. z.sent) a.happened;
+  count = refl;
+  asks = tt;
+  answers = subst AreReadBack (sym (ap (λ z. z.sent) a.happened)) tt;
+}
+
+-- ---- calls
+
+-- what a call adds to what was sent
+pub record IsCalled (p q : Past) : Type 0 where
+  pub more : List Apdu
+  pub sent : q.sent ≡ p.sent ++ more
+  pub fault : q.fault ≡ p.fault
+
+pub called : (p : Past) (call : Call) (o : Option CallRefused) → IsCalled p (admit_unless p call o)
+called p call None = record { more = request_list (request_of (standing p) call); sent = refl; fault = refl }
+called p call (Some reason) = record { more = []; sent = sym (append-nil p.sent); fault = refl }
+
+pub calls : CallsLaw
+calls holdings settings deeds p events host call s reads =
+    let q : Heard = record p { log = Made call ∷ p.log } in
+    let is : hears_call p call ≡ q = ap (λ o. cond (is_some o) p q) s.goes in
+    let c = called (past_of p) call (refusal (standing (past_of p)) call) in
+    let now : IsSound holdings settings (Calls call ∷ deeds) q events host = record {
+      heard = (p, s.heard, sym is);
+      served = s.served;
+      plain = s.plain;
+      to = s.to ++ flat_map encoding_of c.more;
+      sends = sym (append_assoc (fed_to events) s.to (flat_map encoding_of c.more))
+          ∙ ap (λ z. z ++ flat_map encoding_of c.more) s.sends
+          ∙ sym (flat_map-append encoding_of (past_of p).sent c.more) ∙ ap (λ z. flat_map encoding_of z) (sym c.sent);
+      from = s.from;
+      comes = s.comes;
+      goes = s.goes;
+      goes_on = s.goes_on;
+      sound = c.fault ∙ s.sound;
+      serves = s.serves;
+      coming = s.coming;
+      got = s.got;
+      count = s.count;
+      asks = subst (λ z. AreReadBack (past_of z).sent) is reads;
+      answers = s.answers;
+    } in
+    subst (λ z. IsSound holdings settings (Calls call ∷ deeds) z events host) (sym is) now
+
+-- ---- deeds that leave the connection as it was
+
+still : (holdings : Holdings) (settings : Settings) (deeds more : List Deed) (p : Heard) (events : List Event)
+    (host : HostState) → HasHeard settings more p → IsSound holdings settings deeds p events host
+    → IsSound holdings settings more p events host
+still holdings settings deeds more p events host heard s = record {
+  heard = heard;
+  served = s.served;
+  plain = s.plain;
+  to = s.to;
+  sends = s.sends;
+  from = s.from;
+  comes = s.comes;
+  goes = s.goes;
+  goes_on = s.goes_on;
+  sound = s.sound;
+  serves = s.serves;
+  coming = s.coming;
+  got = s.got;
+  count = s.count;
+  asks = s.asks;
+  answers = s.answers;
+}
+
+pub gives : GivesLaw
+gives holdings settings deeds p events host octets s =
+    still holdings settings deeds (Gives octets ∷ deeds) p events host (p, s.heard, refl) s
+
+-- ---- octets that come to the connection
+
+module _ (holdings : Holdings) (settings : Settings) (deeds : List Deed) (p : Heard) (events : List Event)
+    (host : HostState)
+    (piece rest : List ℕ) (s : IsSound holdings settings deeds p events host) (cut : s.from ≡ piece ++ rest) where
+  abbrev longer : Heard
+  longer = record p { stream = p.stream ++ piece }
+
+  fed_by : (b : Bool) → (is_stopped (state_at p) || p.ended) ≡ b
+      → IsSound holdings settings (Feeds piece ∷ deeds) (cond b p longer) events host
+  fed_by true e =
+      still holdings settings deeds (Feeds piece ∷ deeds) p events host
+      (p, s.heard, ap (λ b. cond b p longer) (sym e)) s
+  fed_by false e = record {
+    heard = (p, s.heard, ap (λ b. cond b p longer) (sym e));
+    served = s.served;
+    plain = s.plain;
+    to = s.to;
+    sends = s.sends;
+    from = rest;
+    comes = append_assoc p.stream piece rest ∙ ap (λ z. p.stream ++ z) (sym cut) ∙ s.comes;
+    goes = s.goes;
+    goes_on = s.goes_on;
+    sound = s.sound;
+    serves = s.serves;
+    coming = s.coming;
+    got = s.got;
+    count = s.count;
+    asks = s.asks;
+    answers = s.answers;
+  }
+
+pub fed : FedLaw
+fed holdings settings deeds p events host piece rest s cut =
+    fed_by holdings settings deeds p events host piece rest s cut (is_stopped (state_at p) || p.ended) refl
+
+-- ---- the host
+
+taken_behind : (databases : List Database) (target : TargetSettings) (later received : List Apdu)
+    → AreTaken databases target (later ++ received) → AreTaken databases target received
+taken_behind databases target [] received t = t
+taken_behind databases target (v ∷ later) received t = taken_behind databases target later received t.1
+
+module _ (holdings : Holdings) (settings : Settings) (deeds : List Deed) (p : Heard) (events : List Event)
+    (host : HostState)
+    (s : IsSound holdings settings deeds p events host) where
+  same_served : (q : Served) → HasServed holdings events q → q ≡ s.served.served
+  same_served q h = one_served holdings events q s.served.served s.plain h s.served.happened
+
+  handed_on : (later : HostState) → HostAfter holdings (HandedOut host.waiting ∷ events) later
+      → IsSound holdings settings deeds p (HandedOut host.waiting ∷ events) later
+  handed_on later a =
+      let same : a.served ≡ s.served.served = a.happened.2 ∙ same_served a.happened.0 a.happened.1 in
+      record {
+        heard = s.heard;
+        served = a;
+        plain = s.plain;
+        to = s.to;
+        sends = s.sends;
+        from = s.from ++ host.waiting;
+        comes = sym (append_assoc p.stream s.from host.waiting) ∙ ap (λ z. z ++ host.waiting) s.comes;
+        goes = s.goes;
+        goes_on = s.goes_on;
+        sound = s.sound;
+        serves = ap (λ z. z.stopped) same ∙ s.serves;
+        coming = s.coming;
+        got = ap (λ z. z.sent) same ∙ s.got;
+        count = s.count;
+        asks = s.asks;
+        answers = subst AreReadBack (sym (ap (λ z. z.sent) same)) s.answers;
+      }
+
+  put_on : (k : ℕ) (later : HostState) → HostAfter holdings (Released k ∷ events) later
+      → IsSound holdings settings deeds p (Released k ∷ events) later
+  put_on k later a =
+      let x : Sends k s.served.served a.served = subst (λ z. Sends k z a.served)
+      (same_served a.happened.0 a.happened.1) a.happened.2 in
+      let put : a.served.sent ≡ s.served.served.sent ++ x.reply ∷ [] = ap (λ z. z.sent) x.is in
+      record {
+        heard = s.heard;
+        served = a;
+        plain = s.plain;
+        to = s.to;
+        sends = s.sends;
+        from = s.from;
+        comes = s.comes;
+        goes = s.goes;
+        goes_on = s.goes_on;
+        sound = s.sound;
+        serves = ap (λ z. z.stopped) x.is ∙ s.serves;
+        coming = s.coming ++ x.reply ∷ [];
+        got = put ∙ ap (λ z. z ++ x.reply ∷ []) s.got ∙ append_assoc (got_in p.log) s.coming (x.reply ∷ []);
+        count = s.count;
+        asks = s.asks;
+        answers = subst AreReadBack (sym put) (read_append s.served.served.sent (x.reply ∷ []) s.answers (x.reads, tt));
+      }
+
+  -- nothing that was sent stops the host
+  module _ (laws : AccordLaws) (piece rest : List ℕ) (cut : s.to ≡ piece ++ rest) (received : List Apdu) where
+    stops_not : (others : List Apdu) (met : Met) → requests p.settings p.log ≡ reverse others ++ received
+        → IsMetOf others met
+        → IsStopping holdings received met → ⊥
+    stops_not others Stopped e m i = i
+    stops_not others (Message v) e m i =
+        let behind : requests p.settings p.log ≡ reverse m.0 ++ (v ∷ received) =
+        e ∙ ap (λ z. reverse z ++ received) m.1 ∙ ap (λ z. z ++ received) (reverse-append (v ∷ []) m.0) ∙ append_assoc
+        (reverse m.0) (v ∷ []) received in
+        let all = laws.taken holdings.databases holdings.settings p.settings p.log
+        (converses holdings settings deeds p events host s) in
+        let t = taken_behind holdings.databases holdings.settings (reverse m.0) (v ∷ received)
+        (subst (λ z. AreTaken holdings.databases holdings.settings z) behind all) in
+        no_both t.0.1 i.1
+    stops_not others (Foreign error) e m i = m
+    stops_not others (Fault kind at) e m i = m
+    stops_not others (Rest n) e m i = i
+    stops_not others Nothing e m i = i
+
+    not_stopped : (b : Bool) → HasReceived holdings (s.served.served.stream ++ piece) received b → b ≡ false
+    not_stopped false h = refl
+    not_stopped true h =
+        let stream : (s.served.served.stream ++ piece) ++ rest ≡ flat_map encoding_of (past_of p).sent =
+        append_assoc s.served.served.stream piece rest ∙ ap (λ z. s.served.served.stream ++ z) (sym cut)
+        ∙ stream_is holdings settings deeds p events host s in
+        let c = received_cut (past_of p).sent s.asks stream (messages_longer rest h.messages) in
+        let m = met_is c.others h.rest rest h.behind.0 c.read c.rest_is h.behind.1 in
+        absurd (stops_not c.others h.behind.0 (turned_cut (past_of p).sent received (h.rest ++ rest) c) m h.behind.2)
+
+  heard_on : (laws : AccordLaws) (piece rest : List ℕ) (later : HostState) → s.to ≡ piece ++ rest
+      → (a : HostAfter holdings (Fed piece ∷ events) later) → Ignores s.served.served a.served
+      ⊎ Hears holdings piece s.served.served a.served
+      → IsSound holdings settings deeds p (Fed piece ∷ events) later
+  heard_on laws piece rest later cut a (inl x) = absurd (true≢false (sym x.0 ∙ s.serves))
+  heard_on laws piece rest later cut a (inr x) =
+      let put : a.served.sent ≡ s.served.served.sent = ap (λ z. z.sent) x.is in
+      record {
+        heard = s.heard;
+        served = a;
+        plain = s.plain;
+        to = rest;
+        sends = append_assoc (fed_to events) piece rest ∙ ap (λ z. fed_to events ++ z) (sym cut) ∙ s.sends;
+        from = s.from;
+        comes = s.comes;
+        goes = s.goes;
+        goes_on = s.goes_on;
+        sound = s.sound;
+        serves = not_stopped laws piece rest cut a.served.received a.served.stopped x.received;
+        coming = s.coming;
+        got = put ∙ s.got;
+        count = s.count;
+        asks = s.asks;
+        answers = subst AreReadBack (sym put) s.answers;
+      }
+
+pub handed : HandedLaw
+handed holdings settings deeds p events host later s a = handed_on holdings settings deeds p events host s later a
+
+pub released : ReleasedLaw
+released holdings settings deeds p events host later k s a =
+    put_on holdings settings deeds p events host s k later a
+
+pub host_fed : AccordLaws → HostFedLaw
+host_fed laws holdings settings deeds p events host later piece rest s cut a =
+    let same = same_served holdings settings deeds p events host s a.happened.0 a.happened.1 in
+    heard_on holdings settings deeds p events host s laws piece rest later cut a
+    (subst (λ z. Ignores z a.served ⊎ Hears holdings piece z a.served) same a.happened.2)
+
+-- ---- what the connection takes
+
+-- what was sent stays, and so does the fault
+record IsKept (p q : Past) : Type 0 where
+  pub sent : q.sent ≡ p.sent
+  pub fault : q.fault ≡ p.fault
+
+kept : (p : Past) (x : Taken) → IsKept p (after_verdict p (Ok x))
+kept p (taken.Opened answer) = record { sent = refl; fault = refl }
+kept p (taken.Rejected answer) = record { sent = refl; fault = refl }
+kept p (taken.Answered answer) = record { sent = refl; fault = refl }
+kept p taken.Closed = record { sent = refl; fault = refl }
+
+module _ (holdings : Holdings) (settings : Settings) (deeds : List Deed) (p : Heard) (events : List Event)
+    (host : HostState)
+    (s : IsSound holdings settings deeds p events host) where
+  -- a take that changed nothing
+  took_none : (met : Met) → Meets p met → take_at p met ≡ p → IsSound holdings settings (Takes ∷ deeds)
+      (take_at p met) events host
+  took_none met m is =
+      let now : IsSound holdings settings (Takes ∷ deeds) p events host =
+      still holdings settings deeds (Takes ∷ deeds) p events host (p, s.heard, (met, m, sym is)) s in
+      subst (λ z. IsSound holdings settings (Takes ∷ deeds) z events host) (sym is) now
+
+  open_by : (b : Bool) → (past_of p).closed ≡ b → is_stopped (state_at p) ≡ false → b ≡ false
+  open_by false e g = refl
+  open_by true e g =
+      let past = past_of p in
+      let stops = closed_so past.fault past.closed (list_any is_close_call past.admitted)
+      (list_any is_init_call past.admitted) (opening past) e s.sound in
+      absurd (true≢false (sym stops ∙ ap (λ z. is_stopped (or_else (state_as (state_of past)) z)) (sym s.goes) ∙ g))
+
+  -- the next message is a reply that is owed, and the origin takes it
+  module _ (laws : AccordLaws) (v : Apdu) (others : List Apdu) (is : s.coming ≡ v ∷ others) where
+    v_comes : (left : List Apdu) → Contains (s.coming ++ left) v
+    v_comes left = Contains-append_left s.coming left v
+        (subst (λ z. Contains z v) (sym is) (contained v (v ∷ others) (inl refl)))
+
+    put_apart : IsPermutation (replies_due holdings.databases holdings.settings p.settings p.log)
+        (got_in p.log ++ (s.coming ++ (due holdings settings deeds p events host s).0))
+    put_apart =
+        let d = due holdings settings deeds p events host s in
+        subst (λ z. IsPermutation (replies_due holdings.databases holdings.settings p.settings p.log) z)
+        (ap (λ z. z ++ d.0) s.got ∙ append_assoc (got_in p.log) s.coming d.0) d.1
+
+    accepts : is_stopped (state_at p) ≡ false → (x : Taken) × (verdict (standing (past_of p)) v ≡ Ok x)
+    accepts g =
+        let d = due holdings settings deeds p events host s in
+        let c = converses holdings settings deeds p events host s in
+        let put : Contains s.served.served.sent v =
+        subst (λ z. Contains z v) (sym s.got) (Contains-append_right (got_in p.log) s.coming v
+        (subst (λ z. Contains z v) (append-nil s.coming) (v_comes []))) in
+        let x = laws.accepts holdings.databases holdings.settings p.settings p.log v c
+        (open_by (past_of p).closed refl g)
+        (put_owed holdings settings deeds p events host s v put)
+        (λ x i. laws.apart holdings.databases holdings.settings p.settings p.log (got_in p.log)
+        (s.coming ++ d.0) x.reply v put_apart
+        (accepted_got p.settings p.log x (accepted_so p.settings p.log x i)) (v_comes d.0)) in
+        (x.0, x.1)
+
+    took_reply : Meets p (Message v) → (x : Taken) × (verdict (standing (past_of p)) v ≡ Ok x)
+        → IsSound holdings settings (Takes ∷ deeds) (take_at p (Message v)) events host
+    took_reply m x =
+        let q : Heard = record p { taken = suc p.taken; log = Got v ∷ p.log } in
+        let took : take_at p (Message v) ≡ q = ap (λ z. heed q z) x.1 in
+        let after : past_of q ≡ after_verdict (past_of p) (Ok x.0) = ap (λ z. after_verdict (past_of p) z) x.1 in
+        let k = kept (past_of p) x.0 in
+        let asked : (past_of q).sent ≡ (past_of p).sent = ap (λ z. z.sent) after ∙ k.sent in
+        let now : IsSound holdings settings (Takes ∷ deeds) q events host = record {
+          heard = (p, s.heard, (Message v, m, sym took));
+          served = s.served;
+          plain = s.plain;
+          to = s.to;
+          sends = s.sends ∙ ap (λ z. flat_map encoding_of z) (sym asked);
+          from = s.from;
+          comes = s.comes;
+          goes = s.goes;
+          goes_on = s.goes_on;
+          sound = ap (λ z. z.fault) after ∙ k.fault ∙ s.sound;
+          serves = s.serves;
+          coming = others;
+          got = s.got ∙ ap (λ z. got_in p.log ++ z) is ∙ sym (append_assoc (got_in p.log) (v ∷ []) others);
+          count = omega (arith, s.count, length-append (got_in p.log) (v ∷ []));
+          asks = subst AreReadBack (sym asked) s.asks;
+          answers = s.answers;
+        } in
+        subst (λ z. IsSound holdings settings (Takes ∷ deeds) z events host) (sym took) now
+
+  met_next : (rest : List ℕ) (met : Met) → IsBehind p.stream p.taken rest → AreMetAs rest met → IsMetOf s.coming met
+  met_next rest met b a =
+      let c = coming_is holdings settings deeds p events host s rest b in
+      met_is s.coming rest (s.from ++ host.waiting) met c.read c.are a
+
+  took : (laws : AccordLaws) (met : Met) → Meets p met → IsSound holdings settings (Takes ∷ deeds)
+      (take_at p met) events host
+  took laws Stopped m = took_none Stopped m refl
+  took laws (Message v) m =
+      let n = met_next m.1 (Message v) m.2 m.3 in
+      took_reply laws v n.0 n.1 m (accepts laws v n.0 n.1 m.0)
+  took laws (Foreign error) m = absurd (met_next m.1 (Foreign error) m.2 m.3)
+  took laws (Fault kind at) m = absurd (met_next m.1 (Fault kind at) m.2 m.3)
+  took laws (Rest n) m = took_none (Rest n) m (ap (λ b. cond b (stop_by p (truncated n)) p) s.goes_on)
+  took laws Nothing m = took_none Nothing m (ap (λ b. cond b (end_by p) p) s.goes_on)
+
+pub takes : AccordLaws → TakesLaw
+takes laws holdings settings deeds p events host met s m = took holdings settings deeds p events host s laws met m

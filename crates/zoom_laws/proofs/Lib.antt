@@ -1,0 +1,4 @@
+pub mod AccordTheory
+pub mod ExchangeTheory
+pub mod ScheduleTheory
+pub mod CatalogueTheory

@@ -1,0 +1,4 @@
+pub mod Accord
+pub mod Exchange
+pub mod Schedules
+pub mod Catalogue

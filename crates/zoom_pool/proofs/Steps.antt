@@ -1,0 +1,116 @@
+-- When a Take answers Nothing, and when Stopped.
+use Rattle.std.proofs.Common.{◌≡◌, ◌⊎◌, inl, inr, ℕ, ◌<◌, Bool, true, false, cond, List, [], ◌∷◌, length, Result, Ok, Err, refl, ap, subst, arith}
+use Rattle.zber.specs.declared.fault.FaultKind.TheVariants as kinds
+use Rattle.zber.specs.Spelling.{Begins}
+use Rattle.zber.specs.Unfinished.{IsUnfinished}
+use Rattle.zorigin.specs.declared.answer.Taken.{Taken}
+use Rattle.zorigin.specs.declared.answer.Taken.TheVariants as taken
+use Rattle.zorigin.specs.declared.refusal.Refused.{Refused}
+use Rattle.zorigin.specs.Replies.{verdict}
+use Rattle.zorigin.specs.Log.{standing}
+use Rattle.zoom_pool.specs.declared.answer.Step.{Step}
+use Rattle.zoom_pool.specs.declared.answer.Step.TheVariants as steps
+use Rattle.zoom_pool.specs.declared.answer.TakeError.{TakeError}
+use Rattle.zoom_pool.specs.declared.answer.TakeError.TheVariants as errors
+use Rattle.zoom_pool.specs.States.{is_stopped}
+use Rattle.zoom_pool.specs.Coming.{Met, Stopped, Message, Foreign, Fault, Rest, Nothing, IsBehind}
+use Rattle.zber.specs.declared.framer.TheConstants.{MESSAGE_LIMIT}
+use Rattle.zoom_pool.specs.Heard.{Heard, Meets, state_at, past_of, told_of, took_as}
+use Rattle.zoom_pool.specs.Laws.{OneMeeting, Waits, TakeLaws}
+use Rattle.zoom_pool.proofs.Meetings.{none_begins}
+
+told_step : (v : Result Taken Refused) (s : Step) → (s ≡ steps.Nothing) ⊎ (s ≡ steps.Stopped) → told_of v ≡ Ok s → ⊥
+told_step (Ok (taken.Opened a)) s (inl q) e = absurd (cc)
+told_step (Ok (taken.Rejected a)) s (inl q) e = absurd (cc)
+told_step (Ok (taken.Answered a)) s (inl q) e = absurd (cc)
+told_step (Ok taken.Closed) s (inl q) e = absurd (cc)
+told_step (Err r) s (inl q) e = absurd (cc)
+told_step (Ok (taken.Opened a)) s (inr q) e = absurd (cc)
+told_step (Ok (taken.Rejected a)) s (inr q) e = absurd (cc)
+told_step (Ok (taken.Answered a)) s (inr q) e = absurd (cc)
+told_step (Ok taken.Closed) s (inr q) e = absurd (cc)
+told_step (Err r) s (inr q) e = absurd (cc)
+
+empty_unfinished : (rest : List ℕ) → rest ≡ [] → IsUnfinished MESSAGE_LIMIT rest
+empty_unfinished rest q = record {
+  no_message = λ e more b. none_begins e more (subst (λ z. Begins MESSAGE_LIMIT z e more) q b);
+  no_fault = λ k at f. absurd (omega (arith, f.some, ap length q));
+}
+
+rest_answer : (b : Bool) (n : ℕ) → cond b (Err (errors.Frame kinds.Truncated n)) (Ok steps.Nothing) ≡ Ok steps.Nothing
+    → b ≡ false
+rest_answer true n e = absurd (cc)
+rest_answer false n e = refl
+
+end_answer : (b : Bool) → ◌≡◌ {A = Result Step TakeError} (Ok (cond b steps.Ended steps.Nothing)) (Ok steps.Nothing)
+    → b ≡ false
+end_answer true e = absurd (cc)
+end_answer false e = refl
+
+waits : (p : Heard) (met : Met) → Meets p met → took_as p met ≡ Ok steps.Nothing → Waits p
+waits p Stopped m e = absurd (cc)
+waits p (Message v) m e = absurd (told_step (verdict (standing (past_of p)) v) steps.Nothing (inl refl) e)
+waits p (Foreign error) m e = absurd (cc)
+waits p (Fault k at) m e = absurd (cc)
+waits p (Rest n) m e = record {
+  goes_on = m.0;
+  more = rest_answer p.ended n e;
+  rest = m.1;
+  behind = m.2;
+  unfinished =
+      m.3.2;
+}
+waits p Nothing m e = record {
+  goes_on = m.0;
+  more = end_answer p.ended e;
+  rest = m.1;
+  behind = m.2;
+  unfinished =
+      empty_unfinished m.1 m.3;
+}
+
+met_waiting : (p : Heard) (rest : List ℕ) → is_stopped (state_at p) ≡ false → p.ended ≡ false
+    → IsBehind p.stream p.taken rest → IsUnfinished MESSAGE_LIMIT rest
+    → (met : Met) × Meets p met × (took_as p met ≡ Ok steps.Nothing)
+met_waiting p [] s e b u = (Nothing, (s, [], b, refl), rw e refl)
+met_waiting p (x ∷ xs) s e b u = (
+  Rest (length (x ∷ xs)),
+  (
+    s,
+    x ∷ xs,
+    b,
+    ((let n : 0 < length (x ∷ xs) = omega arith in n), refl, u),
+  ),
+  rw e refl,
+)
+
+stopped_so : (p : Heard) (met : Met) → Meets p met → took_as p met ≡ Ok steps.Stopped → is_stopped (state_at p) ≡ true
+stopped_so p Stopped m e = m
+stopped_so p (Message v) m e = absurd (told_step (verdict (standing (past_of p)) v) steps.Stopped (inr refl) e)
+stopped_so p (Foreign error) m e = absurd (cc)
+stopped_so p (Fault k at) m e = absurd (cc)
+stopped_so p (Rest n) m e = absurd (by p.ended e)
+  where
+    by : (b : Bool) → cond b (Err (errors.Frame kinds.Truncated n)) (Ok steps.Nothing) ≡ Ok steps.Stopped → ⊥
+    by true e = absurd (cc)
+    by false e = absurd (cc)
+stopped_so p Nothing m e = absurd (by p.ended e)
+  where
+    by : (b : Bool) → ◌≡◌ {A = Result Step TakeError} (Ok (cond b steps.Ended steps.Nothing)) (Ok steps.Stopped) → ⊥
+    by true e = absurd (cc)
+    by false e = absurd (cc)
+
+pub take_laws : OneMeeting → TakeLaws
+take_laws meeting = record {
+  nothing = λ p met m. (
+    waits p met m,
+    λ w. (
+        let other = met_waiting p w.rest w.goes_on w.more w.behind w.unfinished in
+        subst (λ z. took_as p z ≡ Ok steps.Nothing) (meeting p other.0 met other.1 m) other.2),
+  );
+  stopped = λ p met m. (
+    stopped_so p met m,
+    λ s. (let is : Stopped ≡ met = meeting p Stopped met s m in
+        subst (λ z. took_as p z ≡ Ok steps.Stopped) is refl),
+  );
+}

@@ -1,0 +1,51 @@
+use Rattle.std.proofs.Common.{Ok, Err, refl, subst, sym, slice_set}
+use Rattle.zoom_pool.specs.Befalling.{IsTakeAnswer}
+use Rattle.zoom_pool.specs.Metas.{MetaLinks}
+use Rattle.zoom_pool.proofs.Told.{take_answer}
+use Rattle.zoom_pool.proofs.Metas.{took_meta, refused_meta, learns}
+use Rattle.zoom_pool.proofs.Advancing.{driver_at}
+use Rattle.zoom_pool.proofs.meta.Meta.take.Goals as goal
+
+pub returns-in-Ok-clause-answer : goal.returns-in-Ok-clause-answer
+returns-in-Ok-clause-answer c = rw (← c.self.view_is)
+    (subst (λ z. IsTakeAnswer c.args.c c.self.inside.pool (Ok z)) (sym c.step_told.ensures)
+    (take_answer c.args.c c.self.inside.pool (Ok c.in-Ok.told) c.in-Ok.ensures.answer))
+
+pub returns-in-Ok-clause-after : goal.returns-in-Ok-clause-after
+returns-in-Ok-clause-after c =
+    let old : MetaLinks = record { pool = c.self.inside.pool; drivers = c.self.inside.drivers.items } in
+    let lt = rw (← c.self.view_is) at c.requires in
+    let new : MetaLinks = record {
+      pool = c.take_told.new.self;
+      drivers = slice_set c.self.inside.drivers.items c.args.c c.know_take.new.driver;
+    } in
+    rw (← c.self.view_is) (λ done. took_meta c.one_meeting.ensures c.one_hearing.ensures c.args.c old new
+    c.index_mut.result.now c.know_take.new.driver (Ok c.in-Ok.told) c.in-Ok.ensures.answer tt
+    (c.in-Ok.ensures.after tt) lt
+    (driver_at old.drivers old.pool.connections c.args.c _ c.index_mut.result.now c.self.invariant lt c.index_mut.ensures.value)
+    (learns c.refused_law.ensures c.in-Ok.told c.index_mut.result.now c.know_take.new.driver c.know_take.ensures) refl
+    c.in-Ok.ensures.size)
+
+pub returns-in-Err-clause-answer : goal.returns-in-Err-clause-answer
+returns-in-Err-clause-answer c = rw (← c.self.view_is)
+    (take_answer c.args.c c.self.inside.pool (Err c.in-Err.error) c.in-Err.ensures.answer)
+
+pub returns-in-Err-clause-after : goal.returns-in-Err-clause-after
+returns-in-Err-clause-after c =
+    let old : MetaLinks = record { pool = c.self.inside.pool; drivers = c.self.inside.drivers.items } in
+    let lt = rw (← c.self.view_is) at c.requires in
+    let new : MetaLinks = record { pool = c.take_told.new.self; drivers = c.self.inside.drivers.items } in
+    rw (← c.self.view_is) (λ done. refused_meta c.one_meeting.ensures c.one_hearing.ensures c.refused_law.ensures c.args.c
+    old new c.in-Err.error c.in-Err.ensures.answer done (c.in-Err.ensures.after done) lt refl c.in-Err.ensures.size)
+
+pub returns-in-Ok-clause-waiting : goal.returns-in-Ok-clause-waiting
+returns-in-Ok-clause-waiting c = rw (← c.self.view_is) c.in-Ok.ensures.waiting
+
+pub returns-in-Err-clause-waiting : goal.returns-in-Err-clause-waiting
+returns-in-Err-clause-waiting c = rw (← c.self.view_is) c.in-Err.ensures.waiting
+
+pub returns-in-Ok-clause-grows : goal.returns-in-Ok-clause-grows
+returns-in-Ok-clause-grows c = rw (← c.self.view_is) c.in-Ok.ensures.grows
+
+pub returns-in-Err-clause-grows : goal.returns-in-Err-clause-grows
+returns-in-Err-clause-grows c = rw (← c.self.view_is) c.in-Err.ensures.grows

@@ -1,0 +1,25 @@
+use Rattle.std.proofs.Common.{refl, ◌∙◌, slice_set}
+use Rattle.zoom_pool.specs.Heard.{Stops, stop_by}
+use Rattle.zoom_pool.specs.Links.{Links}
+use Rattle.zoom_pool.proofs.Metas.{get_other}
+use Rattle.zoom_pool.proofs.Pools.{gained, stops_put}
+use Rattle.zoom_pool.proofs.pool.Pool.stop.Goals as goal
+
+pub returns-clause-after : goal.returns-clause-after
+returns-clause-after c = rw (← c.self.view_is) (
+    gained c.args.c (Stops c.args.reason) (λ p. stop_by p c.args.reason) _ _ _ c.index_mut.result.now c.stop.new.self
+    (rw (← c.self.view_is) at c.requires)
+    c.index_mut.ensures.value c.stop.ensures.after (λ p. refl) refl refl)
+
+pub returns-clause-stopped : goal.returns-clause-stopped
+returns-clause-stopped c =
+    let old : Links = record { connections = c.self.inside.connections.items; knowledge = c.self.inside.knowledge } in
+    let new : Links = record {
+      connections = slice_set c.self.inside.connections.items c.args.c c.stop.new.self;
+      knowledge = c.self.inside.knowledge;
+    } in
+    stops_put old new c.args.c c.stop.new.self (rw (← c.self.view_is) at c.requires) refl ∙ c.stop.ensures.stop
+
+pub returns-clause-others : goal.returns-clause-others
+returns-clause-others c = rw (← c.self.view_is) (λ i far.
+    get_other c.self.inside.connections.items c.args.c i c.stop.new.self far)

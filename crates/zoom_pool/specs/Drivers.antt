@@ -1,0 +1,388 @@
+-- What drives one connection for its question.
+use Rattle.std.specs.Prelude.{◌≡◌, ◌⊎◌, ℕ, ℤ, ◌+◌, ◌-◌, ◌<◌, ◌≤◌, Bool, true, false, ◌&&◌, if◌then◌else◌, List, [], ◌∷◌, length, Option, None, Some, Ok, Err}
+use Rattle.std.specs.List.{find, flat_map}
+use Rattle.zapdu.specs.declared.apdu.Apdu.{Apdu}
+use Rattle.zapdu.specs.declared.apdu.Apdu.TheVariants as apdus
+use Rattle.zplan.specs.Plan as plan
+use Rattle.zplan.specs.Plan.{Operation, Event, Sends, Receives, Opens, Finds, asked_in, replies_in, outstanding_in, IsDue}
+use Rattle.zplan.specs.Positions.{IsIn, IsWanted, first_of, up_to}
+use Rattle.zplan.specs.Agenda.{Agenda, IsAgenda, IsSent, IsAnswered, SameAgenda, HasWaiting, whole_agenda}
+use Rattle.zorigin.specs.declared.settings.Settings.{Settings}
+use Rattle.zorigin.specs.declared.settings.Ask.{Ask}
+use Rattle.zplan.specs.declared.range.Range.{Range}
+use Rattle.zorigin.specs.declared.answer.Answer.{Answer}
+use Rattle.zorigin.specs.declared.answer.Taken.{Taken}
+use Rattle.zorigin.specs.declared.answer.Taken.TheVariants as taken
+use Rattle.zorigin.specs.declared.refusal.CallRefused.{CallRefused}
+use Rattle.zorigin.specs.declared.state.Outcome.TheVariants as outcomes
+use Rattle.zorigin.specs.declared.refusal.Refused.{Refused}
+use Rattle.zorigin.specs.Standings.{is_ready}
+use Rattle.zorigin.specs.Standings as origin
+use Rattle.zorigin.specs.Ranges.{are_ranges}
+use Rattle.zplan.specs.Ranges.{natural, positions}
+use Rattle.zorigin.specs.Fitting.{records_in}
+use Rattle.zorigin.specs.Changes.{force_in, outcome_in, unanswered}
+use Rattle.zorigin.specs.Sending.{is_unsendable, search_request}
+use Rattle.zorigin.specs.Calls.{refusal}
+use Rattle.zorigin.specs.Replies.{verdict}
+use Rattle.zorigin.specs.Log.{Log, Made, Got, Past, past, standing, state_of, opening, force_after, answers, search_in}
+use Rattle.zoom_pool.specs.declared.call.Call.{Call}
+use Rattle.zoom_pool.specs.declared.state.State.{State}
+use Rattle.zoom_pool.specs.declared.state.State.TheVariants as states
+use Rattle.zoom_pool.specs.declared.phase.Phase.{Phase}
+use Rattle.zoom_pool.specs.declared.phase.Phase.TheVariants as phases
+use Rattle.zoom_pool.specs.CallsOf.{call_of}
+use Rattle.zoom_pool.specs.States.{state_as, is_stopped}
+use Rattle.zoom_pool.specs.Driving.{can_search, can_present, counted, events_of, IsDrivenLog}
+use Rattle.zoom_pool.specs.Steering.{Errand, IsFitErrand, IsNextCall, IsSteered, IsSteeredCall, may_call, skipped_in, complete_in, is_rejected, IsTried}
+
+-- The errand; how far it is; how many calls can at most be made before a reply comes; whether the question was skipped;
+-- whether the association was rejected or closed.
+pub record DriverState : Type 0 where
+  pub errand : Errand
+  pub phase : Phase
+  pub left : ℕ
+  pub skipped : Bool
+  pub complete : Bool
+
+-- how many calls can at most be made before a reply comes
+abbrev pub left_in : ℕ → Phase → ℕ
+left_in window phases.Fresh = 1
+left_in window phases.Opening = 0
+left_in window (phases.Opened present three) = 2
+left_in window (phases.Searching present three) = 0
+left_in window (phases.Counted three count) = window + 2
+left_in window (phases.Asking agenda) = window + 2 - length agenda.waiting
+left_in window phases.Done = 1
+left_in window phases.Closed = 0
+
+-- ---- what the log says at each phase
+
+abbrev pub opened_events : Bool → Bool → List Event
+opened_events search three = Receives plan.Init (Opens search three) ∷ Sends plan.Init ∷ []
+
+abbrev pub searched_events : Bool → List Event
+searched_events three = Sends plan.Search ∷ opened_events true three
+
+abbrev pub found_events : Bool → ℕ → List Event
+found_events three count = Receives plan.Search (Finds (Some count)) ∷ searched_events three
+
+abbrev pub HasOpening : Past → Type 0
+HasOpening p = (answer : Answer) × (opening p ≡ Some answer)
+
+-- no two of the lists begin at one position
+abbrev pub NoneBegins : ℕ → List (List ℕ) → Type 0
+NoneBegins first ls = (l : List ℕ) → IsIn l ls → first_of l ≡ first → ⊥
+
+abbrev pub BeginApart : List (List ℕ) → Type 0
+BeginApart [] = Unit {0}
+BeginApart (l ∷ ls) = NoneBegins (first_of l) ls × BeginApart ls
+
+-- all that was sent was answered
+abbrev pub AllAnswered : List Event → Type 0
+AllAnswered events = (a : Operation) → IsIn a (asked_in events) → replies_in events a ≡ None → ⊥
+
+-- the request for the search can be sent
+abbrev pub CanBeSent : Ask → Past → Type 0
+CanBeSent ask p = is_unsendable (search_request (force_after (opening p)).named 1 1 ask) ≡ false
+
+-- version 3 is in force, or not
+abbrev pub HasVersion : Past → Bool → Type 0
+HasVersion p three = (force_after (opening p)).v3 ≡ three
+
+-- The search is the only one, and it found so many records, which can be asked for.
+pub record HasFound (ask : Ask) (p : Past) (three : Bool) (count : ℕ) : Type 0 where
+  pub asked : flat_map search_in p.admitted ≡ unanswered 1 1 ask ∷ []
+  pub answer : Answer
+  pub answered : find (answers 1) p.accepted ≡ Some answer
+  pub found : ℤ
+  pub outcome : outcome_in answer.reply ≡ Some (outcomes.Found found)
+  pub counts : natural found ≡ count
+  pub shows : can_present p ≡ true
+  pub version : HasVersion p three
+  pub sendable : CanBeSent ask p
+
+module _ (e : Errand) (settings : Settings) (log : Log) where
+  abbrev pub events_at : List Event
+  events_at = events_of e.ask settings log
+
+  pub record AtFresh : Type 0 where
+    pub events : events_at ≡ []
+    pub opening : opening (past settings log) ≡ None
+
+  pub record AtOpening : Type 0 where
+    pub events : events_at ≡ Sends plan.Init ∷ []
+    pub opening : opening (past settings log) ≡ None
+
+  pub record AtOpened (present three : Bool) : Type 0 where
+    pub search : Bool
+    pub events : events_at ≡ opened_events search three
+    pub can : is_ready (state_of (past settings log)) ≡ true → can_search e.ask (past settings log) ≡ search
+    pub opening : HasOpening (past settings log)
+    pub shows : can_present (past settings log) ≡ present
+    pub version : HasVersion (past settings log) three
+
+  pub record AtSearching (present three : Bool) : Type 0 where
+    pub events : events_at ≡ searched_events three
+    pub opening : HasOpening (past settings log)
+    pub shows : can_present (past settings log) ≡ present
+    pub version : HasVersion (past settings log) three
+    pub sendable : CanBeSent e.ask (past settings log)
+    pub search : flat_map search_in (past settings log).admitted ≡ unanswered 1 1 e.ask ∷ []
+
+  pub record AtCounted (three : Bool) (count : ℕ) : Type 0 where
+    pub events : events_at ≡ found_events three count
+    pub opening : HasOpening (past settings log)
+    pub set : HasFound e.ask (past settings log) three count
+
+  pub record AtAsking (a : Agenda) : Type 0 where
+    pub agenda : IsAgenda e.wanted e.step events_at a
+    pub init : IsIn plan.Init (asked_in events_at)
+    pub search : IsIn plan.Search (asked_in events_at)
+    pub opened : replies_in events_at plan.Init ≡ None → ⊥
+    pub count : ℕ
+    pub found : replies_in events_at plan.Search ≡ Some (Finds (Some count))
+    pub set : HasFound e.ask (past settings log) a.three count
+    pub outstanding : outstanding_in events_at ≡ length a.waiting
+    pub apart : BeginApart a.waiting
+    pub opening : HasOpening (past settings log)
+
+  pub record AtDone : Type 0 where
+    pub none : (b : Operation) → IsDue e.wanted e.step events_at b → ⊥
+    pub all : AllAnswered events_at
+    pub outstanding : outstanding_in events_at ≡ 0
+    pub opening : HasOpening (past settings log)
+    pub tried : IsTried settings log
+
+  pub record AtClosed : Type 0 where
+    pub all : AllAnswered events_at
+    pub closed : may_call (state_of (past settings log)) ≡ false
+    pub tried : is_rejected (opening (past settings log)) ≡ false → IsTried settings log
+    pub opening : HasOpening (past settings log)
+
+  abbrev pub IsAt : Phase → Type 0
+  IsAt phases.Fresh = AtFresh
+  IsAt phases.Opening = AtOpening
+  IsAt (phases.Opened present three) = AtOpened present three
+  IsAt (phases.Searching present three) = AtSearching present three
+  IsAt (phases.Counted three count) = AtCounted three count
+  IsAt (phases.Asking agenda) = AtAsking agenda
+  IsAt phases.Done = AtDone
+  IsAt phases.Closed = AtClosed
+
+-- Each call of the log was the next one at its moment, and the driver knows what it amounts to.
+pub record IsDriver (e : Errand) (settings : Settings) (log : Log) (d : DriverState) : Type 0 where
+  pub steered : IsSteered e settings log
+  pub driven : IsDrivenLog e.ask e.wanted e.step settings log
+  pub errand : d.errand ≡ e
+  pub fit : IsFitErrand e settings
+  pub wanted : IsWanted e.wanted
+  pub steps : 0 < e.step
+  pub room : 0 < e.window
+  pub skipped : d.skipped ≡ skipped_in settings log
+  pub complete : d.complete ≡ complete_in (past settings log)
+  pub left : d.left ≡ left_in e.window d.phase
+  pub few : d.left ≤ 3 + e.window
+  pub at : IsAt e settings log d.phase
+
+-- ---- clauses, for each log that the driver can know
+
+abbrev pub Stays : DriverState → DriverState → Type 0
+Stays old new =
+    ((e : Errand) (settings : Settings) (log : Log) → IsDriver e settings log old → IsDriver e settings log new)
+    × (new.left ≡ old.left)
+
+-- how far the driver is where it gives the call
+abbrev pub IsOffered : Errand → Settings → Log → Phase → origin.Call → Type 0
+IsOffered e settings log phase origin.Init = (phase ≡ phases.Fresh) × IsNextCall e settings log origin.Init
+IsOffered e settings log phase (origin.Search op set ask) =
+    (present : Bool) × (three : Bool) × (phase ≡ phases.Opened present three)
+    × (is_ready (state_of (past settings log)) ≡ true) × (op ≡ 1) × (set ≡ 1) × (ask ≡ e.ask)
+IsOffered e settings log phase (origin.Present op set ranges) =
+    (a : Agenda) × (phase ≡ phases.Asking a) × (a.ready ≡ true)
+    × IsNextCall e settings log (origin.Present op set ranges)
+IsOffered e settings log phase origin.Close =
+    ((phase ≡ phases.Done) ⊎ ((a : Agenda) × (phase ≡ phases.Asking a))) × IsNextCall e settings log origin.Close
+
+-- The driver gave the call: the origin admits it, and it is the next one; or it is the search, which is skipped.
+pub record Offers (e : Errand) (settings : Settings) (log : Log) (d : DriverState) (call : origin.Call) : Type 0 where
+  pub knows : IsDriver e settings log d
+  pub steers : IsSteeredCall e settings log (refusal (standing (past settings log)) call) call
+  pub offered : IsOffered e settings log d.phase call
+
+-- None is next; and the search was tried, once the association was accepted.
+pub record Rests (e : Errand) (settings : Settings) (log : Log) : Type 0 where
+  pub none : (call : origin.Call) → IsNextCall e settings log call → ⊥
+  pub tried : is_stopped (state_as (state_of (past settings log))) ≡ false → HasOpening (past settings log)
+      → IsTried settings log
+
+-- what it gives in this state: a call; or none, where it rests
+abbrev pub GivesNext : State → Option Call → DriverState → Type 0
+GivesNext state None d =
+    (e : Errand) (settings : Settings) (log : Log) → IsDriver e settings log d
+    → state ≡ state_as (state_of (past settings log)) → Rests e settings log
+GivesNext state (Some call) d =
+    (e : Errand) (settings : Settings) (log : Log) → IsDriver e settings log d
+    → state ≡ state_as (state_of (past settings log)) → Offers e settings log d (call_of call)
+
+-- the origin admitted the call
+abbrev pub KnowsSent : origin.Call → DriverState → DriverState → Type 0
+KnowsSent call old new =
+    (e : Errand) (settings : Settings) (log : Log) → Offers e settings log old call
+    → refusal (standing (past settings log)) call ≡ None
+    → IsDriver e settings (Made call ∷ log) new × (new.left < old.left)
+
+-- the origin refused the call: another may be next
+abbrev pub KnowsRefused : DriverState → DriverState → Type 0
+KnowsRefused old new =
+    (e : Errand) (settings : Settings) (log : Log) (call : origin.Call) (reason : CallRefused)
+    → Offers e settings log old call → refusal (standing (past settings log)) call ≡ Some reason
+    → IsDriver e settings (Made call ∷ log) new × (new.left < old.left)
+
+-- the origin took a reply
+abbrev pub KnowsTold : Taken → DriverState → DriverState → Type 0
+KnowsTold taken old new =
+    (e : Errand) (settings : Settings) (log : Log) (reply : Apdu) → IsDriver e settings log old
+    → verdict (standing (past settings log)) reply ≡ Ok taken → IsDriver e settings (Got reply ∷ log) new
+
+-- a reply that the origin refuses changes nothing that a driver knows
+abbrev pub RefusedLaw : Type 0
+RefusedLaw =
+    (e : Errand) (settings : Settings) (log : Log) (d : DriverState) (reply : Apdu) (reason : Refused)
+    → IsDriver e settings log d → verdict (standing (past settings log)) reply ≡ Err reason
+    → IsDriver e settings (Got reply ∷ log) d
+
+-- ---- what the parts do
+
+abbrev pub is_rejection_of : Taken → Bool
+is_rejection_of (taken.Rejected answer) = true
+is_rejection_of _ = false
+
+-- the Present for the ranges of a plan
+abbrev pub IsRangesCall : List Range → origin.Call → Type 0
+IsRangesCall list call =
+    (call ≡ origin.Present (first_of (positions list) + 1) 1 list) × (are_ranges list ≡ true)
+
+-- no schedule is to be made
+abbrev pub IsMade : Phase → Type 0
+IsMade (phases.Counted three count) = ⊥
+IsMade _ = Unit {0}
+
+-- so many Presents may wait, where calls can be made
+abbrev pub room_for : ℕ → State → Option ℕ
+room_for window (states.Ready v3 concurrent named) = Some (if concurrent then window else 1)
+room_for window _ = None
+
+abbrev pub is_fresh_state : State → Bool
+is_fresh_state states.Fresh = true
+is_fresh_state _ = false
+
+-- the Present of what stands first, where there is room
+pub record AsksFirst (room : ℕ) (a : Agenda) (call : origin.Call) : Type 0 where
+  pub ranges : List Range
+  pub others : List (List ℕ)
+  pub is : call ≡ origin.Present (first_of (positions ranges) + 1) 1 ranges
+  pub due : a.due ≡ positions ranges ∷ others
+  pub asked : are_ranges ranges ≡ true
+  -- one range, where version 3 is not in force
+  pub single : a.three ≡ false → length ranges ≡ 1
+  pub ready : a.ready ≡ true
+  pub fits : length a.waiting < room
+
+-- with nothing due and nothing waiting
+pub record ClosesIdle (a : Agenda) (call : origin.Call) : Type 0 where
+  pub is : call ≡ origin.Close
+  pub none : a.due ≡ []
+  pub idle : length a.waiting ≡ 0
+
+abbrev pub GivesAsked : ℕ → Agenda → Option Call → Type 0
+GivesAsked room a None = (room ≤ length a.waiting) ⊎ ((a.due ≡ []) × (0 < length a.waiting))
+GivesAsked room a (Some call) = AsksFirst room a (call_of call) ⊎ ClosesIdle a (call_of call)
+
+abbrev pub GivesIf : Bool → origin.Call → Option Call → Type 0
+GivesIf true call None = ⊥
+GivesIf true call (Some given) = call_of given ≡ call
+GivesIf false call None = Unit {0}
+GivesIf false call (Some given) = ⊥
+
+abbrev pub has_room : Option ℕ → Bool
+has_room None = false
+has_room (Some room) = true
+
+abbrev pub GivesInRoom : Option ℕ → Agenda → Option Call → Type 0
+GivesInRoom None a given = given ≡ None
+GivesInRoom (Some room) a given = GivesAsked room a given
+
+-- what is given at a phase
+abbrev pub GivesAt : Ask → ℕ → State → Phase → Option Call → Type 0
+GivesAt ask window state phases.Fresh given = GivesIf (is_fresh_state state) origin.Init given
+GivesAt ask window state phases.Opening given = given ≡ None
+GivesAt ask window state (phases.Opened present three) given =
+    GivesIf (has_room (room_for window state)) (origin.Search 1 1 ask) given
+GivesAt ask window state (phases.Searching present three) given = given ≡ None
+GivesAt ask window state (phases.Counted three count) given = ⊥
+GivesAt ask window state (phases.Asking a) given = GivesInRoom (room_for window state) a given
+GivesAt ask window state phases.Done given = GivesIf (has_room (room_for window state)) origin.Close given
+GivesAt ask window state phases.Closed given = given ≡ None
+
+-- the same phase, up to what is cut off of a schedule
+abbrev pub IsSamePhase : Phase → Phase → Type 0
+IsSamePhase (phases.Asking a) (phases.Asking b) = SameAgenda a b
+IsSamePhase (phases.Asking a) _ = ⊥
+IsSamePhase old new = new ≡ old
+
+-- once the count is known a schedule is made
+abbrev pub IsPrepared : List ℕ → ℕ → Phase → Phase → Type 0
+IsPrepared wanted step (phases.Counted three count) new =
+    new ≡ phases.Asking (whole_agenda three step (up_to count wanted))
+IsPrepared wanted step old new = new ≡ old
+
+pub record Prepares (old new : DriverState) : Type 0 where
+  pub phase : IsPrepared old.errand.wanted old.errand.step old.phase new.phase
+  pub errand : new.errand ≡ old.errand
+  pub left : new.left ≡ old.left
+  pub skipped : new.skipped ≡ old.skipped
+  pub complete : new.complete ≡ old.complete
+
+-- the Present was sent
+abbrev pub IsSentAgenda : Bool → Agenda → Phase → Type 0
+IsSentAgenda true a (phases.Asking b) = IsSent a b
+IsSentAgenda true a _ = ⊥
+IsSentAgenda false a new = Unit {0}
+
+-- the phase after an admitted call that was given at the phase before
+abbrev pub SendsAt : origin.Call → Phase → Phase → Type 0
+SendsAt origin.Init old new = new ≡ phases.Opening
+SendsAt (origin.Search op set ask) (phases.Opened present three) new = new ≡ phases.Searching present three
+SendsAt (origin.Present op set ranges) (phases.Asking a) new = IsSentAgenda a.ready a new
+SendsAt origin.Close old new = new ≡ phases.Closed
+SendsAt _ old new = Unit {0}
+
+-- ---- replies
+
+abbrev pub opened_phase : Apdu → Phase
+opened_phase (apdus.InitResponse v) = phases.Opened (force_in v).present (force_in v).v3
+opened_phase _ = phases.Closed
+
+abbrev pub counted_phase : Bool → Option ℕ → Phase
+counted_phase three None = phases.Done
+counted_phase three (Some count) = phases.Counted three count
+
+-- a list that waits was answered
+abbrev pub IsAnsweredAgenda : ℕ → ℕ → Agenda → Phase → Type 0
+IsAnsweredAgenda first records a (phases.Asking b) = HasWaiting first a → IsAnswered first records a b
+IsAnsweredAgenda first records a _ = ⊥
+
+-- the number of an operation is that of its first position, and 1 more
+abbrev pub AnswersAt : ℕ → Apdu → Phase → Phase → Type 0
+AnswersAt op (apdus.SearchResponse v) (phases.Searching present three) new =
+    new ≡ counted_phase three (counted (v.search_status && present) v.result_count)
+AnswersAt op (apdus.PresentResponse v) (phases.Asking a) new =
+    IsAnsweredAgenda (op - 1) (length (records_in v.records)) a new
+AnswersAt op _ old new = Unit {0}
+
+abbrev pub TellsAt : Taken → Phase → Phase → Type 0
+TellsAt (taken.Opened answer) old new = new ≡ opened_phase answer.reply
+TellsAt (taken.Rejected answer) old new = new ≡ phases.Closed
+TellsAt (taken.Answered answer) old new = AnswersAt answer.asked.op answer.reply old new
+TellsAt taken.Closed old new = new ≡ old

@@ -1,0 +1,223 @@
+-- A target behind a stream of octets: what befalls it, and what that amounts to (Z39.50-2003, 3.2; X.690, 8.1).
+use Rattle.std.specs.Prelude.{◌≡◌, ◌⊎◌, ℕ, ◌<◌, Bool, true, false, List, [], ◌∷◌, ◌++◌, length, remove, slice_get, None, Some, Result, Ok, Err}
+use Rattle.std.specs.List.{flat_map, list_any}
+use Rattle.zber.specs.Elements.{Element}
+use Rattle.zber.specs.Spelling.{Begins}
+use Rattle.zber.specs.Stream.{Stream}
+use Rattle.zber.specs.Unfinished.{IsUnfinished}
+use Rattle.zapdu.specs.declared.apdu.Apdu.{Apdu}
+use Rattle.zapdu.specs.Writes.{Writes}
+use Rattle.zorigin.specs.Sending.{encoding_of, sent_of, IsReadBack}
+use Rattle.ztarget.specs.declared.database.Database.{Database}
+use Rattle.ztarget.specs.declared.settings.TargetSettings.{TargetSettings}
+use Rattle.ztarget.specs.declared.error.TargetError.{TargetError}
+use Rattle.ztarget.specs.Replies.{Answer, owed, replies}
+use Rattle.ztarget.specs.Receiving.{TargetState, is_close, may_release, After as TargetAfter}
+use Rattle.zoom_pool.specs.Coming.{Met, Message, Foreign, Fault, AreMetAs}
+use Rattle.zber.specs.declared.framer.TheConstants.{MESSAGE_LIMIT}
+
+-- A host, for every contract: its target; the octets that came and were not yet given out in a message; the octets that
+-- wait to go out; whether it stopped; whether a Close was put to go out.
+pub record HostState : Type 0 where
+  pub target : TargetState
+  pub framer : Stream
+  pub waiting : List ℕ
+  pub stopped : Bool
+  pub closed : Bool
+
+-- what a target has
+pub record Holdings : Type 0 where
+  pub databases : List Database
+  pub settings : TargetSettings
+
+abbrev pub holdings_of : TargetState → Holdings
+holdings_of t = record { databases = t.databases; settings = t.settings }
+
+-- the reply that is owed to an APDU by a target that received these, newest first, or why it is not taken
+abbrev pub owed_by : Holdings → List Apdu → Apdu → Result Answer TargetError
+owed_by holdings received v = owed holdings.databases holdings.settings received v
+
+-- ---- what is received
+
+-- The octets begin with the messages of these APDUs, the newest first, of which a target takes each after those before
+-- it, and then comes the rest.
+pub data Received (holdings : Holdings) (stream : List ℕ) : List Apdu → List ℕ → Type 0 where
+  nothing : Received holdings stream [] stream
+  message : {received : List Apdu} {rest last : List ℕ} {e : Element} {by : Answer} {v : Apdu}
+      → Received holdings stream received rest → Begins MESSAGE_LIMIT rest e last → Writes v e
+      → owed_by holdings received v ≡ Ok by → Received holdings stream (v ∷ received) last
+
+-- what stops a host that received these: a fault of the framing, a message that is no APDU, an APDU that is not taken
+abbrev pub IsStopping : Holdings → List Apdu → Met → Type 0
+IsStopping holdings received (Message v) = (error : TargetError) × (owed_by holdings received v ≡ Err error)
+IsStopping holdings received (Foreign error) = Unit {0}
+IsStopping holdings received (Fault kind at) = Unit {0}
+IsStopping holdings received _ = ⊥
+
+-- what is behind the messages received: no whole message and no fault, or what stops the host
+abbrev pub EndsAt : Holdings → List Apdu → List ℕ → Bool → Type 0
+EndsAt holdings received rest false = IsUnfinished MESSAGE_LIMIT rest
+EndsAt holdings received rest true = (met : Met) × AreMetAs rest met × IsStopping holdings received met
+
+-- All whole messages of the octets were received, up to what stops the host.
+pub record HasReceived (holdings : Holdings) (stream : List ℕ) (received : List Apdu) (stopped : Bool) : Type 0 where
+  pub rest : List ℕ
+  pub messages : Received holdings stream received rest
+  pub behind : EndsAt holdings received rest stopped
+
+-- ---- what befalls a host
+
+-- A piece was fed; one was fed, and memory was wanting; pending reply k was released, and its encoding put behind what
+-- waits; it was released and lost, since it was too long or memory was wanting; octets were handed out.
+pub data Event : Type 0 where
+  Fed : List ℕ → Event
+  FedPart : List ℕ → Event
+  Released : ℕ → Event
+  Lost : ℕ → Event
+  HandedOut : List ℕ → Event
+
+-- What the events amount to: the octets fed, joined; what the target received of them, newest first; its pending
+-- replies; those that it released, in order; those of them whose encodings were put to go out; whether it stopped.
+pub record Served : Type 0 where
+  pub stream : List ℕ
+  pub received : List Apdu
+  pub pending : List Apdu
+  pub released : List Apdu
+  pub sent : List Apdu
+  pub stopped : Bool
+
+abbrev pub unserved : Served
+unserved = record { stream = []; received = []; pending = []; released = []; sent = []; stopped = false }
+
+abbrev pub replies_to : Holdings → List Apdu → List Apdu
+replies_to holdings received = replies holdings.databases holdings.settings received
+
+-- the replies owed to what was received since are put last, in their order
+pub record ArePutLast (holdings : Holdings) (received pending now then : List Apdu) : Type 0 where
+  pub more : List Apdu
+  pub owed : replies_to holdings now ≡ replies_to holdings received ++ more
+  pub last : then ≡ pending ++ more
+
+-- a piece more, of which all whole messages are received
+pub record Hears (holdings : Holdings) (piece : List ℕ) (p q : Served) : Type 0 where
+  pub going : p.stopped ≡ false
+  pub received : HasReceived holdings (p.stream ++ piece) q.received q.stopped
+  pub replies : ArePutLast holdings p.received p.pending q.received q.pending
+  pub is : q ≡ record p {
+    stream = p.stream ++ piece;
+    received = q.received;
+    pending = q.pending;
+    stopped = q.stopped;
+  }
+
+-- a piece more, of which some messages are received, and the host stopped
+pub record HearsPart (holdings : Holdings) (piece : List ℕ) (p q : Served) : Type 0 where
+  pub going : p.stopped ≡ false
+  pub rest : List ℕ
+  pub messages : Received holdings (p.stream ++ piece) q.received rest
+  pub replies : ArePutLast holdings p.received p.pending q.received q.pending
+  pub is : q ≡ record p { stream = p.stream ++ piece; received = q.received; pending = q.pending; stopped = true }
+
+-- the encoding has more octets than a message may have
+abbrev pub IsLong : Apdu → Type 0
+IsLong reply = MESSAGE_LIMIT < length (encoding_of reply)
+
+abbrev pub IsShort : Apdu → Type 0
+IsShort reply = IsLong reply → ⊥
+
+-- pending reply k may be released, and is this
+pub record IsDue (pending : List Apdu) (k : ℕ) (reply : Apdu) : Type 0 where
+  pub may : may_release pending k ≡ true
+  pub there : slice_get pending k ≡ Some reply
+
+-- pending reply k is put, and is read back
+pub record Sends (k : ℕ) (p q : Served) : Type 0 where
+  pub going : p.stopped ≡ false
+  pub reply : Apdu
+  pub due : IsDue p.pending k reply
+  pub short : IsShort reply
+  pub reads : IsReadBack (sent_of reply)
+  pub is : q ≡ record p {
+    pending = remove p.pending k;
+    released = p.released ++ reply ∷ [];
+    sent = p.sent ++ reply ∷ [];
+  }
+
+-- pending reply k is lost, and the host stopped
+pub record Loses (k : ℕ) (p q : Served) : Type 0 where
+  pub going : p.stopped ≡ false
+  pub reply : Apdu
+  pub due : IsDue p.pending k reply
+  pub is : q ≡ record p { pending = remove p.pending k; released = p.released ++ reply ∷ []; stopped = true }
+
+-- a stopped host ignores what is fed
+abbrev pub Ignores : Served → Served → Type 0
+Ignores p q = (p.stopped ≡ true) × (q ≡ p)
+
+-- what one event more makes of it
+abbrev pub Serves : Holdings → Event → Served → Served → Type 0
+Serves holdings (Fed piece) p q = Ignores p q ⊎ Hears holdings piece p q
+Serves holdings (FedPart piece) p q = HearsPart holdings piece p q
+Serves holdings (Released k) p q = Sends k p q
+Serves holdings (Lost k) p q = Loses k p q
+Serves holdings (HandedOut octets) p q = q ≡ p
+
+-- what the events amount to, the newest first
+abbrev pub HasServed : Holdings → List Event → Served → Type 0
+HasServed holdings [] q = q ≡ unserved
+HasServed holdings (event ∷ events) q =
+    (p : Served) × HasServed holdings events p × Serves holdings event p q
+
+-- the octets handed out
+abbrev pub handed_out : List Event → List ℕ
+handed_out [] = []
+handed_out (HandedOut octets ∷ events) = handed_out events ++ octets
+handed_out (_ ∷ events) = handed_out events
+
+-- the framer has what follows the messages received
+pub record IsAt (framer : Stream) (rest : List ℕ) : Type 0 where
+  pub rest_is : rest ≡ framer.octets
+  pub limited : framer.limit ≡ MESSAGE_LIMIT
+  pub sound : framer.fault ≡ None
+
+-- a host that goes on waits for what follows
+abbrev pub Waits : Holdings → Served → Stream → Type 0
+Waits holdings p framer = (rest : List ℕ) × Received holdings p.stream p.received rest × IsAt framer rest
+
+-- The events can have left this host: its target received the messages of the octets fed, up to what stopped it, and
+-- released these replies; what was handed out and what waits are the encodings of those that were put, in order.
+pub record HostAfter (holdings : Holdings) (events : List Event) (host : HostState) : Type 0 where
+  pub served : Served
+  pub happened : HasServed holdings events served
+  pub target : TargetAfter holdings.databases holdings.settings served.received served.released host.target
+  pub pending : host.target.pending ≡ served.pending
+  pub waiting : handed_out events ++ host.waiting ≡ flat_map encoding_of served.sent
+  pub stopped : host.stopped ≡ served.stopped
+  pub closed : host.closed ≡ list_any is_close served.sent
+  pub framer : served.stopped ≡ false → Waits holdings served host.framer
+
+-- ---- what the calls say, each for every history that can have left the host
+
+-- the event befell the host, and made this one of that one
+abbrev pub Underwent : Event → HostState → HostState → Type 0
+Underwent event old new =
+    (holdings : Holdings) (events : List Event)
+    → HostAfter holdings events old → HostAfter holdings (event ∷ events) new
+
+-- there is no such reply to release, or the host is stopped; nothing changed
+abbrev pub HasNone : HostState → ℕ → HostState → Type 0
+HasNone old k new = ((old.stopped ≡ true) ⊎ (may_release old.target.pending k ≡ false)) × (new ≡ old)
+
+-- the reply was too long
+pub record IsTooLong (old : HostState) (k : ℕ) (new : HostState) : Type 0 where
+  pub reply : Apdu
+  pub due : IsDue old.target.pending k reply
+  pub long : IsLong reply
+  pub stopped : new.stopped ≡ true
+
+-- What releasing pending reply k did: it was put; or there is none, or it was too long and is lost; or memory was
+-- wanting, and it is lost.
+abbrev pub ReleasesAs : {E : Type 0} → ℕ → Result Bool E → HostState → HostState → Type 0
+ReleasesAs k (Ok true) old new = (old.stopped ≡ false) × Underwent (Released k) old new
+ReleasesAs k (Ok false) old new = HasNone old k new ⊎ (IsTooLong old k new × Underwent (Lost k) old new)
+ReleasesAs k (Err e) old new = (new.stopped ≡ true) × Underwent (Lost k) old new

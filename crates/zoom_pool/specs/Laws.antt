@@ -1,0 +1,80 @@
+-- The laws of histories: what deeds amount to, when a Take answers Nothing, and that the order of events does not
+-- matter.
+use Rattle.std.specs.Prelude.{◌≡◌, ◌↔◌, ℕ, true, false, List, None, Ok, Contains}
+use Rattle.zber.specs.Unfinished.{IsUnfinished}
+use Rattle.zapdu.specs.declared.apdu.Apdu.{Apdu}
+use Rattle.zapdu.specs.declared.apdu.Apdu.TheVariants as apdus
+use Rattle.zber.specs.declared.text.Mode.{Mode}
+use Rattle.zknow.specs.List.Listing.{listing}
+use Rattle.zorigin.specs.declared.settings.Settings.{Settings}
+use Rattle.zorigin.specs.declared.answer.Answer.{Answer}
+use Rattle.zoom_pool.specs.declared.answer.Step.TheVariants as steps
+use Rattle.zoom_pool.specs.States.{is_stopped}
+use Rattle.zoom_pool.specs.Coming.{Met, IsBehind}
+use Rattle.zber.specs.declared.framer.TheConstants.{MESSAGE_LIMIT}
+use Rattle.zoom_pool.specs.Heard.{Deed, Heard, HasHeard, Meets, state_at, took_as}
+use Rattle.zoom_pool.specs.Links.{Links}
+use Rattle.zoom_pool.specs.History.{History, accepted, After, AfterUpTo}
+
+-- a connection's deeds amount to one thing
+abbrev pub OneHearing : Type 0
+OneHearing =
+    (settings : Settings) (deeds : List Deed) (p q : Heard)
+    → HasHeard settings deeds p → HasHeard settings deeds q → p ≡ q
+
+-- and a Take meets one thing
+abbrev pub OneMeeting : Type 0
+OneMeeting = (p : Heard) (m n : Met) → Meets p m → Meets p n → m ≡ n
+
+-- a connection is neither stopped nor ended, and what was not taken of its stream holds no message and shows no fault
+pub record Waits (p : Heard) : Type 0 where
+  pub goes_on : is_stopped (state_at p) ≡ false
+  pub more : p.ended ≡ false
+  pub rest : List ℕ
+  pub behind : IsBehind p.stream p.taken rest
+  pub unfinished : IsUnfinished MESSAGE_LIMIT rest
+
+-- when a Take answers Nothing, and when Stopped
+pub record TakeLaws : Type 0 where
+  pub nothing : (p : Heard) (met : Met) → Meets p met → (took_as p met ≡ Ok steps.Nothing) ↔ Waits p
+  pub stopped : (p : Heard) (met : Met)
+      → Meets p met → (took_as p met ≡ Ok steps.Stopped) ↔ (is_stopped (state_at p) ≡ true)
+
+-- what a history can have left, it can have left up to any connection's next Take
+abbrev pub UpToLaw : Type 0
+UpToLaw =
+    (settings : Settings) (c : ℕ) (h : History) (pool : Links) → After settings h pool → AfterUpTo settings c h pool
+
+-- a reply without its reference id
+abbrev pub plain : Apdu → Apdu
+plain (apdus.InitRequest v) = apdus.InitRequest (record v { reference_id = None })
+plain (apdus.InitResponse v) = apdus.InitResponse (record v { reference_id = None })
+plain (apdus.SearchRequest v) = apdus.SearchRequest (record v { reference_id = None })
+plain (apdus.SearchResponse v) = apdus.SearchResponse (record v { reference_id = None })
+plain (apdus.PresentRequest v) = apdus.PresentRequest (record v { reference_id = None })
+plain (apdus.PresentResponse v) = apdus.PresentResponse (record v { reference_id = None })
+plain (apdus.Close v) = apdus.Close (record v { reference_id = None })
+
+abbrev pub plain_answer : Answer → Answer
+plain_answer answer = record { asked = answer.asked; reply = plain answer.reply }
+
+-- each answer is among the others, the reference id of its reply aside
+abbrev pub AreAmong : List Answer → List Answer → Type 0
+AreAmong xs ys = (x : Answer) → Contains xs x → (y : Answer) × Contains ys y × (plain_answer x ≡ plain_answer y)
+
+-- the accepted replies are the same
+abbrev pub AreSameAccepted : (ℕ → Heard) → (ℕ → Heard) → Type 0
+AreSameAccepted a b = (c : ℕ) → AreAmong (accepted (a c)) (accepted (b c)) × AreAmong (accepted (b c)) (accepted (a c))
+
+-- the same is known, and the printed list is the same
+pub record KnowSame (one other : Links) : Type 0 where
+  pub known : one.knowledge ≡ other.knowledge
+  pub printed : (names : List (List ℕ)) (mode : Mode)
+      → listing names mode one.knowledge ≡ listing names mode other.knowledge
+
+-- histories with the same accepted replies leave the same knowledge, whatever the order of events and cutting of
+-- streams
+abbrev pub OrderLaw : Type 0
+OrderLaw =
+    (settings others : Settings) (g h : History) (one other : Links)
+    (a : After settings g one) (b : After others h other) → AreSameAccepted a.heard b.heard → KnowSame one other

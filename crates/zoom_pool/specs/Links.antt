@@ -1,0 +1,43 @@
+-- What contracts see of a connection, and of a pool.
+use Rattle.std.specs.Prelude.{◌≡◌, ℕ, ◌==◌, Bool, false, List, [], Option, Some, None, slice_get}
+use Rattle.zber.specs.Elements.{Element}
+use Rattle.zber.specs.Stream.{Stream}
+use Rattle.zknow.specs.declared.fact.Fact.{Fact}
+use Rattle.zorigin.specs.Standings.{Standing}
+use Rattle.zoom_pool.specs.declared.state.State.{State}
+
+-- A connection: its origin; the octets that came and were not yet given out in a message; the message that want of
+-- memory
+-- left; the octets that wait to go out; whether the input ended; what stopped it.
+pub record Link : Type 0 where
+  pub origin : Standing
+  pub framer : Stream
+  pub held : Option Element
+  pub waiting : List ℕ
+  pub ended : Bool
+  pub stop : Option State
+
+-- A pool: its connections by number, and the facts known, in fact order.
+pub record Links : Type 0 where
+  pub connections : List Link
+  pub knowledge : List Fact
+
+abbrev pub waiting_in : Option Link → List ℕ
+waiting_in None = []
+waiting_in (Some link) = link.waiting
+
+-- the octets that wait to go out on a connection
+abbrev pub waiting_at : Links → ℕ → List ℕ
+waiting_at pool c = waiting_in (slice_get pool.connections c)
+
+abbrev pub stop_in : Option Link → Option State
+stop_in None = None
+stop_in (Some link) = link.stop
+
+-- what stopped a connection
+abbrev pub stop_at : Links → ℕ → Option State
+stop_at pool c = stop_in (slice_get pool.connections c)
+
+-- the other connections are as they were
+abbrev pub OthersStay : ℕ → Links → Links → Type 0
+OthersStay c old new = (i : ℕ) → (c == i) ≡ false → slice_get new.connections i ≡ slice_get old.connections i

@@ -1,0 +1,126 @@
+-- A connection that is driven for one question: which call is next, and the logs in which each call was the next one
+-- (Z39.50-2003, 3.2.1.1, 3.2.2.1, 3.2.3.1 and 3.2.11.1).
+use Rattle.std.specs.Prelude.{◌≡◌, ◌≢◌, ◌⊎◌, ℕ, pos, ◌≤◌, Bool, true, false, ◌||◌, not, if◌then◌else◌, List, [], ◌∷◌, length, Option, None, Some}
+use Rattle.std.specs.List.{list_any, flat_map}
+use Rattle.zapdu.specs.declared.apdu.Apdu.{Apdu}
+use Rattle.zapdu.specs.declared.apdu.Apdu.TheVariants as apdus
+use Rattle.zplan.specs.Plan.{IsNext}
+use Rattle.zorigin.specs.declared.settings.Settings.{Settings}
+use Rattle.zorigin.specs.declared.settings.Ask.{Ask}
+use Rattle.zorigin.specs.declared.answer.Answer.{Answer}
+use Rattle.zorigin.specs.declared.refusal.CallRefused.{CallRefused}
+use Rattle.zorigin.specs.declared.refusal.CallRefused.TheVariants as calls
+use Rattle.zorigin.specs.declared.state.State.{State}
+use Rattle.zorigin.specs.Standings.{Call, Init, Search, Present, Close, is_fresh, is_ready}
+use Rattle.zplan.specs.Ranges.{positions}
+use Rattle.zorigin.specs.Calls.{refusal}
+use Rattle.zorigin.specs.Log.{Log, Made, Got, Past, past, standing, state_of, opening, force_after, is_close_call, search_in}
+use Rattle.zoom_questions.specs.declared.question.Question.{Question}
+use Rattle.zoom_questions.specs.declared.question.MetaSettings.{MetaSettings}
+use Rattle.zoom_questions.specs.Askable.{HasArcs}
+use Rattle.zoom_pool.specs.Driving.{plan_of, events_of, IsNumbered}
+
+-- What is asked of one connection: the search; the positions that are wanted; how many of them one Present asks for;
+-- how many Presents wait for their answers at a time, where the target takes several.
+pub record Errand : Type 0 where
+  pub ask : Ask
+  pub wanted : List ℕ
+  pub step : ℕ
+  pub window : ℕ
+
+-- the search of a question: records are asked for by Presents alone
+abbrev pub ask_of : Question → Ask
+ask_of q = record {
+  databases = q.databases;
+  query = q.query;
+  syntax = q.syntax;
+  elements = q.elements;
+  small = pos 0;
+  large = pos 1;
+  medium = pos 0;
+}
+
+abbrev pub errand_with : Question → ℕ → ℕ → Errand
+errand_with q step window = record { ask = ask_of q; wanted = positions q.wanted; step = step; window = window }
+
+abbrev pub errand_of : MetaSettings → Question → Errand
+errand_of s q = errand_with q s.step s.window
+
+-- ---- what can be asked
+
+-- What an errand and its connection keep to, so that the calls can be sent: its name and its syntax are short, a
+-- Present asks for few positions, and the search for no records.
+pub record IsFitErrand (e : Errand) (settings : Settings) : Type 0 where
+  pub name : length settings.name ≤ 2000000
+  pub most : e.step ≤ 1000
+  pub syntax : HasArcs e.ask.syntax
+  pub small : e.ask.small ≡ pos 0
+  pub large : e.ask.large ≡ pos 1
+  pub medium : e.ask.medium ≡ pos 0
+
+-- ---- which call is next
+
+-- so many operations may be outstanding
+abbrev pub room_in : ℕ → Past → ℕ
+room_in window p = if (force_after (opening p)).concurrent then window else 1
+
+-- calls can be made: Fresh or Ready
+abbrev pub may_call : State → Bool
+may_call state = is_fresh state || is_ready state
+
+-- a call of the errand: its set is 1, its search is the question's
+abbrev pub IsOf : Errand → Call → Type 0
+IsOf e Init = Unit {0}
+IsOf e (Search op set ask) = (set ≡ 1) × (ask ≡ e.ask)
+IsOf e (Present op set ranges) = set ≡ 1
+IsOf e Close = Unit {0}
+
+-- The call is next, in a connection that was not closed.
+pub record IsNextCall (e : Errand) (settings : Settings) (log : Log) (call : Call) : Type 0 where
+  pub stands : may_call (state_of (past settings log)) ≡ true
+  pub of : IsOf e call
+  pub numbered : IsNumbered call
+  pub next : IsNext e.wanted e.step (room_in e.window (past settings log)) (events_of e.ask settings log) (plan_of call)
+
+-- a search that the target does not offer, or that cannot be sent
+abbrev pub is_skip : Option CallRefused → Call → Bool
+is_skip (Some calls.NotOffered) (Search op set ask) = true
+is_skip (Some calls.Unsendable) (Search op set ask) = true
+is_skip _ _ = false
+
+-- an admitted call was next; one that was refused is the search of the errand, which is then skipped
+abbrev pub IsSteeredCall : Errand → Settings → Log → Option CallRefused → Call → Type 0
+IsSteeredCall e settings log None call = IsNextCall e settings log call
+IsSteeredCall e settings log (Some reason) call =
+    (is_skip (Some reason) call ≡ true) × IsOf e call × IsNumbered call
+
+-- each call was the next one at its moment, or the search that is skipped
+abbrev pub IsSteered : Errand → Settings → Log → Type 0
+IsSteered e settings [] = Unit {0}
+IsSteered e settings (Made call ∷ log) =
+    IsSteeredCall e settings log (refusal (standing (past settings log)) call) call × IsSteered e settings log
+IsSteered e settings (Got reply ∷ log) = IsSteered e settings log
+
+-- ---- what came of it
+
+abbrev pub skipped_in : Settings → Log → Bool
+skipped_in settings [] = false
+skipped_in settings (Made call ∷ log) =
+    is_skip (refusal (standing (past settings log)) call) call || skipped_in settings log
+skipped_in settings (Got reply ∷ log) = skipped_in settings log
+
+-- the search was admitted, or skipped
+abbrev pub IsTried : Settings → Log → Type 0
+IsTried settings log = (flat_map search_in (past settings log).admitted ≢ []) ⊎ (skipped_in settings log ≡ true)
+
+abbrev pub is_rejection : Apdu → Bool
+is_rejection (apdus.InitResponse v) = not v.result
+is_rejection _ = false
+
+abbrev pub is_rejected : Option Answer → Bool
+is_rejected None = false
+is_rejected (Some answer) = is_rejection answer.reply
+
+-- the target rejected the association, or Close was admitted
+abbrev pub complete_in : Past → Bool
+complete_in p = is_rejected (opening p) || list_any is_close_call p.admitted

@@ -1,0 +1,140 @@
+//! One connection.
+ghost use Rattle.std.specs.Prelude.{◌≡◌, true, [], ◌++◌, Some, OnOk, OnErr};
+ghost use Rattle.zorigin.specs.Log.{IsCalled};
+ghost use Rattle.zoom_pool.specs.declared.state.State.TheVariants as states;
+ghost use Rattle.zoom_pool.specs.CallsOf.{call_of};
+ghost use Rattle.zoom_pool.specs.Heard.{Heard, Calls, Feeds, Ends, Gives, Stops, silence, hears_call, hears_piece, stop_by, state_at};
+ghost use Rattle.zoom_pool.specs.Leaving.{Matches, Leaves};
+ghost use Rattle.zoom_pool.specs.Steps.{IsAnswerOn, Gains};
+
+use crate::call::{Call, sent_for};
+use crate::state::{Reason, State, is_stopped, state_as};
+use crate::waiting::{append_all, put};
+use bytes::Bytes;
+use std::alloc::{AllocError, Global};
+use std::marker::Model;
+use zber::laws::stream_laws;
+use zber::{Framer, MESSAGE_LIMIT, Node};
+use zorigin::{CallRefused, Origin, Sent, Settings};
+
+/// A connection to one target: its origin, and the octets that came and that are to go.
+#[derive(Drop)]
+pub(crate) struct Connection {
+    pub(crate) alloc: Global,
+    pub(crate) origin: Origin,
+    pub(crate) framer: Framer,
+    /// A message that was not taken yet for want of memory.
+    pub(crate) held: Option<Node>,
+    /// What waits to go out, a request each.
+    pub(crate) waiting: Vec<Bytes>,
+    pub(crate) ended: bool,
+    /// The state in which it was stopped, else than by its origin.
+    pub(crate) stop: Option<State>,
+}
+
+impl Model for Connection {
+    ghost use Rattle.std.specs.Coded.{codes};
+    ghost use Rattle.zber.specs.Coding.{coded_element};
+    ghost use Rattle.zoom_pool.specs.Links.{Link};
+
+    ghost Value = { Link };
+
+    ghost coded = { Prim.hlevel (codes, coded_element) };
+
+    ghost use Rattle.zoom_pool.specs.Heard.{joined};
+
+    ghost view = { λ c. record {
+      origin = c.origin;
+      framer = c.framer.stream;
+      held = c.held;
+      waiting = joined c.waiting.items;
+      ended = c.ended;
+      stop = c.stop;
+    } };
+}
+
+impl Connection {
+    /// A connection in state Fresh. It takes no memory.
+    pub(crate) fn new(alloc: Global, settings: Settings) -> Self
+        ensures { Leaves settings [] (silence settings) result }
+    {
+        Connection {
+            alloc,
+            origin: Origin::new(alloc, settings),
+            framer: Framer::new(alloc, MESSAGE_LIMIT),
+            held: None,
+            waiting: Vec::new(alloc),
+            ended: false,
+            stop: None,
+        }
+    }
+
+    /// Its state. It takes no memory.
+    pub(crate) fn state(&self) -> State
+        ensures { (p : Heard) → Matches p self.now → result ≡ state_at p }
+    {
+        match self.stop {
+            Some(state) => state,
+            None => state_as(self.origin.state()),
+        }
+    }
+
+    /// Makes a call, and puts its request behind what waits. Room is found first: so a call that the origin admitted is
+    /// not refused.
+    pub(crate) fn call(&mut self, call: &Call) -> Result<(), CallRefused>
+        ensures answer { IsAnswerOn (call_of call.now) result self.old }
+        ensures after { IsCalled result
+            → Gains (Calls (call_of call.now)) (λ p. hears_call p (call_of call.now)) self.old self.new }
+        ensures err { OnErr result (self.new ≡ self.old) }
+    {
+        if self.stop.is_some() {
+            return Err(CallRefused::WrongState);
+        }
+        self.waiting.reserve(1)?;
+        let sent = sent_for(&mut self.origin, call)?;
+        let Sent { apdu, octets } = sent;
+        drop(apdu);
+        put(&mut self.waiting, octets);
+        Ok(())
+    }
+
+    /// Takes the next piece of octets; where it is stopped or its input ended, it does nothing.
+    pub(crate) fn feed(&mut self, piece: &[u8]) -> Result<(), AllocError>
+        ensures after { OnOk result (Gains (Feeds piece.now) (λ p. hears_piece p piece.now) self.old self.new) }
+        ensures err { OnErr result (self.new ≡ self.old) }
+    {
+        if is_stopped(self.state()) || self.ended {
+            return Ok(());
+        }
+        stream_laws();
+        self.framer.feed(piece)
+    }
+
+    /// No more octets come. It takes no memory.
+    pub(crate) fn end(&mut self)
+        ensures { Gains Ends (λ p. record p { ended = true }) self.old self.new }
+    {
+        self.ended = true;
+    }
+
+    /// It has failed for the reason. It takes no memory.
+    pub(crate) fn stop(&mut self, reason: Reason)
+        ensures after { Gains (Stops reason) (λ p. stop_by p reason) self.old self.new }
+        ensures stop { self.new.stop ≡ Some (states.Failed reason) }
+    {
+        self.stop = Some(State::Failed(reason));
+    }
+
+    /// Appends the octets that wait, and forgets them.
+    pub(crate) fn outgoing(&mut self, out: &mut Vec<u8>) -> Result<(), AllocError>
+        ensures gives { OnOk result (out.new.items ≡ out.old.items ++ self.old.waiting) }
+        ensures after { OnOk result (Gains (Gives self.old.waiting) (λ p. p) self.old self.new) }
+        ensures all { OnOk result (self.new.waiting ≡ []) }
+        ensures err { OnErr result (self.new ≡ self.old) }
+        ensures out { OnErr result (out.new.items ≡ out.old.items) }
+    {
+        append_all(self.waiting.as_slice(), out)?;
+        self.waiting.clear();
+        Ok(())
+    }
+}

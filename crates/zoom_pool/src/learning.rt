@@ -1,0 +1,81 @@
+//! What replies make known.
+ghost use Rattle.std.specs.Prelude.{IfOk, OnOk};
+ghost use Rattle.std.specs.List.{AllByRecursion};
+ghost use Rattle.zknow.specs.Facts.{IsFact};
+ghost use Rattle.zorigin.specs.Facts.{facts_of};
+ghost use Rattle.zorigin.specs.Log.{IsTaken};
+ghost use Rattle.zoom_pool.specs.Learned.{IsTellable, HasTellable, AddsAll, AddsPart};
+ghost use Rattle.zoom_pool.specs.Heard.{facts_in, facts_told, answer_in};
+
+use std::alloc::{AllocError, Global};
+use zknow::{Fact, Knowledge};
+use zorigin::laws::known_facts;
+use zorigin::{Answer, Refused, Taken, facts_of};
+
+/// Adds facts, one by one.
+fn add_all(knowledge: &mut Knowledge, facts: &[Fact]) -> Result<(), AllocError>
+    requires { AllByRecursion IsFact facts.now }
+    ensures ok { OnOk result (AddsAll knowledge.old facts.now knowledge.new) }
+    ensures part { AddsPart knowledge.old facts.now knowledge.new }
+{
+    for fact in facts {
+        knowledge.add(fact)?;
+    }
+    Ok(())
+}
+
+/// Adds what an answer says.
+fn add_answer(
+    alloc: Global,
+    target: u32,
+    knowledge: &mut Knowledge,
+    answer: &Answer,
+) -> Result<(), AllocError>
+    requires { IsTellable answer.now }
+    ensures ok { OnOk result (AddsAll knowledge.old (facts_of target answer.now) knowledge.new) }
+    ensures part { AddsPart knowledge.old (facts_of target answer.now) knowledge.new }
+{
+    known_facts();
+    let facts = facts_of(alloc, target, answer)?;
+    add_all(knowledge, facts.as_slice())
+}
+
+/// Adds what was taken.
+fn learn(
+    alloc: Global,
+    target: u32,
+    knowledge: &mut Knowledge,
+    taken: &Taken,
+) -> Result<(), AllocError>
+    requires { HasTellable taken.now }
+    ensures ok { OnOk result (AddsAll knowledge.old (facts_in target (answer_in taken.now)) knowledge.new) }
+    ensures part { AddsPart knowledge.old (facts_in target (answer_in taken.now)) knowledge.new }
+{
+    match taken {
+        Taken::Opened(answer) => add_answer(alloc, target, knowledge, answer),
+        Taken::Rejected(answer) => add_answer(alloc, target, knowledge, answer),
+        Taken::Answered(answer) => add_answer(alloc, target, knowledge, answer),
+        Taken::Closed => Ok(()),
+    }
+}
+
+/// Adds what would be taken; where the origin found no memory to tell it, nothing.
+pub(crate) fn learn_verdict(
+    alloc: Global,
+    target: u32,
+    knowledge: &mut Knowledge,
+    peeked: &Result<Taken, Refused>,
+) -> Result<(), AllocError>
+    requires { IfOk peeked.now HasTellable }
+    ensures taken { OnOk result (IsTaken peeked.now) }
+    ensures ok { OnOk result (AddsAll knowledge.old (facts_told target peeked.now) knowledge.new) }
+    ensures part { AddsPart knowledge.old (facts_told target peeked.now) knowledge.new }
+{
+    match peeked {
+        Ok(taken) => learn(alloc, target, knowledge, taken),
+        Err(reason) => match reason {
+            Refused::Memory => Err(AllocError),
+            _ => Ok(()),
+        },
+    }
+}

@@ -1,0 +1,29 @@
+//! Connections to targets, and what is known from them.
+#![tactic(auto)]
+
+mod answer;
+mod call;
+mod connection;
+mod driver;
+pub mod driving;
+mod heeding;
+mod host;
+pub mod laws;
+mod learning;
+mod meta;
+mod phase;
+mod pool;
+mod receiving;
+mod result_set;
+mod state;
+mod take;
+mod waiting;
+
+pub use answer::{Step, TakeError};
+pub use call::Call;
+pub use host::Host;
+pub use meta::Meta;
+pub use pool::Pool;
+pub use result_set::ResultSet;
+pub use state::{Reason, State};
+pub use zoom_questions::{MetaSettings, Move, Question};

@@ -1,0 +1,301 @@
+//! Connections that are driven, each for one question.
+ghost use Rattle.std.specs.Prelude.{◌≡◌, ◌<◌, ◌≤◌, ◌^◌, [], ◌++◌, length, OnOk, OnErr, IfOk, Some, Err};
+ghost use Rattle.zoom_pool.specs.declared.state.State.TheVariants as states;
+ghost use Rattle.zoom_pool.specs.CallsOf.{call_of};
+ghost use Rattle.zoom_pool.specs.Heard.{Feeds, Ends, Gives, Stops, IsDone};
+ghost use Rattle.zoom_pool.specs.Learned.{Grows};
+ghost use Rattle.zoom_pool.specs.Links.{waiting_at, stop_at, OthersStay};
+ghost use Rattle.zoom_pool.specs.Befalling.{IsStateAt, IsTakeAnswer, HasGivenAll};
+ghost use Rattle.zoom_questions.specs.Askable.{AreFit, AreAskable};
+ghost use Rattle.zoom_pool.specs.Metas.{MetaAfter, MetaBefell, MetaTook, MetaKeeps, DrivesTo, AdvancesTo, IssuesTo, LearnsTold, TellsUpTo, StandFor, is_skipped, is_complete, IsFinishedUpTo};
+
+use crate::answer::{Step, TakeError, Told, step_told};
+use crate::call::Call;
+use crate::driver::{Driver, refused_law};
+use crate::laws::{one_hearing, one_meeting};
+use crate::pool::Pool;
+use crate::state::{Reason, State, is_stopped};
+use std::alloc::{AllocError, Global};
+use std::marker::Model;
+use zber::Seq;
+use zknow::Knowledge;
+use zoom_questions::{MetaSettings, Question};
+use zorigin::CallRefused;
+use zorigin::laws::sent_requests;
+
+/// More than the calls of one drive: an Init, a search, a Close, the 64 Presents that may wait, and one look more.
+const MOST_TURNS: u32 = 70;
+
+/// What looking for the next call came to.
+#[derive(Clone, Copy, Debug, PartialEq, Eq)]
+pub(crate) enum Turn {
+    /// It was made, and the origin admitted it.
+    Admitted,
+    /// It was the search, and the origin refused it: another call is next.
+    Skipped,
+    /// None is next.
+    Rests,
+}
+
+/// A pool of connections, each of which is driven for one question (Z39.50-2003, 3.2): which calls are made is decided
+/// here. Its caller carries octets, takes messages, and lets it drive after each. What is known changes by takes alone.
+#[derive(Drop)]
+pub struct Meta {
+    pool: Pool,
+    drivers: Vec<Driver>,
+}
+
+impl Model for Meta {
+    ghost use Rattle.std.specs.Prelude.{◌≡◌, length};
+    ghost use Rattle.std.specs.Coded.{codes};
+    ghost use Rattle.zber.specs.Coding.{coded_element};
+    ghost use Rattle.zquery.specs.Coding.{coded_query};
+    ghost use Rattle.zknow.specs.contracts.fact.Fact as fact;
+    ghost use Rattle.zoom_pool.specs.Metas.{MetaLinks};
+
+    ghost Value = { MetaLinks };
+
+    ghost coded = { Prim.hlevel (codes, coded_element, coded_query, fact.the_row.coded) };
+
+    ghost view = { λ m. record { pool = m.pool; drivers = m.drivers.items } };
+
+    ghost invariant = { λ m. length m.drivers.items ≡ length m.pool.connections };
+}
+
+impl Meta {
+    /// A connection for each question, in state Fresh, and nothing known.
+    pub fn new(
+        alloc: Global,
+        questions: Seq<Question>,
+        settings: MetaSettings,
+    ) -> Result<Self, AllocError>
+        requires some { length questions < 2 ^ 32 }
+        requires askable { AreAskable questions }
+        requires fit { AreFit settings }
+        ensures after { IfOk result (λ meta. MetaAfter questions settings [] meta) }
+        ensures size { IfOk result (λ meta. length meta.pool.connections ≡ length questions) }
+    {
+        let pool = Pool::new(alloc, questions.len() as u32, &settings.name)?;
+        let drivers = drivers_for(alloc, questions, settings.step, settings.window)?;
+        Ok(Meta { pool, drivers })
+    }
+
+    /// How many connections there are: their numbers are below it. It takes no memory.
+    pub fn connections(&self) -> usize
+        ensures { result ≡ length self.now.pool.connections }
+    {
+        self.pool.connections()
+    }
+
+    /// The state of a connection. It takes no memory.
+    pub fn state(&self, c: u32) -> State
+        requires { c < length self.now.pool.connections }
+        ensures { IsStateAt c self.now.pool result }
+    {
+        self.pool.state(c)
+    }
+
+    /// Makes the calls of a connection that are due, and answers how many the origin admitted: Init first; where the
+    /// target accepted, the search; once its count is known, Presents by least first position, as many as may wait for
+    /// their answers, of what is wanted and of what short answers left; and Close, once nothing is due and nothing is
+    /// outstanding. The origin admits each of them but a search that is not offered or cannot be sent, which is
+    /// skipped: so afterwards none is next, and where the association was accepted and the connection goes on, its
+    /// search was admitted or it counts as skipped. Where no memory is found, the calls that were made stand.
+    pub fn drive(&mut self, c: u32) -> Result<u32, AllocError>
+        requires { c < length self.old.pool.connections }
+        ensures after { DrivesTo c result self.old self.new }
+        ensures known { self.new.pool.knowledge ≡ self.old.pool.knowledge }
+        ensures size { length self.new.pool.connections ≡ length self.old.pool.connections }
+    {
+        one_hearing();
+        let mut admitted: u32 = 0;
+        for _ in 0..MOST_TURNS {
+            match self.advance(c)? {
+                Turn::Admitted => admitted += 1,
+                Turn::Skipped => {}
+                Turn::Rests => return Ok(admitted),
+            }
+        }
+        Ok(admitted)
+    }
+
+    /// Makes the call of a connection that is next, where one is.
+    fn advance(&mut self, c: u32) -> Result<Turn, AllocError>
+        requires { c < length self.old.pool.connections }
+        ensures after { AdvancesTo c result self.old self.new }
+        ensures known { self.new.pool.knowledge ≡ self.old.pool.knowledge }
+        ensures size { length self.new.pool.connections ≡ length self.old.pool.connections }
+    {
+        one_hearing();
+        let state = self.pool.state(c);
+        if is_stopped(state) {
+            return Ok(Turn::Rests);
+        }
+        match self.drivers[c as usize].next_call(state)? {
+            Some(call) => {
+                let turn = self.issue(c, &call);
+                drop(call);
+                turn
+            }
+            None => Ok(Turn::Rests),
+        }
+    }
+
+    /// Makes the call that what drives the connection gave.
+    fn issue(&mut self, c: u32, call: &Call) -> Result<Turn, AllocError>
+        requires { c < length self.old.pool.connections }
+        ensures after { IssuesTo c (call_of call.now) result self.old self.new }
+        ensures known { self.new.pool.knowledge ≡ self.old.pool.knowledge }
+        ensures size { length self.new.pool.connections ≡ length self.old.pool.connections }
+    {
+        one_hearing();
+        sent_requests();
+        match self.pool.call(c, call) {
+            Ok(()) => {
+                self.drivers[c as usize].note_sent(call);
+                Ok(Turn::Admitted)
+            }
+            Err(reason) => match reason {
+                CallRefused::Memory => Err(AllocError),
+                _ => {
+                    self.drivers[c as usize].note_refused();
+                    Ok(Turn::Skipped)
+                }
+            },
+        }
+    }
+
+    /// Takes the next piece of octets that came on a connection, as `Pool::feed` does.
+    pub fn feed(&mut self, c: u32, piece: &[u8]) -> Result<(), AllocError>
+        requires { c < length self.old.pool.connections }
+        ensures after { OnOk result (MetaBefell c (Feeds piece.now) self.old self.new) }
+        ensures err { OnErr result (self.new ≡ self.old) }
+        ensures known { self.new.pool.knowledge ≡ self.old.pool.knowledge }
+        ensures size { length self.new.pool.connections ≡ length self.old.pool.connections }
+    {
+        self.pool.feed(c, piece)
+    }
+
+    /// Takes one message of a connection, as `Pool::take` does: with the same answers, refusals and what they leave.
+    /// Behind a take that found no memory, `state`, `finished`, `skipped`, `complete` and the next take of each
+    /// connection answer what the history says.
+    pub fn take(&mut self, c: u32) -> Result<Step, TakeError>
+        requires { c < length self.old.pool.connections }
+        ensures answer { IsTakeAnswer c self.old.pool result }
+        ensures after { IsDone result → MetaTook c self.old self.new }
+        ensures memory { result ≡ Err TakeError.Memory → MetaKeeps c self.old self.new }
+        ensures grows { Grows self.old.pool.knowledge self.new.pool.knowledge }
+        ensures waiting { waiting_at self.new.pool c ≡ waiting_at self.old.pool c }
+        ensures size { length self.new.pool.connections ≡ length self.old.pool.connections }
+    {
+        one_meeting();
+        one_hearing();
+        refused_law();
+        match self.pool.take_told(c) {
+            Ok(told) => {
+                know_take(&mut self.drivers[c as usize], &told);
+                Ok(step_told(&told))
+            }
+            Err(error) => Err(error),
+        }
+    }
+
+    /// No more octets come to a connection, as for `Pool::end`. It takes no memory.
+    pub fn end(&mut self, c: u32)
+        requires { c < length self.old.pool.connections }
+        ensures after { MetaBefell c Ends self.old self.new }
+        ensures known { self.new.pool.knowledge ≡ self.old.pool.knowledge }
+        ensures size { length self.new.pool.connections ≡ length self.old.pool.connections }
+    {
+        self.pool.end(c);
+    }
+
+    /// A connection has failed for a reason of its host, whatever its state was. It takes no memory.
+    pub fn stop(&mut self, c: u32, reason: Reason)
+        requires { c < length self.old.pool.connections }
+        ensures after { MetaBefell c (Stops reason) self.old self.new }
+        ensures stopped { stop_at self.new.pool c ≡ Some (states.Failed reason) }
+        ensures others { OthersStay c self.old.pool self.new.pool }
+        ensures drivers { self.new.drivers ≡ self.old.drivers }
+        ensures known { self.new.pool.knowledge ≡ self.old.pool.knowledge }
+        ensures size { length self.new.pool.connections ≡ length self.old.pool.connections }
+    {
+        self.pool.stop(c, reason);
+    }
+
+    /// Appends the octets that wait to go out on a connection, and forgets them, as `Pool::outgoing` does.
+    pub fn outgoing(&mut self, c: u32, out: &mut Vec<u8>) -> Result<(), AllocError>
+        requires { c < length self.old.pool.connections }
+        ensures gives { OnOk result (out.new.items ≡ out.old.items ++ waiting_at self.old.pool c) }
+        ensures after { OnOk result (MetaBefell c (Gives (waiting_at self.old.pool c)) self.old self.new) }
+        ensures all { OnOk result (HasGivenAll c self.new.pool) }
+        ensures none { OnOk result (waiting_at self.new.pool c ≡ []) }
+        ensures err { OnErr result (self.new ≡ self.old) }
+        ensures out { OnErr result (out.new.items ≡ out.old.items) }
+        ensures known { self.new.pool.knowledge ≡ self.old.pool.knowledge }
+        ensures size { length self.new.pool.connections ≡ length self.old.pool.connections }
+    {
+        self.pool.outgoing(c, out)
+    }
+
+    /// What is known: the union of the facts of the accepted replies. It takes no memory.
+    pub fn knowledge(&self) -> &Knowledge
+        ensures { result.now ≡ self.now.pool.knowledge }
+    {
+        self.pool.knowledge()
+    }
+
+    /// Whether every connection is Closed or Failed. It takes no memory.
+    pub fn finished(&self) -> bool
+        ensures { IsFinishedUpTo self.now result }
+    {
+        one_hearing();
+        self.pool.is_finished()
+    }
+
+    /// Whether the question of a connection was skipped: its search was refused, as `NotOffered` or `Unsendable`. It
+    /// takes no memory.
+    pub fn skipped(&self, c: u32) -> bool
+        requires { c < length self.now.pool.connections }
+        ensures { TellsUpTo c self.now is_skipped result }
+    {
+        self.drivers[c as usize].is_skipped()
+    }
+
+    /// Whether the target rejected the association or the connection's own Close was sent. It takes no memory.
+    pub fn complete(&self, c: u32) -> bool
+        requires { c < length self.now.pool.connections }
+        ensures { TellsUpTo c self.now is_complete result }
+    {
+        self.drivers[c as usize].is_complete()
+    }
+}
+
+/// Tells what drives a connection what a take came to.
+fn know_take(driver: &mut Driver, told: &Told)
+    ensures { LearnsTold told.now driver.old driver.new }
+{
+    if let Told::Took(taken) = told {
+        driver.note_reply(taken);
+    }
+}
+
+/// What drives a connection for each question.
+fn drivers_for(
+    alloc: Global,
+    questions: Seq<Question>,
+    step: u32,
+    window: u32,
+) -> Result<Vec<Driver>, AllocError>
+    requires askable { AreAskable questions }
+    requires steps { 0 < step }
+    requires most { step ≤ 1000 }
+    requires room { 0 < window }
+    ensures { IfOk result (λ drivers. StandFor questions step window drivers.items) }
+{
+    let mut drivers = Vec::new(alloc);
+    for question in questions.into_vec() {
+        drivers.push(Driver::new(alloc, question, step, window))?;
+    }
+    Ok(drivers)
+}

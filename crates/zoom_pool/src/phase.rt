@@ -1,0 +1,281 @@
+//! How far a connection is that is driven for one question.
+ghost use Rattle.std.specs.Prelude.{◌≡◌, ◌^◌, ◌≤◌, true, length, IfOk};
+ghost use Rattle.zplan.specs.Positions.{first_of};
+ghost use Rattle.zplan.specs.Ranges.{natural, positions, CanBeAsked};
+ghost use Rattle.zplan.specs.Agenda.{SameAgenda, HasWaiting, IsSent, IsAnswered};
+ghost use Rattle.zorigin.specs.Standings.{Search};
+ghost use Rattle.zorigin.specs.Fitting.{records_in};
+ghost use Rattle.zoom_pool.specs.CallsOf.{call_of};
+ghost use Rattle.zoom_pool.specs.Driving.{counted};
+ghost use Rattle.zoom_pool.specs.Drivers.{room_for, is_fresh_state, GivesAsked, GivesAt, IsSamePhase, SendsAt, opened_phase, counted_phase, TellsAt, AnswersAt, IsRangesCall, IsMade};
+
+use crate::call::Call;
+use crate::state::State;
+use std::alloc::{AllocError, Global};
+use zapdu::{Apdu, Records};
+use zber::{Duplicate, Seq};
+use zorigin::{Ask, Taken};
+use zplan::{Range, Schedule};
+
+/// How far it is.
+#[derive(Drop)]
+pub enum Phase {
+    /// Init was not sent.
+    Fresh,
+    /// Init was sent.
+    Opening,
+    /// The association was accepted, and the search was not called.
+    Opened {
+        /// Records can be asked for.
+        present: bool,
+        /// Version 3 is in force.
+        three: bool,
+    },
+    /// The search was sent.
+    Searching {
+        /// Records can be asked for.
+        present: bool,
+        /// Version 3 is in force.
+        three: bool,
+    },
+    /// The search was answered, and no schedule was made yet.
+    Counted {
+        /// Version 3 is in force.
+        three: bool,
+        /// How many records there are.
+        count: u64,
+    },
+    /// Records are asked for.
+    Asking(Schedule),
+    /// Nothing is left to ask for, and Close was not sent.
+    Done,
+    /// Close was sent, or the association was rejected.
+    Closed,
+}
+
+/// How many Presents may wait, where calls can be made.
+fn room_for(window: u32, state: State) -> Option<u32>
+    ensures { result ≡ room_for window state }
+{
+    match state {
+        State::Ready { concurrent, .. } => Some(if concurrent { window } else { 1 }),
+        _ => None,
+    }
+}
+
+fn is_fresh(state: State) -> bool
+    ensures { result ≡ is_fresh_state state }
+{
+    matches!(state, State::Fresh)
+}
+
+/// The search for what is asked.
+fn search_call(alloc: Global, ask: &Ask) -> Result<Call, AllocError>
+    ensures { IfOk result (λ call. call_of call ≡ Search 1 1 ask.now) }
+{
+    Ok(Call::Search {
+        op: 1,
+        set: 1,
+        ask: Ask {
+            databases: ask.databases.duplicate(alloc)?,
+            syntax: ask.syntax.duplicate(alloc)?,
+            elements: ask.elements.duplicate(alloc)?,
+            small: ask.small,
+            large: ask.large,
+            medium: ask.medium,
+            query: ask.query.copy(alloc)?,
+        },
+    })
+}
+
+/// The first position of the range.
+fn start_of(range: Range) -> u32
+    requires { natural range.start ≤ 2 ^ 31 }
+    ensures { result ≡ natural range.start }
+{
+    if range.start < 0 {
+        0
+    } else {
+        range.start as u32
+    }
+}
+
+/// The first position of the ranges.
+fn first_position(list: &[Range]) -> u32
+    requires { CanBeAsked list.now }
+    ensures first { result ≡ first_of (positions list.now) }
+    ensures bounded { result ≤ 2 ^ 31 }
+{
+    start_of(list[0])
+}
+
+/// The Present for the ranges.
+fn present_call(list: Vec<Range>) -> Call
+    requires { CanBeAsked list.items }
+    ensures { IsRangesCall list.items (call_of result) }
+{
+    let first = first_position(&list);
+    Call::PresentRanges {
+        op: first + 1,
+        set: 1,
+        ranges: Seq::from_vec(list),
+    }
+}
+
+/// What is next of a schedule: the Present of what stands first, where fewer than `room` wait; Close, where nothing is
+/// due and nothing waits.
+fn next_asked(schedule: &mut Schedule, alloc: Global, room: u32) -> Result<Option<Call>, AllocError>
+    ensures same { SameAgenda schedule.old schedule.new }
+    ensures ok { IfOk result (λ given. GivesAsked room schedule.new given) }
+{
+    if schedule.waiting() >= room as usize {
+        return Ok(None);
+    }
+    match schedule.next(alloc)? {
+        Some(list) => Ok(Some(present_call(list))),
+        None => {
+            if schedule.waiting() == 0 {
+                Ok(Some(Call::Close))
+            } else {
+                Ok(None)
+            }
+        }
+    }
+}
+
+/// The call that is next at the phase, in this state.
+pub(crate) fn give(
+    phase: &mut Phase,
+    alloc: Global,
+    ask: &Ask,
+    state: State,
+    window: u32,
+) -> Result<Option<Call>, AllocError>
+    requires { IsMade phase.old }
+    ensures same { IsSamePhase phase.old phase.new }
+    ensures ok { IfOk result (λ given. GivesAt ask.now window state phase.new given) }
+{
+    match phase {
+        Phase::Fresh => Ok(if is_fresh(state) {
+            Some(Call::Init)
+        } else {
+            None
+        }),
+        Phase::Opened { .. } => match room_for(window, state) {
+            Some(_room) => Ok(Some(search_call(alloc, ask)?)),
+            None => Ok(None),
+        },
+        Phase::Asking(schedule) => match room_for(window, state) {
+            Some(room) => next_asked(schedule, alloc, room),
+            None => Ok(None),
+        },
+        Phase::Done => match room_for(window, state) {
+            Some(_room) => Ok(Some(Call::Close)),
+            None => Ok(None),
+        },
+        _ => Ok(None),
+    }
+}
+
+/// The Present of what stands first was sent.
+fn send_first(schedule: &mut Schedule)
+    ensures { schedule.old.ready ≡ true → IsSent schedule.old schedule.new }
+{
+    if schedule.is_ready() {
+        schedule.note_sent();
+    }
+}
+
+/// The origin admitted the call, which was given at the phase. It takes no memory.
+pub(crate) fn send(phase: &mut Phase, call: &Call)
+    ensures { SendsAt (call_of call.now) phase.old phase.new }
+{
+    match call {
+        Call::Init => *phase = Phase::Opening,
+        Call::Search { .. } => {
+            if let Phase::Opened { present, three } = *phase {
+                *phase = Phase::Searching { present, three };
+            }
+        }
+        Call::Present { .. } | Call::PresentRanges { .. } => {
+            if let Phase::Asking(schedule) = phase {
+                send_first(schedule);
+            }
+        }
+        Call::Close => *phase = Phase::Closed,
+    }
+}
+
+fn opened_phase(reply: &Apdu) -> Phase
+    ensures { result ≡ opened_phase reply.now }
+{
+    match reply {
+        Apdu::InitResponse(response) => Phase::Opened {
+            present: response.options.bit(1),
+            three: response.protocol_version.bit(2),
+        },
+        _ => Phase::Closed,
+    }
+}
+
+fn counted_phase(three: bool, counts: bool, count: i64) -> Phase
+    ensures { result ≡ counted_phase three (counted counts count) }
+{
+    if counts {
+        let count = if count < 0 { 0 } else { count as u64 };
+        Phase::Counted { three, count }
+    } else {
+        Phase::Done
+    }
+}
+
+fn count_records(records: &Option<Records>) -> usize
+    ensures { result ≡ length (records_in records.now) }
+{
+    match records {
+        Some(Records::List(records)) => records.len(),
+        _ => 0,
+    }
+}
+
+/// The list that waits from the first position on was answered.
+fn answer_list(schedule: &mut Schedule, first: u32, records: usize)
+    ensures { HasWaiting first schedule.old → IsAnswered first records schedule.old schedule.new }
+{
+    if schedule.is_waiting(first) {
+        schedule.note_answered(first, records);
+    }
+}
+
+/// The answer to an operation came.
+fn answer(phase: &mut Phase, op: u32, reply: &Apdu)
+    ensures { AnswersAt op reply.now phase.old phase.new }
+{
+    match reply {
+        Apdu::SearchResponse(response) => {
+            if let Phase::Searching { present, three } = *phase {
+                let counts = response.search_status && present;
+                *phase = counted_phase(three, counts, response.result_count);
+            }
+        }
+        Apdu::PresentResponse(response) => {
+            if let Phase::Asking(schedule) = phase {
+                let first = if op == 0 { 0 } else { op - 1 };
+                answer_list(schedule, first, count_records(&response.records));
+            }
+        }
+        _ => {}
+    }
+}
+
+/// The origin took a reply. It takes no memory.
+pub(crate) fn tell(phase: &mut Phase, taken: &Taken)
+    ensures { TellsAt taken.now phase.old phase.new }
+{
+    match taken {
+        Taken::Opened(answer) => *phase = opened_phase(&answer.reply),
+        Taken::Rejected(_) => *phase = Phase::Closed,
+        Taken::Answered(given) => answer(phase, given.asked.op, &given.reply),
+        Taken::Closed => {}
+    }
+}

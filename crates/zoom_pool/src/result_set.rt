@@ -1,0 +1,92 @@
+//! Result sets.
+ghost use Rattle.std.specs.Prelude.{◌≡◌, ◌<◌, length, OnErr};
+ghost use Rattle.zknow.specs.Known.{Shows, counts_at, records_at};
+ghost use Rattle.zorigin.specs.Standings.{Present};
+ghost use Rattle.zorigin.specs.Ranges.{one_range};
+ghost use Rattle.zorigin.specs.Log.{IsCalled};
+ghost use Rattle.zoom_pool.specs.CallsOf.{call_of};
+ghost use Rattle.zoom_pool.specs.Heard.{Calls};
+ghost use Rattle.zoom_pool.specs.Befalling.{Befell, IsCallAnswer};
+
+use crate::call::Call;
+use crate::pool::Pool;
+use zapdu::Record;
+use zber::Seq;
+use zknow::Known;
+use zorigin::{CallRefused, Range};
+
+/// A result set of one connection (Z39.50-2003, 3.1.5). It is a name: making one asks for nothing.
+#[derive(Clone, Copy, Debug, PartialEq, Eq)]
+pub struct ResultSet {
+    /// The connection's number.
+    pub c: u32,
+    /// The set's number.
+    pub set: u32,
+}
+
+fn present_call(op: u32, set: u32, start: i64, n: i64) -> Call
+    ensures { call_of result ≡ Present op set (one_range start n) }
+{
+    Call::Present { op, set, start, n }
+}
+
+fn ranges_call(op: u32, set: u32, ranges: Seq<Range>) -> Call
+    ensures { call_of result ≡ Present op set ranges }
+{
+    Call::PresentRanges { op, set, ranges }
+}
+
+impl ResultSet {
+    /// What is known of the number of its records. It takes no memory.
+    pub fn size(self, pool: &Pool) -> Known<'_, i64>
+        ensures { Shows result (counts_at self.c self.set pool.now.knowledge) }
+    {
+        pool.knowledge().count(self.c, self.set)
+    }
+
+    /// What is known of the record at a position, from 1 on; two or more records, in order of their canonical
+    /// encodings, where accepted replies differ. It takes no memory.
+    pub fn row(self, pool: &Pool, position: i64) -> Known<'_, Record>
+        ensures { Shows result (records_at self.c self.set position pool.now.knowledge) }
+    {
+        pool.knowledge().at(self.c, self.set, position)
+    }
+
+    /// Asks for `n` of its records from position `start` on, by a call with the operation's number `op`; so it is
+    /// refused as that call is, and the pool is then as it was.
+    pub fn present(self, pool: &mut Pool, op: u32, start: i64, n: i64) -> Result<(), CallRefused>
+        requires { self.c < length pool.old.connections }
+        ensures answer { IsCallAnswer self.c (Present op self.set (one_range start n)) pool.old result }
+        ensures after { IsCalled result
+            → Befell self.c (Calls (Present op self.set (one_range start n))) pool.old pool.new }
+        ensures err { OnErr result (pool.new ≡ pool.old) }
+        ensures known { pool.new.knowledge ≡ pool.old.knowledge }
+        ensures size { length pool.new.connections ≡ length pool.old.connections }
+    {
+        let call = present_call(op, self.set, start, n);
+        let answer = pool.call(self.c, &call);
+        drop(call);
+        answer
+    }
+
+    /// Asks for its records at the positions of all ranges, in their order, by a call with the operation's number `op`;
+    /// so it is refused as that call is, and the pool is then as it was.
+    pub fn present_ranges(
+        self,
+        pool: &mut Pool,
+        op: u32,
+        ranges: Seq<Range>,
+    ) -> Result<(), CallRefused>
+        requires { self.c < length pool.old.connections }
+        ensures answer { IsCallAnswer self.c (Present op self.set ranges) pool.old result }
+        ensures after { IsCalled result → Befell self.c (Calls (Present op self.set ranges)) pool.old pool.new }
+        ensures err { OnErr result (pool.new ≡ pool.old) }
+        ensures known { pool.new.knowledge ≡ pool.old.knowledge }
+        ensures size { length pool.new.connections ≡ length pool.old.connections }
+    {
+        let call = ranges_call(op, self.set, ranges);
+        let answer = pool.call(self.c, &call);
+        drop(call);
+        answer
+    }
+}

@@ -1,0 +1,122 @@
+//! Taking a message of a connection.
+ghost use Rattle.std.specs.Prelude.{◌≡◌, IfOk, IfNone, true, false, None, if◌then◌else◌};
+ghost use Rattle.zber.specs.Unfinished.{IsUnfinished};
+ghost use Rattle.zoom_pool.specs.declared.state.State.TheVariants as states;
+ghost use Rattle.zoom_pool.specs.declared.state.Reason.TheVariants as reasons;
+ghost use Rattle.zoom_pool.specs.States.{is_stopped, goes_on};
+ghost use Rattle.zber.specs.declared.framer.TheConstants.{MESSAGE_LIMIT};
+ghost use Rattle.zoom_pool.specs.Heard.{Heard, state_at, IsDone};
+ghost use Rattle.zoom_pool.specs.Learned.{Grows};
+ghost use Rattle.zoom_pool.specs.Leaving.{Frames, Matches};
+ghost use Rattle.zoom_pool.specs.Steps.{Draws, LacksTo, TakesOn, TakesPart, KeepsOn, stop_after, held_after};
+
+use crate::answer::{TakeError, Told, reason_of};
+use crate::connection::Connection;
+use crate::heeding::heed;
+use crate::state::{Reason, State, is_closing, is_stopped};
+use zber::laws::stream_laws;
+use zber::{FrameError, Framer, Node};
+use zknow::Knowledge;
+
+impl Connection {
+    /// Takes one message, and adds to the knowledge what it says of this target.
+    pub(crate) fn take(&mut self, target: u32, knowledge: &mut Knowledge) -> Result<Told, TakeError>
+        ensures done { TakesOn target result self.old self.new knowledge.old knowledge.new }
+        ensures memory { KeepsOn result self.old self.new }
+        ensures part { TakesPart target result self.old knowledge.old knowledge.new }
+        ensures grows { Grows knowledge.old knowledge.new }
+        ensures waiting { self.new.waiting ≡ self.old.waiting }
+    {
+        if is_stopped(self.state()) {
+            return Ok(Told::Stopped);
+        }
+        stream_laws();
+        match next_message(&mut self.held, &mut self.framer) {
+            Ok(Some(node)) => {
+                let answer = heed(self.alloc, &mut self.origin, target, knowledge, &node);
+                settle(&mut self.stop, &mut self.held, node, &answer);
+                answer
+            }
+            Ok(None) => self.lack(),
+            Err(error) => match error {
+                FrameError::Fault { kind, at } => {
+                    self.stop = Some(State::Failed(Reason::Frame { kind, at }));
+                    Err(TakeError::Frame { kind, at })
+                }
+                FrameError::Memory => Err(TakeError::Memory),
+            },
+        }
+    }
+
+    /// No message is there.
+    fn lack(&mut self) -> Result<Told, TakeError>
+        requires asked { self.old.framer.asked ≡ true }
+        requires sound { self.old.framer.fault ≡ None }
+        requires none { self.old.held ≡ None }
+        ensures answer { (p : Heard) → Matches p self.old → is_stopped (state_at p) ≡ false
+            → IsUnfinished MESSAGE_LIMIT self.old.framer.octets → LacksTo p result self.new }
+        ensures done { IsDone result }
+        ensures waiting { self.new.waiting ≡ self.old.waiting }
+    {
+        if !self.ended {
+            return Ok(Told::Nothing);
+        }
+        match self.framer.finish() {
+            Ok(_) => {
+                let closing = is_closing(self.state());
+                self.stop = Some(ended_state(closing));
+                Ok(Told::Ended)
+            }
+            Err(error) => match error {
+                FrameError::Fault { kind, at } => {
+                    self.stop = Some(State::Failed(Reason::Frame { kind, at }));
+                    Err(TakeError::Frame { kind, at })
+                }
+                FrameError::Memory => Err(TakeError::Memory),
+            },
+        }
+    }
+}
+
+/// What stops the connection once the message was taken so; for want of memory the message is kept.
+fn settle(
+    stop: &mut Option<State>,
+    held: &mut Option<Node>,
+    node: Node,
+    answer: &Result<Told, TakeError>,
+)
+    ensures stopped { stop.new ≡ stop_after stop.old answer.now }
+    ensures kept { held.new ≡ held_after answer.now node held.old }
+{
+    if let Err(error) = answer {
+        match reason_of(*error) {
+            Some(reason) => *stop = Some(State::Failed(reason)),
+            None => *held = Some(node),
+        }
+    }
+}
+
+/// The state after the input ended with nothing left.
+fn ended_state(closing: bool) -> State
+    ensures { result ≡ (if closing then states.Closed else states.Failed reasons.Ended) }
+{
+    if closing {
+        State::Closed
+    } else {
+        State::Failed(Reason::Ended)
+    }
+}
+
+/// The message that is kept, or the next one of the framer.
+fn next_message(held: &mut Option<Node>, framer: &mut Framer) -> Result<Option<Node>, FrameError>
+    ensures answer { (p : Heard) → goes_on p.stop ≡ true → Frames p held.old framer.old.stream
+        → Draws p result held.new framer.new.stream }
+    ensures none { held.new ≡ None }
+    ensures idle { IfOk result
+        (λ o. IfNone o ((framer.new.stream.asked ≡ true) × (framer.new.stream.fault ≡ None))) }
+{
+    match held.take() {
+        Some(node) => Ok(Some(node)),
+        None => framer.next(),
+    }
+}

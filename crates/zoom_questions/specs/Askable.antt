@@ -1,0 +1,28 @@
+-- Which questions can be asked, and how (Z39.50-2003, 3.2.2.1 and 3.2.3.1).
+use Rattle.std.specs.Prelude.{ℕ, ◌<◌, ◌≤◌, List, [], ◌∷◌, length, Option, None, Some}
+use Rattle.zplan.specs.Ranges.{AreWanted, positions}
+use Rattle.zoom_questions.specs.declared.question.Question.{Question}
+use Rattle.zoom_questions.specs.declared.question.MetaSettings.{MetaSettings}
+
+abbrev pub HasArcs : Option (List ℕ) → Type 0
+HasArcs None = Unit {0}
+HasArcs (Some arcs) = length arcs ≤ 1000
+
+-- a question can be asked: its ranges ascend and leave gaps, from 1 to 2,147,483,647, 1,000,000 positions at most
+pub record IsAskable (q : Question) : Type 0 where
+  pub wanted : AreWanted q.wanted
+  pub some : length (positions q.wanted) ≤ 1000000
+  pub syntax : HasArcs q.syntax
+
+-- each question can be asked
+abbrev pub AreAskable : List Question → Type 0
+AreAskable [] = Unit {0}
+AreAskable (q ∷ qs) = IsAskable q × AreAskable qs
+
+-- and so, under a short name, with so many positions to a Present, and so many Presents at a time
+pub record AreFit (s : MetaSettings) : Type 0 where
+  pub name : length s.name ≤ 2000000
+  pub steps : 0 < s.step
+  pub most : s.step ≤ 1000
+  pub room : 0 < s.window
+  pub widest : s.window ≤ 64

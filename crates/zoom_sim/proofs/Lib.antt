@@ -1,0 +1,16 @@
+pub mod RunGoes
+pub mod RunHalts
+pub mod RunCarries
+pub mod RunWorlds
+pub mod RunSound
+pub mod RunTakes
+pub mod RunTurns
+pub mod RunStarts
+pub mod RunSpares
+pub mod RunHeard
+pub mod RunOver
+pub mod RunPeers
+pub mod RunReleases
+pub mod RunRounded
+pub mod RunRounds
+pub mod RunCatalogue

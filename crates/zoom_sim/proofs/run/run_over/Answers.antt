@@ -1,0 +1,27 @@
+use Rattle.std.proofs.Common.{◌≡◌, [], length, ap, sym, subst, ◌∙◌}
+use Rattle.zoom_pool.specs.Metas.{MetaAfter}
+use Rattle.zoom_sim.specs.RunSteps.{ArePeersOf}
+use Rattle.zoom_sim.proofs.RunWorlds.{peers_size, world_new}
+use Rattle.zoom_sim.proofs.run.run_over.Goals as goal
+
+pub carry_out-requires-clause-equal : goal.carry_out-requires-clause-equal
+carry_out-requires-clause-equal g c =
+    let slice : length c.deref_mut.result.now ≡ length c.in_ok-peers.peers.items = ap length c.deref_mut.ensures.value in
+    let size : length c.in_ok-peers.peers.items ≡ length c.args.targets.items =
+    peers_size c.args.targets.items c.in_ok-peers.peers.items c.in_ok-peers.ensures in
+    let asked : length c.from_vec.result ≡ length c.args.questions.items = ap length c.from_vec.ensures in
+    slice ∙ size ∙ c.requires.equal ∙ sym asked ∙ sym c.in_ok-meta.ensures.size
+
+pub returns-clause-ran : goal.returns-clause-ran
+returns-clause-ran g c =
+    let after = subst (λ z. MetaAfter z c.args.settings [] c.in_ok-meta.meta) c.from_vec.ensures c.in_ok-meta.ensures.after in
+    let of = subst (ArePeersOf c.args.targets.items) (sym c.deref_mut.ensures.value) c.in_ok-peers.ensures in
+    c.in_ok-carry_out.ensures.ends.on c.args.questions.items c.args.settings c.args.targets.items
+    (world_new c.args.questions.items c.args.settings c.args.targets.items c.in_ok-meta.meta c.deref_mut.result.now after of)
+
+pub returns-clause-whole : goal.returns-clause-whole
+returns-clause-whole g c = λ sure.
+    let after = subst (λ z. MetaAfter z c.args.settings [] c.in_ok-meta.meta) c.from_vec.ensures c.in_ok-meta.ensures.after in
+    let of = subst (ArePeersOf c.args.targets.items) (sym c.deref_mut.ensures.value) c.in_ok-peers.ensures in
+    c.in_ok-carry_out.ensures.whole sure c.args.questions.items c.args.settings c.args.targets.items after of
+    c.requires.equal

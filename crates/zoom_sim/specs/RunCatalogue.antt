@@ -1,0 +1,34 @@
+-- What a run in memory makes known is what is read directly from the databases (Z39.50-2003, 3.2).
+use Rattle.std.specs.Prelude.{◌≡◌, ◌↔◌, ℕ, List, length, slice_get, Some, Contains}
+use Rattle.zknow.specs.declared.fact.Fact.{Fact}
+use Rattle.ztarget.specs.Receiving.{TargetState}
+use Rattle.zoom_questions.specs.declared.question.Question.{Question}
+use Rattle.zoom_questions.specs.declared.question.MetaSettings.{MetaSettings}
+use Rattle.zoom_pool.specs.History.{History, only}
+use Rattle.zoom_pool.specs.Metas.{MetaLinks}
+use Rattle.zoom_sim.specs.RunSound.{IsLost}
+use Rattle.zoom_sim.specs.RunRounds.{RanWhole}
+use Rattle.zoom_laws.specs.Catalogue.{catalogue, CanAsk, RecordsFit}
+
+-- some question brings it from the target of its number
+abbrev pub IsBrought : List Question → List TargetState → Fact → Type 0
+IsBrought questions targets f =
+    (c : ℕ) × (q : Question) × (t : TargetState) × (slice_get questions c ≡ Some q) × (slice_get targets c ≡ Some t)
+    × Contains (catalogue c q t.databases t.settings) f
+
+-- each target refuses associations, or its question's search can be sent; and each record that is due fits
+abbrev pub CanBring : List Question → List TargetState → Type 0
+CanBring questions targets =
+    (c : ℕ) (q : Question) (t : TargetState) → slice_get questions c ≡ Some q → slice_get targets c ≡ Some t
+    → CanAsk q t.settings × RecordsFit q t.databases t.settings
+
+-- no reply that is owed is longer than a message may be
+abbrev pub NoneIsLong : MetaSettings → List TargetState → History → Type 0
+NoneIsLong s targets h = (c : ℕ) (t : TargetState) → slice_get targets c ≡ Some t → IsLost s t (only c h) → ⊥
+
+-- after a run in memory exactly that is known which the questions bring from the databases
+abbrev pub RunLaw : Type 0
+RunLaw =
+    (questions : List Question) (s : MetaSettings) (targets : List TargetState) (meta : MetaLinks)
+    (r : RanWhole questions s targets meta) → length targets ≡ length questions → CanBring questions targets
+    → NoneIsLong s targets r.history → (f : Fact) → Contains meta.pool.knowledge f ↔ IsBrought questions targets f

@@ -1,0 +1,237 @@
+//! Targets in memory, each at the other end of a connection.
+ghost use Rattle.std.specs.Prelude.{◌≡◌, ◌<◌, ◌^◌, ◌-◌, Bool, true, false, not, [], length, OnOk, IfOk};
+ghost use Rattle.zoom_pool.specs.Links.{waiting_at};
+ghost use Rattle.zoom_questions.specs.NewTargets.{IsNew, AreNew};
+ghost use Rattle.zoom_sim.specs.RunSteps.{GoesOn, Carries, ReleasesReplies, IsPeerOf, ArePeersOf};
+ghost use Rattle.zoom_sim.specs.RunSound.{Steps, Rounds, ReleasesFine};
+ghost use Rattle.zoom_sim.specs.RunPeers.{BringsAll, Empties};
+
+use crate::pipes::Pipe;
+use crate::turns::{stop_for, take_all};
+use crate::ways::Way;
+use std::alloc::{AllocError, Global};
+use zoom_laws::laws::exchange_laws;
+use zoom_pool::laws::one_hearing;
+use zoom_pool::{Host, Meta, Move};
+use ztarget::Target;
+
+/// A target in memory at the other end of a connection, with the octets that go to it and come from it.
+#[derive(Drop)]
+pub struct Peer {
+    /// The target, behind its octets.
+    pub host: Host,
+    /// What the connection handed out and was not carried yet.
+    pub to: Pipe,
+    /// What the host handed out and was not carried yet.
+    pub from: Pipe,
+}
+
+/// The number of the connection that a move is made on.
+pub(crate) fn connection_of(step: Move) -> u32 {
+    match step {
+        Move::To { c, .. } => c,
+        Move::Release { c, .. } => c,
+        Move::From { c, .. } => c,
+    }
+}
+
+/// How many octets are carried of up to `k`: all that came, or none.
+fn count_of(came: bool, k: usize) -> usize
+    ensures { came ≡ true → result ≡ k }
+{
+    if came { k } else { 0 }
+}
+
+impl Peer {
+    /// Of a host. Nothing is on its way. It takes no memory.
+    pub fn new(alloc: Global, host: Host) -> Peer
+        ensures host { result.host ≡ host }
+        ensures to { result.to ≡ [] }
+        ensures from { result.from ≡ [] }
+    {
+        Peer {
+            host,
+            to: Pipe::new(alloc),
+            from: Pipe::new(alloc),
+        }
+    }
+
+    /// Carries up to `k` octets of what waits on the connection to the target; whether any came.
+    fn carry_to<W: Way>(
+        &mut self,
+        meta: &mut Meta,
+        c: u32,
+        way: &mut W,
+        k: usize,
+    ) -> Result<bool, AllocError>
+        requires { c < length meta.old.pool.connections }
+        ensures carries { OnOk result (Carries c meta.old meta.new self.old self.new) }
+        ensures steps { W.sure ≡ true
+            → OnOk result (Steps c true true true meta.old meta.new self.old self.new) }
+        ensures all { W.sure ≡ true → k ≡ 2 ^ 64 - 1
+            → OnOk result ((self.new.to ≡ []) × (waiting_at meta.new.pool c ≡ [])) }
+        ensures size { length meta.new.pool.connections ≡ length meta.old.pool.connections }
+    {
+        exchange_laws();
+        one_hearing();
+        self.to.take_in_sent(meta, c)?;
+        let came = way.carry_to(c, self.to.next(k));
+        let piece = self.to.next(count_of(came, k));
+        let n = piece.len();
+        self.host.feed(piece)?;
+        self.to.pass(n);
+        Ok(n > 0)
+    }
+
+    /// Carries up to `k` octets of what waits at the target to the connection; whether any came.
+    fn feed_from<W: Way>(
+        &mut self,
+        meta: &mut Meta,
+        c: u32,
+        way: &mut W,
+        k: usize,
+    ) -> Result<bool, AllocError>
+        requires { c < length meta.old.pool.connections }
+        ensures carries { OnOk result (Carries c meta.old meta.new self.old self.new) }
+        ensures steps { W.sure ≡ true → IfOk result
+            (λ carried. Steps c true (not carried) (not carried) meta.old meta.new self.old self.new) }
+        ensures all { W.sure ≡ true → k ≡ 2 ^ 64 - 1 → OnOk result (BringsAll self.old self.new) }
+        ensures size { length meta.new.pool.connections ≡ length meta.old.pool.connections }
+    {
+        exchange_laws();
+        self.from.take_in_replies(&mut self.host)?;
+        let came = way.carry_from(c, self.from.next(k));
+        let piece = self.from.next(count_of(came, k));
+        let n = piece.len();
+        meta.feed(c, piece)?;
+        self.from.pass(n);
+        Ok(n > 0)
+    }
+
+    /// Ends the input of the connection, where its target stopped and nothing more comes of it.
+    fn end_where_stopped(&self, meta: &mut Meta, c: u32)
+        requires { c < length meta.old.pool.connections }
+        ensures on { GoesOn meta.old meta.new }
+        ensures same { self.now.host.stopped ≡ false → meta.new ≡ meta.old }
+        ensures steps { (taken : Bool) → Steps c taken taken true meta.old meta.new self.now self.now }
+        ensures size { length meta.new.pool.connections ≡ length meta.old.pool.connections }
+    {
+        if self.host.stopped() && self.from.is_empty() {
+            meta.end(c);
+        }
+    }
+
+    /// Carries up to `k` octets of what waits at the target to the connection, which takes each whole message; whether
+    /// any came. A way that failed stops the connection.
+    fn carry_from<W: Way>(
+        &mut self,
+        meta: &mut Meta,
+        c: u32,
+        way: &mut W,
+        k: usize,
+    ) -> Result<bool, AllocError>
+        requires { c < length meta.old.pool.connections }
+        ensures carries { OnOk result (Carries c meta.old meta.new self.old self.new) }
+        ensures steps { W.sure ≡ true → IfOk result
+            (λ carried. Steps c true true (not carried) meta.old meta.new self.old self.new) }
+        ensures all { W.sure ≡ true → k ≡ 2 ^ 64 - 1 → OnOk result (BringsAll self.old self.new) }
+        ensures size { length meta.new.pool.connections ≡ length meta.old.pool.connections }
+    {
+        exchange_laws();
+        one_hearing();
+        let carried = self.feed_from(meta, c, way, k)?;
+        stop_for(meta, c, way.failure(c));
+        self.end_where_stopped(meta, c);
+        take_all(meta, c)?;
+        Ok(carried)
+    }
+
+    /// Releases pending reply `k`; whether there was one.
+    fn release(&mut self, k: usize) -> Result<bool, AllocError>
+        ensures releases { OnOk result (ReleasesReplies self.old self.new) }
+        ensures fine { OnOk result (ReleasesFine self.old self.new) }
+    {
+        exchange_laws();
+        self.host.release(k)
+    }
+
+    /// Releases the first pending reply until none can be released; whether there was one.
+    fn release_all(&mut self) -> Result<bool, AllocError>
+        ensures releases { OnOk result (ReleasesReplies self.old self.new) }
+        ensures fine { OnOk result (ReleasesFine self.old self.new) }
+        ensures empties { OnOk result (Empties self.old self.new) }
+    {
+        exchange_laws();
+        let mut released = false;
+        for _turn in 0..u64::MAX {
+            if !self.host.release(0)? {
+                return Ok(released);
+            }
+            released = true;
+        }
+        Ok(released)
+    }
+
+    /// Makes a move on this connection.
+    pub(crate) fn make<W: Way>(
+        &mut self,
+        meta: &mut Meta,
+        c: u32,
+        way: &mut W,
+        step: Move,
+    ) -> Result<bool, AllocError>
+        requires { c < length meta.old.pool.connections }
+        ensures carries { OnOk result (Carries c meta.old meta.new self.old self.new) }
+        ensures steps { W.sure ≡ true
+            → OnOk result (Steps c true true false meta.old meta.new self.old self.new) }
+        ensures size { length meta.new.pool.connections ≡ length meta.old.pool.connections }
+    {
+        match step {
+            Move::To { k, .. } => self.carry_to(meta, c, way, k as usize),
+            Move::Release { k, .. } => self.release(k as usize),
+            Move::From { k, .. } => self.carry_from(meta, c, way, k as usize),
+        }
+    }
+
+    /// Carries everything to the target, releases all replies in order, and carries everything to the connection;
+    /// whether there was anything.
+    pub fn go_round<W: Way>(
+        &mut self,
+        meta: &mut Meta,
+        c: u32,
+        way: &mut W,
+    ) -> Result<bool, AllocError>
+        requires { c < length meta.old.pool.connections }
+        ensures carries { OnOk result (Carries c meta.old meta.new self.old self.new) }
+        ensures rounds { W.sure ≡ true
+            → IfOk result (λ moved. Rounds c moved meta.old meta.new self.old self.new) }
+        ensures size { length meta.new.pool.connections ≡ length meta.old.pool.connections }
+    {
+        exchange_laws();
+        one_hearing();
+        let sent = self.carry_to(meta, c, way, usize::MAX)?;
+        let released = self.release_all()?;
+        let came = self.carry_from(meta, c, way, usize::MAX)?;
+        Ok(sent | released | came)
+    }
+}
+
+/// Of a target that has received nothing yet. It takes no memory.
+fn peer_of(alloc: Global, target: Target) -> Peer
+    requires { IsNew target }
+    ensures { IsPeerOf target result }
+{
+    Peer::new(alloc, Host::new(alloc, target))
+}
+
+/// One for each target, in order.
+pub fn peers_of(alloc: Global, targets: Vec<Target>) -> Result<Vec<Peer>, AllocError>
+    requires { AreNew targets.items }
+    ensures { IfOk result (λ peers. ArePeersOf targets.items peers.items) }
+{
+    let mut peers = Vec::new(alloc);
+    for target in targets {
+        peers.push(peer_of(alloc, target))?;
+    }
+    Ok(peers)
+}

@@ -1,0 +1,212 @@
+//! Connections to targets within one process, over TCP on 127.0.0.1.
+ghost use Rattle.std.specs.Prelude.{◌≡◌, ◌≤◌, ◌<◌, ◌^◌, length, IfOk};
+ghost use Rattle.zoom_questions.specs.Askable.{AreFit, AreAskable};
+ghost use Rattle.zoom_questions.specs.NewTargets.{AreNew};
+ghost use Rattle.zoom_sim.specs.Run.{Ran};
+
+use crate::line::{PATIENCE, set_limits};
+use crate::service::ServeError;
+use std::alloc::{AllocError, Global};
+use std::io;
+use std::io::{Read, Write};
+use std::net::{Net, OpenListener, SocketAddr, TcpListener, TcpStream};
+use std::time::Duration;
+use zoom_io::{Device, Sink, Source};
+use zoom_pool::{Meta, MetaSettings, Question, Reason};
+use zoom_sim::run_over;
+use zoom_sim::ways::Way;
+use ztarget::Target;
+
+/// The most octets of one write.
+const PIECE: usize = 4096;
+
+/// The two ends of a connection, and why it failed, if it did.
+#[derive(Drop)]
+struct Pair<S> {
+    client: Device<S>,
+    server: Device<S>,
+    failure: Option<Reason>,
+}
+
+/// Connections of which both ends are in this process. Each write is read at the other end before the next.
+#[derive(Drop)]
+struct Loopback<S> {
+    pairs: Vec<Pair<S>>,
+}
+
+/// Whether exactly these octets come. No more are read.
+fn comes<R: Source>(source: &mut R, octets: &[u8]) -> bool {
+    let mut piece = [0; PIECE];
+    let mut rest = octets;
+    while !rest.is_empty() {
+        let most = rest.len().min(PIECE);
+        let Ok(count) = source.read(&mut piece[..most]) else {
+            return false;
+        };
+        if count == 0 || piece[..count] != rest[..count] {
+            return false;
+        }
+        rest = &rest[count..];
+    }
+    true
+}
+
+/// Writes octets of the front, and reads them at the other end; how many.
+fn carry_front<W: Sink, R: Source>(
+    sink: &mut W,
+    source: &mut R,
+    octets: &[u8],
+) -> Result<usize, Reason>
+    requires { 0 < length octets.now }
+    ensures { IfOk result (λ n. (0 < n) × (n ≤ length octets.now)) }
+{
+    let most = octets.len().min(PIECE);
+    let Ok(count) = sink.write(&octets[..most]) else {
+        return Err(Reason::Write);
+    };
+    if comes(source, &octets[..count]) {
+        Ok(count)
+    } else {
+        Err(Reason::Read)
+    }
+}
+
+/// Writes all octets, and reads each write at the other end before the next.
+fn carry<W: Sink, R: Source>(sink: &mut W, source: &mut R, octets: &[u8]) -> Result<(), Reason> {
+    let mut rest = octets;
+    while !rest.is_empty() {
+        let count = carry_front(sink, source, rest)?;
+        rest = &rest[count..];
+    }
+    Ok(())
+}
+
+impl<S: Read + Write> Pair<S> {
+    /// Notes why octets did not come, if they did not; whether they came.
+    fn note(&mut self, carried: Result<(), Reason>) -> bool {
+        match carried {
+            Ok(()) => true,
+            Err(reason) => {
+                self.failure = Some(reason);
+                false
+            }
+        }
+    }
+
+    fn carry_to(&mut self, octets: &[u8]) -> bool {
+        let carried = carry(&mut self.client, &mut self.server, octets);
+        self.note(carried)
+    }
+
+    fn carry_from(&mut self, octets: &[u8]) -> bool {
+        let carried = carry(&mut self.server, &mut self.client, octets);
+        self.note(carried)
+    }
+}
+
+impl<S: Read + Write> Way for Loopback<S> {
+    ghost use Rattle.std.specs.Prelude.{false};
+
+    ghost sure = { false };
+
+    fn carry_to(&mut self, c: u32, piece: &[u8]) -> bool {
+        match self.pairs.get_mut(c as usize) {
+            Some(pair) => pair.carry_to(piece),
+            None => false,
+        }
+    }
+
+    fn carry_from(&mut self, c: u32, piece: &[u8]) -> bool {
+        match self.pairs.get_mut(c as usize) {
+            Some(pair) => pair.carry_from(piece),
+            None => false,
+        }
+    }
+
+    fn failure(&self, c: u32) -> Option<Reason> {
+        self.pairs.get(c as usize)?.failure
+    }
+}
+
+/// As `run_over`, without moves.
+fn run_on<S: Read + Write>(
+    alloc: Global,
+    questions: Vec<Question>,
+    settings: MetaSettings,
+    targets: Vec<Target>,
+    way: &mut Loopback<S>,
+) -> Result<Meta, AllocError>
+    requires some { length questions.items < 2 ^ 32 }
+    requires askable { AreAskable questions.items }
+    requires fit { AreFit settings }
+    requires new { AreNew targets.items }
+    requires equal { length targets.items ≡ length questions.items }
+    ensures { IfOk result (λ meta. Ran questions.items settings targets.items meta) }
+{
+    run_over(alloc, questions, settings, targets, way, &[])
+}
+
+/// A connection of which both ends are here, with limits of 30 seconds for connecting, for a read and for a write.
+fn pair_of<N: Net>(
+    net: &N,
+    listener: &N::Listener,
+    address: SocketAddr,
+) -> io::Result<Pair<N::Stream>> {
+    let client = TcpStream::connect_timeout(net, &address, Duration::from_secs(PATIENCE))?;
+    let (server, _) = listener.accept()?;
+    set_limits(&client)?;
+    set_limits(&server)?;
+    Ok(Pair {
+        client: Device::new(client),
+        server: Device::new(server),
+        failure: None,
+    })
+}
+
+/// So many connections of which both ends are here. `Listen` where there are none.
+fn open_loopback<N: Net>(
+    alloc: Global,
+    net: &N,
+    count: usize,
+) -> Result<Loopback<N::Stream>, ServeError> {
+    let Ok(listener) = TcpListener::bind(net, "127.0.0.1:0") else {
+        return Err(ServeError::Listen);
+    };
+    let Ok(address) = listener.local_addr() else {
+        return Err(ServeError::Listen);
+    };
+    let mut pairs = Vec::new(alloc);
+    for _ in 0..count {
+        let Ok(pair) = pair_of(net, &listener, address) else {
+            return Err(ServeError::Listen);
+        };
+        if pairs.push(pair).is_err() {
+            return Err(ServeError::Memory);
+        }
+    }
+    Ok(Loopback { pairs })
+}
+
+/// Puts each question to the target of the same number, as `run_world` does without moves, with both ends of each
+/// connection in this process: what either end has for the other goes over TCP on 127.0.0.1, in writes of at most 4,096
+/// octets, each of which is read at the other end before the next (Z39.50-2003, 3.2). A write that does not come as it
+/// was written costs its own connection alone.
+///
+/// Refusals: `Listen`, where the connections cannot be made; and `Memory`.
+pub fn run_loopback<N: Net>(
+    alloc: Global,
+    net: &N,
+    questions: Vec<Question>,
+    settings: MetaSettings,
+    targets: Vec<Target>,
+) -> Result<Meta, ServeError>
+    requires some { length questions.items < 2 ^ 32 }
+    requires askable { AreAskable questions.items }
+    requires fit { AreFit settings }
+    requires new { AreNew targets.items }
+    requires equal { length targets.items ≡ length questions.items }
+    ensures { IfOk result (λ meta. Ran questions.items settings targets.items meta) }
+{
+    let mut way = open_loopback(alloc, net, questions.len())?;
+    Ok(run_on(alloc, questions, settings, targets, &mut way)?)
+}

@@ -1,0 +1,92 @@
+//! The ways to hosts are opened: a line to each, on which the Init was sent.
+ghost use Rattle.std.specs.Prelude.{◌≡◌, ◌<◌, ◌^◌, length, is_some, IfOk};
+ghost use Rattle.zoom_tcp.specs.Asking.{has};
+ghost use Rattle.zoom_tcp.specs.AskingSteps.{Opens, OpensIf, OpensAll};
+
+use crate::line::{Line, line_to};
+use bytes::Bytes;
+use std::alloc::{AllocError, Global};
+use std::net::Net;
+use std::time::Clock;
+use zoom_io::{PushError, Sink, push};
+use zoom_pool::laws::one_hearing;
+use zoom_pool::{Meta, Reason};
+
+/// A line to each host that has an address, on which the Init was sent; `None` where there is no way to it, or no
+/// address.
+pub(crate) fn open_all<'a, N: Net + Clock>(
+    alloc: Global,
+    net: &'a N,
+    meta: &mut Meta,
+    addresses: &[Option<Bytes>],
+) -> Result<Vec<Option<Line<'a, N, N::Stream>>>, AllocError>
+    requires few { length meta.old.pool.connections < 2 ^ 32 }
+    requires equal { length addresses.now ≡ length meta.old.pool.connections }
+    ensures opens { IfOk result (λ lines. OpensAll (has addresses.now) lines.items meta.old meta.new) }
+    ensures size { length meta.new.pool.connections ≡ length meta.old.pool.connections }
+    ensures lines { IfOk result (λ lines. length lines.items ≡ length addresses.now) }
+{
+    let mut lines = Vec::new(alloc);
+    for c in 0..addresses.len() {
+        lines.push(open_if(alloc, net, meta, c as u32, &addresses[c])?)?;
+    }
+    Ok(lines)
+}
+
+/// A line to a host, where it has an address.
+fn open_if<'a, N: Net + Clock>(
+    alloc: Global,
+    net: &'a N,
+    meta: &mut Meta,
+    c: u32,
+    address: &Option<Bytes>,
+) -> Result<Option<Line<'a, N, N::Stream>>, AllocError>
+    requires { c < length meta.old.pool.connections }
+    ensures opens { IfOk result (λ line. OpensIf (is_some address.now) c (is_some line) meta.old meta.new) }
+    ensures size { length meta.new.pool.connections ≡ length meta.old.pool.connections }
+{
+    match address {
+        Some(address) => open(alloc, net, meta, c, address),
+        None => Ok(None),
+    }
+}
+
+/// A line to a host, on which the Init was sent.
+fn open<'a, N: Net + Clock>(
+    alloc: Global,
+    net: &'a N,
+    meta: &mut Meta,
+    c: u32,
+    address: &Bytes,
+) -> Result<Option<Line<'a, N, N::Stream>>, AllocError>
+    requires { c < length meta.old.pool.connections }
+    ensures opens { IfOk result (λ line. Opens c (is_some line) meta.old meta.new) }
+    ensures size { length meta.new.pool.connections ≡ length meta.old.pool.connections }
+{
+    let Some(mut line) = line_to(net, address) else {
+        meta.stop(c, Reason::Connect);
+        return Ok(None);
+    };
+    if begin(alloc, meta, c, &mut line.sink)? {
+        Ok(Some(line))
+    } else {
+        Ok(None)
+    }
+}
+
+/// Makes the calls that are due, and writes what waits; whether it was written.
+fn begin<W: Sink>(alloc: Global, meta: &mut Meta, c: u32, sink: &mut W) -> Result<bool, AllocError>
+    requires { c < length meta.old.pool.connections }
+    ensures opens { IfOk result (λ reached. Opens c reached meta.old meta.new) }
+    ensures size { length meta.new.pool.connections ≡ length meta.old.pool.connections }
+{
+    one_hearing();
+    meta.drive(c)?;
+    match push(alloc, meta, c, sink) {
+        Ok(()) => Ok(true),
+        Err(error) => match error {
+            PushError::Write => Ok(false),
+            PushError::Memory => Err(AllocError),
+        },
+    }
+}

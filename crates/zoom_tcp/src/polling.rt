@@ -1,0 +1,112 @@
+//! A TCP stream that is read as its octets come, with time limits.
+ghost use Rattle.std.specs.Prelude.{◌≡◌, None};
+ghost use Rattle.std.specs.Io.{ReadsAtMost};
+ghost use Rattle.zoom_io.specs.Devices.{PollsAtMost};
+
+use crate::line::{PATIENCE, Timed};
+use std::io;
+use std::io::{ErrorKind, Read};
+use std::net::OpenStream;
+use std::time::{Clock, Duration, Instant};
+use zoom_io::{Failed, Polled};
+
+/// How long a poll that may wait waits, in milliseconds.
+const WAIT: u64 = 4;
+
+/// A stream that need not be waited for. A poll fails where the stream does, where nothing came for 30 seconds, and
+/// once the conversation has taken an hour.
+#[derive(Drop)]
+pub(crate) struct Polling<'a, C, S> {
+    timed: Timed<'a, C, S>,
+    heard: Option<Instant>,
+    failures: u64,
+    polls: u64,
+}
+
+impl<'a, C, S> Polling<'a, C, S> {
+    /// A stream that was not polled yet.
+    pub(crate) fn new(timed: Timed<'a, C, S>) -> Polling<'a, C, S> {
+        Polling {
+            timed,
+            heard: None,
+            failures: 0,
+            polls: 0,
+        }
+    }
+}
+
+/// Whether a read failed because nothing has come yet.
+fn is_early(kind: ErrorKind) -> bool {
+    kind == ErrorKind::WouldBlock || kind == ErrorKind::TimedOut || kind == ErrorKind::Interrupted
+}
+
+/// Reads what is there, or comes within the wait.
+fn read_soon<S: Read + OpenStream>(
+    stream: &mut S,
+    piece: &mut [u8],
+    wait: bool,
+) -> io::Result<usize>
+    ensures { ReadsAtMost result piece.new }
+{
+    if wait {
+        stream.set_read_timeout(Some(Duration::from_millis(WAIT)))?;
+        return stream.read(piece);
+    }
+    stream.set_nonblocking(true)?;
+    let answer = stream.read(piece);
+    stream.set_nonblocking(false)?;
+    answer
+}
+
+impl<'a, C: Clock, S: Read + OpenStream> Polling<'a, C, S> {
+    /// Whether octets came less than 30 seconds before, or the first poll was made then.
+    fn is_heard(&mut self, now: Instant) -> bool
+        ensures failures { self.new.failures ≡ self.old.failures }
+        ensures polls { self.new.polls ≡ self.old.polls }
+    {
+        let Some(heard) = self.heard else {
+            self.heard = Some(now);
+            return true;
+        };
+        now.duration_since(heard) < Duration::from_secs(PATIENCE)
+    }
+
+    /// Reads what is there, or comes within the wait.
+    fn look(&mut self, piece: &mut [u8], wait: bool) -> io::Result<Option<usize>>
+        ensures bound { PollsAtMost result piece.new }
+        ensures failures { self.new.failures ≡ self.old.failures }
+        ensures polls { self.new.polls ≡ self.old.polls }
+    {
+        let now = self.timed.now()?;
+        match read_soon(&mut self.timed.stream, piece, wait) {
+            Ok(count) => {
+                self.heard = Some(now);
+                Ok(Some(count))
+            }
+            Err(error) => {
+                if is_early(error.kind()) && self.is_heard(now) {
+                    Ok(None)
+                } else {
+                    Err(error)
+                }
+            }
+        }
+    }
+}
+
+impl<'a, C: Clock, S: Read + OpenStream> Polled for Polling<'a, C, S> {
+    ghost state = { λ p. record { octets = None; failures = p.failures } };
+
+    ghost polls = { λ p. p.polls };
+
+    fn poll(&mut self, piece: &mut [u8], wait: bool) -> Result<Option<usize>, Failed> {
+        self.polls = self.polls.saturating_add(1);
+        match self.look(piece, wait) {
+            Ok(count) => Ok(count),
+            Err(_) => {
+                self.failures = self.failures.saturating_add(1);
+                Err(Failed)
+            }
+        }
+    }
+}

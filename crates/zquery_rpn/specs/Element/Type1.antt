@@ -1,0 +1,40 @@
+-- Which element stands for a type-1 query (Z39.50-2003, 4.1: RPNQuery, RPNStructure).
+use Rattle.std.specs.Prelude.{List, [], ◌∷◌, Option, Some, None}
+use Rattle.zber.specs.AsnTags.{context, universal}
+use Rattle.zber.specs.Elements.{Element}
+use Rattle.zasn.specs.Standing.{required, ended, sequence}
+use Rattle.zasn.specs.Place.{Place}
+use Rattle.zasn.specs.Places.{oid, explicit}
+use Rattle.zquery_rpn.specs.Trees.{Tree, OfTerm, OfSet, OfSetAttrs, Of, Near, RpnQuery}
+use Rattle.zquery_rpn.specs.Element.Operands.{Operand, AttrTerm, ResultSet, ResultAttr, operand}
+use Rattle.zquery_rpn.specs.declared.element.operator.Joint.TheVariants.{Logical, Proximity}
+use Rattle.zquery_rpn.specs.Element.Operators.{operator}
+
+-- an element of which P holds, and then the rest
+abbrev pub first : (Element → Type 0) → (List Element → Type 0) → List Element → Type 0
+first P rest [] = ⊥
+first P rest (n ∷ ns) = P n × rest ns
+
+-- op [0] EXPLICIT Operand
+abbrev pub op : Place Operand
+op = explicit (context 0) operand
+
+-- RPNStructure: op, or rpnRpnOp [1] IMPLICIT SEQUENCE of two structures and an operator
+abbrev pub WritesTree : Tree → Element → Type 0
+WritesTree (OfTerm xs v) n = op.stands (AttrTerm (xs, v)) n
+WritesTree (OfSet name) n = op.stands (ResultSet name) n
+WritesTree (OfSetAttrs name xs) n = op.stands (ResultAttr (name, xs)) n
+WritesTree (Of o a b) n =
+    sequence (context 1) (first (WritesTree a) (first (WritesTree b) (required operator.stands (Logical o) ended))) n
+WritesTree (Near m a b) n =
+    sequence (context 1) (first (WritesTree a) (first (WritesTree b) (required operator.stands (Proximity m) ended))) n
+
+-- type-1 [1] IMPLICIT RPNQuery: attributeSet OBJECT IDENTIFIER, rpn RPNStructure
+abbrev pub WritesQuery : RpnQuery → Element → Type 0
+WritesQuery q n =
+    sequence (context 1) (required (oid (universal 6)).stands q.attr_set (required WritesTree q.root ended)) n
+
+-- the type-1 query that the element stands for, or none where it stands for none
+abbrev pub IsQueryOf : Element → Option RpnQuery → Type 0
+IsQueryOf n (Some q) = WritesQuery q n
+IsQueryOf n None = (q : RpnQuery) → WritesQuery q n → ⊥

@@ -1,0 +1,121 @@
+-- The type-1 query that an element stands for, and the element that stands for a query.
+use Rattle.std.specs.Prelude.{◌≡◌, ℕ, List, [], ◌∷◌, Option, Some, None, Result, Ok, Err, if◌then◌else◌}
+use Rattle.zber.specs.AsnTags.{AsnTag, context, universal}
+use Rattle.zber.specs.Elements.{Forest, end, leaf, branch, Element, Primitive, Constructed, elements, tag_of}
+use Rattle.zber.specs.Tags.{same_tag}
+use Rattle.zasn.specs.Reading.{option_map}
+use Rattle.zasn.specs.Within.{around, whole_of}
+use Rattle.zasn.specs.Places.{oid}
+use Rattle.zasn.specs.declared.error.PartError.{PartError}
+use Rattle.zasn.specs.declared.error.PartError.TheVariants.{Misfit, Memory}
+use Rattle.zquery_rpn.specs.declared.query.Rpn.{Rpn}
+use Rattle.zquery_rpn.specs.Trees.{Tree, OfTerm, OfSet, OfSetAttrs, Of, Near, RpnQuery}
+use Rattle.zquery_rpn.specs.QueryTrees.{seen}
+use Rattle.zquery_rpn.specs.Element.Operands.{Operand, AttrTerm, ResultSet, ResultAttr}
+use Rattle.zquery_rpn.specs.declared.element.operator.Joint.TheVariants.{Logical, Proximity}
+use Rattle.zquery_rpn.specs.declared.element.operator.Joint.{Joint}
+use Rattle.zquery_rpn.specs.Element.Operators.{operator}
+use Rattle.zquery_rpn.specs.Element.Type1.{op}
+
+-- an operand alone, and two structures with an operator
+abbrev pub of_operand : Operand → Tree
+of_operand (AttrTerm p) = OfTerm p.0 p.1
+of_operand (ResultSet name) = OfSet name
+of_operand (ResultAttr p) = OfSetAttrs p.0 p.1
+
+abbrev pub of_joint : Joint → Tree → Tree → Tree
+of_joint (Logical o) a b = Of o a b
+of_joint (Proximity m) a b = Near m a b
+
+-- ---- reading
+
+-- all three, or none
+abbrev pub joined : Option Tree → Option Tree → Option Joint → Option Tree
+joined (Some a) (Some b) (Some o) = Some (of_joint o a b)
+joined (Some a) (Some b) None = None
+joined (Some a) None o = None
+joined None b o = None
+
+-- two structures and an operator, and nothing else
+abbrev pub joined_of : List (Option Tree × Element) → Option Tree
+joined_of [] = None
+joined_of (x ∷ []) = None
+joined_of (x ∷ y ∷ []) = None
+joined_of (x ∷ y ∷ z ∷ []) = joined x.0 y.0 (whole_of operator z.1)
+joined_of (x ∷ y ∷ z ∷ w ∷ ws) = None
+
+-- what a constructed element says, of its tag and the elements within, each also beside the structure that it says
+abbrev pub tree_in : AsnTag → Forest → List (Option Tree × Element) → Option Tree
+tree_in t f xs =
+    if same_tag t (context 0) then option_map of_operand (op.meaning (Constructed t f)) else
+    if same_tag t (context 1) then joined_of xs else None
+
+-- the elements of a run, each beside the structure that it says
+abbrev pub trees : Forest → List (Option Tree × Element)
+trees end = []
+trees (leaf t bs rest) = (None, Primitive t bs) ∷ trees rest
+trees (branch t f rest) = (tree_in t f (trees f), Constructed t f) ∷ trees rest
+
+-- the structure that an element says
+abbrev pub tree_of : Element → Option Tree
+tree_of (Primitive t bs) = None
+tree_of (Constructed t f) = tree_in t f (trees f)
+
+-- an element beside the structure that it says
+abbrev pub says : Element → Option Tree × Element
+says e = (tree_of e, e)
+
+-- a default set and a structure
+abbrev pub query_from : Option (List ℕ) → Option Tree → Option RpnQuery
+query_from (Some set) (Some root) = Some (record { attr_set = set; root = root })
+query_from (Some set) None = None
+query_from None root = None
+
+abbrev pub query_in : List Element → Option RpnQuery
+query_in [] = None
+query_in (n ∷ []) = None
+query_in (n ∷ m ∷ []) = query_from (whole_of (oid (universal 6)) n) (tree_of m)
+query_in (n ∷ m ∷ k ∷ ns) = None
+
+-- what an element with the tag of a type-1 query says
+abbrev pub query_of : Element → Option RpnQuery
+query_of (Primitive t bs) = None
+query_of (Constructed t f) = query_in (elements f)
+
+-- what an element says
+abbrev pub query_at : Element → Option RpnQuery
+query_at n = if same_tag (tag_of n) (context 1) then query_of n else None
+
+-- ---- writing
+
+-- all of them, or none
+abbrev pub two : Option Element → Option Element → Option (List Element)
+two (Some n) (Some m) = Some (n ∷ m ∷ [])
+two (Some n) None = None
+two None m = None
+
+abbrev pub three : Option Element → Option Element → Option Element → Option (List Element)
+three (Some n) (Some m) (Some k) = Some (n ∷ m ∷ k ∷ [])
+three (Some n) (Some m) None = None
+three (Some n) None k = None
+three None m k = None
+
+-- the element of a structure
+abbrev pub tree_spelt : Tree → Option Element
+tree_spelt (OfTerm xs v) = op.spelt (AttrTerm (xs, v))
+tree_spelt (OfSet name) = op.spelt (ResultSet name)
+tree_spelt (OfSetAttrs name xs) = op.spelt (ResultAttr (name, xs))
+tree_spelt (Of o a b) = around (context 1) (three (tree_spelt a) (tree_spelt b) (operator.spelt (Logical o)))
+tree_spelt (Near m a b) = around (context 1) (three (tree_spelt a) (tree_spelt b) (operator.spelt (Proximity m)))
+
+-- the element of a query
+abbrev pub query_spelt : RpnQuery → Option Element
+query_spelt q = around (context 1) (two ((oid (universal 6)).spelt q.attr_set) (tree_spelt q.root))
+
+-- ---- what readers answer
+
+-- a reader of structures returned what is meant, unless memory ran out
+abbrev pub MeansTree : Option Tree → Result Rpn PartError → Type 0
+MeansTree meaning (Ok r) = meaning ≡ Some (seen r)
+MeansTree meaning (Err Misfit) = meaning ≡ None
+MeansTree meaning (Err Memory) = Unit {0}

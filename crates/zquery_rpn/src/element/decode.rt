@@ -1,0 +1,208 @@
+//! Elements read as type-1 queries.
+ghost use Rattle.std.specs.Prelude.{◌≡◌, map, Some, IfOk};
+ghost use Rattle.zber.specs.Elements.{tag_of};
+ghost use Rattle.zber.specs.AsnTags.{context, universal};
+ghost use Rattle.zasn.specs.Place.{Place};
+ghost use Rattle.zasn.specs.Reading.{option_map};
+ghost use Rattle.zasn.specs.Table.{Elements};
+ghost use Rattle.zber.specs.Tags.{same_tag};
+ghost use Rattle.zasn.specs.Within.{found, sequence_of, whole_of};
+ghost use Rattle.zasn.specs.Answers.{Means};
+ghost use Rattle.zasn.specs.Places.{alone, oid};
+ghost use Rattle.zquery_rpn.specs.Element.Operands.{attributes_term_parts, operand, set_attributes_parts};
+ghost use Rattle.zquery_rpn.specs.Element.Operators.{operator};
+ghost use Rattle.zquery_rpn.specs.Element.Type1.{IsQueryOf};
+ghost use Rattle.zquery_rpn.specs.Element.Type1Reading.{MeansTree, joined_of, says, of_joint, of_operand, query_at, query_in, query_of, tree_of};
+ghost use Rattle.zquery_rpn.specs.QueryTrees.{seen};
+
+use crate::element::operator::Joint;
+use crate::operator::Operator;
+use crate::query::{Attr, Query, Rpn, TermValue};
+use bytes::Bytes;
+use std::alloc::{AllocError, Global};
+use zasn::{Contents, PartError, Parts, read_alone_tagged};
+use zber::{Body, Node, Oid, Seq, Tag};
+
+fn has_tag(node: &Node, number: u32) -> bool
+    ensures { result ≡ same_tag (tag_of node.now) (context number) }
+{
+    node.tag == Tag::context(number)
+}
+
+/// AttributesPlusTerm, in an element of any tag.
+#[tactic(auto, unfolding(crate::specs::Element::Operands::attributes_term_parts))]
+fn attributes_term(alloc: Global, node: &Node) -> Result<(Seq<Attr>, TermValue), PartError>
+    ensures { Means (sequence_of attributes_term_parts.at node.now) result }
+{
+    match &node.body {
+        Body::Prim(_) => Err(PartError::Misfit),
+        Body::Cons(nodes) => {
+            let mut parts = Parts::new(nodes.as_slice());
+            let attrs = parts.required(alloc, Tag::context(44))?;
+            let term = parts.required_tagged(alloc)?;
+            parts.end()?;
+            Ok((attrs, term))
+        }
+    }
+}
+
+/// ResultSetPlusAttributes, in an element of any tag.
+#[tactic(auto, unfolding(crate::specs::Element::Operands::set_attributes_parts))]
+fn set_attributes(alloc: Global, node: &Node) -> Result<(Bytes, Seq<Attr>), PartError>
+    ensures { Means (sequence_of set_attributes_parts.at node.now) result }
+{
+    match &node.body {
+        Body::Prim(_) => Err(PartError::Misfit),
+        Body::Cons(nodes) => {
+            let mut parts = Parts::new(nodes.as_slice());
+            let name = parts.required(alloc, Tag::context(31))?;
+            let attrs = parts.required(alloc, Tag::context(44))?;
+            parts.end()?;
+            Ok((name, attrs))
+        }
+    }
+}
+
+/// An operand (Operand).
+#[tactic(auto, unfolding(crate::specs::Element::Operands::operand))]
+fn operand(alloc: Global, node: &Node) -> Result<Rpn, PartError>
+    ensures { MeansTree (option_map of_operand (whole_of operand node.now)) result }
+{
+    if node.tag == Tag::context(102) {
+        let (attrs, term) = attributes_term(alloc, node)?;
+        return Ok(Rpn::Term { attrs, term });
+    }
+    if node.tag == Tag::context(31) {
+        let name = Bytes::of_node(alloc, node)?;
+        return Ok(Rpn::ResultSet { name });
+    }
+    if node.tag == Tag::context(214) {
+        let (name, attrs) = set_attributes(alloc, node)?;
+        return Ok(Rpn::SetAttrs { name, attrs });
+    }
+    Err(PartError::Misfit)
+}
+
+/// One operand alone.
+fn only_operand(alloc: Global, nodes: &[Node]) -> Result<Rpn, PartError>
+    ensures { MeansTree (option_map of_operand (found ((alone operand).at nodes.now))) result }
+{
+    match nodes {
+        [only] => operand(alloc, only),
+        _ => Err(PartError::Misfit),
+    }
+}
+
+/// An operator (Operator).
+fn operator(alloc: Global, node: &Node) -> Result<Joint, PartError>
+    ensures { Means (whole_of operator node.now) result }
+{
+    if node.tag != Tag::context(46) {
+        return Err(PartError::Misfit);
+    }
+    read_alone_tagged(alloc, node)
+}
+
+/// Two structures joined.
+fn join(joint: Joint, left: Box<Rpn>, right: Box<Rpn>) -> Rpn
+    ensures { seen result ≡ of_joint joint (seen left.value) (seen right.value) }
+{
+    match joint {
+        Joint::Logical(Operator::And) => Rpn::And(left, right),
+        Joint::Logical(Operator::Or) => Rpn::Or(left, right),
+        Joint::Logical(Operator::Not) => Rpn::Not(left, right),
+        Joint::Proximity(operator) => Rpn::Prox(operator, left, right),
+    }
+}
+
+/// Two structures and an operator (rpnRpnOp).
+#[cycle(structure)]
+fn rpn_rpn_op(alloc: Global, nodes: &[Node]) -> Result<Rpn, PartError>
+    ensures { MeansTree (joined_of (map says nodes.now)) result }
+{
+    match nodes {
+        [left, right, last] => {
+            let left = Box::new(alloc, structure(alloc, left)?)?;
+            let right = Box::new(alloc, structure(alloc, right)?)?;
+            let joint = operator(alloc, last)?;
+            Ok(join(joint, left, right))
+        }
+        _ => Err(PartError::Misfit),
+    }
+}
+
+/// An operand, or two structures with an operator (RPNStructure).
+#[cycle(structure)]
+fn structure(alloc: Global, node: &Node) -> Result<Rpn, PartError>
+    ensures { MeansTree (tree_of node.now) result }
+{
+    match &node.body {
+        Body::Prim(_) => Err(PartError::Misfit),
+        Body::Cons(nodes) => {
+            if has_tag(node, 0) {
+                only_operand(alloc, nodes.as_slice())
+            } else if has_tag(node, 1) {
+                rpn_rpn_op(alloc, nodes.as_slice())
+            } else {
+                Err(PartError::Misfit)
+            }
+        }
+    }
+}
+
+/// The default attribute set.
+fn set(alloc: Global, node: &Node) -> Result<Oid, PartError>
+    ensures { Means (whole_of (oid (universal 6)) node.now) result }
+{
+    if node.tag != Tag::universal(6) {
+        return Err(PartError::Misfit);
+    }
+    Oid::of_node(alloc, node)
+}
+
+/// An object identifier and a structure.
+fn query_in(alloc: Global, nodes: &[Node]) -> Result<Query, PartError>
+    ensures { Means (query_in nodes.now) result }
+{
+    match nodes {
+        [attr_set, root] => {
+            let attr_set = set(alloc, attr_set)?;
+            let root = structure(alloc, root)?;
+            Ok(Query { attr_set, root })
+        }
+        _ => Err(PartError::Misfit),
+    }
+}
+
+/// A query, in an element of any tag.
+fn query(alloc: Global, node: &Node) -> Result<Query, PartError>
+    ensures { Means (query_of node.now) result }
+{
+    match &node.body {
+        Body::Prim(_) => Err(PartError::Misfit),
+        Body::Cons(nodes) => query_in(alloc, nodes.as_slice()),
+    }
+}
+
+/// A query, or none.
+fn query_at(alloc: Global, node: &Node) -> Result<Option<Query>, AllocError>
+    ensures { IfOk result (λ o. o ≡ query_at node.now) }
+{
+    if !has_tag(node, 1) {
+        return Ok(None);
+    }
+    match query(alloc, node) {
+        Ok(query) => Ok(Some(query)),
+        Err(PartError::Misfit) => Ok(None),
+        Err(PartError::Memory) => Err(AllocError),
+    }
+}
+
+/// The type-1 query that an element stands for (Z39.50-2003, 4.1: RPNQuery, under the tag `[1]` of Query), or `None`
+/// for another element, or the refusal of the memory for it.
+pub fn from_node(alloc: Global, node: &Node) -> Result<Option<Query>, AllocError>
+    ensures read { IfOk result (IsQueryOf node.now) }
+    ensures meant { IfOk result (λ o. o ≡ query_at node.now) }
+{
+    query_at(alloc, node)
+}

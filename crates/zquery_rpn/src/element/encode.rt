@@ -1,0 +1,104 @@
+//! Type-1 queries built as elements.
+ghost use Rattle.std.specs.Prelude.{[], ◌∷◌, Some};
+ghost use Rattle.zber.specs.AsnTags.{context};
+ghost use Rattle.zasn.specs.Within.{around};
+ghost use Rattle.zasn.specs.Place.{Place};
+ghost use Rattle.zasn.specs.Answers.{IsWritten, Makes};
+ghost use Rattle.zquery_rpn.specs.Element.Operands.{AttrTerm, ResultAttr};
+ghost use Rattle.zquery_rpn.specs.Element.Operators.{operator};
+ghost use Rattle.zquery_rpn.specs.Element.Type1.{op, WritesQuery};
+ghost use Rattle.zquery_rpn.specs.Element.Type1Reading.{query_spelt, three, tree_spelt};
+ghost use Rattle.zquery_rpn.specs.QueryTrees.{seen};
+ghost use Rattle.zquery_rpn.specs.declared.element.operator.Joint.TheVariants.{Logical};
+
+use crate::element::operator::Joint;
+use crate::operator::Operator;
+use crate::query::{Attr, Query, Rpn, TermValue};
+use bytes::Bytes;
+use std::alloc::Global;
+use zasn::{BuildError, Contents, PartsBuf, write_alone, write_alone_tagged, write_around};
+use zber::{Node, Seq, Tag};
+
+/// The operand of a term.
+#[tactic(auto, unfolding(crate::specs::Element::Operands::operand, crate::specs::Element::Operands::attributes_term_parts))]
+fn attr_term(alloc: Global, attrs: &Seq<Attr>, term: &TermValue) -> Result<Node, BuildError>
+    ensures { Makes (op.spelt (AttrTerm (attrs.now, term.now))) result }
+{
+    let mut out = PartsBuf::new(alloc);
+    out.required(alloc, Tag::context(44), attrs)?;
+    out.required_tagged(alloc, term)?;
+    write_around(alloc, out.into_node(Tag::context(102)), Tag::context(0))
+}
+
+/// The operand of a result set with attributes.
+#[tactic(auto, unfolding(crate::specs::Element::Operands::operand, crate::specs::Element::Operands::set_attributes_parts))]
+fn result_attr(alloc: Global, name: &Bytes, attrs: &Seq<Attr>) -> Result<Node, BuildError>
+    ensures { Makes (op.spelt (ResultAttr (name.now, attrs.now))) result }
+{
+    let mut out = PartsBuf::new(alloc);
+    out.required(alloc, Tag::context(31), name)?;
+    out.required(alloc, Tag::context(44), attrs)?;
+    write_around(alloc, out.into_node(Tag::context(214)), Tag::context(0))
+}
+
+/// The operator and, or or and-not.
+fn logical(alloc: Global, kind: Operator) -> Result<Node, BuildError>
+    ensures { Makes (operator.spelt (Logical kind)) result }
+{
+    write_alone_tagged(alloc, &Joint::Logical(kind), Tag::context(46))
+}
+
+/// Two structures and an operator's element (rpnRpnOp).
+#[cycle(structure)]
+fn rpn_rpn_op(alloc: Global, left: &Rpn, right: &Rpn, operator: Node) -> Result<Node, BuildError>
+    ensures { Makes (around (context 1)
+        (three (tree_spelt (seen left.now)) (tree_spelt (seen right.now)) (Some operator))) result }
+{
+    let mut out = PartsBuf::new(alloc);
+    out.push(structure(alloc, left)?)?;
+    out.push(structure(alloc, right)?)?;
+    out.push(operator)?;
+    Ok(out.into_node(Tag::context(1)))
+}
+
+/// The element of an operand, or of an operator with two structures (RPNStructure).
+#[cycle(structure)]
+#[tactic(auto, unfolding(crate::specs::Element::Operands::operand, crate::specs::Element::Operators::joint))]
+fn structure(alloc: Global, rpn: &Rpn) -> Result<Node, BuildError>
+    ensures { Makes (tree_spelt (seen rpn.now)) result }
+{
+    match rpn {
+        Rpn::Term { attrs, term } => attr_term(alloc, attrs, term),
+        Rpn::ResultSet { name } => write_alone(alloc, name, Tag::context(0), Tag::context(31)),
+        Rpn::SetAttrs { name, attrs } => result_attr(alloc, name, attrs),
+        Rpn::And(left, right) => rpn_rpn_op(alloc, left, right, logical(alloc, Operator::And)?),
+        Rpn::Or(left, right) => rpn_rpn_op(alloc, left, right, logical(alloc, Operator::Or)?),
+        Rpn::Not(left, right) => rpn_rpn_op(alloc, left, right, logical(alloc, Operator::Not)?),
+        Rpn::Prox(operator, left, right) => {
+            let operator = write_alone(alloc, operator, Tag::context(46), Tag::context(3))?;
+            rpn_rpn_op(alloc, left, right, operator)
+        }
+    }
+}
+
+/// The element of a query (RPNQuery).
+fn write_query(alloc: Global, query: &Query) -> Result<Node, BuildError>
+    ensures { Makes (query_spelt query.now) result }
+{
+    let mut out = PartsBuf::new(alloc);
+    out.required(alloc, Tag::universal(6), &query.attr_set)?;
+    out.push(structure(alloc, &query.root)?)?;
+    Ok(out.into_node(Tag::context(1)))
+}
+
+/// The element that stands for a type-1 query (Z39.50-2003, 4.1: RPNQuery, under the tag `[1]` of Query).
+///
+/// Refused as `NotSpellable` where a part that the query keeps as an element has no lawful tag or form for its place: a
+/// complex value is constructed with the tag `[224]`, another term has one of the tags `[217]` to `[221]`, and a
+/// proximity operator is constructed with the tag `[3]`. Refused as `Memory` where none was found.
+pub fn to_node(alloc: Global, query: &Query) -> Result<Node, BuildError>
+    ensures written { IsWritten (WritesQuery query.now) result }
+    ensures spelled { Makes (query_spelt query.now) result }
+{
+    write_query(alloc, query)
+}

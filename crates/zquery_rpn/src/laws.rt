@@ -1,0 +1,15 @@
+//! Laws of queries as elements, each the contract of a function that does nothing.
+ghost use Rattle.std.specs.Prelude.{◌≡◌, Option, Some};
+ghost use Rattle.zber.specs.Elements.{Element};
+ghost use Rattle.zquery_rpn.specs.Trees.{RpnQuery};
+ghost use Rattle.zquery_rpn.specs.Element.Type1.{IsQueryOf, WritesQuery};
+
+/// An element stands for one type-1 query at most.
+pub fn one_query()
+    ensures { (q r : RpnQuery) (n : Element) → WritesQuery q n → WritesQuery r n → q ≡ r }
+{}
+
+/// Reading an element that stands for a query gives the query back, as where it was written for it.
+pub fn read_back()
+    ensures { (q : RpnQuery) (n : Element) (o : Option RpnQuery) → WritesQuery q n → IsQueryOf n o → o ≡ Some q }
+{}

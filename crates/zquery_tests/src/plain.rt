@@ -1,0 +1,65 @@
+//! Calls of queries that tests of several crates make, without their contracts and with large values in boxes: no test
+//! needs the contracts, and what is proved of a function is dear where it owns a large value.
+use std::alloc::{AllocError, Global};
+use zber::{Body, Node};
+use zber_tests::unread::{self, Unread};
+use zquery::{BuildError, PqfError, PrintError, Query};
+
+/// A value in a box.
+pub fn box_value<T: Drop>(alloc: Global, value: T) -> Result<Box<T>, AllocError> {
+    Ok(Box::new(alloc, value)?)
+}
+
+/// The query of a text in prefix notation.
+pub fn parse(alloc: Global, text: &[u8]) -> Result<Box<Query>, Unread> {
+    let query = unread::read(zquery::parse_pqf(alloc, text))?;
+    Ok(box_value(alloc, query)?)
+}
+
+/// Why a text is refused.
+pub fn parse_refusal(alloc: Global, text: &[u8]) -> Option<PqfError> {
+    zquery::parse_pqf(alloc, text).err()
+}
+
+/// Appends the text of a query.
+pub fn print(alloc: Global, query: &Query, out: &mut Vec<u8>) -> Result<(), PrintError> {
+    zquery::print_pqf(alloc, query, out)
+}
+
+/// The element of a query.
+pub fn query_node(alloc: Global, query: &Query) -> Result<Node, BuildError> {
+    zquery::to_node(alloc, query)
+}
+
+/// The query of an element, in a box.
+pub fn query_of(alloc: Global, node: &Node) -> Result<Box<Query>, Unread> {
+    let query = zquery::from_node(alloc, node)?.ok_or(Unread)?;
+    Ok(box_value(alloc, query)?)
+}
+
+/// Whether an element is a query.
+pub fn is_query(alloc: Global, node: &Node) -> Result<bool, AllocError> {
+    let absent = zquery::from_node(alloc, node)?.ok_or(()).err();
+    Ok(absent.is_none())
+}
+
+/// An equal query, in a box.
+pub fn query_copy(alloc: Global, query: &Query) -> Result<Box<Query>, AllocError> {
+    let copy = query.copy(alloc)?;
+    box_value(alloc, copy)
+}
+
+/// The element within the element that stands in a SearchRequest's place for a query.
+pub fn inner(node: &Node) -> Option<&Node> {
+    match &node.body {
+        Body::Cons(nodes) => nodes.first(),
+        Body::Prim(_) => None,
+    }
+}
+
+/// The text of a query.
+pub fn query_text(alloc: Global, query: &Query) -> Result<Vec<u8>, Unread> {
+    let mut text = Vec::new(alloc);
+    unread::read(print(alloc, query, &mut text))?;
+    Ok(text)
+}

@@ -1,0 +1,174 @@
+// Queries in the prefix notation and in octets, worked out from Z39.50-2003, 4.1, and X.690.
+use crate::plain::{inner, parse, parse_refusal, query_node, query_of, query_text};
+use crate::rows::READ;
+use std::alloc::{AllocError, Global};
+use std::process::Abort;
+use std::test::Fail;
+use zber::{Node, Tag};
+use zber_tests::rows::{each_row, element, encoding, halves, is_true, spells, tells, unescape};
+use zber_tests::unread::{self, Unread};
+use zquery::Query;
+
+// The element in a SearchRequest's place for a query.
+fn wrap_query(alloc: Global, query: &Query) -> Result<Node, Unread> {
+    let node = unread::read(query_node(alloc, query))?;
+    let nodes = vec![in alloc; node]?;
+    Ok(Node::cons(Tag::context(21), nodes))
+}
+
+pub(crate) fn unwrap_query(alloc: Global, node: &Node) -> Result<Box<Query>, Unread> {
+    match inner(node) {
+        Some(node) => query_of(alloc, node),
+        None => Err(Unread),
+    }
+}
+
+// The query of an element's digits.
+fn read(alloc: Global, digits: &str) -> Result<Box<Query>, Unread> {
+    let node = element(alloc, digits)?;
+    unwrap_query(alloc, &node)
+}
+
+// Whether this is the query's text.
+pub(crate) fn is_printed(alloc: Global, query: &Query, due: &[u8]) -> bool {
+    spells(query_text(alloc, query), due)
+}
+
+fn encode_query(alloc: Global, query: &Query) -> Result<String, Unread> {
+    let node = wrap_query(alloc, query)?;
+    Ok(encoding(alloc, &node)?)
+}
+
+fn is_encoded(alloc: Global, query: &Query, digits: &str) -> bool {
+    tells(encode_query(alloc, query), digits)
+}
+
+// Whether a query has this text and this element.
+fn is_both(alloc: Global, query: &Query, text: &[u8], digits: &str) -> bool {
+    is_printed(alloc, query, text) && is_encoded(alloc, query, digits)
+}
+
+fn parses(alloc: Global, text: &[u8], due: &[u8], digits: &str) -> Result<bool, Unread> {
+    let query = parse(alloc, text)?;
+    Ok(is_both(alloc, &query, due, digits))
+}
+
+fn decodes(alloc: Global, due: &[u8], digits: &str) -> Result<bool, Unread> {
+    let query = read(alloc, digits)?;
+    Ok(is_both(alloc, &query, due, digits))
+}
+
+// The text, the printed text and the element are one query's.
+fn are_one(alloc: Global, text: &[u8], due: &[u8], digits: &str) -> bool {
+    is_true(parses(alloc, text, due, digits))
+        && is_true(parses(alloc, due, due, digits))
+        && is_true(decodes(alloc, due, digits))
+}
+
+fn is_query(alloc: Global, row: &str) -> Result<bool, Unread> {
+    let (text, rest) = halves(row);
+    let (printed, digits) = halves(rest);
+    let text = unescape(alloc, text)?;
+    let due = unescape(alloc, printed)?;
+    Ok(are_one(alloc, text.as_slice(), due.as_slice(), digits))
+}
+
+#[test]
+fn texts_are_queries_and_queries_octets(rt: HostRuntime) -> Result<(), Fail> {
+    each_row(rt.alloc(), READ, &is_query)
+}
+
+// A text so many times, and then another one.
+fn repeat_before(
+    alloc: Global,
+    count: usize,
+    text: &[u8],
+    last: &[u8],
+) -> Result<Vec<u8>, AllocError> {
+    let mut out = Vec::new(alloc);
+    for _ in 0..count {
+        out.extend_from_slice(text)?;
+    }
+    out.extend_from_slice(last)?;
+    Ok(out)
+}
+
+// So many times one text, and then so many times another.
+fn repeat_both(
+    alloc: Global,
+    count: usize,
+    text: &[u8],
+    more: usize,
+    next: &[u8],
+) -> Result<Vec<u8>, AllocError> {
+    let last = repeat_before(alloc, more, next, b"")?;
+    repeat_before(alloc, count, text, last.as_slice())
+}
+
+// A query that comes back from its element.
+fn read_back(alloc: Global, query: &Query) -> Result<Box<Query>, Unread> {
+    let node = wrap_query(alloc, query)?;
+    unwrap_query(alloc, &node)
+}
+
+fn has_text_of(alloc: Global, query: &Query, other: &Query) -> Result<bool, Unread> {
+    let text = query_text(alloc, other)?;
+    Ok(is_printed(alloc, query, text.as_slice()))
+}
+
+fn comes_back(alloc: Global, query: &Query) -> Result<bool, Unread> {
+    let again = read_back(alloc, query)?;
+    has_text_of(alloc, &again, query)
+}
+
+// Whether a text is read, and its query comes back from its element.
+fn is_read(alloc: Global, text: &[u8]) -> Result<bool, Unread> {
+    let query = parse(alloc, text)?;
+    comes_back(alloc, &query)
+}
+
+#[test]
+fn operands_stand_on_32_levels(rt: HostRuntime) -> Result<(), Fail> {
+    let highest = repeat_both(rt.alloc(), 31, b"@and ", 32, b"x ")?;
+    assert!(rt; is_true(is_read(rt.alloc(), highest.as_slice())));
+    let longest = repeat_before(rt.alloc(), 31, b"@or x ", b"@attr 1=4 @set x")?;
+    assert!(rt; is_true(is_read(rt.alloc(), longest.as_slice())));
+    Ok(())
+}
+
+pub(crate) fn refusal(alloc: Global, text: &[u8]) -> Result<String, AllocError> {
+    match parse_refusal(alloc, text) {
+        None => String::from_str(alloc, "none"),
+        Some(error) => error.to_string(alloc),
+    }
+}
+
+#[test]
+fn the_33rd_level_is_refused(rt: HostRuntime) -> Result<(), Fail> {
+    let lower = repeat_both(rt.alloc(), 32, b"@and ", 33, b"x ")?;
+    assert!(rt; tells(refusal(rt.alloc(), lower.as_slice()), "TooDeep at 160"));
+    Ok(())
+}
+
+// What stands behind 31 operators and operands, and the refusal.
+const LAST: &str = "\
+@or x => TooDeep at 190
+@or @set => TooDeep at 190
+@or @not x => TooDeep at 190
+@or @attr 1=4 x => TooDeep at 200
+@or @term numeric 1 => TooDeep at 204
+@or @term numeric x => BadNumber at 204
+@or @foo => UnknownWord at 190
+@or => MissingOperand at 189
+";
+
+fn is_last(alloc: Global, row: &str) -> Result<bool, Unread> {
+    let (last, due) = halves(row);
+    let text = repeat_before(alloc, 31, b"@or x ", last.as_bytes())?;
+    Ok(tells(refusal(alloc, text.as_slice()), due))
+}
+
+#[test]
+fn other_faults_on_the_33rd_level(rt: HostRuntime) -> Result<(), Fail> {
+    each_row(rt.alloc(), LAST, &is_last)
+}

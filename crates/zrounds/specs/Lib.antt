@@ -1,6 +1,0 @@
-pub mod Run
-pub mod RunSteps
-pub mod RunSound
-pub mod RunTurns
-pub mod RunPeers
-pub mod RunRounds

@@ -1,7 +1,0 @@
-use Rattle.ztalk.specs.declared.device.Failed.{Failed}
-use Rattle.ztalk.proofs.Devices.{more_written}
-use Rattle.ztalk.proofs.outgoing.write_all.Goals as goal
-
-pub loop-rest-preserved : goal.loop-rest-preserved
-loop-rest-preserved g c =
-    more_written Failed _ _ _ _ _ c.in_ok-count.count c.loop-rest.invariant c.in_ok-count.ensures.writes

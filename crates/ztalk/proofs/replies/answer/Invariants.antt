@@ -1,7 +1,0 @@
-use Rattle.ztalk.proofs.Answering.{Begun}
-use Rattle.ztalk.proofs.replies.answer.Given as goal
-
-abbrev pub invariant-loop : goal.invariant-loop
-invariant-loop g l =
-    Begun l.counter l.initial.host l.host (g.R.Source.state l.initial.source) (g.R.Source.state l.source)
-    (g.W.Sink.state l.initial.sink) (g.W.Sink.state l.sink)

@@ -1,6 +1,0 @@
-use Rattle.std.proofs.Common.{◌≡◌, drop}
-use Rattle.zworld.specs.Fitness.{target_named}
-use Rattle.zworld.proofs.fitness.target_named.Given as goal
-
-abbrev pub invariant-loop-target : goal.invariant-loop-target
-invariant-loop-target l = target_named l.name (drop l.target-index l.targets) ≡ target_named l.name l.targets

@@ -1,9 +1,0 @@
-use Rattle.std.specs.Option.{option_map}
-use Rattle.zworld.specs.WorldReading.{IsReading, left}
-use Rattle.zworld.proofs.world.read_world.Given as goal
-
-abbrev pub invariant-loop-rest : goal.invariant-loop-rest
-invariant-loop-rest l = IsReading l.file l.number (option_map (λ r. r.now) l.rest) l.reader
-
-abbrev pub decreases-loop-rest : goal.decreases-loop-rest
-decreases-loop-rest l = left (option_map (λ r. r.now) l.rest)

@@ -1,6 +1,0 @@
-use Rattle.zworld.specs.WorldReading.{world_of}
-use Rattle.zworld.proofs.WorldSaid.{made}
-use Rattle.zworld.proofs.world.reader.Reader.read.Goals as goal
-
-pub returns-in-Ok : goal.returns-in-Ok
-returns-in-Ok c = made c.args.number c.args.text.now c.in-Ok.line (world_of c.args.self.now) c.add_line.new.self c.add_line.result c.in-Ok.ensures c.add_line.ensures

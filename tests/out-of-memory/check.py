@@ -1,0 +1,107 @@
+#!/usr/bin/env python3
+"""Refuses each allocation of the program's runs, and of tests, in turn, and looks at what they answer then: it alone, with the next, and
+with all that follow.
+
+A run has to end with status 4, `out of memory` and nothing printed, or as it does with ample memory. A test has to tell that it wants memory while it
+makes itself ready, and from then on to pass: what it tests asks again where memory was refused, and has to answer the same.
+
+    python3 tests/out-of-memory/check.py       (in the repository, once the program and the vectors are built)
+"""
+
+import os
+import re
+import subprocess
+import sys
+import tempfile
+import threading
+from concurrent.futures import ThreadPoolExecutor
+
+ROOT = os.path.dirname(os.path.dirname(os.path.dirname(os.path.abspath(__file__))))
+ZMETA = os.path.join(ROOT, "crates/zmeta/out/zmeta")
+VECTORS = os.path.join(ROOT, "crates/{0}/out/{0}_tests")
+
+RUNS = [
+    (["show"], "examples/present-response.hex"),
+    (["pqf", "@attr 1=4 dune"], None),
+    (["pqf", "@attr 1=4 @and dune @attr 1=1003 herbert"], None),
+    (["run", "examples/libraries.world"], None),
+    # answers that are shorter than what was asked for, and the same with moves
+    (["run", "tests/out-of-memory/short.world"], None),
+    (["run", "tests/out-of-memory/moves.world"], None),
+    (["loop", "examples/libraries.world"], None),
+    (["join", "examples/monday.saved", "examples/tuesday.saved"], None),
+    # one count, and two that differ
+    (["join", "tests/out-of-memory/four.saved", "tests/out-of-memory/four.saved"], None),
+    (["join", "tests/out-of-memory/four.saved", "tests/out-of-memory/five.saved"], None),
+    (["records", "examples/monday.saved", "examples/tuesday.saved"], None),
+    # wrong words, and help
+    (["run"], None),
+    (["show", "--hex"], None),
+    (["--help"], None),
+    (["ask", "--help"], None),
+]
+TESTS = [
+    ("zber_tests", "pieces::a_session_goes_on_where_memory_was_refused"),
+    ("zknow_tests", "known::what_is_known_grows_where_memory_was_refused"),
+    ("zvectors", "pool::memory::a_session_goes_on_where_memory_was_refused"),
+    ("zvectors", "failing::a_talk_tells_where_memory_was_refused"),
+]
+# as many runs at a time as there are processors
+POOL = ThreadPoolExecutor(len(os.sched_getaffinity(0)))
+# the last of all allocations
+ALL = (1 << 64) - 1
+# what a test says that could not make itself ready: `Unread` is what reading its rows says
+WANTS = re.compile(r"error: (Unread|AllocError|AllocFailed|Memory|OutOfMemory|PqfError \{ at: \d+, kind: Memory \})")
+
+
+def run(room, words, file, first, last):
+    """Runs a program with allocations refused (none where the last is 0): its status, both outputs, and its allocations."""
+    count = os.path.join(room, f"count-{threading.get_ident()}")
+    surroundings = dict(os.environ, LD_PRELOAD=os.path.join(room, "refuse.so"), REFUSE=str(first), LAST=str(last), COUNT=count)
+    with open(os.path.join(ROOT, file) if file else os.devnull, "rb") as given:
+        ran = subprocess.run(words, stdin=given, capture_output=True, env=surroundings, cwd=ROOT, timeout=60, close_fds=False)
+    with open(count) as it:
+        return (ran.returncode, ran.stdout, ran.stderr), int(it.read())
+
+
+def look_at_run(room, words, file):
+    ample, count = run(room, [ZMETA, *words], file, 1, 0)
+    refused = [(number, last) for number in range(1, count + 1) for last in (number, number + 1, ALL)]
+    answers = POOL.map(lambda it: run(room, [ZMETA, *words], file, *it), refused)
+    for (number, last), (answer, _) in zip(refused, answers):
+        if answer != ample and (answer[:2] != (4, b"") or not answer[2].endswith(b"out of memory\n")):
+            return f"zmeta {' '.join(words)}: allocations {number} to {last} of {count} refused: {answer}"
+    print(f"zmeta {' '.join(words)}: each of {count} allocations refused, with the next, and with all that follow")
+    return None
+
+
+def look_at_test(room, crate, name):
+    tests = VECTORS.format(crate)
+    ample, count = run(room, [tests, name], None, 1, 0)
+    if ample[0]:
+        return f"{name}: fails with ample memory: {ample}"
+    passed = 0
+    answers = POOL.map(lambda it: run(room, [tests, name], None, it, it), range(1, count + 1))
+    for number, (answer, _) in enumerate(answers, 1):
+        wants = WANTS.match(answer[2].decode(errors="replace"))
+        if answer[0] and (passed or not wants):
+            return f"{name}: allocation {number} of {count} refused: {answer}"
+        passed += not answer[0]
+    print(f"{name}: each of {count} allocations refused, {passed} of them in what it tests")
+    return None if passed else f"{name}: tests nothing that takes memory"
+
+
+def main():
+    failed = 0
+    with tempfile.TemporaryDirectory() as room:
+        source = os.path.join(ROOT, "tests/out-of-memory/refuse.c")
+        subprocess.run(["cc", "-O2", "-shared", "-fPIC", "-o", os.path.join(room, "refuse.so"), source, "-ldl"], check=True)
+        for fault in [look_at_run(room, *it) for it in RUNS] + [look_at_test(room, *it) for it in TESTS]:
+            if fault:
+                print(fault)
+                failed += 1
+    return 1 if failed else 0
+
+
+if __name__ == "__main__":
+    sys.exit(main())

@@ -1,0 +1,134 @@
+#!/usr/bin/env python3
+"""Runs the program by the rows of tests/program/rows, and looks at what it prints, tells and answers; then on worlds of many kinds.
+
+    python3 tests/program/check.py       (in the repository, once the program is built)
+
+A row has the words of a command line, with `|` between them, behind `<` the input, and behind `=>` the status, what is printed
+and what is told, with `>` between them; `%` and two digits stand for one octet, `=FILE` for the octets of that file, and `-` for
+none. Behind one more `>` a file of that name is made, with the octets of another. Rows of words have behind `=>` the status, and
+how what is printed then, or else what is told, begins. The files are those of tests/program/files, and `folder` is a folder."""
+
+import os
+import re
+import shutil
+import subprocess
+import sys
+import tempfile
+from concurrent.futures import ThreadPoolExecutor
+
+import worlds
+
+HERE = os.path.dirname(os.path.abspath(__file__))
+ZMETA = os.path.join(os.path.dirname(os.path.dirname(HERE)), "crates/zmeta/out/zmeta")
+FILES = os.path.join(HERE, "files")
+
+
+def octets_of(name):
+    with open(os.path.join(FILES, name), "rb") as file:
+        return file.read()
+
+
+def unescaped(text):
+    return re.sub(rb"%([0-9a-f]{2})", lambda it: bytes.fromhex(it[1].decode()), text.encode())
+
+
+def meant(text):
+    if text == "-":
+        return b""
+    return octets_of(text[1:]) if text.startswith("=") else unescaped(text)
+
+
+def run(room, words, given=b""):
+    """The status of a command in a folder, what it prints, and what it tells."""
+    ran = subprocess.run([ZMETA, *words], input=given, capture_output=True, cwd=room, timeout=60)
+    return ran.returncode, ran.stdout, ran.stderr
+
+
+def rows_of(table):
+    with open(os.path.join(HERE, "rows", table + ".rows"), encoding="utf-8") as file:
+        return [it for it in file.read().split("\n") if it and not it.startswith("#")]
+
+
+def fault_of_row(room, row):
+    """What is not as the row says, if anything."""
+    line, due = row.split(" => ", 1)
+    words, _, given = line.partition(" < ")
+    status, printed, told, *made = due.split(" > ")
+    found = run(room, words.split("|")[1:], meant(given) if given else b"")
+    if found != (int(status), meant(printed), meant(told)):
+        return f"{row}\n    {found}"
+    for it in made:
+        name, like = it.split("=")
+        with open(os.path.join(room, name), "rb") as file:
+            if file.read() != octets_of(like):
+                return f"{row}\n    {name} is another file"
+    return None
+
+
+def fault_of_words(room, row):
+    line, due = row.split(" => ", 1)
+    status, _, front = due.partition(" ")
+    found = run(room, line.split("|")[1:], octets_of("close.hex"))
+    text, other = found[1:] if status == "0" else found[:0:-1]
+    if found[0] != int(status) or not text.startswith(unescaped(front)) or other:
+        return f"{row}\n    {found}"
+    return None
+
+
+def nested(operators):
+    """A query of so many operators, each before its operands."""
+    return "@and " * operators + "x " * (operators + 1)
+
+
+def response(records):
+    """A Present response with so many records of 3,000 octets, and what is printed of it. Each element that holds elements has an
+    indefinite length, as many servers send them."""
+    record = b"3080 800164 A180 A180 2880 06072A8648CE13050A 81820BB8" + b"41" * 3000 + b"0000 0000 0000 0000\n"
+    front = b"B980 820400000002 9801%02X990100 9B0100 BC80" % records
+    lines = b'  rec 1.2.840.10003.5.10 "d" "%s"\n' % (b"A" * 3000) * records
+    return front + record * records + b"0000 0000", b"presentResponse 00000002 %d 0 0\n" % records + lines
+
+
+def faults_of_large(room):
+    """What is not as it should be of deep queries and of large messages."""
+    status, _, told = run(room, ["pqf", nested(31)])
+    if (status, told) != (0, b""):
+        yield f"31 operators: {status} {told}"
+    if run(room, ["pqf", nested(32)]) != (3, b"", b"zmeta: TooDeep at 160\n"):
+        yield "32 operators"
+    for records in (1, 7, 100):
+        given, printed = response(records)
+        if run(room, ["show"], given) != (0, printed, b""):
+            yield f"{records} records"
+
+
+def fault_of_world(room, number, world, listed):
+    """What is not as it should be of one world, if anything."""
+    name = f"any-{number}.world"
+    with open(os.path.join(room, name), "w", encoding="utf-8") as file:
+        file.write(world)
+    found = run(room, ["run", name])
+    return None if found == (0, listed.encode(), b"") else f"{world}\n    {found}"
+
+
+def main():
+    faults = []
+    with tempfile.TemporaryDirectory() as room, ThreadPoolExecutor(len(os.sched_getaffinity(0))) as pool:
+        shutil.copytree(FILES, room, dirs_exist_ok=True)
+        os.mkdir(os.path.join(room, "folder"))
+        for table in ("show", "pqf", "join", "records", "worlds", "words"):
+            look = fault_of_words if table == "words" else fault_of_row
+            rows = rows_of(table)
+            faults += [it for it in pool.map(lambda row: look(room, row), rows) if it]
+            print(f"program: {len(rows)} rows of {table}")
+        faults += faults_of_large(room)
+        made = [*worlds.made(octets_of)]
+        faults += [it for it in pool.map(lambda it: fault_of_world(room, *it), [(number, *it) for number, it in enumerate(made)]) if it]
+        print(f"program: {len(made)} worlds")
+    for it in faults:
+        print(f"program: not as it should be: {it}")
+    return 1 if faults else 0
+
+
+if __name__ == "__main__":
+    sys.exit(main())
