@@ -1,1 +1,1 @@
-mod Wording
+mod Parsing

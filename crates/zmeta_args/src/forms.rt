@@ -65,13 +65,13 @@ struct Form {
     name: &'static str,
     about: &'static str,
     example: &'static str,
-    wants: &'static [Word],
+    wants: &'static [Argument],
     may: &'static [Extra],
 }
 
 /// A word that a command wants, under the name that help gives it.
 #[derive(Clone, Copy)]
-struct Word {
+struct Argument {
     id: &'static str,
     help: &'static str,
     /// Whether it may begin with a hyphen and be no option.
@@ -85,7 +85,7 @@ struct Word {
 }
 
 /// A file that was saved.
-const SAVED: Word = Word {
+const SAVED: Argument = Argument {
     id: "A",
     help: "A file that --save made",
     has_hyphen: false,
@@ -95,7 +95,7 @@ const SAVED: Word = Word {
 };
 
 /// A world file.
-const WORLD: Word = Word {
+const WORLD: Argument = Argument {
     id: "FILE",
     help: "A file of catalogues and questions",
     has_hyphen: false,
@@ -113,7 +113,7 @@ Statuses:
   0  all was done
   1  a catalogue failed, closed its connection, refused a search or could not be asked;
      the list has what the others brought
-  2  the words are wrong
+  2  the arguments are wrong
   3  a file, a message, a query or an option's value was refused, or a file, a stream or
      the socket that listens failed
   4  memory ran out";
@@ -142,7 +142,7 @@ Example, books with the title word dune that Herbert wrote:
   zmeta pqf '@and @attr 1=4 dune @attr 1=1003 herbert'
 prints first
   @and @attr 1=4 \"dune\" @attr 1=1003 \"herbert\"",
-    wants: &[Word {
+    wants: &[Argument {
         id: "TEXT",
         help: "The query in prefix notation",
         has_hyphen: true,
@@ -167,7 +167,7 @@ prints lines as
   1 \"city library\" 1 rec 1.2.840.10003.5.10 - \"first record\"",
     wants: &[
         SAVED,
-        Word {
+        Argument {
             id: "B",
             help: "More such files",
             has_hyphen: false,
@@ -194,7 +194,7 @@ Example, the MARC 21 records that a search brought:
   zmeta records --syntax 1.2.840.10003.5.10 books.saved > books.mrc",
     wants: &[
         SAVED,
-        Word {
+        Argument {
             id: "B",
             help: "More such files",
             has_hyphen: false,
@@ -269,7 +269,7 @@ Status 3 with 'cannot serve' where there is no such catalogue, or the address ca
 Example, one client asks the catalogue of a city library:
   zmeta serve localhost:9999 'city library' world 1",
     wants: &[
-        Word {
+        Argument {
             id: "ADDRESS",
             help: "Where connections are taken, as host:port",
             has_hyphen: false,
@@ -277,7 +277,7 @@ Example, one client asks the catalogue of a city library:
             is_many: false,
             is_needed: true,
         },
-        Word {
+        Argument {
             id: "NAME",
             help: "The catalogue that is served",
             has_hyphen: false,
@@ -285,7 +285,7 @@ Example, one client asks the catalogue of a city library:
             is_many: false,
             is_needed: true,
         },
-        Word {
+        Argument {
             id: "FILE",
             help: "A file of catalogues",
             has_hyphen: false,
@@ -293,7 +293,7 @@ Example, one client asks the catalogue of a city library:
             is_many: false,
             is_needed: true,
         },
-        Word {
+        Argument {
             id: "N",
             help: "How many connections are taken, up to 1000000",
             has_hyphen: false,
@@ -324,7 +324,7 @@ prints lines as
 
 const FORMS: [Form; 8] = [ASK, RUN, LOOP, JOIN, RECORDS, SERVE, SHOW, PQF];
 
-fn argument(alloc: Global, word: &Word) -> Arg<'static> {
+fn argument(alloc: Global, word: &Argument) -> Arg<'static> {
     let argument = Arg::new(alloc, word.id)
         .help(word.help)
         .required(word.is_needed)

@@ -1,7 +1,7 @@
 //! The words of the command line: the forms of its commands, and what words ask for.
 #![tactic(auto)]
 
+mod arguments;
 mod forms;
-mod words;
 
-pub use words::{Words, odd_words, parse};
+pub use arguments::{Arguments, odd_arguments, parse};

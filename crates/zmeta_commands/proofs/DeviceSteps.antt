@@ -3,8 +3,8 @@ use Rattle.std.proofs.Common.{◌≡◌, ℕ, ◌-◌, List, [], ◌++◌, lengt
 use Rattle.std.proofs.lemmas.List.{take_rest}
 use Rattle.std.specs.Io.KnownBytes.{Appends, Keeps}
 use Rattle.std.proofs.KnownBytes.{Appends-trans, Appends-kept, Appends-nil}
-use Rattle.zoom.specs.Devices.{AppendsFront}
-use Rattle.zmeta_commands.specs.Pieces.{PutsPiece}
+use Rattle.zoom.specs.Devices.{HasAppendedFront}
+use Rattle.zmeta_commands.specs.Pieces.{WritePieceResult}
 
 -- a front of the text is written, and the rest is not
 abbrev pub HasPut : Option (List ℕ) → Option (List ℕ) → List ℕ → List ℕ → Type 0
@@ -18,16 +18,16 @@ pub put_more : (old now then : Option (List ℕ)) (text rest : List ℕ) (n : �
 put_more old now then text rest n h w = (h.0 ++ take n rest, moves_front text h.0 rest n h.1, Appends-trans old now then h.0 (take n rest) h.2 w)
 
 -- the same behind the answer of a call
-pub put_piece : (old now then : Option (List ℕ)) (text rest : List ℕ) (n : ℕ) (r : Option ℕ) → HasPut old now text rest → PutsPiece now then rest r → r ≡ Some n → HasPut old then text (take (length rest - n) (drop n rest))
-put_piece old now then text rest n r h w is = put_more old now then text rest n h (subst (PutsPiece now then rest) is w)
+pub put_piece : (old now then : Option (List ℕ)) (text rest : List ℕ) (n : ℕ) (r : Option ℕ) → HasPut old now text rest → WritePieceResult now then rest r → r ≡ Some n → HasPut old then text (take (length rest - n) (drop n rest))
+put_piece old now then text rest n r h w is = put_more old now then text rest n h (subst (WritePieceResult now then rest) is w)
 
 pub put_all : (old now : Option (List ℕ)) (text rest : List ℕ) → HasPut old now text rest → rest ≡ [] → Appends old now text
 put_all old now text rest h empty = subst (Appends old now) (sym (h.1 ∙ ap (λ l. h.0 ++ l) empty ∙ append-nil h.0)) h.2
 
-pub put_front : (old now : Option (List ℕ)) (text rest : List ℕ) → HasPut old now text rest → AppendsFront old now text
+pub put_front : (old now : Option (List ℕ)) (text rest : List ℕ) → HasPut old now text rest → HasAppendedFront old now text
 put_front old now text rest h = record { front = h.0; rest = rest; cut = h.1; written = h.2 }
 
-pub stopped_front : (old now then : Option (List ℕ)) (text rest : List ℕ) → HasPut old now text rest → Appends now then [] → AppendsFront old then text
+pub stopped_front : (old now then : Option (List ℕ)) (text rest : List ℕ) → HasPut old now text rest → Appends now then [] → HasAppendedFront old then text
 stopped_front old now then text rest h k =
     record { front = h.0; rest = rest; cut = h.1; written = subst (Appends old then) (append-nil h.0) (Appends-trans old now then h.0 [] h.2 k) }
 

@@ -3,10 +3,10 @@ use Rattle.std.proofs.Common.{◌≡◌, ◌∙◌, ap, subst, refl, ℕ, List, 
 use Rattle.zknow.specs.declared.fact.Fact.{Fact}
 use Rattle.zknow_records.specs.declared.left_out.LeftOut.{LeftOut}
 use Rattle.zknow_records.specs.Records.{records_octets, left_out}
-use Rattle.zmeta_commands.specs.Devices.{Device, Gains}
-use Rattle.zmeta_commands.specs.Finished.{TellsLines}
+use Rattle.zmeta_commands.specs.Devices.{Device, HasGained}
+use Rattle.zmeta_commands.specs.Finished.{AfterTellLines}
 use Rattle.zmeta_commands.specs.Join.{AreJoined, IsRefusedAmong, IsKnownStatus}
-use Rattle.zmeta_commands.specs.Records.{Wanted, IsSyntax, left_text, PutsRecords, Extracts}
+use Rattle.zmeta_commands.specs.Records.{Wanted, IsSyntax, left_text, PutRecordsResult, RecordsResult}
 use Rattle.zmeta_commands.specs.declared.fault.Fault.{Fault}
 use Rattle.zmeta_commands.specs.declared.fault.Fault.TheVariants.{Read, Write, NotKnowledge, NotCanonical, NamesDiffer, NotOid, Memory}
 use Rattle.zmeta_commands.specs.declared.fault.Status.{Status}
@@ -14,7 +14,7 @@ use Rattle.zmeta_commands.proofs.Joining.{kept, no_write}
 
 module _ (e : Wanted) (octets : List ℕ → Option (List ℕ)) (paths : List (List ℕ)) (output errors : Device) where
   -- a file is refused
-  no_file : (f : Fault) → IsRefusedAmong octets paths f → Extracts e octets paths output output errors errors (Err f)
+  no_file : (f : Fault) → IsRefusedAmong octets paths f → RecordsResult e octets paths output output errors errors (Err f)
   no_file (Write told) h = absurd (no_write octets paths (Write told) h)
   no_file (NotOid told) h = absurd (no_write octets paths (NotOid told) h)
   no_file Memory h = (kept output, refl)
@@ -25,7 +25,7 @@ module _ (e : Wanted) (octets : List ℕ → Option (List ℕ)) (paths : List (L
   no_file f h = (h, kept output, refl)
 
   pub files_refused : (g f : Fault) (r : Result Status Fault) → r ≡ Err f → f ≡ g → IsRefusedAmong octets paths g
-      → Extracts e octets paths output output errors errors r
+      → RecordsResult e octets paths output output errors errors r
   files_refused g f r is of h = rw (is, of) (no_file g h)
 
   module _ (facts : List Fact) (names : List (List ℕ)) (oid : Option (List ℕ)) (text lines start : List ℕ)
@@ -39,13 +39,13 @@ module _ (e : Wanted) (octets : List ℕ → Option (List ℕ)) (paths : List (L
     all_told = told ∙ ap left_text which
 
     pub extracted : (status : Status) → IsKnownStatus facts status
-        → PutsRecords text lines output printed errors said (Ok tt)
-        → Extracts e octets paths output printed errors said (Ok status)
+        → PutRecordsResult text lines output printed errors said (Ok tt)
+        → RecordsResult e octets paths output printed errors said (Ok status)
     extracted status is h = (
       facts,
       oid,
       record { names = names; joined = joined; syntax = syntax },
       is,
-      subst (λ z. Gains output printed z) whole h.0,
-      subst (λ z. TellsLines errors said z) all_told h.1,
+      subst (λ z. HasGained output printed z) whole h.0,
+      subst (λ z. AfterTellLines errors said z) all_told h.1,
     )

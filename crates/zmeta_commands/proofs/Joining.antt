@@ -12,10 +12,10 @@ use Rattle.zknow.specs.declared.saved.loading.LoadError.TheVariants as loads
 use Rattle.zknow.specs.Saved.Loaded.{IsFault}
 use Rattle.zmeta_commands.specs.Faults.{of_load}
 use Rattle.zmeta_args.specs.Texts.{texts_of}
-use Rattle.zmeta_commands.specs.Join.{Loads, IsSavedAt, IsFaultAt, Absorbs, AreJoined, IsRefusedAmong, AbsorbsAll, LoadsAll, IsListOf, IsKnownStatus, PutsList, Joins}
+use Rattle.zmeta_commands.specs.Join.{LoadFileResult, IsSavedAt, IsFaultAt, AbsorbNamedResult, AreJoined, IsRefusedAmong, AbsorbAllResult, LoadAllResult, IsListOf, IsKnownStatus, PutListResult, JoinResult}
 use Rattle.zmeta_commands.specs.Join.AreJoined.{one, more}
-use Rattle.zmeta_commands.specs.Join.IsRefusedAmong.{first, later, differs}
-use Rattle.zmeta_commands.specs.Devices.{Device, Stays}
+use Rattle.zmeta_commands.specs.Join.IsRefusedAmong.{first, later, other_names}
+use Rattle.zmeta_commands.specs.Devices.{Device, IsUnchanged}
 use Rattle.zmeta_commands.specs.declared.fault.Fault.{Fault}
 use Rattle.zmeta_commands.specs.declared.fault.Status.{Status}
 use Rattle.zmeta_commands.specs.declared.fault.Fault.TheVariants.{Read, Write, NotKnowledge, NotCanonical, NamesDiffer, NotOid, Memory}
@@ -23,14 +23,14 @@ use Rattle.zmeta_commands.specs.declared.fault.Fault.TheVariants.{Read, Write, N
 -- ---- one file
 
 -- a file that is refused
-refused : (file : List ℕ) (e : LoadError) → IsFault file e → Loads file (Err (of_load e))
+refused : (file : List ℕ) (e : LoadError) → IsFault file e → LoadFileResult file (Err (of_load e))
 refused file (loads.NotKnowledge at) h = h
 refused file (loads.NotCanonical at) h = h
 refused file loads.Memory h = tt
 
 pub load_refused : (p : Option (List ℕ)) (octets : List ℕ) (e : LoadError) (f : Fault)
     (r : Result (List Fact × List (List ℕ)) Fault) → r ≡ Err f → f ≡ of_load e → IfSome p (λ xs. octets ≡ xs)
-    → IsFault octets e → IfSome p (λ file. Loads file r)
+    → IsFault octets e → IfSome p (λ file. LoadFileResult file r)
 load_refused None octets e f r is of whole fault = tt
 load_refused (Some file) octets e f r is of whole fault =
     rw (is, of) (refused file e (subst (λ l. IsFault l e) whole fault))
@@ -45,7 +45,7 @@ until others i p lt is = take_more others i p lt ∙ ap (λ z. take i others ++ 
 
 pub joined_more : (octets : List ℕ → Option (List ℕ)) (names before : List (List ℕ)) (others : List (Bor (List ℕ)))
     (i : ℕ) (p : Bor (List ℕ)) (old new : List Fact) → i < length others → p ≡ get_or others i p
-    → AreJoined octets names (before ++ texts_of (take i others)) old → Absorbs octets names p.now old new (Ok tt)
+    → AreJoined octets names (before ++ texts_of (take i others)) old → AbsorbNamedResult octets names p.now old new (Ok tt)
     → AreJoined octets names (before ++ texts_of (take (i + 1) others)) new
 joined_more octets names before others i p old new lt is joined a =
     let to : texts_of (take (i + 1) others) ≡ texts_of (take i others) ++ p.now ∷ [] =
@@ -65,18 +65,18 @@ split others i p lt is =
 
 among : (octets : List ℕ → Option (List ℕ)) (names : List (List ℕ)) (paths : List (List ℕ)) (path : List ℕ)
     (rest : List (List ℕ)) (old new : List Fact) (f : Fault) → AreJoined octets names paths old
-    → Absorbs octets names path old new (Err f) → IsRefusedAmong octets (paths ++ path ∷ rest) f
+    → AbsorbNamedResult octets names path old new (Err f) → IsRefusedAmong octets (paths ++ path ∷ rest) f
 among octets names paths path rest old new (Read told) joined a = later paths names rest old path joined a
 among octets names paths path rest old new (NotKnowledge at) joined a = later paths names rest old path joined a
 among octets names paths path rest old new (NotCanonical at) joined a = later paths names rest old path joined a
 among octets names paths path rest old new Memory joined a = later paths names rest old path joined a
-among octets names paths path rest old new NamesDiffer joined a = differs paths names rest old path joined a
+among octets names paths path rest old new NamesDiffer joined a = other_names paths names rest old path joined a
 among octets names paths path rest old new f joined a = absurd a
 
 -- one of them is refused
 pub other_refused : (octets : List ℕ → Option (List ℕ)) (names before : List (List ℕ)) (others : List (Bor (List ℕ)))
     (i : ℕ) (p : Bor (List ℕ)) (old new : List Fact) (f : Fault) → i < length others → p ≡ get_or others i p
-    → AreJoined octets names (before ++ texts_of (take i others)) old → Absorbs octets names p.now old new (Err f)
+    → AreJoined octets names (before ++ texts_of (take i others)) old → AbsorbNamedResult octets names p.now old new (Err f)
     → IsRefusedAmong octets (before ++ texts_of others) f
 other_refused octets names before others i p old new f lt is joined a =
     let at : (before ++ texts_of (take i others)) ++ p.now ∷ texts_of (drop (i + 1) others) ≡ before ++ texts_of others =
@@ -90,7 +90,7 @@ pub all_refused : (octets : List ℕ → Option (List ℕ)) (names : List (List 
     → i < length others → p ≡ get_or others i p
     → ((before : List (List ℕ)) → AreJoined octets names before old
     → AreJoined octets names (before ++ texts_of (take i others)) was)
-    → Absorbs octets names p.now was now (Err g) → AbsorbsAll octets names (texts_of others) old now r
+    → AbsorbNamedResult octets names p.now was now (Err g) → AbsorbAllResult octets names (texts_of others) old now r
 all_refused octets names others old was now i p g f r is of lt at so a =
     rw (is, of) (λ before joined. other_refused octets names before others i p was now g lt at (so before joined) a)
 
@@ -104,18 +104,18 @@ in_place (x ∷ xs) (suc i) d lt = in_place xs i d (omega (arith, lt))
 -- one behind the first is
 pub rest_refused : (octets : List ℕ → Option (List ℕ)) (names : List (List ℕ)) (path : List ℕ) (rest : List (List ℕ))
     (old new : List Fact) (g f : Fault) (r : Result (List Fact × List (List ℕ)) Fault) → r ≡ Err f → f ≡ g
-    → IsSavedAt octets path names old → AbsorbsAll octets names rest old new (Err g) → LoadsAll octets (path ∷ rest) r
+    → IsSavedAt octets path names old → AbsorbAllResult octets names rest old new (Err g) → LoadAllResult octets (path ∷ rest) r
 rest_refused octets names path rest old new g f r is of saved h = rw (is, of) (h (path ∷ []) (one path saved))
 
 -- the first is
 pub first_refused : (octets : List ℕ → Option (List ℕ)) (path : List ℕ) (rest : List (List ℕ)) (g f : Fault)
     (r : Result (List Fact × List (List ℕ)) Fault) → r ≡ Err f → f ≡ g → IsFaultAt octets path g
-    → LoadsAll octets (path ∷ rest) r
+    → LoadAllResult octets (path ∷ rest) r
 first_refused octets path rest g f r is of h = rw (is, of) (first path rest h)
 
 -- ---- what is printed
 
-pub kept : (s : Device) → Stays s s
+pub kept : (s : Device) → IsUnchanged s s
 kept s = record { kept = Keeps-refl s.known; path = refl; sound = refl }
 
 -- no fault of the files is one of the stream that is written, or of a syntax
@@ -135,10 +135,10 @@ pub no_write : (octets : List ℕ → Option (List ℕ)) (paths : List (List ℕ
     → IsOfReading f
 no_write octets paths f (first p rest fault) = at_reading octets p f fault
 no_write octets paths f (later before names rest facts p joined fault) = at_reading octets p f fault
-no_write octets paths f (differs before names rest facts p joined other) = tt
+no_write octets paths f (other_names before names rest facts p joined other) = tt
 
 told : (mode : Mode) (octets : List ℕ → Option (List ℕ)) (paths : List (List ℕ)) (f : Fault) (old : Device)
-    → IsRefusedAmong octets paths f → Joins mode octets paths old old (Err f)
+    → IsRefusedAmong octets paths f → JoinResult mode octets paths old old (Err f)
 told mode octets paths (Read path) old h = (h, kept old)
 told mode octets paths (NotKnowledge at) old h = (h, kept old)
 told mode octets paths (NotCanonical at) old h = (h, kept old)
@@ -148,13 +148,13 @@ told mode octets paths (Write path) old h = absurd (no_write octets paths (Write
 told mode octets paths f old h = (h, kept old)
 
 pub join_refused : (mode : Mode) (octets : List ℕ → Option (List ℕ)) (paths : List (List ℕ)) (old : Device) (g f : Fault)
-    (r : Result Status Fault) → r ≡ Err f → f ≡ g → IsRefusedAmong octets paths g → Joins mode octets paths old old r
+    (r : Result Status Fault) → r ≡ Err f → f ≡ g → IsRefusedAmong octets paths g → JoinResult mode octets paths old old r
 join_refused mode octets paths old g f r is of h = rw (is, of) (told mode octets paths g old h)
 
 -- the list is written, or a front of it
 put_joined : (mode : Mode) (octets : List ℕ → Option (List ℕ)) (paths : List (List ℕ)) (facts : List Fact) (text : List ℕ)
     (old new : Device) (status : Status) (r : Result Status Fault) → IsListOf octets mode paths facts text
-    → IsKnownStatus facts status → PutsList text status old new r → Joins mode octets paths old new r
+    → IsKnownStatus facts status → PutListResult text status old new r → JoinResult mode octets paths old new r
 put_joined mode octets paths facts text old new status (Ok s) l k p =
     (facts, text, l, subst (IsKnownStatus facts) (sym p.0) k, p.1)
 put_joined mode octets paths facts text old new status (Err (Write told)) l k p = (facts, text, l, p)
@@ -163,8 +163,8 @@ put_joined mode octets paths facts text old new status (Err f) l k p = absurd p
 pub join_done : (mode : Mode) (octets : List ℕ → Option (List ℕ)) (paths names : List (List ℕ)) (known : List Fact)
     (old new : Device) (start text written : List ℕ) (status : Status) (r : Result Status Fault)
     → AreJoined octets names paths known → IsKnownStatus known status → start ≡ []
-    → text ≡ start ++ listing names mode known → written ≡ text → PutsList written status old new r
-    → Joins mode octets paths old new r
+    → text ≡ start ++ listing names mode known → written ≡ text → PutListResult written status old new r
+    → JoinResult mode octets paths old new r
 join_done mode octets paths names known old new start text written status r joined is s t o w =
     put_joined mode octets paths known written old new status r
     (names, joined, o ∙ t ∙ ap (λ z. z ++ listing names mode known) s) is w

@@ -8,4 +8,4 @@ pub mod DeviceSteps
 pub mod Reading
 pub mod Troubles
 pub mod Running
-pub mod Wording
+pub mod Calling

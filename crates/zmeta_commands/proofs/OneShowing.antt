@@ -9,9 +9,9 @@ use Rattle.zber.specs.Unfinished.{IsUnfinished}
 use Rattle.zapdu.specs.declared.apdu.Apdu.{Apdu}
 use Rattle.zapdu.specs.declared.apdu.Kind.{Kind}
 use Rattle.zapdu.specs.Writes.{Writes, IsNoApdu, IsMalformed}
-use Rattle.zoom.proofs.Meetings.{Laws}
+use Rattle.zoom.proofs.Uniqueness.{Laws}
 use Rattle.zapdu_lines.specs.Lines.{apdu_text}
-use Rattle.zmeta_commands.specs.Show.{Shown, nothing_left, apdu, fault, unfinished, no_apdu, malformed}
+use Rattle.zmeta_commands.specs.Show.{ShownText, nothing_left, apdu, fault, unfinished, no_apdu, malformed}
 use Rattle.zber.specs.declared.framer.TheConstants.{MESSAGE_LIMIT}
 use Rattle.zmeta_commands.specs.declared.fault.Fault.{Fault}
 use Rattle.zmeta_commands.specs.declared.fault.Fault.TheVariants.{Frame, NotApdu, Malformed}
@@ -22,18 +22,18 @@ End = Result (Unit {0}) Fault
 
 -- how octets that begin with a message are shown
 data Begun (e : Element) (rest : List ℕ) : List ℕ → End → Type 0 where
-  written : {text : List ℕ} {end : End} (v : Apdu) → Writes v e → Shown rest text end → Begun e rest (apdu_text v ++ text) end
+  written : {text : List ℕ} {end : End} (v : Apdu) → Writes v e → ShownText rest text end → Begun e rest (apdu_text v ++ text) end
   unknown : IsNoApdu e → Begun e rest [] (Err NotApdu)
   misfit : {kind : Kind} {at : ℕ} → ((v : Apdu) → Writes v e → ⊥) → IsMalformed kind at e → Begun e rest [] (Err (Malformed kind at))
 
 no_message : (xs rest : List ℕ) (e : Element) → xs ≡ [] → Begins MESSAGE_LIMIT xs e rest → ⊥
 no_message xs rest e q b = absurd (omega (arith, rest_shorter MESSAGE_LIMIT xs rest e b, ap length q))
 
-begun : (l : Laws) (xs rest text : List ℕ) (e : Element) (end : End) → Begins MESSAGE_LIMIT xs e rest → Shown xs text end → Begun e rest text end
+begun : (l : Laws) (xs rest text : List ℕ) (e : Element) (end : End) → Begins MESSAGE_LIMIT xs e rest → ShownText xs text end → Begun e rest text end
 begun l xs rest text e end b nothing_left = absurd (no_message xs rest e refl b)
 begun l xs rest text e end b (apdu {rest = r} {text = t} {e = d} v c w s) =
     let same = l.answer.one_message MESSAGE_LIMIT xs d e r rest c b in
-    written v (subst (Writes v) same.0 w) (subst (λ z. Shown z t end) same.1 s)
+    written v (subst (Writes v) same.0 w) (subst (λ z. ShownText z t end) same.1 s)
 begun l xs rest text e end b (fault f) = absurd (l.answer.either MESSAGE_LIMIT xs e rest _ _ b f)
 begun l xs rest text e end b (unfinished m u) = absurd (u.no_message e rest b)
 begun l xs rest text e end b (no_apdu {rest = r} {e = d} c n) = unknown (subst IsNoApdu (l.answer.one_message MESSAGE_LIMIT xs d e r rest c b).0 n)
@@ -47,7 +47,7 @@ data Halted (xs : List ℕ) : End → Type 0 where
   at_fault : {k : FaultKind} {at : ℕ} → Shows MESSAGE_LIMIT xs k at → Halted xs (Err (Frame k at))
   inside : 0 < length xs → IsUnfinished MESSAGE_LIMIT xs → Halted xs (Err (Frame kinds.Truncated (length xs)))
 
-halted : (l : Laws) (xs text : List ℕ) (end : End) → ((e : Element) (rest : List ℕ) → Begins MESSAGE_LIMIT xs e rest → ⊥) → Shown xs text end → ([] ≡ text) × Halted xs end
+halted : (l : Laws) (xs text : List ℕ) (end : End) → ((e : Element) (rest : List ℕ) → Begins MESSAGE_LIMIT xs e rest → ⊥) → ShownText xs text end → ([] ≡ text) × Halted xs end
 halted l xs text end stops nothing_left = (refl, at_end refl)
 halted l xs text end stops (apdu {rest = r} {e = e} v b w s) = absurd (stops e r b)
 halted l xs text end stops (fault f) = (refl, at_fault f)
@@ -79,13 +79,13 @@ halted_once l xs f g (inside m u) (inside n v) = refl
 same_misfit : {j k : Kind} {a b : ℕ} → (j ≡ k) × (a ≡ b) → ◌≡◌ {A = End} (Err (Malformed j a)) (Err (Malformed k b))
 same_misfit {j} {k} {a} {b} q = ap (λ z. Err (Malformed z a)) q.0 ∙ ap (λ z. Err (Malformed k z)) q.1
 
-halt : (l : Laws) (xs s t : List ℕ) (f g : End) → ((e : Element) (rest : List ℕ) → Begins MESSAGE_LIMIT xs e rest → ⊥) → Shown xs s f → Shown xs t g → (s ≡ t) × (f ≡ g)
+halt : (l : Laws) (xs s t : List ℕ) (f g : End) → ((e : Element) (rest : List ℕ) → Begins MESSAGE_LIMIT xs e rest → ⊥) → ShownText xs s f → ShownText xs t g → (s ≡ t) × (f ≡ g)
 halt l xs s t f g stops p q =
     let a = halted l xs s f stops p in
     let b = halted l xs t g stops q in
     (sym a.0 ∙ b.0, halted_once l xs f g a.1 b.1)
 
-pub one_showing : (l : Laws) {xs s : List ℕ} {f : End} (t : List ℕ) (g : End) → Shown xs s f → Shown xs t g → (s ≡ t) × (f ≡ g)
+pub one_showing : (l : Laws) {xs s : List ℕ} {f : End} (t : List ℕ) (g : End) → ShownText xs s f → ShownText xs t g → (s ≡ t) × (f ≡ g)
 one_showing l t g nothing_left q = halt l [] [] t (Ok tt) g (λ e rest b. no_message [] rest e refl b) nothing_left q
 one_showing l {xs} t g (apdu {rest = r} {text = a} {e = e} {end = f} v b w s) q = elim (begun l xs r t e g b q) as (λ t g begun. (apdu_text v ++ a ≡ t) × (f ≡ g)) [
   | written {text = c} {end = h} u x z ↦ (

@@ -10,7 +10,7 @@ use Rattle.hex.specs.declared.error.FromHexError.{FromHexError}
 use Rattle.hex.proofs.Pairs.{prepend, cons_byte, decode_pairs-ok_pair}
 use Rattle.hex.proofs.HexLemmas.{decode_pairs-ok, decode_of-even}
 use Rattle.zmeta_commands.specs.declared.digits.TheConstants.{VALUES}
-use Rattle.zmeta_commands.specs.Digits.{digits, octets_of, digit_value, IsOctetOf, BeginsWithNoSpace, BeginsWith, StandsForNone}
+use Rattle.zmeta_commands.specs.Digits.{digits, octets_of, digit_value, IsOctetOf, HasNoSpaceFirst, HasOctetFirst, HasNoOctets}
 
 -- the table has the value of each octet
 table_is : VALUES ≡ map digit_value (range_with_len 0 256)
@@ -71,14 +71,14 @@ no_pair high low ds none i xs h =
 one_digit : (high i : ℕ) (xs : List ℕ) → decode_pairs i (high ∷ []) ≡ Ok xs → ⊥
 one_digit high i xs h = let len = (decode_pairs-ok i (high ∷ []) xs h).1 in omega (arith, len)
 
-stands_for_none : (text ds : List ℕ) → digits text ≡ ds → ((i : ℕ) (xs : List ℕ) → decode_pairs i ds ≡ Ok xs → ⊥) → StandsForNone text
+stands_for_none : (text ds : List ℕ) → digits text ≡ ds → ((i : ℕ) (xs : List ℕ) → decode_pairs i ds ≡ Ok xs → ⊥) → HasNoOctets text
 stands_for_none text ds e none i xs h = none i xs (sym (ap (decode_pairs i) e) ∙ h)
 
-pub none_alone : (text behind : List ℕ) (high : ℕ) → digits (high ∷ behind) ≡ digits text → BeginsWithNoSpace (high ∷ behind) → [] ≡ digits behind → StandsForNone text
+pub none_alone : (text behind : List ℕ) (high : ℕ) → digits (high ∷ behind) ≡ digits text → HasNoSpaceFirst (high ∷ behind) → [] ≡ digits behind → HasNoOctets text
 none_alone text behind high p f q = stands_for_none text (high ∷ []) (sym p ∙ kept high behind f ∙ ap (λ z. high ∷ z) (sym q)) (one_digit high)
 
-pub none_apart : (text behind rest : List ℕ) (high low : ℕ) → digits (high ∷ behind) ≡ digits text → BeginsWithNoSpace (high ∷ behind) → digits (low ∷ rest) ≡ digits behind → BeginsWithNoSpace (low ∷ rest)
-    → ((octet : ℕ) → IsOctetOf high low octet → ⊥) → StandsForNone text
+pub none_apart : (text behind rest : List ℕ) (high low : ℕ) → digits (high ∷ behind) ≡ digits text → HasNoSpaceFirst (high ∷ behind) → digits (low ∷ rest) ≡ digits behind → HasNoSpaceFirst (low ∷ rest)
+    → ((octet : ℕ) → IsOctetOf high low octet → ⊥) → HasNoOctets text
 none_apart text behind rest high low p f q g none =
     stands_for_none text (high ∷ low ∷ digits rest) (sym p ∙ kept high behind f ∙ ap (λ z. high ∷ z) (sym q ∙ kept low rest g)) (no_pair high low (digits rest) none)
 
@@ -94,16 +94,16 @@ rest_is : (xs : List ℕ) → take (length xs - 1) (drop 1 xs) ≡ drop 1 xs
 rest_is xs = take_all (length xs - 1) (drop 1 xs) (omega (arith, length-drop 1 xs))
 
 -- the same, as the code has the texts
-pub refused_alone : (text xs ys : List ℕ) → digits xs ≡ digits text → BeginsWithNoSpace xs → 1 ≤ length xs → digits ys ≡ digits (take (length xs - 1) (drop 1 xs)) → length ys < 1 → StandsForNone text
+pub refused_alone : (text xs ys : List ℕ) → digits xs ≡ digits text → HasNoSpaceFirst xs → 1 ≤ length xs → digits ys ≡ digits (take (length xs - 1) (drop 1 xs)) → length ys < 1 → HasNoOctets text
 refused_alone text xs ys p f m q short =
-    none_alone text (drop 1 xs) (get_or xs 0 0) (ap digits (sym (front_is xs m)) ∙ p) (subst BeginsWithNoSpace (front_is xs m) f)
+    none_alone text (drop 1 xs) (get_or xs 0 0) (ap digits (sym (front_is xs m)) ∙ p) (subst HasNoSpaceFirst (front_is xs m) f)
     (ap digits (sym (nil_is ys short)) ∙ q ∙ ap digits (rest_is xs))
 
-pub refused_apart : (text xs ys : List ℕ) → digits xs ≡ digits text → BeginsWithNoSpace xs → 1 ≤ length xs → digits ys ≡ digits (take (length xs - 1) (drop 1 xs)) → BeginsWithNoSpace ys → 1 ≤ length ys
-    → ((octet : ℕ) → IsOctetOf (get_or xs 0 0) (get_or ys 0 0) octet → ⊥) → StandsForNone text
+pub refused_apart : (text xs ys : List ℕ) → digits xs ≡ digits text → HasNoSpaceFirst xs → 1 ≤ length xs → digits ys ≡ digits (take (length xs - 1) (drop 1 xs)) → HasNoSpaceFirst ys → 1 ≤ length ys
+    → ((octet : ℕ) → IsOctetOf (get_or xs 0 0) (get_or ys 0 0) octet → ⊥) → HasNoOctets text
 refused_apart text xs ys p f m q g n none =
-    none_apart text (drop 1 xs) (drop 1 ys) (get_or xs 0 0) (get_or ys 0 0) (ap digits (sym (front_is xs m)) ∙ p) (subst BeginsWithNoSpace (front_is xs m) f)
-    (ap digits (sym (front_is ys n)) ∙ q ∙ ap digits (rest_is xs)) (subst BeginsWithNoSpace (front_is ys n) g) none
+    none_apart text (drop 1 xs) (drop 1 ys) (get_or xs 0 0) (get_or ys 0 0) (ap digits (sym (front_is xs m)) ∙ p) (subst HasNoSpaceFirst (front_is xs m) f)
+    (ap digits (sym (front_is ys n)) ∙ q ∙ ap digits (rest_is xs)) (subst HasNoSpaceFirst (front_is ys n) g) none
 
 -- the octets read so far stand before those of the rest
 pub record IsRead (text octets rest : List ℕ) : Type 0 where
@@ -117,7 +117,7 @@ prepend_more xs x (Err e) = refl
 pair_is : (high low octet i : ℕ) → IsOctetOf high low octet → pair_value high low i ≡ Ok octet
 pair_is high low octet i s = rw (s.high_is, s.low_is) (ap Ok (sym s.octet_is))
 
-pub read_more : (text octets rest behind : List ℕ) (octet : ℕ) → IsRead text octets rest → BeginsWith rest octet behind → IsRead text (octets ++ octet ∷ []) behind
+pub read_more : (text octets rest behind : List ℕ) (octet : ℕ) → IsRead text octets rest → HasOctetFirst rest octet behind → IsRead text (octets ++ octet ∷ []) behind
 read_more text octets rest behind octet h b = record {
   at = h.at + 2;
   same = h.same ∙ ap (λ z. prepend octets (decode_pairs h.at z)) b.cut

@@ -17,10 +17,10 @@ use Rattle.zapdu.specs.Writes.{Writes, Decodes}
 use Rattle.zmeta_commands.specs.Digits.{octets_of}
 use Rattle.zmeta_commands.specs.Faults.{of_frame, of_apdu}
 use Rattle.zapdu_lines.specs.Lines.{apdu_text}
-use Rattle.zmeta_commands.specs.Show.{Shown, nothing_left, apdu, fault, unfinished, no_apdu, malformed, ShowsDigits, ShowsText}
+use Rattle.zmeta_commands.specs.Show.{ShownText, nothing_left, apdu, fault, unfinished, no_apdu, malformed, ShowDigitsResult, ShowResult}
 use Rattle.zber.specs.declared.framer.TheConstants.{MESSAGE_LIMIT}
-use Rattle.zmeta_commands.specs.Steps.{ShowsNext, ShowsOctets, PutsLines, PrintsLines}
-use Rattle.zmeta_commands.specs.Devices.{Device, Gains, Stops, FailsPut, IsOfStream}
+use Rattle.zmeta_commands.specs.Steps.{ShowNextResult, ShowOctetsResult, PutLinesResult, PrintLinesResult}
+use Rattle.zmeta_commands.specs.Devices.{Device, HasGained, HasStopped, PutFailure, IsOfStream}
 use Rattle.zmeta_commands.specs.declared.fault.Fault.{Fault}
 use Rattle.zmeta_commands.specs.declared.fault.Fault.TheVariants.{Read, Write, Hex, Frame, Memory}
 
@@ -32,13 +32,13 @@ rest_shorter size xs rest e b = omega (arith, spells_some b.is.spelled, ap lengt
 pub record HasShown (xs rest old now : List ℕ) : Type 0 where
   pub text : List ℕ
   pub written : now ≡ old ++ text
-  pub goes_on : (t : List ℕ) (end : Result (Unit {0}) Fault) → Shown rest t end → Shown xs (text ++ t) end
+  pub goes_on : (t : List ℕ) (end : Result (Unit {0}) Fault) → ShownText rest t end → ShownText xs (text ++ t) end
 
 pub shown_more : (xs rest left old now then : List ℕ) (e : Element) (v : Apdu) → HasShown xs rest old now → Begins MESSAGE_LIMIT rest e left → Writes v e → then ≡ now ++ apdu_text v → HasShown xs left old then
 shown_more xs rest left old now then e v h b w q = record {
   text = h.text ++ apdu_text v;
   written = q ∙ ap (λ z. z ++ apdu_text v) h.written ∙ append_assoc old h.text (apdu_text v);
-  goes_on = λ t end s. subst (λ z. Shown xs z end) (sym (append_assoc h.text (apdu_text v) t)) (h.goes_on (apdu_text v ++ t) end (apdu v b w s));
+  goes_on = λ t end s. subst (λ z. ShownText xs z end) (sym (append_assoc h.text (apdu_text v) t)) (h.goes_on (apdu_text v ++ t) end (apdu v b w s));
 }
 
 -- what an error becomes behind a `?`
@@ -49,21 +49,21 @@ is_err (Err f) x h = ap Err (sym h)
 no_fault : {A : Type 0} {x : A} {o : Option A} → o ≡ None → o ≡ Some x → ⊥
 no_fault p q = cc
 
-fault_here : (s t : Stream) (text : List ℕ) (e : FrameError) → s.limit ≡ MESSAGE_LIMIT → s.fault ≡ None → Answers s (Err e) t → ShowsNext s t text text (Err (of_frame e))
+fault_here : (s t : Stream) (text : List ℕ) (e : FrameError) → s.limit ≡ MESSAGE_LIMIT → s.fault ≡ None → Answers s (Err e) t → ShowNextResult s t text text (Err (of_frame e))
 fault_here s t text (frames.Fault k at) l p a = (fault (subst (λ n. Shows n s.octets k at) l (elim a.1 [ inl q ↦ absurd (no_fault p q) | inr b ↦ b.1 ])), refl)
 fault_here s t text frames.Memory l p a = tt
 
-refused_here : (s t : Stream) (text : List ℕ) (n : Element) (e : ApduError) → s.limit ≡ MESSAGE_LIMIT → Answers s (Ok (Some n)) t → Decodes n (Err e) → ShowsNext s t text text (Err (of_apdu e))
+refused_here : (s t : Stream) (text : List ℕ) (n : Element) (e : ApduError) → s.limit ≡ MESSAGE_LIMIT → Answers s (Ok (Some n)) t → Decodes n (Err e) → ShowNextResult s t text text (Err (of_apdu e))
 refused_here s t text n apdus.NotApdu l a d = (no_apdu (subst (λ z. Begins z s.octets n t.octets) l a.1) d, refl)
 refused_here s t text n (apdus.Malformed kind at) l a d = (malformed (subst (λ z. Begins z s.octets n t.octets) l a.1) d.0 d.1, refl)
 refused_here s t text n apdus.Memory l a d = tt
 
 -- a framing fault is shown next, and so is a message that is refused
-pub fault_next : (s t : Stream) (text : List ℕ) (e : FrameError) (r : Result Bool Fault) → s.limit ≡ MESSAGE_LIMIT → s.fault ≡ None → Answers s (Err e) t → IsErrAnd r (λ f. f ≡ of_frame e) → ShowsNext s t text text r
-fault_next s t text e r l p a w = subst (ShowsNext s t text text) (is_err r (of_frame e) w) (fault_here s t text e l p a)
+pub fault_next : (s t : Stream) (text : List ℕ) (e : FrameError) (r : Result Bool Fault) → s.limit ≡ MESSAGE_LIMIT → s.fault ≡ None → Answers s (Err e) t → IsErrAnd r (λ f. f ≡ of_frame e) → ShowNextResult s t text text r
+fault_next s t text e r l p a w = subst (ShowNextResult s t text text) (is_err r (of_frame e) w) (fault_here s t text e l p a)
 
-pub refused_next : (s t : Stream) (text : List ℕ) (n : Element) (e : ApduError) (o : Option Element) (r : Result Bool Fault) → s.limit ≡ MESSAGE_LIMIT → Answers s (Ok o) t → o ≡ Some n → Decodes n (Err e) → IsErrAnd r (λ f. f ≡ of_apdu e) → ShowsNext s t text text r
-refused_next s t text n e o r l a q d w = subst (ShowsNext s t text text) (is_err r (of_apdu e) w) (refused_here s t text n e l (subst (λ z. Answers s (Ok z) t) q a) d)
+pub refused_next : (s t : Stream) (text : List ℕ) (n : Element) (e : ApduError) (o : Option Element) (r : Result Bool Fault) → s.limit ≡ MESSAGE_LIMIT → Answers s (Ok o) t → o ≡ Some n → Decodes n (Err e) → IsErrAnd r (λ f. f ≡ of_apdu e) → ShowNextResult s t text text r
+refused_next s t text n e o r l a q d w = subst (ShowNextResult s t text text) (is_err r (of_apdu e) w) (refused_here s t text n e l (subst (λ z. Answers s (Ok z) t) q a) d)
 
 -- a message was shown
 pub record IsShown (s t : Stream) (old new : List ℕ) : Type 0 where
@@ -75,11 +75,11 @@ pub record IsShown (s t : Stream) (old new : List ℕ) : Type 0 where
   pub limited : t.limit ≡ s.limit
   pub sound : t.fault ≡ s.fault
 
-shown_one : (s t : Stream) (old new : List ℕ) → ShowsNext s t old new (Ok true) → IsShown s t old new
+shown_one : (s t : Stream) (old new : List ℕ) → ShowNextResult s t old new (Ok true) → IsShown s t old new
 shown_one s t old new m = record { element = m.0; value = m.1; begins = m.2; writes = m.3; text = m.4; limited = ap (λ z. z.limit) m.5; sound = ap (λ z. z.fault) m.5 }
 
-pub is_shown : (s t : Stream) (old new : List ℕ) (b : Bool) → ShowsNext s t old new (Ok b) → b ≡ true → IsShown s t old new
-is_shown s t old new b m q = shown_one s t old new (subst (λ z. ShowsNext s t old new (Ok z)) q m)
+pub is_shown : (s t : Stream) (old new : List ℕ) (b : Bool) → ShowNextResult s t old new (Ok b) → b ≡ true → IsShown s t old new
+is_shown s t old new b m q = shown_one s t old new (subst (λ z. ShowNextResult s t old new (Ok z)) q m)
 
 abbrev asked_stream : ℕ → List ℕ → Stream
 asked_stream size octets = record { limit = size; octets = octets; fault = None; asked = true }
@@ -90,33 +90,33 @@ asked_is s t p q = q ∙ ap (λ (z : Option (FaultKind × ℕ)). record { limit 
 no_err : {A E : Type 0} {x : A} {e : E} → Err e ≡ Ok x → ⊥
 no_err q = cc
 
-finish_err : (size : ℕ) (octets : List ℕ) (e : FrameError) → IsUnfinished MESSAGE_LIMIT octets → Err e ≡ finished (asked_stream size octets) → Shown octets [] (Err (of_frame e))
+finish_err : (size : ℕ) (octets : List ℕ) (e : FrameError) → IsUnfinished MESSAGE_LIMIT octets → Err e ≡ finished (asked_stream size octets) → ShownText octets [] (Err (of_frame e))
 finish_err size [] e u q = absurd (no_err q)
 finish_err size (x ∷ xs) e u q =
     let is : e ≡ frames.Fault kinds.Truncated (length (x ∷ xs)) = cc in
-    subst (λ z. Shown (x ∷ xs) [] (Err (of_frame z))) (sym is) (unfinished (omega arith) u)
+    subst (λ z. ShownText (x ∷ xs) [] (Err (of_frame z))) (sym is) (unfinished (omega arith) u)
 
-finish_ok : (size : ℕ) (octets : List ℕ) (b : Bool) → Ok b ≡ finished (asked_stream size octets) → Shown octets [] (Ok tt)
+finish_ok : (size : ℕ) (octets : List ℕ) (b : Bool) → Ok b ≡ finished (asked_stream size octets) → ShownText octets [] (Ok tt)
 finish_ok size [] b q = nothing_left
 finish_ok size (x ∷ xs) b q = absurd (no_err (sym q))
 
-shown_end : (xs old now new : List ℕ) (s t : Stream) → HasShown xs s.octets old now → ShowsNext s t now new (Ok false) → (end : Result (Unit {0}) Fault) → Shown s.octets [] end → (text : List ℕ) × Shown xs text end × (new ≡ old ++ text)
-shown_end xs old now new s t h m end is = (h.text, subst (λ z. Shown xs z end) (append-nil h.text) (h.goes_on [] end is), m.1 ∙ h.written)
+shown_end : (xs old now new : List ℕ) (s t : Stream) → HasShown xs s.octets old now → ShowNextResult s t now new (Ok false) → (end : Result (Unit {0}) Fault) → ShownText s.octets [] end → (text : List ℕ) × ShownText xs text end × (new ≡ old ++ text)
+shown_end xs old now new s t h m end is = (h.text, subst (λ z. ShownText xs z end) (append-nil h.text) (h.goes_on [] end is), m.1 ∙ h.written)
 
-end_err : (xs old now new : List ℕ) (s t : Stream) (e : FrameError) → s.fault ≡ None → HasShown xs s.octets old now → ShowsNext s t now new (Ok false) → Err e ≡ finished t → ShowsOctets xs old new (Err (of_frame e))
+end_err : (xs old now new : List ℕ) (s t : Stream) (e : FrameError) → s.fault ≡ None → HasShown xs s.octets old now → ShowNextResult s t now new (Ok false) → Err e ≡ finished t → ShowOctetsResult xs old new (Err (of_frame e))
 end_err xs old now new s t (frames.Fault k at) p h m q = shown_end xs old now new s t h m (Err (Frame k at)) (finish_err s.limit s.octets (frames.Fault k at) m.0 (q ∙ ap finished (asked_is s t p m.2)))
 end_err xs old now new s t frames.Memory p h m q = tt
 
 -- where no message follows, the octets end, or are unfinished
 pub unfinished_end : (xs old now new : List ℕ) (s t : Stream) (b : Bool) (e : FrameError) (r : Result (Unit {0}) Fault) → s.fault ≡ None → HasShown xs s.octets old now
-    → ShowsNext s t now new (Ok b) → b ≡ false → Err e ≡ finished t → IsErrAnd r (λ f. f ≡ of_frame e) → ShowsOctets xs old new r
+    → ShowNextResult s t now new (Ok b) → b ≡ false → Err e ≡ finished t → IsErrAnd r (λ f. f ≡ of_frame e) → ShowOctetsResult xs old new r
 unfinished_end xs old now new s t b e r p h m f q w =
-    let none = subst (λ z. ShowsNext s t now new (Ok z)) f m in
-    subst (ShowsOctets xs old new) (is_err r (of_frame e) w) (end_err xs old now new s t e p h none q)
+    let none = subst (λ z. ShowNextResult s t now new (Ok z)) f m in
+    subst (ShowOctetsResult xs old new) (is_err r (of_frame e) w) (end_err xs old now new s t e p h none q)
 
-pub whole_end : (xs old now new : List ℕ) (s t : Stream) (b c : Bool) → s.fault ≡ None → HasShown xs s.octets old now → ShowsNext s t now new (Ok b) → b ≡ false → Ok c ≡ finished t → ShowsOctets xs old new (Ok tt)
+pub whole_end : (xs old now new : List ℕ) (s t : Stream) (b c : Bool) → s.fault ≡ None → HasShown xs s.octets old now → ShowNextResult s t now new (Ok b) → b ≡ false → Ok c ≡ finished t → ShowOctetsResult xs old new (Ok tt)
 whole_end xs old now new s t b c p h m f q =
-    let none = subst (λ z. ShowsNext s t now new (Ok z)) f m in
+    let none = subst (λ z. ShowNextResult s t now new (Ok z)) f m in
     shown_end xs old now new s t h none (Ok tt) (finish_ok s.limit s.octets c (q ∙ ap finished (asked_is s t p none.2)))
 
 -- octets end at no fault of a stream, of digits or of memory
@@ -127,7 +127,7 @@ IsEnd (Err Hex) = ⊥
 IsEnd (Err Memory) = ⊥
 IsEnd _ = Unit {0}
 
-is_end : {xs text : List ℕ} {end : Result (Unit {0}) Fault} → Shown xs text end → IsEnd end
+is_end : {xs text : List ℕ} {end : Result (Unit {0}) Fault} → ShownText xs text end → IsEnd end
 is_end nothing_left = tt
 is_end (apdu v b w s) = is_end s
 is_end (fault f) = tt
@@ -137,59 +137,59 @@ is_end (malformed b w m) = tt
 
 -- the lines of all that is shown
 abbrev AreLines : List ℕ → List ℕ → Result (Unit {0}) Fault → Type 0
-AreLines xs lines answer = (text : List ℕ) × Shown xs text answer × (lines ≡ [] ++ text)
+AreLines xs lines answer = (text : List ℕ) × ShownText xs text answer × (lines ≡ [] ++ text)
 
-all_shown : (digits xs lines : List ℕ) (old new : Device) (answer : Result (Unit {0}) Fault) → octets_of digits ≡ Ok xs → AreLines xs lines answer → Gains old new lines → ShowsDigits digits old new answer
-all_shown digits xs lines old new answer q s g = (xs, s.0, q, s.1, subst (Gains old new) s.2 g)
+all_shown : (digits xs lines : List ℕ) (old new : Device) (answer : Result (Unit {0}) Fault) → octets_of digits ≡ Ok xs → AreLines xs lines answer → HasGained old new lines → ShowDigitsResult digits old new answer
+all_shown digits xs lines old new answer q s g = (xs, s.0, q, s.1, subst (HasGained old new) s.2 g)
 
-answered : (digits xs lines : List ℕ) (old new : Device) (answer : Result (Unit {0}) Fault) → octets_of digits ≡ Ok xs → AreLines xs lines answer → Gains old new lines → ShowsText digits old new answer
+answered : (digits xs lines : List ℕ) (old new : Device) (answer : Result (Unit {0}) Fault) → octets_of digits ≡ Ok xs → AreLines xs lines answer → HasGained old new lines → ShowResult digits old new answer
 answered digits xs lines old new (Err (Read path)) q s g = absurd (is_end s.1)
 answered digits xs lines old new (Err (Write path)) q s g = absurd (is_end s.1)
 answered digits xs lines old new (Err Hex) q s g = absurd (is_end s.1)
 answered digits xs lines old new (Err Memory) q s g = absurd (is_end s.1)
 answered digits xs lines old new answer q s g = all_shown digits xs lines old new answer q s g
 
-stopped : (digits xs lines : List ℕ) (old new : Device) (answer end : Result (Unit {0}) Fault) → octets_of digits ≡ Ok xs → AreLines xs lines answer → MatchResult end (λ _. ⊥) (FailsPut old new lines) → ShowsText digits old new end
+stopped : (digits xs lines : List ℕ) (old new : Device) (answer end : Result (Unit {0}) Fault) → octets_of digits ≡ Ok xs → AreLines xs lines answer → MatchResult end (λ _. ⊥) (PutFailure old new lines) → ShowResult digits old new end
 stopped digits xs lines old new answer (Ok u) q s p = absurd p
-stopped digits xs lines old new answer (Err (Write told)) q s p = (xs, s.0, answer, q, s.1, subst (Stops old new) s.2 p.1)
+stopped digits xs lines old new answer (Err (Write told)) q s p = (xs, s.0, answer, q, s.1, subst (HasStopped old new) s.2 p.1)
 stopped digits xs lines old new answer (Err f) q s p = absurd p
 
-put_shown : (digits xs lines : List ℕ) (old new : Device) (answer end : Result (Unit {0}) Fault) → octets_of digits ≡ Ok xs → AreLines xs lines answer → PutsLines lines answer old new end → ShowsText digits old new end
+put_shown : (digits xs lines : List ℕ) (old new : Device) (answer end : Result (Unit {0}) Fault) → octets_of digits ≡ Ok xs → AreLines xs lines answer → PutLinesResult lines answer old new end → ShowResult digits old new end
 put_shown digits xs lines old new answer end q s p = elim p [
-  | inl h ↦ subst (ShowsText digits old new) (sym h.0) (answered digits xs lines old new answer q s h.1)
+  | inl h ↦ subst (ShowResult digits old new) (sym h.0) (answered digits xs lines old new answer q s h.1)
   | inr h ↦ stopped digits xs lines old new answer end q s h
 ]
 
-text_shown : (digits xs lines : List ℕ) (old new : Device) (answer end : Result (Unit {0}) Fault) → octets_of digits ≡ Ok xs → ShowsOctets xs [] lines answer → PrintsLines lines answer old new end → ShowsText digits old new end
-text_shown digits xs lines old new (Err Memory) end q s p = subst (ShowsText digits old new) (sym p.0) p.1
+text_shown : (digits xs lines : List ℕ) (old new : Device) (answer end : Result (Unit {0}) Fault) → octets_of digits ≡ Ok xs → ShowOctetsResult xs [] lines answer → PrintLinesResult lines answer old new end → ShowResult digits old new end
+text_shown digits xs lines old new (Err Memory) end q s p = subst (ShowResult digits old new) (sym p.0) p.1
 text_shown digits xs lines old new answer end q s p = put_shown digits xs lines old new answer end q s p
 
 -- the same for the input of a reader that tells its octets, each value behind its name
 pub input_shown : (known : Option (List ℕ)) (input digits octets xs start lines printed : List ℕ) (old new : Device) (answer end : Result (Unit {0}) Fault)
-    → IfSome known (λ ys. input ≡ ys) → digits ≡ input → octets_of digits ≡ Ok octets → xs ≡ octets → start ≡ [] → ShowsOctets xs start lines answer → printed ≡ lines → PrintsLines printed answer old new end
-    → IfSome known (λ ys. ShowsText ys old new end)
+    → IfSome known (λ ys. input ≡ ys) → digits ≡ input → octets_of digits ≡ Ok octets → xs ≡ octets → start ≡ [] → ShowOctetsResult xs start lines answer → printed ≡ lines → PrintLinesResult printed answer old new end
+    → IfSome known (λ ys. ShowResult ys old new end)
 input_shown None input digits octets xs start lines printed old new answer end k q d e b s f p = tt
 input_shown (Some ys) input digits octets xs start lines printed old new answer end k q d e b s f p =
-    let shown : ShowsOctets octets [] lines answer = subst (λ z. ShowsOctets z [] lines answer) e (subst (λ z. ShowsOctets xs z lines answer) b s) in
-    subst (λ z. ShowsText z old new end) (q ∙ k) (text_shown digits octets lines old new answer end d shown (subst (λ z. PrintsLines z answer old new end) f p))
+    let shown : ShowOctetsResult octets [] lines answer = subst (λ z. ShowOctetsResult z [] lines answer) e (subst (λ z. ShowOctetsResult xs z lines answer) b s) in
+    subst (λ z. ShowResult z old new end) (q ∙ k) (text_shown digits octets lines old new answer end d shown (subst (λ z. PrintLinesResult z answer old new end) f p))
 
 -- a stream that is told to have failed is the one that was written
-ends_whole : {xs text : List ℕ} (input output : Device) (answer : Result (Unit {0}) Fault) → Shown xs text answer → IsOfStream input output answer
+ends_whole : {xs text : List ℕ} (input output : Device) (answer : Result (Unit {0}) Fault) → ShownText xs text answer → IsOfStream input output answer
 ends_whole input output (Err (Read path)) s = absurd (is_end s)
 ends_whole input output (Err (Write path)) s = absurd (is_end s)
 ends_whole input output answer s = tt
 
-ends_stopped : (input old new : Device) (lines : List ℕ) (end : Result (Unit {0}) Fault) → MatchResult end (λ _. ⊥) (FailsPut old new lines) → IsOfStream input new end
+ends_stopped : (input old new : Device) (lines : List ℕ) (end : Result (Unit {0}) Fault) → MatchResult end (λ _. ⊥) (PutFailure old new lines) → IsOfStream input new end
 ends_stopped input old new lines (Ok u) p = absurd p
 ends_stopped input old new lines (Err (Write told)) p = (p.0 ∙ sym p.1.path, p.1.failed)
 ends_stopped input old new lines (Err f) p = absurd p
 
-ends_put : (input : Device) (xs start lines printed : List ℕ) (old new : Device) (answer end : Result (Unit {0}) Fault) → ((text : List ℕ) × Shown xs text answer × (lines ≡ start ++ text)) → PutsLines printed answer old new end → IsOfStream input new end
+ends_put : (input : Device) (xs start lines printed : List ℕ) (old new : Device) (answer end : Result (Unit {0}) Fault) → ((text : List ℕ) × ShownText xs text answer × (lines ≡ start ++ text)) → PutLinesResult printed answer old new end → IsOfStream input new end
 ends_put input xs start lines printed old new answer end s p = elim p [
   | inl h ↦ subst (IsOfStream input new) (sym h.0) (ends_whole input new answer s.1)
   | inr h ↦ ends_stopped input old new printed end h
 ]
 
-pub ends_by : (input : Device) (xs start lines printed : List ℕ) (old new : Device) (answer end : Result (Unit {0}) Fault) → ShowsOctets xs start lines answer → PrintsLines printed answer old new end → IsOfStream input new end
+pub ends_by : (input : Device) (xs start lines printed : List ℕ) (old new : Device) (answer end : Result (Unit {0}) Fault) → ShowOctetsResult xs start lines answer → PrintLinesResult printed answer old new end → IsOfStream input new end
 ends_by input xs start lines printed old new (Err Memory) end s p = subst (IsOfStream input new) (sym p.0) tt
 ends_by input xs start lines printed old new answer end s p = ends_put input xs start lines printed old new answer end s p

@@ -2,23 +2,23 @@
 use Rattle.std.proofs.Common.{◌≡◌, ◌∙◌, sym, ap, subst, refl, ℕ, ◌+◌, ◌<◌, Bool, true, false, not, ◌||◌, Option, List, [], ◌∷◌, ◌++◌, length, take, get_or, arith, append-nil, append_assoc}
 use Rattle.std.proofs.lemmas.List.{take_more, length-take-le}
 use Rattle.zoom.specs.State.{State}
-use Rattle.zoom.specs.Befalling.{IsStateAt}
-use Rattle.zoom.specs.Laws.{OneHearing, UpToLaw}
-use Rattle.zoom.specs.Metas.{MetaLinks, Tells, is_skipped, is_complete}
+use Rattle.zoom.specs.PoolSteps.{IsStateAt}
+use Rattle.zoom.specs.Laws.{OneTranscript, UpToLaw}
+use Rattle.zoom.specs.Metas.{MetaLinks, IsTranscriptValue, is_skipped, is_complete}
 use Rattle.zoom.proofs.Metas.{state_tells}
 use Rattle.zmeta_commands.specs.Finished.{is_failed, has_failed, is_troubled, is_asked, IsTroubledAt, failure_line, AreLinesFrom}
 
-pub trouble_tells : UpToLaw → OneHearing → (c : ℕ) (meta : MetaLinks) (state : State) (failed complete skipped answer : Bool) → c < length meta.pool.connections
-    → IsStateAt c meta.pool state → failed ≡ is_failed state → Tells c meta is_complete complete → Tells c meta is_skipped skipped → answer ≡ (failed || not complete || skipped)
-    → Tells c meta is_troubled answer
-trouble_tells law hearing c meta state failed complete skipped answer lt is f k n e q s h p a heard =
-    e ∙ ap (λ z. z || not complete || skipped) (f ∙ state_tells law hearing is_failed c meta state lt is q s h p a heard)
-    ∙ ap (λ z. has_failed p || not z || skipped) (k q s h p a heard)
-    ∙ ap (λ z. has_failed p || not (is_complete p) || z) (n q s h p a heard)
+pub trouble_at : UpToLaw → OneTranscript → (c : ℕ) (meta : MetaLinks) (state : State) (failed complete skipped answer : Bool) → c < length meta.pool.connections
+    → IsStateAt c meta.pool state → failed ≡ is_failed state → IsTranscriptValue c meta is_complete complete → IsTranscriptValue c meta is_skipped skipped → answer ≡ (failed || not complete || skipped)
+    → IsTranscriptValue c meta is_troubled answer
+trouble_at law hearing c meta state failed complete skipped answer lt is f k n e q s h p a transcript =
+    e ∙ ap (λ z. z || not complete || skipped) (f ∙ state_tells law hearing is_failed c meta state lt is q s h p a transcript)
+    ∙ ap (λ z. has_failed p || not z || skipped) (k q s h p a transcript)
+    ∙ ap (λ z. has_failed p || not (is_complete p) || z) (n q s h p a transcript)
 
 -- of a question that was to be asked
 pub troubled_at : (addresses : List (Option (List ℕ))) (c : ℕ) (meta : MetaLinks) (answer : Bool) → is_asked addresses c ≡ true
-    → Tells c meta is_troubled answer → IsTroubledAt addresses c meta answer
+    → IsTranscriptValue c meta is_troubled answer → IsTroubledAt addresses c meta answer
 troubled_at addresses c meta true asked tells = (asked, tells)
 troubled_at addresses c meta false asked tells = λ _. tells
 

@@ -44,8 +44,8 @@ AreKnown only names n =
     (c : ℕ) (name : List ℕ) → c < n → slice_get only c ≡ Some name → is_among names name ≡ true
 
 -- each of the names is some question's
-abbrev pub AllKnown : List (List ℕ) → List (List ℕ) → Type 0
-AllKnown only names = AreKnown only names (length only)
+abbrev pub AreAllKnown : List (List ℕ) → List (List ℕ) → Type 0
+AreAllKnown only names = AreKnown only names (length only)
 
 -- the first of the names that no question has
 pub record IsFirstUnknown (only names : List (List ℕ)) (name : List ℕ) : Type 0 where
@@ -56,15 +56,15 @@ pub record IsFirstUnknown (only names : List (List ℕ)) (name : List ℕ) : Typ
 
 -- each of the names is some question's, and these are the addresses of the questions that are asked; or the name that
 -- no question has
-abbrev pub Chooses
+abbrev pub AddressesResult
     : List (List ℕ) → List (List ℕ) → List (List ℕ) → Result (List (Option (List ℕ))) Fault → Type 0
-Chooses only names addresses (Ok chosen) = AllKnown only names × IsChosen only names addresses chosen
-Chooses only names addresses (Err (NoQuestion told)) = IsFirstUnknown only names told.now
-Chooses only names addresses (Err Memory) = Unit {0}
-Chooses only names addresses (Err _) = ⊥
+AddressesResult only names addresses (Ok chosen) = AreAllKnown only names × IsChosen only names addresses chosen
+AddressesResult only names addresses (Err (NoQuestion told)) = IsFirstUnknown only names told.now
+AddressesResult only names addresses (Err Memory) = Unit {0}
+AddressesResult only names addresses (Err _) = ⊥
 
 -- each of the names is some question's, or this is the first that is none
-abbrev pub Knows : List (List ℕ) → List (List ℕ) → Result (Unit {0}) Fault → Type 0
-Knows only names (Ok u) = AllKnown only names
-Knows only names (Err (NoQuestion told)) = IsFirstUnknown only names told.now
-Knows only names (Err _) = ⊥
+abbrev pub CheckNamesResult : List (List ℕ) → List (List ℕ) → Result (Unit {0}) Fault → Type 0
+CheckNamesResult only names (Ok u) = AreAllKnown only names
+CheckNamesResult only names (Err (NoQuestion told)) = IsFirstUnknown only names told.now
+CheckNamesResult only names (Err _) = ⊥

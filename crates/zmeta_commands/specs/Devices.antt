@@ -1,7 +1,7 @@
 -- What commands do to the devices that they read and write: standard streams and files.
 use Rattle.std.specs.Prelude.{◌≡◌, ◌⊎◌, ℕ, List, ◌++◌, Option, Bool, true, false, Result, Ok, Err, MatchResult, codes}
 use Rattle.std.specs.Io.KnownBytes.{Keeps, Appends}
-use Rattle.zoom.specs.Devices.{AppendsFront}
+use Rattle.zoom.specs.Devices.{HasAppendedFront}
 use Rattle.zmeta_commands.specs.Faults.{fault_text}
 use Rattle.zmeta_commands.specs.declared.fault.Fault.{Fault}
 use Rattle.zmeta_commands.specs.declared.fault.Fault.TheVariants.{Read, Write}
@@ -20,53 +20,53 @@ abbrev pub left : {R : Type 0} → (R → Option (List ℕ)) → Input R → Dev
 left remaining s = record { known = remaining s.reader; path = s.path.now; has_failed = s.has_failed }
 
 -- a stream that is written, by what its writer holds
-abbrev pub held : {W : Type 0} → (W → Option (List ℕ)) → Output W → Device
-held contents s = record { known = contents s.writer; path = s.path.now; has_failed = s.has_failed }
+abbrev pub output_device : {W : Type 0} → (W → Option (List ℕ)) → Output W → Device
+output_device contents s = record { known = contents s.writer; path = s.path.now; has_failed = s.has_failed }
 
 -- nothing is written
-pub record Stays (old new : Device) : Type 0 where
+pub record IsUnchanged (old new : Device) : Type 0 where
   pub kept : Keeps old.known new.known
   pub path : new.path ≡ old.path
   pub sound : new.has_failed ≡ old.has_failed
 
 -- the whole text is written
-pub record Gains (old new : Device) (text : List ℕ) : Type 0 where
+pub record HasGained (old new : Device) (text : List ℕ) : Type 0 where
   pub written : Appends old.known new.known text
   pub path : new.path ≡ old.path
   pub sound : new.has_failed ≡ old.has_failed
 
 -- whether the whole text was taken, or a front of it
-abbrev pub PutsPieces : Option (List ℕ) → Option (List ℕ) → List ℕ → Bool → Type 0
-PutsPieces old new text true = Appends old new text
-PutsPieces old new text false = AppendsFront old new text
+abbrev pub WritePiecesResult : Option (List ℕ) → Option (List ℕ) → List ℕ → Bool → Type 0
+WritePiecesResult old new text true = Appends old new text
+WritePiecesResult old new text false = HasAppendedFront old new text
 
 -- a call of the stream failed, and a front of the text is written
-pub record Stops (old new : Device) (text : List ℕ) : Type 0 where
-  pub written : AppendsFront old.known new.known text
+pub record HasStopped (old new : Device) (text : List ℕ) : Type 0 where
+  pub written : HasAppendedFront old.known new.known text
   pub path : new.path ≡ old.path
   pub failed : new.has_failed ≡ true
 
 -- the stream failed and is told, and a front of the text is written
-abbrev pub FailsPut : Device → Device → List ℕ → Fault → Type 0
-FailsPut old new text (Write told) = (told.now ≡ old.path) × Stops old new text
-FailsPut old new text _ = ⊥
+abbrev pub PutFailure : Device → Device → List ℕ → Fault → Type 0
+PutFailure old new text (Write told) = (told.now ≡ old.path) × HasStopped old new text
+PutFailure old new text _ = ⊥
 
 -- the whole text is written, or a front of it where the stream failed
-abbrev pub Puts : Device → Device → List ℕ → Result (Unit {0}) Fault → Type 0
-Puts old new text result = MatchResult result (λ _. Gains old new text) (FailsPut old new text)
+abbrev pub PutResult : Device → Device → List ℕ → Result (Unit {0}) Fault → Type 0
+PutResult old new text result = MatchResult result (λ _. HasGained old new text) (PutFailure old new text)
 
 -- the line that is told of a fault
 abbrev pub fault_line : Fault → List ℕ
 fault_line f = codes "zmeta: " ++ fault_text f ++ codes "\n"
 
 -- the line of a fault is written, or a call of the stream failed
-abbrev pub Tells : Device → Device → Fault → Type 0
-Tells old new f = (new.has_failed ≡ true) ⊎ Gains old new (fault_line f)
+abbrev pub AfterTell : Device → Device → Fault → Type 0
+AfterTell old new f = (new.has_failed ≡ true) ⊎ HasGained old new (fault_line f)
 
 -- what a command tells of its answer: the line of the fault that stopped it, else nothing
-abbrev pub TellsAnswer : {A : Type 0} → Device → Device → Result A Fault → Type 0
-TellsAnswer old new (Ok _) = new ≡ old
-TellsAnswer old new (Err f) = Tells old new f
+abbrev pub AfterReport : {A : Type 0} → Device → Device → Result A Fault → Type 0
+AfterReport old new (Ok _) = new ≡ old
+AfterReport old new (Err f) = AfterTell old new f
 
 -- A stream that is told to have failed is one of which a call failed: the one that is read, or the one that is written.
 abbrev pub IsOfStream : {A : Type 0} → Device → Device → Result A Fault → Type 0

@@ -35,12 +35,12 @@ pub record IsOctetOf (high low octet : ℕ) : Type 0 where
   pub low_is : hex_digit_value low ≡ Some second
   pub octet_is : octet ≡ first * 16 + second
 
-abbrev pub BeginsWithNoSpace : List ℕ → Type 0
-BeginsWithNoSpace [] = Unit {0}
-BeginsWithNoSpace (x ∷ xs) = is_ascii_whitespace x ≡ false
+abbrev pub HasNoSpaceFirst : List ℕ → Type 0
+HasNoSpaceFirst [] = Unit {0}
+HasNoSpaceFirst (x ∷ xs) = is_ascii_whitespace x ≡ false
 
 -- the first two digits of a text stand for the octet, and the rest is behind them
-pub record BeginsWith (text : List ℕ) (octet : ℕ) (rest : List ℕ) : Type 0 where
+pub record HasOctetFirst (text : List ℕ) (octet : ℕ) (rest : List ℕ) : Type 0 where
   pub high : ℕ
   pub low : ℕ
   pub cut : digits text ≡ high ∷ low ∷ digits rest
@@ -48,5 +48,5 @@ pub record BeginsWith (text : List ℕ) (octet : ℕ) (rest : List ℕ) : Type 0
   pub shorter : length rest + 2 ≤ length text
 
 -- a text whose digits stand for no octets, wherever they are counted from
-abbrev pub StandsForNone : List ℕ → Type 0
-StandsForNone text = (i : ℕ) (xs : List ℕ) → decode_pairs i (digits text) ≡ Ok xs → ⊥
+abbrev pub HasNoOctets : List ℕ → Type 0
+HasNoOctets text = (i : ℕ) (xs : List ℕ) → decode_pairs i (digits text) ≡ Ok xs → ⊥

@@ -33,7 +33,7 @@ use Rattle.zmeta_commands.specs.declared.fault.Status.TheVariants as statuses
 abbrev pub code_of : Status → ℕ
 code_of statuses.Done = 0
 code_of statuses.Failed = 1
-code_of statuses.Words = 2
+code_of statuses.Arguments = 2
 code_of statuses.Refused = 3
 code_of statuses.Memory = 4
 
@@ -103,9 +103,9 @@ status_of Memory = statuses.Memory
 status_of _ = statuses.Refused
 
 -- the status of a command that answers so
-abbrev pub answer_status : Result (Unit {0}) Fault → Status
-answer_status (Ok _) = statuses.Done
-answer_status (Err f) = status_of f
+abbrev pub result_status : Result (Unit {0}) Fault → Status
+result_status (Ok _) = statuses.Done
+result_status (Err f) = status_of f
 
 -- the status of a command that answers its own where no fault stopped it
 abbrev pub end_status : Result Status Fault → Status

@@ -8,12 +8,12 @@ use Rattle.zknow.specs.List.Listing.{listing}
 use Rattle.zknow.specs.Saved.Saved.{IsSaved}
 use Rattle.zoom.specs.State.{State}
 use Rattle.zoom.specs.State.TheVariants as states
-use Rattle.zoom.specs.Reasons.{reason_word}
-use Rattle.zoom.specs.Heard.{Heard, state_at}
-use Rattle.zoom.specs.Befalling.{IsStateAt}
-use Rattle.zoom.specs.Metas.{MetaLinks, Tells, is_skipped, is_complete}
+use Rattle.zoom.specs.Reasons.{reason_name}
+use Rattle.zoom.specs.Transcripts.{Transcript, state_at}
+use Rattle.zoom.specs.PoolSteps.{IsStateAt}
+use Rattle.zoom.specs.Metas.{MetaLinks, IsTranscriptValue, is_skipped, is_complete}
 use Rattle.zmeta_commands.specs.Faults.{end_status}
-use Rattle.zmeta_commands.specs.Devices.{Device, Stays, Gains, Stops, TellsAnswer}
+use Rattle.zmeta_commands.specs.Devices.{Device, IsUnchanged, HasGained, HasStopped, AfterReport}
 use Rattle.zmeta_commands.specs.declared.fault.Fault.{Fault}
 use Rattle.zmeta_commands.specs.declared.fault.Fault.TheVariants.{Read, Write, Line, Memory}
 use Rattle.zmeta_commands.specs.declared.fault.Status.{Status}
@@ -34,7 +34,7 @@ pub record IsListed
   pub list : r.list.items ≡ listing names mode meta.pool.knowledge
 
 -- The connections have names, and their numbers have 32 bits.
-pub record IsSound (r : Finished) : Type 0 where
+pub record HasNames (r : Finished) : Type 0 where
   pub few : length r.meta.pool.connections < 2 ^ 32
   pub named : length r.names ≡ length r.meta.pool.connections
 
@@ -43,7 +43,7 @@ pub record IsSound (r : Finished) : Type 0 where
 -- the line of a connection in this state
 abbrev pub failure_line : List ℕ → State → List ℕ
 failure_line name (states.Failed reason) =
-    codes "zmeta: target " ++ quoted name ++ codes ": " ++ reason_word reason ++ codes "\n"
+    codes "zmeta: target " ++ quoted name ++ codes ": " ++ reason_name reason ++ codes "\n"
 failure_line name _ = []
 
 -- the lines of the connections from this number on, by the names of their targets
@@ -54,22 +54,22 @@ AreLinesFrom meta c (name ∷ names) text =
     × (text ≡ failure_line name state ++ rest)
 
 -- the text is written, or a call of the stream failed
-abbrev pub TellsLines : Device → Device → List ℕ → Type 0
-TellsLines old new text = (new.has_failed ≡ true) ⊎ Gains old new text
+abbrev pub AfterTellLines : Device → Device → List ℕ → Type 0
+AfterTellLines old new text = (new.has_failed ≡ true) ⊎ HasGained old new text
 
 -- the list is written whole, and the lines of the connections that failed are told
-abbrev pub Prints : Finished → Device → Device → Device → Device → Type 0
-Prints r output printed errors told =
-    Gains output printed r.list.items
-    × ((lines : List ℕ) × AreLinesFrom r.meta 0 r.names lines × TellsLines errors told lines)
+abbrev pub IsPrinted : Finished → Device → Device → Device → Device → Type 0
+IsPrinted r output printed errors told =
+    HasGained output printed r.list.items
+    × ((lines : List ℕ) × AreLinesFrom r.meta 0 r.names lines × AfterTellLines errors told lines)
 
 -- whether so, or why not
-abbrev pub PutsFinished : Finished → Device → Device → Device → Device → Result (Unit {0}) Fault → Type 0
-PutsFinished r output printed errors told (Ok u) = Prints r output printed errors told
-PutsFinished r output printed errors told (Err (Write path)) =
-    (path.now ≡ output.path) × Stops output printed r.list.items × (told ≡ errors)
-PutsFinished r output printed errors told (Err Memory) = Stays output printed × (told ≡ errors)
-PutsFinished r output printed errors told (Err _) = ⊥
+abbrev pub PutFinishedResult : Finished → Device → Device → Device → Device → Result (Unit {0}) Fault → Type 0
+PutFinishedResult r output printed errors told (Ok u) = IsPrinted r output printed errors told
+PutFinishedResult r output printed errors told (Err (Write path)) =
+    (path.now ≡ output.path) × HasStopped output printed r.list.items × (told ≡ errors)
+PutFinishedResult r output printed errors told (Err Memory) = IsUnchanged output printed × (told ≡ errors)
+PutFinishedResult r output printed errors told (Err _) = ⊥
 
 -- ---- the status
 
@@ -77,11 +77,11 @@ abbrev pub is_failed : State → Bool
 is_failed (states.Failed reason) = true
 is_failed _ = false
 
-abbrev pub has_failed : Heard → Bool
+abbrev pub has_failed : Transcript → Bool
 has_failed p = is_failed (state_at p)
 
 -- the connection failed, its target closed it first, or its question was not asked
-abbrev pub is_troubled : Heard → Bool
+abbrev pub is_troubled : Transcript → Bool
 is_troubled p = has_failed p || not (is_complete p) || is_skipped p
 
 -- what stands at a place among addresses: none, where a question was left out
@@ -96,8 +96,8 @@ is_asked addresses c = is_address (slice_get addresses c)
 
 -- whether a connection is so whose question was to be asked
 abbrev pub IsTroubledAt : List (Option (List ℕ)) → ℕ → MetaLinks → Bool → Type 0
-IsTroubledAt addresses c meta true = (is_asked addresses c ≡ true) × Tells c meta is_troubled true
-IsTroubledAt addresses c meta false = is_asked addresses c ≡ true → Tells c meta is_troubled false
+IsTroubledAt addresses c meta true = (is_asked addresses c ≡ true) × IsTranscriptValue c meta is_troubled true
+IsTroubledAt addresses c meta false = is_asked addresses c ≡ true → IsTranscriptValue c meta is_troubled false
 
 -- whether some connection is
 abbrev pub HasTrouble : List (Option (List ℕ)) → MetaLinks → Bool → Type 0
@@ -117,11 +117,11 @@ IsFinishedStatus r status = IsStatusOf r.addresses.items r.meta status
 -- ---- saving
 
 -- the saved file of what is known, or why there is none
-abbrev pub MakesSaved : List ℕ → Finished → Result (List ℕ) Fault → Type 0
-MakesSaved path r (Ok octets) = IsSaved r.names r.meta.pool.knowledge octets
-MakesSaved path r (Err (Write told)) = told.now ≡ path
-MakesSaved path r (Err Memory) = Unit {0}
-MakesSaved path r (Err _) = ⊥
+abbrev pub SavedOctetsResult : List ℕ → Finished → Result (List ℕ) Fault → Type 0
+SavedOctetsResult path r (Ok octets) = IsSaved r.names r.meta.pool.knowledge octets
+SavedOctetsResult path r (Err (Write told)) = told.now ≡ path
+SavedOctetsResult path r (Err Memory) = Unit {0}
+SavedOctetsResult path r (Err _) = ⊥
 
 -- what is known is to be saved at some path
 abbrev pub IsToBeSaved : Option (List ℕ) → Type 0
@@ -137,16 +137,16 @@ IsOfSaving saved _ = ⊥
 -- ---- all of it
 
 -- the list is written, what failed is told, and what is known is saved; or what of it was not done
-abbrev pub Finishes
+abbrev pub FinishResult
     : Finished → Option (List ℕ) → Device → Device → Device → Device → Result Status Fault → Type 0
-Finishes r saved output printed errors told (Ok status) =
-    Prints r output printed errors told × IsFinishedStatus r status
-Finishes r saved output printed errors told (Err (Write path)) =
-    (Prints r output printed errors told × (saved ≡ Some path.now))
-    ⊎ ((path.now ≡ output.path) × Stops output printed r.list.items × (told ≡ errors))
-Finishes r saved output printed errors told (Err Memory) =
-    (Stays output printed × (told ≡ errors)) ⊎ (Prints r output printed errors told × IsToBeSaved saved)
-Finishes r saved output printed errors told (Err _) = ⊥
+FinishResult r saved output printed errors told (Ok status) =
+    IsPrinted r output printed errors told × IsFinishedStatus r status
+FinishResult r saved output printed errors told (Err (Write path)) =
+    (IsPrinted r output printed errors told × (saved ≡ Some path.now))
+    ⊎ ((path.now ≡ output.path) × HasStopped output printed r.list.items × (told ≡ errors))
+FinishResult r saved output printed errors told (Err Memory) =
+    (IsUnchanged output printed × (told ≡ errors)) ⊎ (IsPrinted r output printed errors told × IsToBeSaved saved)
+FinishResult r saved output printed errors told (Err _) = ⊥
 
 -- ---- a command that asks
 
@@ -160,16 +160,16 @@ IsOfWorld path _ = ⊥
 -- What an answer of a command that asks says of what was written and told, by what it says of the world file, and of
 -- where is to be saved: in the end such connections are finished, or not all of that was done; or it is at fault before
 -- anything is written.
-abbrev pub Concludes : (Result Finished Fault → Type 0) → Option (List ℕ)
+abbrev pub Conclusion : (Result Finished Fault → Type 0) → Option (List ℕ)
     → Device → Device → Device → Device → Result Status Fault → Type 0
-Concludes says saved output printed errors told (Ok status) =
-    (r : Finished) × says (Ok r) × Finishes r saved output printed errors told (Ok status)
-Concludes says saved output printed errors told (Err (Write path)) =
-    (r : Finished) × says (Ok r) × Finishes r saved output printed errors told (Err (Write path))
-Concludes says saved output printed errors told (Err Memory) =
-    (Stays output printed × (told ≡ errors))
-    ⊎ ((r : Finished) × says (Ok r) × Prints r output printed errors told × IsToBeSaved saved)
-Concludes says saved output printed errors told (Err f) = says (Err f) × Stays output printed × (told ≡ errors)
+Conclusion says saved output printed errors told (Ok status) =
+    (r : Finished) × says (Ok r) × FinishResult r saved output printed errors told (Ok status)
+Conclusion says saved output printed errors told (Err (Write path)) =
+    (r : Finished) × says (Ok r) × FinishResult r saved output printed errors told (Err (Write path))
+Conclusion says saved output printed errors told (Err Memory) =
+    (IsUnchanged output printed × (told ≡ errors))
+    ⊎ ((r : Finished) × says (Ok r) × IsPrinted r output printed errors told × IsToBeSaved saved)
+Conclusion says saved output printed errors told (Err f) = says (Err f) × IsUnchanged output printed × (told ≡ errors)
 
 -- Which file or stream a fault is told of: the world file; or the stream of the list, of which a write failed; or the
 -- file in which is saved.
@@ -185,9 +185,9 @@ abbrev pub Command : Type 1
 Command = List ℕ → Option (List ℕ) → Option (List ℕ) → Device → Device → Device → Device → Status → Type 0
 
 -- it does what its answer says of the file, and tells the fault that stopped it
-abbrev pub DoesAnswer
+abbrev pub AfterCommand
     : (List ℕ → Option (List ℕ) → Device → Device → Device → Device → Result Status Fault → Type 0) → Command
-DoesAnswer says world saved file output printed errors told status = (answer : Result Status Fault)
+AfterCommand says world saved file output printed errors told status = (answer : Result Status Fault)
     × (between : Device) × (status ≡ end_status answer)
     × IfSome file (λ octets. says octets saved output printed errors between answer)
-    × IsOfPaths world saved printed answer × TellsAnswer between told answer
+    × IsOfPaths world saved printed answer × AfterReport between told answer

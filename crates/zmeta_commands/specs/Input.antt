@@ -3,5 +3,5 @@ use Rattle.std.specs.Prelude.{ℕ, List, Option}
 use Rattle.std.specs.Io.KnownBytes.{Consumes}
 
 -- of octets that were left some are gone, from the front
-abbrev pub LosesFront : Option (List ℕ) → Option (List ℕ) → Type 0
-LosesFront old new = (front : List ℕ) × Consumes old new front
+abbrev pub HasLostFront : Option (List ℕ) → Option (List ℕ) → Type 0
+HasLostFront old new = (front : List ℕ) × Consumes old new front

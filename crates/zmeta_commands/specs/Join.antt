@@ -9,7 +9,7 @@ use Rattle.zknow.specs.List.Listing.{listing}
 use Rattle.zknow.specs.Saved.Saved.{IsSaved}
 use Rattle.zknow.specs.Saved.Loaded.{IsNotKnowledge, IsNotCanonical}
 use Rattle.zmeta_commands.specs.Faults.{end_status}
-use Rattle.zmeta_commands.specs.Devices.{Device, Stays, Gains, FailsPut, TellsAnswer}
+use Rattle.zmeta_commands.specs.Devices.{Device, IsUnchanged, HasGained, PutFailure, AfterReport}
 use Rattle.zmeta_commands.specs.declared.fault.Fault.{Fault}
 use Rattle.zmeta_commands.specs.declared.fault.Fault.TheVariants.{Read, Write, NotKnowledge, NotCanonical}
 use Rattle.zmeta_commands.specs.declared.fault.Fault.TheVariants.{NamesDiffer, Memory}
@@ -19,13 +19,13 @@ use Rattle.zmeta_commands.specs.declared.fault.Status.TheVariants as statuses
 -- ---- one file
 
 -- what a file says, or why it is refused
-abbrev pub Loads : List ℕ → Result (List Fact × List (List ℕ)) Fault → Type 0
-Loads file (Ok r) = IsSaved r.1 r.0 file
-Loads file (Err (NotKnowledge at)) = IsNotKnowledge file at
-Loads file (Err (NotCanonical at)) = IsNotCanonical file at
-Loads file (Err (Read path)) = Unit {0}
-Loads file (Err Memory) = Unit {0}
-Loads file (Err _) = ⊥
+abbrev pub LoadFileResult : List ℕ → Result (List Fact × List (List ℕ)) Fault → Type 0
+LoadFileResult file (Ok r) = IsSaved r.1 r.0 file
+LoadFileResult file (Err (NotKnowledge at)) = IsNotKnowledge file at
+LoadFileResult file (Err (NotCanonical at)) = IsNotCanonical file at
+LoadFileResult file (Err (Read path)) = Unit {0}
+LoadFileResult file (Err Memory) = Unit {0}
+LoadFileResult file (Err _) = ⊥
 
 -- a fault of the file at a path: it cannot be read, is no saved one, or memory ran out on it
 abbrev pub IsOfFile : List ℕ → Fault → Type 0
@@ -50,9 +50,9 @@ module _ (octets : List ℕ → Option (List ℕ)) where
   IsFaultAt path _ = ⊥
 
   -- what the file at the path says, or why it is refused
-  abbrev pub LoadsAt : List ℕ → Result (List Fact × List (List ℕ)) Fault → Type 0
-  LoadsAt path (Ok r) = IsSavedAt path r.1 r.0
-  LoadsAt path (Err f) = IsFaultAt path f
+  abbrev pub LoadNamedResult : List ℕ → Result (List Fact × List (List ℕ)) Fault → Type 0
+  LoadNamedResult path (Ok r) = IsSavedAt path r.1 r.0
+  LoadNamedResult path (Err f) = IsFaultAt path f
 
   -- the file at the path is a saved one of other names
   pub record HasOtherNames (names : List (List ℕ)) (path : List ℕ) : Type 0 where
@@ -62,12 +62,12 @@ module _ (octets : List ℕ → Option (List ℕ)) where
     pub differ : names ≢ others
 
   -- what the file at the path says is added; or why it is not
-  abbrev pub Absorbs
+  abbrev pub AbsorbNamedResult
       : List (List ℕ) → List ℕ → List Fact → List Fact → Result (Unit {0}) Fault → Type 0
-  Absorbs names path old new (Ok u) = (theirs : List Fact) × IsSavedAt path names theirs × AreFacts new
+  AbsorbNamedResult names path old new (Ok u) = (theirs : List Fact) × IsSavedAt path names theirs × AreFacts new
       × IsUnion (Contains old) (Contains theirs) (Contains new)
-  Absorbs names path old new (Err NamesDiffer) = HasOtherNames names path
-  Absorbs names path old new (Err f) = IsFaultAt path f
+  AbsorbNamedResult names path old new (Err NamesDiffer) = HasOtherNames names path
+  AbsorbNamedResult names path old new (Err f) = IsFaultAt path f
 
   -- ---- several files
 
@@ -85,22 +85,22 @@ module _ (octets : List ℕ → Option (List ℕ)) where
         → IsFaultAt path fault → IsRefusedAmong (path ∷ rest) fault
     later : {fault : Fault} (paths names rest : List (List ℕ)) (facts : List Fact) (path : List ℕ)
         → AreJoined names paths facts → IsFaultAt path fault → IsRefusedAmong (paths ++ path ∷ rest) fault
-    differs : (paths names rest : List (List ℕ)) (facts : List Fact) (path : List ℕ)
+    other_names : (paths names rest : List (List ℕ)) (facts : List Fact) (path : List ℕ)
         → AreJoined names paths facts → HasOtherNames names path
         → IsRefusedAmong (paths ++ path ∷ rest) NamesDiffer
 
   -- what the files at these paths say is added to that of others before them; or why not
-  abbrev pub AbsorbsAll
+  abbrev pub AbsorbAllResult
       : List (List ℕ) → List (List ℕ) → List Fact → List Fact → Result (Unit {0}) Fault → Type 0
-  AbsorbsAll names paths old new (Ok u) =
+  AbsorbAllResult names paths old new (Ok u) =
       (before : List (List ℕ)) → AreJoined names before old → AreJoined names (before ++ paths) new
-  AbsorbsAll names paths old new (Err f) =
+  AbsorbAllResult names paths old new (Err f) =
       (before : List (List ℕ)) → AreJoined names before old → IsRefusedAmong (before ++ paths) f
 
   -- what all files say together, or why one is refused
-  abbrev pub LoadsAll : List (List ℕ) → Result (List Fact × List (List ℕ)) Fault → Type 0
-  LoadsAll paths (Ok r) = AreJoined r.1 paths r.0
-  LoadsAll paths (Err f) = IsRefusedAmong paths f
+  abbrev pub LoadAllResult : List (List ℕ) → Result (List Fact × List (List ℕ)) Fault → Type 0
+  LoadAllResult paths (Ok r) = AreJoined r.1 paths r.0
+  LoadAllResult paths (Err f) = IsRefusedAmong paths f
 
   -- the list of what all files say together
   abbrev pub IsListOf : Mode → List (List ℕ) → List Fact → List ℕ → Type 0
@@ -116,23 +116,23 @@ IsKnownStatus known statuses.Done = HasFailed known → ⊥
 IsKnownStatus known _ = ⊥
 
 -- the list is written and the status stands, or a front of it where the stream failed
-abbrev pub PutsList : List ℕ → Status → Device → Device → Result Status Fault → Type 0
-PutsList text status old new result =
-    MatchResult result (λ s. (s ≡ status) × Gains old new text) (FailsPut old new text)
+abbrev pub PutListResult : List ℕ → Status → Device → Device → Result Status Fault → Type 0
+PutListResult text status old new result =
+    MatchResult result (λ s. (s ≡ status) × HasGained old new text) (PutFailure old new text)
 
 -- What an answer of `join` says of the files at these paths, and of what was written: the list of all of them; a front
 -- of it, where the stream failed; nothing, where a file is refused or memory ran out.
-abbrev pub Joins
+abbrev pub JoinResult
     : Mode → (List ℕ → Option (List ℕ)) → List (List ℕ) → Device → Device → Result Status Fault → Type 0
-Joins mode octets paths old new (Ok status) = (facts : List Fact) × (text : List ℕ)
-    × IsListOf octets mode paths facts text × IsKnownStatus facts status × Gains old new text
-Joins mode octets paths old new (Err (Write told)) = (facts : List Fact) × (text : List ℕ)
-    × IsListOf octets mode paths facts text × FailsPut old new text (Write told)
-Joins mode octets paths old new (Err Memory) = Stays old new
-Joins mode octets paths old new (Err f) = IsRefusedAmong octets paths f × Stays old new
+JoinResult mode octets paths old new (Ok status) = (facts : List Fact) × (text : List ℕ)
+    × IsListOf octets mode paths facts text × IsKnownStatus facts status × HasGained old new text
+JoinResult mode octets paths old new (Err (Write told)) = (facts : List Fact) × (text : List ℕ)
+    × IsListOf octets mode paths facts text × PutFailure old new text (Write told)
+JoinResult mode octets paths old new (Err Memory) = IsUnchanged old new
+JoinResult mode octets paths old new (Err f) = IsRefusedAmong octets paths f × IsUnchanged old new
 
 -- what `join` does with the files at these paths: what it writes and tells, and its status
-abbrev pub DoesJoin
+abbrev pub AfterJoin
     : Mode → (List ℕ → Option (List ℕ)) → List (List ℕ) → Device → Device → Device → Device → Status → Type 0
-DoesJoin mode octets paths output printed errors told status = (answer : Result Status Fault)
-    × (status ≡ end_status answer) × Joins mode octets paths output printed answer × TellsAnswer errors told answer
+AfterJoin mode octets paths output printed errors told status = (answer : Result Status Fault)
+    × (status ≡ end_status answer) × JoinResult mode octets paths output printed answer × AfterReport errors told answer

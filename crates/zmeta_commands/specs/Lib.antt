@@ -15,5 +15,5 @@ pub mod Run
 pub mod Serve
 pub mod Show
 pub mod Steps
-pub mod Words
+pub mod Arguments
 pub mod Worlds

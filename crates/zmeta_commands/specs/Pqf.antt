@@ -9,8 +9,8 @@ use Rattle.zquery.specs.Notation.Texts.{IsText, IsFault}
 use Rattle.zquery.specs.Notation.Printing.{query_text}
 use Rattle.zquery.specs.Element.Type1.{WritesQuery}
 use Rattle.zquery.specs.Element.Type1Reading.{query_spelt}
-use Rattle.zmeta_commands.specs.Faults.{answer_status}
-use Rattle.zmeta_commands.specs.Devices.{Device, Stays, Gains, Stops, TellsAnswer}
+use Rattle.zmeta_commands.specs.Faults.{result_status}
+use Rattle.zmeta_commands.specs.Devices.{Device, IsUnchanged, HasGained, HasStopped, AfterReport}
 use Rattle.zmeta_commands.specs.declared.fault.Fault.{Fault}
 use Rattle.zmeta_commands.specs.declared.fault.Fault.TheVariants.{Write, Query, Memory}
 use Rattle.zmeta_commands.specs.declared.fault.Status.{Status}
@@ -32,34 +32,34 @@ unfoldable pub query_lines : RpnQuery → Element → List ℕ
 query_lines q n = query_text q ++ codes "\n" ++ element_text n ++ codes "\n"
 
 -- both lines of a query are put, of its own element, or memory was refused
-abbrev pub PutsQuery : RpnQuery → List ℕ → List ℕ → Result (Unit {0}) Fault → Type 0
-PutsQuery q old new (Ok _) = (n : Element) × IsElementOf q n × (new ≡ old ++ query_lines q n)
-PutsQuery q old new (Err e) = e ≡ Memory
+abbrev pub PutBothResult : RpnQuery → List ℕ → List ℕ → Result (Unit {0}) Fault → Type 0
+PutBothResult q old new (Ok _) = (n : Element) × IsElementOf q n × (new ≡ old ++ query_lines q n)
+PutBothResult q old new (Err e) = e ≡ Memory
 
 -- what an answer of `pqf` says of the text, and of what was written: each query of a text can be printed, and has an
 -- element
-abbrev pub TellsQuery : List ℕ → List ℕ → List ℕ → Result (Unit {0}) Fault → Type 0
-TellsQuery text old new (Ok _) = (q : RpnQuery) × (n : Element) × IsQueryOf text q × IsElementOf q n
+abbrev pub PutQueryResult : List ℕ → List ℕ → List ℕ → Result (Unit {0}) Fault → Type 0
+PutQueryResult text old new (Ok _) = (q : RpnQuery) × (n : Element) × IsQueryOf text q × IsElementOf q n
     × (new ≡ old ++ query_lines q n)
-TellsQuery text old new (Err (Query kind at)) = IsFault text (record { at = at; kind = kind })
-TellsQuery text old new (Err Memory) = Unit {0}
-TellsQuery text old new (Err _) = ⊥
+PutQueryResult text old new (Err (Query kind at)) = IsFault text (record { at = at; kind = kind })
+PutQueryResult text old new (Err Memory) = Unit {0}
+PutQueryResult text old new (Err _) = ⊥
 
 -- the text has a query, and these are its lines
 abbrev pub AreLinesOf : List ℕ → List ℕ → Type 0
 AreLinesOf text lines = (q : RpnQuery) × (n : Element) × IsQueryOf text q × IsElementOf q n × (lines ≡ query_lines q n)
 
 -- what an answer of `pqf` says of the text, and of what was written to a stream
-abbrev pub PrintsQuery : List ℕ → Device → Device → Result (Unit {0}) Fault → Type 0
-PrintsQuery text old new (Ok _) = (lines : List ℕ) × AreLinesOf text lines × Gains old new lines
-PrintsQuery text old new (Err (Query kind at)) = IsFault text (record { at = at; kind = kind }) × Stays old new
-PrintsQuery text old new (Err Memory) = Stays old new
-PrintsQuery text old new (Err (Write path)) =
-    (path.now ≡ old.path) × ((lines : List ℕ) × AreLinesOf text lines × Stops old new lines)
-PrintsQuery text old new (Err _) = ⊥
+abbrev pub PqfResult : List ℕ → Device → Device → Result (Unit {0}) Fault → Type 0
+PqfResult text old new (Ok _) = (lines : List ℕ) × AreLinesOf text lines × HasGained old new lines
+PqfResult text old new (Err (Query kind at)) = IsFault text (record { at = at; kind = kind }) × IsUnchanged old new
+PqfResult text old new (Err Memory) = IsUnchanged old new
+PqfResult text old new (Err (Write path)) =
+    (path.now ≡ old.path) × ((lines : List ℕ) × AreLinesOf text lines × HasStopped old new lines)
+PqfResult text old new (Err _) = ⊥
 
 -- what `pqf` does: what it writes and tells, and its status
-abbrev pub DoesPqf : List ℕ → Device → Device → Device → Device → Status → Type 0
-DoesPqf text output printed errors told status =
-    (answer : Result (Unit {0}) Fault) × (status ≡ answer_status answer) × PrintsQuery text output printed answer
-    × TellsAnswer errors told answer
+abbrev pub AfterPqf : List ℕ → Device → Device → Device → Device → Status → Type 0
+AfterPqf text output printed errors told status =
+    (answer : Result (Unit {0}) Fault) × (status ≡ result_status answer) × PqfResult text output printed answer
+    × AfterReport errors told answer

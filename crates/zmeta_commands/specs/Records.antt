@@ -9,8 +9,8 @@ use Rattle.zknow.specs.declared.fact.Fact.{Fact}
 use Rattle.zknow_records.specs.declared.left_out.LeftOut.{LeftOut}
 use Rattle.zknow_records.specs.Records.{records_octets, left_out}
 use Rattle.zmeta_commands.specs.Faults.{end_status}
-use Rattle.zmeta_commands.specs.Devices.{Device, Stays, Gains, Stops, TellsAnswer}
-use Rattle.zmeta_commands.specs.Finished.{TellsLines}
+use Rattle.zmeta_commands.specs.Devices.{Device, IsUnchanged, HasGained, HasStopped, AfterReport}
+use Rattle.zmeta_commands.specs.Finished.{AfterTellLines}
 use Rattle.zmeta_commands.specs.Join.{AreJoined, IsRefusedAmong, IsKnownStatus}
 use Rattle.zmeta_commands.specs.declared.records.Extract.{Extract}
 use Rattle.zmeta_commands.specs.declared.fault.Fault.{Fault}
@@ -30,11 +30,11 @@ abbrev pub IsNoOid : Option (List ℕ) → List ℕ → Type 0
 IsNoOid None told = ⊥
 IsNoOid (Some text) told = (told ≡ text) × (e : OidError) × (e ≢ oids.Memory) × FromDotted text (Err e)
 
-abbrev pub ReadsSyntax : Option (List ℕ) → Result (Option (List ℕ)) Fault → Type 0
-ReadsSyntax text (Ok oid) = IsSyntax text oid
-ReadsSyntax text (Err (NotOid told)) = IsNoOid text told.now
-ReadsSyntax text (Err Memory) = Unit {0}
-ReadsSyntax text (Err _) = ⊥
+abbrev pub SyntaxResult : Option (List ℕ) → Result (Option (List ℕ)) Fault → Type 0
+SyntaxResult text (Ok oid) = IsSyntax text oid
+SyntaxResult text (Err (NotOid told)) = IsNoOid text told.now
+SyntaxResult text (Err Memory) = Unit {0}
+SyntaxResult text (Err _) = ⊥
 
 -- ---- what is told
 
@@ -61,12 +61,13 @@ abbrev pub extract : Extract → Wanted
 extract e = record { syntax = option_map (λ text. text.now) e.syntax; conflicts = e.conflicts }
 
 -- the octets are written, and the lines are told; or writing failed
-abbrev pub PutsRecords
+abbrev pub PutRecordsResult
     : List ℕ → List ℕ → Device → Device → Device → Device → Result (Unit {0}) Fault → Type 0
-PutsRecords text lines output printed errors told (Ok u) = Gains output printed text × TellsLines errors told lines
-PutsRecords text lines output printed errors told (Err (Write path)) =
-    (path.now ≡ output.path) × Stops output printed text × (told ≡ errors)
-PutsRecords text lines output printed errors told (Err _) = ⊥
+PutRecordsResult text lines output printed errors told (Ok u) =
+    HasGained output printed text × AfterTellLines errors told lines
+PutRecordsResult text lines output printed errors told (Err (Write path)) =
+    (path.now ≡ output.path) × HasStopped output printed text × (told ≡ errors)
+PutRecordsResult text lines output printed errors told (Err _) = ⊥
 
 -- The files at these paths know these facts together, and of these records are taken in a syntax.
 pub record IsExtract
@@ -80,25 +81,26 @@ pub record IsExtract
 -- What an answer of `records` says of the files at these paths, and of what was written and told: the octets of the
 -- records of all of them, and what was left out; a front of the octets, where the stream failed; nothing, where a file
 -- or the syntax is refused or memory ran out.
-abbrev pub Extracts
+abbrev pub RecordsResult
     : Wanted → (List ℕ → Option (List ℕ)) → List (List ℕ) → Device → Device → Device → Device
     → Result Status Fault → Type 0
-Extracts e octets paths output printed errors told (Ok status) = (facts : List Fact) × (oid : Option (List ℕ))
+RecordsResult e octets paths output printed errors told (Ok status) = (facts : List Fact) × (oid : Option (List ℕ))
     × IsExtract octets paths e facts oid × IsKnownStatus facts status
-    × Gains output printed (records_octets oid e.conflicts facts)
-    × TellsLines errors told (left_text (left_out oid e.conflicts facts))
-Extracts e octets paths output printed errors told (Err (Write path)) = (facts : List Fact) × (oid : Option (List ℕ))
+    × HasGained output printed (records_octets oid e.conflicts facts)
+    × AfterTellLines errors told (left_text (left_out oid e.conflicts facts))
+RecordsResult e octets paths output printed errors told (Err (Write path)) =
+    (facts : List Fact) × (oid : Option (List ℕ))
     × IsExtract octets paths e facts oid × (path.now ≡ output.path)
-    × Stops output printed (records_octets oid e.conflicts facts) × (told ≡ errors)
-Extracts e octets paths output printed errors told (Err (NotOid text)) =
-    IsNoOid e.syntax text.now × Stays output printed × (told ≡ errors)
-Extracts e octets paths output printed errors told (Err Memory) = Stays output printed × (told ≡ errors)
-Extracts e octets paths output printed errors told (Err f) =
-    IsRefusedAmong octets paths f × Stays output printed × (told ≡ errors)
+    × HasStopped output printed (records_octets oid e.conflicts facts) × (told ≡ errors)
+RecordsResult e octets paths output printed errors told (Err (NotOid text)) =
+    IsNoOid e.syntax text.now × IsUnchanged output printed × (told ≡ errors)
+RecordsResult e octets paths output printed errors told (Err Memory) = IsUnchanged output printed × (told ≡ errors)
+RecordsResult e octets paths output printed errors told (Err f) =
+    IsRefusedAmong octets paths f × IsUnchanged output printed × (told ≡ errors)
 
 -- what `records` does with the files at these paths: what it writes and tells, and its status
-abbrev pub DoesRecords
+abbrev pub AfterRecords
     : Wanted → (List ℕ → Option (List ℕ)) → List (List ℕ) → Device → Device → Device → Device → Status → Type 0
-DoesRecords e octets paths output printed errors told status = (answer : Result Status Fault) × (between : Device)
-    × (status ≡ end_status answer) × Extracts e octets paths output printed errors between answer
-    × TellsAnswer between told answer
+AfterRecords e octets paths output printed errors told status = (answer : Result Status Fault) × (between : Device)
+    × (status ≡ end_status answer) × RecordsResult e octets paths output printed errors between answer
+    × AfterReport between told answer

@@ -3,9 +3,9 @@ use Rattle.std.specs.Prelude.{◌≡◌, ℕ, List, Option, Some, Result, Ok, Er
 use Rattle.zmeta_world.specs.declared.world.World.{World}
 use Rattle.zmeta_world.specs.declared.world.NamedTarget.{NamedTarget}
 use Rattle.zmeta_world.specs.Worlds.{IsWorld, IsRefused}
-use Rattle.zmeta_world.specs.Fitness.{target_named}
-use Rattle.zmeta_commands.specs.Faults.{answer_status}
-use Rattle.zmeta_commands.specs.Devices.{Device, TellsAnswer}
+use Rattle.zmeta_world.specs.InMemoryRuns.{target_named}
+use Rattle.zmeta_commands.specs.Faults.{result_status}
+use Rattle.zmeta_commands.specs.Devices.{Device, AfterReport}
 use Rattle.zmeta_commands.specs.declared.fault.Fault.{Fault}
 use Rattle.zmeta_commands.specs.declared.fault.Fault.TheVariants.{Read, Line, Serve, Memory}
 use Rattle.zmeta_commands.specs.declared.fault.Status.{Status}
@@ -17,20 +17,20 @@ HasTarget name file =
 
 -- What an answer of `serve` says of the world file. It cannot serve where the file has no such target, or the network
 -- failed.
-abbrev pub Serves : List ℕ → List ℕ → Result (Unit {0}) Fault → Type 0
-Serves name file (Ok _) = HasTarget name file
-Serves name file (Err (Line number)) = IsRefused file number
-Serves name file (Err (Read path)) = Unit {0}
-Serves name file (Err Serve) = (world : World) × IsWorld file world
-Serves name file (Err Memory) = Unit {0}
-Serves name file (Err _) = ⊥
+abbrev pub ServeResult : List ℕ → List ℕ → Result (Unit {0}) Fault → Type 0
+ServeResult name file (Ok _) = HasTarget name file
+ServeResult name file (Err (Line number)) = IsRefused file number
+ServeResult name file (Err (Read path)) = Unit {0}
+ServeResult name file (Err Serve) = (world : World) × IsWorld file world
+ServeResult name file (Err Memory) = Unit {0}
+ServeResult name file (Err _) = ⊥
 
 -- what an answer of serving the target of a name says of the world
-abbrev pub ServesWorld : List ℕ → World → Result (Unit {0}) Fault → Type 0
-ServesWorld name world (Ok _) = (target : NamedTarget) × (target_named name world.targets ≡ Some target)
-ServesWorld name world (Err Serve) = Unit {0}
-ServesWorld name world (Err Memory) = Unit {0}
-ServesWorld name world (Err _) = ⊥
+abbrev pub ServeWorldResult : List ℕ → World → Result (Unit {0}) Fault → Type 0
+ServeWorldResult name world (Ok _) = (target : NamedTarget) × (target_named name world.targets ≡ Some target)
+ServeWorldResult name world (Err Serve) = Unit {0}
+ServeWorldResult name world (Err Memory) = Unit {0}
+ServeWorldResult name world (Err _) = ⊥
 
 -- a fault of serving a target of the file at a path
 abbrev pub IsOfService : List ℕ → Fault → Type 0
@@ -41,12 +41,12 @@ IsOfService path Memory = Unit {0}
 IsOfService path _ = ⊥
 
 -- whether a fault ended it
-abbrev pub EndsOf : List ℕ → Result (Unit {0}) Fault → Type 0
-EndsOf path (Ok _) = Unit {0}
-EndsOf path (Err fault) = IsOfService path fault
+abbrev pub IsServiceEnd : List ℕ → Result (Unit {0}) Fault → Type 0
+IsServiceEnd path (Ok _) = Unit {0}
+IsServiceEnd path (Err fault) = IsOfService path fault
 
 -- what `serve` does with a target of the world file at a path: what it tells, and its status
-abbrev pub DoesServe : List ℕ → List ℕ → Option (List ℕ) → Device → Device → Status → Type 0
-DoesServe name world file errors told status = (answer : Result (Unit {0}) Fault)
-    × (status ≡ answer_status answer) × IfSome file (λ octets. Serves name octets answer)
-    × EndsOf world answer × TellsAnswer errors told answer
+abbrev pub AfterServe : List ℕ → List ℕ → Option (List ℕ) → Device → Device → Status → Type 0
+AfterServe name world file errors told status = (answer : Result (Unit {0}) Fault)
+    × (status ≡ result_status answer) × IfSome file (λ octets. ServeResult name octets answer)
+    × IsServiceEnd world answer × AfterReport errors told answer

@@ -12,49 +12,51 @@ use Rattle.zapdu.specs.declared.apdu.Kind.{Kind}
 use Rattle.zapdu.specs.Writes.{Writes, IsNoApdu, IsMalformed}
 use Rattle.zmeta_commands.specs.Digits.{octets_of}
 use Rattle.zapdu_lines.specs.Lines.{apdu_text}
-use Rattle.zmeta_commands.specs.Faults.{answer_status}
-use Rattle.zmeta_commands.specs.Devices.{Device, Stays, Gains, Stops, IsOfStream, TellsAnswer}
+use Rattle.zmeta_commands.specs.Faults.{result_status}
+use Rattle.zmeta_commands.specs.Devices.{Device, IsUnchanged, HasGained, HasStopped, IsOfStream, AfterReport}
 use Rattle.zmeta_commands.specs.declared.fault.Fault.{Fault}
 use Rattle.zmeta_commands.specs.declared.fault.Fault.TheVariants.{Read, Write, Hex, Frame, NotApdu, Malformed, Memory}
 use Rattle.zmeta_commands.specs.declared.fault.Status.{Status}
 
 -- The octets, the text of the APDUs that they begin with, and how they end: with nothing left, or at a fault.
-pub data Shown : List ℕ → List ℕ → Result (Unit {0}) Fault → Type 0 where
-  nothing_left : Shown [] [] (Ok tt)
+pub data ShownText : List ℕ → List ℕ → Result (Unit {0}) Fault → Type 0 where
+  nothing_left : ShownText [] [] (Ok tt)
   apdu : {xs rest text : List ℕ} {e : Element} {end : Result (Unit {0}) Fault} (v : Apdu)
-      → Begins MESSAGE_LIMIT xs e rest → Writes v e → Shown rest text end → Shown xs (apdu_text v ++ text) end
-  fault : {xs : List ℕ} {kind : FaultKind} {at : ℕ} → Shows MESSAGE_LIMIT xs kind at → Shown xs [] (Err (Frame kind at))
+      → Begins MESSAGE_LIMIT xs e rest → Writes v e → ShownText rest text end → ShownText xs (apdu_text v ++ text) end
+  fault : {xs : List ℕ} {kind : FaultKind} {at : ℕ} → Shows MESSAGE_LIMIT xs kind at
+      → ShownText xs [] (Err (Frame kind at))
   unfinished : {xs : List ℕ}
-      → 0 < length xs → IsUnfinished MESSAGE_LIMIT xs → Shown xs [] (Err (Frame kinds.Truncated (length xs)))
-  no_apdu : {xs rest : List ℕ} {e : Element} → Begins MESSAGE_LIMIT xs e rest → IsNoApdu e → Shown xs [] (Err NotApdu)
+      → 0 < length xs → IsUnfinished MESSAGE_LIMIT xs → ShownText xs [] (Err (Frame kinds.Truncated (length xs)))
+  no_apdu : {xs rest : List ℕ} {e : Element} → Begins MESSAGE_LIMIT xs e rest → IsNoApdu e
+      → ShownText xs [] (Err NotApdu)
   malformed : {xs rest : List ℕ} {e : Element} {kind : Kind} {at : ℕ}
       → Begins MESSAGE_LIMIT xs e rest → ((v : Apdu) → Writes v e → ⊥) → IsMalformed kind at e
-      → Shown xs [] (Err (Malformed kind at))
+      → ShownText xs [] (Err (Malformed kind at))
 
 -- octets have one text and one end
 abbrev pub OneShowing : Type 0
-OneShowing = (xs s t : List ℕ) (f g : Result (Unit {0}) Fault) → Shown xs s f → Shown xs t g → (s ≡ t) × (f ≡ g)
+OneShowing = (xs s t : List ℕ) (f g : Result (Unit {0}) Fault) → ShownText xs s f → ShownText xs t g → (s ≡ t) × (f ≡ g)
 
 -- the digits' octets are shown
-abbrev pub ShowsDigits : List ℕ → Device → Device → Result (Unit {0}) Fault → Type 0
-ShowsDigits digits old new answer =
-    (xs text : List ℕ) × (octets_of digits ≡ Ok xs) × Shown xs text answer × Gains old new text
+abbrev pub ShowDigitsResult : List ℕ → Device → Device → Result (Unit {0}) Fault → Type 0
+ShowDigitsResult digits old new answer =
+    (xs text : List ℕ) × (octets_of digits ≡ Ok xs) × ShownText xs text answer × HasGained old new text
 
 -- the digits' octets have a text, and a front of it is written where the stream failed
-abbrev pub ShowsFront : List ℕ → Device → Device → Type 0
-ShowsFront digits old new = (xs text : List ℕ) × (end : Result (Unit {0}) Fault) × (octets_of digits ≡ Ok xs)
-    × Shown xs text end × Stops old new text
+abbrev pub HasShownFront : List ℕ → Device → Device → Type 0
+HasShownFront digits old new = (xs text : List ℕ) × (end : Result (Unit {0}) Fault) × (octets_of digits ≡ Ok xs)
+    × ShownText xs text end × HasStopped old new text
 
 -- what an answer of `show` says of its input, and of what was written
-abbrev pub ShowsText : List ℕ → Device → Device → Result (Unit {0}) Fault → Type 0
-ShowsText digits old new (Err Hex) = ((xs : List ℕ) → octets_of digits ≡ Ok xs → ⊥) × Stays old new
-ShowsText digits old new (Err (Read path)) = Stays old new
-ShowsText digits old new (Err (Write path)) = ShowsFront digits old new
-ShowsText digits old new (Err Memory) = Stays old new
-ShowsText digits old new answer = ShowsDigits digits old new answer
+abbrev pub ShowResult : List ℕ → Device → Device → Result (Unit {0}) Fault → Type 0
+ShowResult digits old new (Err Hex) = ((xs : List ℕ) → octets_of digits ≡ Ok xs → ⊥) × IsUnchanged old new
+ShowResult digits old new (Err (Read path)) = IsUnchanged old new
+ShowResult digits old new (Err (Write path)) = HasShownFront digits old new
+ShowResult digits old new (Err Memory) = IsUnchanged old new
+ShowResult digits old new answer = ShowDigitsResult digits old new answer
 
 -- what `show` does: of its input from before and after it, of what is written and told, and of its status
-abbrev pub DoesShow : Device → Device → Device → Device → Device → Device → Status → Type 0
-DoesShow input rest output printed errors told status = (answer : Result (Unit {0}) Fault)
-    × (status ≡ answer_status answer) × IfSome input.known (λ digits. ShowsText digits output printed answer)
-    × (rest.path ≡ input.path) × IsOfStream rest printed answer × TellsAnswer errors told answer
+abbrev pub AfterShow : Device → Device → Device → Device → Device → Device → Status → Type 0
+AfterShow input rest output printed errors told status = (answer : Result (Unit {0}) Fault)
+    × (status ≡ result_status answer) × IfSome input.known (λ digits. ShowResult digits output printed answer)
+    × (rest.path ≡ input.path) × IsOfStream rest printed answer × AfterReport errors told answer

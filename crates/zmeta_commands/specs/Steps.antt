@@ -7,31 +7,33 @@ use Rattle.zber.specs.Unfinished.{IsUnfinished}
 use Rattle.zapdu.specs.declared.apdu.Apdu.{Apdu}
 use Rattle.zapdu.specs.Writes.{Writes}
 use Rattle.zapdu_lines.specs.Lines.{apdu_text}
-use Rattle.zmeta_commands.specs.Show.{Shown}
+use Rattle.zmeta_commands.specs.Show.{ShownText}
 use Rattle.zber.specs.declared.framer.TheConstants.{MESSAGE_LIMIT}
-use Rattle.zmeta_commands.specs.Devices.{Device, Stays, Gains, FailsPut}
+use Rattle.zmeta_commands.specs.Devices.{Device, IsUnchanged, HasGained, PutFailure}
 use Rattle.zmeta_commands.specs.declared.fault.Fault.{Fault}
 use Rattle.zmeta_commands.specs.declared.fault.Fault.TheVariants.{Memory}
 
 -- the next message is shown, or there is none yet, or a fault ends the octets; nothing is said where memory ran out
-abbrev pub ShowsNext : Stream → Stream → List ℕ → List ℕ → Result Bool Fault → Type 0
-ShowsNext s t old new (Ok true) = (e : Element) × (v : Apdu) × Begins MESSAGE_LIMIT s.octets e t.octets × Writes v e
+abbrev pub ShowNextResult : Stream → Stream → List ℕ → List ℕ → Result Bool Fault → Type 0
+ShowNextResult s t old new (Ok true) =
+    (e : Element) × (v : Apdu) × Begins MESSAGE_LIMIT s.octets e t.octets × Writes v e
     × (new ≡ old ++ apdu_text v) × (t ≡ record s { octets = t.octets })
-ShowsNext s t old new (Ok false) = IsUnfinished MESSAGE_LIMIT s.octets × (new ≡ old) × (t ≡ record s { asked = true })
-ShowsNext s t old new (Err Memory) = Unit {0}
-ShowsNext s t old new (Err f) = Shown s.octets [] (Err f) × (new ≡ old)
+ShowNextResult s t old new (Ok false) =
+    IsUnfinished MESSAGE_LIMIT s.octets × (new ≡ old) × (t ≡ record s { asked = true })
+ShowNextResult s t old new (Err Memory) = Unit {0}
+ShowNextResult s t old new (Err f) = ShownText s.octets [] (Err f) × (new ≡ old)
 
 -- the octets are shown, and nothing is said where memory ran out
-abbrev pub ShowsOctets : List ℕ → List ℕ → List ℕ → Result (Unit {0}) Fault → Type 0
-ShowsOctets xs old new (Err Memory) = Unit {0}
-ShowsOctets xs old new answer = (text : List ℕ) × Shown xs text answer × (new ≡ old ++ text)
+abbrev pub ShowOctetsResult : List ℕ → List ℕ → List ℕ → Result (Unit {0}) Fault → Type 0
+ShowOctetsResult xs old new (Err Memory) = Unit {0}
+ShowOctetsResult xs old new answer = (text : List ℕ) × ShownText xs text answer × (new ≡ old ++ text)
 
 -- the lines are written and the answer stands, or a front of them where the stream failed
-abbrev pub PutsLines : List ℕ → Result (Unit {0}) Fault → Device → Device → Result (Unit {0}) Fault → Type 0
-PutsLines lines answer old new result =
-    ((result ≡ answer) × Gains old new lines) ⊎ MatchResult result (λ _. ⊥) (FailsPut old new lines)
+abbrev pub PutLinesResult : List ℕ → Result (Unit {0}) Fault → Device → Device → Result (Unit {0}) Fault → Type 0
+PutLinesResult lines answer old new result =
+    ((result ≡ answer) × HasGained old new lines) ⊎ MatchResult result (λ _. ⊥) (PutFailure old new lines)
 
 -- the lines are printed before the answer, and no line where memory ran out
-abbrev pub PrintsLines : List ℕ → Result (Unit {0}) Fault → Device → Device → Result (Unit {0}) Fault → Type 0
-PrintsLines lines (Err Memory) old new result = (result ≡ Err Memory) × Stays old new
-PrintsLines lines answer old new result = PutsLines lines answer old new result
+abbrev pub PrintLinesResult : List ℕ → Result (Unit {0}) Fault → Device → Device → Result (Unit {0}) Fault → Type 0
+PrintLinesResult lines (Err Memory) old new result = (result ≡ Err Memory) × IsUnchanged old new
+PrintLinesResult lines answer old new result = PutLinesResult lines answer old new result

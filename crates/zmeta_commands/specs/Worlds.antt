@@ -5,9 +5,9 @@ use Rattle.zmeta_world.specs.Worlds.{IsWorld, IsRefused}
 use Rattle.zmeta_commands.specs.declared.fault.Fault.{Fault}
 use Rattle.zmeta_commands.specs.declared.fault.Fault.TheVariants.{Read, Line, Memory}
 
-abbrev pub SaysWorld : List ℕ → Result World Fault → Type 0
-SaysWorld file (Ok world) = IsWorld file world
-SaysWorld file (Err (Line number)) = IsRefused file number
-SaysWorld file (Err (Read path)) = Unit {0}
-SaysWorld file (Err Memory) = Unit {0}
-SaysWorld file (Err _) = ⊥
+abbrev pub WorldResult : List ℕ → Result World Fault → Type 0
+WorldResult file (Ok world) = IsWorld file world
+WorldResult file (Err (Line number)) = IsRefused file number
+WorldResult file (Err (Read path)) = Unit {0}
+WorldResult file (Err Memory) = Unit {0}
+WorldResult file (Err _) = ⊥

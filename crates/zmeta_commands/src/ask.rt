@@ -3,11 +3,11 @@
 ghost use Rattle.std.specs.Prelude.{◌≡◌, ◌<◌, ◌^◌, length, IfOk, IfErr, IfSome};
 ghost use Rattle.std.specs.Option.{option_map};
 ghost use Rattle.zoom.specs.Askable.{AreAskable, AreFit};
-ghost use Rattle.zoom.specs.Asking.{has, IsAsked};
-ghost use Rattle.zmeta_commands.specs.Devices.{held};
-ghost use Rattle.zmeta_commands.specs.Finished.{IsSound, IsOfPaths, IsOfWorld};
+ghost use Rattle.zoom.specs.Asking.{is_present, IsAsked};
+ghost use Rattle.zmeta_commands.specs.Devices.{output_device};
+ghost use Rattle.zmeta_commands.specs.Finished.{HasNames, IsOfPaths, IsOfWorld};
 ghost use Rattle.zmeta_commands.specs.Choice.{manner};
-ghost use Rattle.zmeta_commands.specs.Ask.{Enquires, CanBeAsked, AsksEnquiry, AsksFile, AsksHosts, IsOfAsking, DoesAsk};
+ghost use Rattle.zmeta_commands.specs.Ask.{ReadNetworkResult, CanBeAsked, AskNetworkResult, AskFileResult, AskResult, IsOfAsking, AfterAsk};
 
 use crate::choice::{Choice, addresses_of};
 use crate::fault::{Fault, Status};
@@ -23,7 +23,7 @@ use std::io::{Read, Write};
 use std::net::Net;
 use std::time::Clock;
 use zknow::Mode;
-use zmeta_world::enquiry::Enquiry;
+use zmeta_world::network::Enquiry;
 use zoom::{Meta, MetaSettings, Question, Watch, ask, ask_at_once};
 
 /// Puts each question of a world file to its host over TCP, and prints the list of what they answer; tells on standard
@@ -44,9 +44,11 @@ pub fn ask_named<'a, 'o: 'a, S: Folder + Net + Clock, W: Write, E: Write, P: Wri
     output: &mut Output<'o, W>,
     errors: &mut Output<'_, E>,
 ) -> Status
-    ensures { DoesAsk (manner choice.entry) mode paths.entry.world.now (option_map (λ path. path.now) paths.entry.saved)
-        (S.octets system.now paths.entry.world.now) (held W.contents output.old) (held W.contents output.new)
-        (held E.contents errors.old) (held E.contents errors.new) result }
+    ensures { AfterAsk (manner choice.entry) mode paths.entry.world.now
+        (option_map (λ path. path.now) paths.entry.saved)
+        (S.octets system.now paths.entry.world.now) (output_device W.contents output.old)
+        (output_device W.contents output.new)
+        (output_device E.contents errors.old) (output_device E.contents errors.new) result }
 {
     match ask_paths(alloc, system, paths, choice, mode, screen, output, errors) {
         Ok(status) => status,
@@ -66,11 +68,11 @@ fn ask_paths<'a, 'o: 'a, S: Folder + Net + Clock, W: Write, E: Write, P: Write +
     errors: &mut Output<'_, E>,
 ) -> Result<Status, Fault<'a>>
     ensures asks { IfSome (S.octets system.now paths.entry.world.now)
-        (λ octets. AsksHosts (manner choice.entry) mode octets (option_map (λ path. path.now) paths.entry.saved)
-        (held W.contents output.old) (held W.contents output.new)
-        (held E.contents errors.old) (held E.contents errors.new) result) }
+        (λ octets. AskResult (manner choice.entry) mode octets (option_map (λ path. path.now) paths.entry.saved)
+        (output_device W.contents output.old) (output_device W.contents output.new)
+        (output_device E.contents errors.old) (output_device E.contents errors.new) result) }
     ensures paths { IsOfPaths paths.entry.world.now (option_map (λ path. path.now) paths.entry.saved)
-        (held W.contents output.new) result }
+        (output_device W.contents output.new) result }
 {
     let mut world = file_at(system, paths.world);
     let finished = ask_file(alloc, system, &mut world, choice, mode, screen)?;
@@ -89,47 +91,47 @@ fn ask_file<'a, N: Net + Clock, R: Read, P: Write + Drop>(
     screen: Option<P>,
 ) -> Result<Finished, Fault<'a>>
     ensures asked { IfSome (R.remaining file.old.reader)
-        (λ octets. AsksFile (manner choice.entry) mode octets result) }
-    ensures sound { IfOk result IsSound }
+        (λ octets. AskFileResult (manner choice.entry) mode octets result) }
+    ensures sound { IfOk result HasNames }
     ensures path { IfErr result (IsOfAsking file.old.path.now) }
 {
-    let enquiry = enquiry_of(alloc, file)?;
-    ask_enquiry(alloc, net, enquiry, choice, mode, screen)
+    let network = read_network(alloc, file)?;
+    ask_network(alloc, net, network, choice, mode, screen)
 }
 
 /// The world of a file, arranged so that its hosts can be asked.
-fn enquiry_of<'a, R: Read>(alloc: Global, file: &mut Input<'a, R>) -> Result<Enquiry, Fault<'a>>
-    ensures enquires { IfSome (R.remaining file.old.reader) (λ octets. Enquires octets result) }
+fn read_network<'a, R: Read>(alloc: Global, file: &mut Input<'a, R>) -> Result<Enquiry, Fault<'a>>
+    ensures enquires { IfSome (R.remaining file.old.reader) (λ octets. ReadNetworkResult octets result) }
     ensures fit { IfOk result CanBeAsked }
     ensures path { IfErr result (IsOfWorld file.old.path.now) }
 {
     let world = world_in(alloc, file)?;
     let name = Bytes::copy_from_slice(alloc, NAME)?;
-    Ok(world.enquiry(alloc, name)?)
+    Ok(world.network(alloc, name)?)
 }
 
 /// Asks the hosts of the questions that are chosen, and makes the list of what they answer.
-fn ask_enquiry<'a, N: Net + Clock, P: Write + Drop>(
+fn ask_network<'a, N: Net + Clock, P: Write + Drop>(
     alloc: Global,
     net: &N,
-    enquiry: Enquiry,
+    network: Enquiry,
     choice: Choice<'a, '_>,
     mode: Mode,
     screen: Option<P>,
 ) -> Result<Finished, Fault<'a>>
-    requires { CanBeAsked enquiry }
-    ensures asked { AsksEnquiry (manner choice.entry) mode enquiry result }
-    ensures sound { IfOk result IsSound }
+    requires { CanBeAsked network }
+    ensures asked { AskNetworkResult (manner choice.entry) mode network result }
+    ensures sound { IfOk result HasNames }
 {
     let Enquiry {
         questions,
         settings,
         addresses,
         names,
-    } = enquiry;
+    } = network;
     let chosen = addresses_of(alloc, choice.only, names.as_slice(), addresses.as_slice())?;
     let progress = Progress::new(alloc, net, screen, names.as_slice(), chosen.as_slice());
-    let meta = ask_told(
+    let meta = ask_watched(
         alloc,
         net,
         questions.into_vec(),
@@ -142,7 +144,7 @@ fn ask_enquiry<'a, N: Net + Clock, P: Write + Drop>(
 }
 
 /// Asks hosts, and tells meanwhile how far that is.
-fn ask_told<N: Net + Clock, C: Clock, P: Write + Drop>(
+fn ask_watched<N: Net + Clock, C: Clock, P: Write + Drop>(
     alloc: Global,
     net: &N,
     questions: Vec<Question>,
@@ -155,7 +157,7 @@ fn ask_told<N: Net + Clock, C: Clock, P: Write + Drop>(
     requires askable { AreAskable questions.items }
     requires fit { AreFit settings }
     requires equal { length addresses.now ≡ length questions.items }
-    ensures { IfOk result (λ meta. IsAsked questions.items settings at_once (has addresses.now) meta) }
+    ensures { IfOk result (λ meta. IsAsked questions.items settings at_once (is_present addresses.now) meta) }
 {
     let meta = ask_hosts(
         alloc,
@@ -184,7 +186,7 @@ fn ask_hosts<N: Net + Clock, V: Watch>(
     requires askable { AreAskable questions.items }
     requires fit { AreFit settings }
     requires equal { length addresses.now ≡ length questions.items }
-    ensures { IfOk result (λ meta. IsAsked questions.items settings at_once (has addresses.now) meta) }
+    ensures { IfOk result (λ meta. IsAsked questions.items settings at_once (is_present addresses.now) meta) }
 {
     if at_once {
         ask_at_once(alloc, net, questions, settings, addresses, watch)

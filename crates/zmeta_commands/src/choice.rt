@@ -4,7 +4,7 @@ ghost use Rattle.std.specs.Prelude.{◌≡◌, length, Ok, Err, IfOk, MatchResul
 ghost use Rattle.std.specs.List.{list_any};
 ghost use Rattle.std.specs.Str.{bytes_eq};
 ghost use Rattle.zmeta_args.specs.Texts.{texts_of};
-ghost use Rattle.zmeta_commands.specs.Choice.{is_among, is_picked, address_if, IsChosen, Chooses, Knows};
+ghost use Rattle.zmeta_commands.specs.Choice.{is_among, is_picked, address_if, IsChosen, AddressesResult, CheckNamesResult};
 
 use crate::fault::Fault;
 use bytes::Bytes;
@@ -42,7 +42,7 @@ fn is_picked(only: &[&str], name: &[u8]) -> bool
 
 /// Whether each of the names is one of the questions'.
 fn check_names<'a>(only: &[&'a str], names: &[Bytes]) -> Result<(), Fault<'a>>
-    ensures { Knows (texts_of only.now) names.now result }
+    ensures { CheckNamesResult (texts_of only.now) names.now result }
 {
     for text in only {
         if !is_among(names, text.as_bytes()) {
@@ -89,8 +89,9 @@ pub(crate) fn addresses_of<'a>(
     addresses: &[Bytes],
 ) -> Result<Vec<Option<Bytes>>, Fault<'a>>
     requires { length names.now ≡ length addresses.now }
-    ensures { MatchResult result (λ chosen. Chooses (texts_of only.now) names.now addresses.now (Ok chosen.items))
-        (λ fault. Chooses (texts_of only.now) names.now addresses.now (Err fault)) }
+    ensures { MatchResult result (λ chosen. AddressesResult (texts_of only.now) names.now addresses.now
+        (Ok chosen.items))
+        (λ fault. AddressesResult (texts_of only.now) names.now addresses.now (Err fault)) }
 {
     check_names(only, names)?;
     Ok(pick_addresses(alloc, only, names, addresses)?)

@@ -1,7 +1,7 @@
 //! From the words of the command line to what is done for them.
 ghost use Rattle.std.specs.Prelude.{◌≡◌, Err, IfErr, IfOk, MatchResult, map, string_bytes};
-ghost use Rattle.zmeta_commands.specs.Devices.{left, held};
-ghost use Rattle.zmeta_commands.specs.Words.{Does, DoesWords, TellsWords, IsWrong};
+ghost use Rattle.zmeta_commands.specs.Devices.{left, output_device};
+ghost use Rattle.zmeta_commands.specs.Arguments.{AfterCall, AfterArguments, AfterUsage, IsWrong};
 
 use crate::ask::ask_named;
 use crate::choice::Choice;
@@ -23,7 +23,7 @@ use std::alloc::Global;
 use std::io::{ErrorKind, Read, Write};
 use std::net::Net;
 use std::time::Clock;
-use zmeta_args::{Words, odd_words, parse};
+use zmeta_args::{Arguments, odd_arguments, parse};
 
 /// Does what the words ask for, the first being the program's name and the second that of the command. Without words
 /// they are not UTF-8, or memory ran out: nothing is read or printed then, and where memory ran out the answer is
@@ -31,43 +31,45 @@ use zmeta_args::{Words, odd_words, parse};
 pub fn run<'a, S: Folder + Net + Clock, R: Read, W: Write, E: Write, P: Write + Drop>(
     alloc: Global,
     system: &S,
-    words: Result<&[String], ErrorKind>,
+    arguments: Result<&[String], ErrorKind>,
     input: &mut Input<'a, R>,
     output: &mut Output<'a, W>,
     errors: &mut Output<'a, E>,
     screen: Option<P>,
 ) -> Status
-    ensures done { IfOk words.entry (λ words. DoesWords (S.octets system.now) (map string_bytes words.now)
+    ensures done { IfOk arguments.entry (λ arguments. AfterArguments (S.octets system.now)
+        (map string_bytes arguments.now)
         (left R.remaining input.old) (left R.remaining input.new)
-        (held W.contents output.old) (held W.contents output.new)
-        (held E.contents errors.old) (held E.contents errors.new) result) }
-    ensures wrong { IfErr words.entry (λ _. IsWrong result) }
-    ensures memory { words.entry ≡ Err ErrorKind.OutOfMemory → result ≡ Status.Memory }
-    ensures silent { IfErr words.entry (λ _. held W.contents output.new ≡ held W.contents output.old) }
-    ensures unread { IfErr words.entry (λ _. input.new ≡ input.old) }
+        (output_device W.contents output.old) (output_device W.contents output.new)
+        (output_device E.contents errors.old) (output_device E.contents errors.new) result) }
+    ensures wrong { IfErr arguments.entry (λ _. IsWrong result) }
+    ensures memory { arguments.entry ≡ Err ErrorKind.OutOfMemory → result ≡ Status.Memory }
+    ensures silent { IfErr arguments.entry (λ _. output_device W.contents output.new
+        ≡ output_device W.contents output.old) }
+    ensures unread { IfErr arguments.entry (λ _. input.new ≡ input.old) }
 {
-    match words {
-        Ok(words) => answer_words(alloc, system, words, input, output, errors, screen),
+    match arguments {
+        Ok(arguments) => run_arguments(alloc, system, arguments, input, output, errors, screen),
         Err(kind) => refuse(alloc, kind, output, errors),
     }
 }
 
 /// Does what words ask for.
-fn answer_words<'a, S: Folder + Net + Clock, R: Read, W: Write, E: Write, P: Write + Drop>(
+fn run_arguments<'a, S: Folder + Net + Clock, R: Read, W: Write, E: Write, P: Write + Drop>(
     alloc: Global,
     system: &S,
-    words: &[String],
+    arguments: &[String],
     input: &mut Input<'a, R>,
     output: &mut Output<'a, W>,
     errors: &mut Output<'a, E>,
     screen: Option<P>,
 ) -> Status
-    ensures { DoesWords (S.octets system.now) (map string_bytes words.now)
+    ensures { AfterArguments (S.octets system.now) (map string_bytes arguments.now)
         (left R.remaining input.old) (left R.remaining input.new)
-        (held W.contents output.old) (held W.contents output.new)
-        (held E.contents errors.old) (held E.contents errors.new) result }
+        (output_device W.contents output.old) (output_device W.contents output.new)
+        (output_device E.contents errors.old) (output_device E.contents errors.new) result }
 {
-    let asked = parse(alloc, words);
+    let asked = parse(alloc, arguments);
     answer(alloc, system, asked, input, output, errors, screen)
 }
 
@@ -75,18 +77,19 @@ fn answer_words<'a, S: Folder + Net + Clock, R: Read, W: Write, E: Write, P: Wri
 fn answer<'a, S: Folder + Net + Clock, R: Read, W: Write, E: Write, P: Write + Drop>(
     alloc: Global,
     system: &S,
-    asked: Result<Words<'_>, Error>,
+    asked: Result<Arguments<'_>, Error>,
     input: &mut Input<'a, R>,
     output: &mut Output<'a, W>,
     errors: &mut Output<'a, E>,
     screen: Option<P>,
 ) -> Status
     ensures { MatchResult asked.entry
-        (λ asked. Does (S.octets system.now) asked (left R.remaining input.old) (left R.remaining input.new)
-        (held W.contents output.old) (held W.contents output.new)
-        (held E.contents errors.old) (held E.contents errors.new) result)
-        (λ error. (input.new ≡ input.old) × TellsWords error (held W.contents output.old) (held W.contents output.new)
-        (held E.contents errors.old) (held E.contents errors.new) result) }
+        (λ asked. AfterCall (S.octets system.now) asked (left R.remaining input.old) (left R.remaining input.new)
+        (output_device W.contents output.old) (output_device W.contents output.new)
+        (output_device E.contents errors.old) (output_device E.contents errors.new) result)
+        (λ error. (input.new ≡ input.old) × AfterUsage error (output_device W.contents output.old)
+        (output_device W.contents output.new)
+        (output_device E.contents errors.old) (output_device E.contents errors.new) result) }
 {
     match asked {
         Ok(asked) => call(alloc, system, asked, input, output, errors, screen),
@@ -103,12 +106,12 @@ fn refuse<'a, W: Write, E: Write>(
 ) -> Status
     ensures memory { kind ≡ ErrorKind.OutOfMemory → result ≡ Status.Memory }
     ensures wrong { IsWrong result }
-    ensures silent { held W.contents output.new ≡ held W.contents output.old }
+    ensures silent { output_device W.contents output.new ≡ output_device W.contents output.old }
 {
     if kind == ErrorKind::OutOfMemory {
         return Fault::Memory.report(errors);
     }
-    match odd_words(alloc) {
+    match odd_arguments(alloc) {
         Ok(error) => tell(&error, output, errors),
         Err(_) => Fault::Memory.report(errors),
     }
@@ -118,20 +121,20 @@ fn refuse<'a, W: Write, E: Write>(
 fn call<'a, S: Folder + Net + Clock, R: Read, W: Write, E: Write, P: Write + Drop>(
     alloc: Global,
     system: &S,
-    asked: Words<'_>,
+    asked: Arguments<'_>,
     input: &mut Input<'a, R>,
     output: &mut Output<'a, W>,
     errors: &mut Output<'a, E>,
     screen: Option<P>,
 ) -> Status
-    ensures { Does (S.octets system.now) asked.entry (left R.remaining input.old) (left R.remaining input.new)
-        (held W.contents output.old) (held W.contents output.new)
-        (held E.contents errors.old) (held E.contents errors.new) result }
+    ensures { AfterCall (S.octets system.now) asked.entry (left R.remaining input.old) (left R.remaining input.new)
+        (output_device W.contents output.old) (output_device W.contents output.new)
+        (output_device E.contents errors.old) (output_device E.contents errors.new) result }
 {
     match asked {
-        Words::Show => show(alloc, input, output, errors),
-        Words::Pqf { text } => pqf(alloc, text, output, errors),
-        Words::Join {
+        Arguments::Show => show(alloc, input, output, errors),
+        Arguments::Pqf { text } => pqf(alloc, text, output, errors),
+        Arguments::Join {
             first,
             others,
             mode,
@@ -144,10 +147,10 @@ fn call<'a, S: Folder + Net + Clock, R: Read, W: Write, E: Write, P: Write + Dro
             output,
             errors,
         ),
-        Words::Run { world, saved, mode } => {
+        Arguments::Run { world, saved, mode } => {
             run_named(alloc, system, Paths { world, saved }, mode, output, errors)
         }
-        Words::Records {
+        Arguments::Records {
             first,
             others,
             syntax,
@@ -160,7 +163,7 @@ fn call<'a, S: Folder + Net + Clock, R: Read, W: Write, E: Write, P: Write + Dro
             let wanted = Extract { syntax, conflicts };
             records_named(alloc, system, saved, wanted, output, errors)
         }
-        Words::Ask {
+        Arguments::Ask {
             world,
             saved,
             at_once,
@@ -174,10 +177,10 @@ fn call<'a, S: Folder + Net + Clock, R: Read, W: Write, E: Write, P: Write + Dro
             let paths = Paths { world, saved };
             ask_named(alloc, system, paths, choice, mode, screen, output, errors)
         }
-        Words::Loop { world, saved, mode } => {
+        Arguments::Loop { world, saved, mode } => {
             loop_named(alloc, system, Paths { world, saved }, mode, output, errors)
         }
-        Words::Serve {
+        Arguments::Serve {
             address,
             name,
             world,

@@ -1,6 +1,6 @@
 //! Octets given as hexadecimal text.
 ghost use Rattle.std.specs.Prelude.{◌≡◌, ◌≤◌, ℕ, [], length, IfOk, IfErr, IfSome, IfNone};
-ghost use Rattle.zmeta_commands.specs.Digits.{digits, digit_value, IsOctetOf, BeginsWithNoSpace, BeginsWith, StandsForNone, IsDecoded};
+ghost use Rattle.zmeta_commands.specs.Digits.{digits, digit_value, IsOctetOf, HasNoSpaceFirst, HasOctetFirst, HasNoOctets, IsDecoded};
 
 use crate::fault::Fault;
 use std::alloc::Global;
@@ -45,7 +45,7 @@ fn octet_of(high: u8, low: u8) -> Option<u8>
 fn skip_space(text: &[u8]) -> &[u8]
     ensures same { digits result.now ≡ digits text.now }
     ensures within { length result.now ≤ length text.now }
-    ensures front { BeginsWithNoSpace result.now }
+    ensures front { HasNoSpaceFirst result.now }
 {
     let mut rest = text;
     while let [first, behind @ ..] = rest {
@@ -60,8 +60,8 @@ fn skip_space(text: &[u8]) -> &[u8]
 /// The first octet and what is behind its digits, or `None` where only white space is left.
 fn next_apart(text: &[u8]) -> Result<Option<(u8, &[u8])>, Fault<'static>>
     ensures end { IfOk result (λ o. IfNone o (digits text.now ≡ [])) }
-    ensures octet { IfOk result (λ o. IfSome o (λ p. BeginsWith text.now p.0 p.1.now)) }
-    ensures refused { IfErr result (λ f. (f ≡ Fault.Hex) × StandsForNone text.now) }
+    ensures octet { IfOk result (λ o. IfSome o (λ p. HasOctetFirst text.now p.0 p.1.now)) }
+    ensures refused { IfErr result (λ f. (f ≡ Fault.Hex) × HasNoOctets text.now) }
 {
     let [high, behind @ ..] = skip_space(text) else {
         return Ok(None);
@@ -79,8 +79,8 @@ fn next_apart(text: &[u8]) -> Result<Option<(u8, &[u8])>, Fault<'static>>
 #[inline]
 fn next_octet(text: &[u8]) -> Result<Option<(u8, &[u8])>, Fault<'static>>
     ensures end { IfOk result (λ o. IfNone o (digits text.now ≡ [])) }
-    ensures octet { IfOk result (λ o. IfSome o (λ p. BeginsWith text.now p.0 p.1.now)) }
-    ensures refused { IfErr result (λ f. (f ≡ Fault.Hex) × StandsForNone text.now) }
+    ensures octet { IfOk result (λ o. IfSome o (λ p. HasOctetFirst text.now p.0 p.1.now)) }
+    ensures refused { IfErr result (λ f. (f ≡ Fault.Hex) × HasNoOctets text.now) }
 {
     if let [high, low, rest @ ..] = text
         && let Some(octet) = octet_of(*high, *low)

@@ -1,7 +1,7 @@
 //! Why a command stopped, and the status that it ends with.
 ghost use Rattle.std.specs.Prelude.{◌≡◌, Some};
 ghost use Rattle.zmeta_commands.specs.Faults.{code_of, status_of, fault_text, of_frame, of_apdu, of_query, of_print, of_build, of_load, of_world, of_serve};
-ghost use Rattle.zmeta_commands.specs.Devices.{held, Tells};
+ghost use Rattle.zmeta_commands.specs.Devices.{output_device, AfterTell};
 ghost use Rattle.zmeta_commands.specs.declared.fault.Fault.TheVariants.{Memory};
 
 use crate::output::Output;
@@ -23,7 +23,7 @@ pub enum Status {
     /// A search, an association or a connection failed, or a question was not asked; the rest was done.
     Failed,
     /// The words of the command are wrong.
-    Words,
+    Arguments,
     /// Input was refused, or a file or a stream failed.
     Refused,
     /// Memory ran out.
@@ -38,7 +38,7 @@ impl Status {
         match self {
             Status::Done => 0,
             Status::Failed => 1,
-            Status::Words => 2,
+            Status::Arguments => 2,
             Status::Refused => 3,
             Status::Memory => 4,
         }
@@ -236,7 +236,7 @@ impl Fault<'_> {
     /// it.
     pub fn report<E: Write>(&self, errors: &mut Output<'_, E>) -> Status
         ensures status { result ≡ status_of self.now }
-        ensures told { Tells (held E.contents errors.old) (held E.contents errors.new) self.now }
+        ensures told { AfterTell (output_device E.contents errors.old) (output_device E.contents errors.new) self.now }
     {
         errors.tell(self);
         self.status()

@@ -2,8 +2,8 @@
 
 ghost use Rattle.std.specs.Prelude.{IfOk, IfErr, MatchResult};
 ghost use Rattle.std.specs.Option.{option_map};
-ghost use Rattle.zmeta_commands.specs.Devices.{held};
-ghost use Rattle.zmeta_commands.specs.Finished.{IsSound, IsListed, PutsFinished, IsOfSaving, MakesSaved, Finishes};
+ghost use Rattle.zmeta_commands.specs.Devices.{output_device};
+ghost use Rattle.zmeta_commands.specs.Finished.{HasNames, IsListed, PutFinishedResult, IsOfSaving, SavedOctetsResult, FinishResult};
 
 use crate::failures::failure_lines;
 use crate::fault::{Fault, Status};
@@ -67,9 +67,9 @@ fn put_finished<'o, W: Write, E: Write>(
     output: &mut Output<'o, W>,
     errors: &mut Output<'_, E>,
 ) -> Result<(), Fault<'o>>
-    requires { IsSound finished.now }
-    ensures { PutsFinished finished.now (held W.contents output.old) (held W.contents output.new)
-        (held E.contents errors.old) (held E.contents errors.new) result }
+    requires { HasNames finished.now }
+    ensures { PutFinishedResult finished.now (output_device W.contents output.old) (output_device W.contents output.new)
+        (output_device E.contents errors.old) (output_device E.contents errors.new) result }
 {
     let lines = failure_lines(alloc, &finished.meta, finished.names.as_slice())?;
     output.put(finished.list.as_slice())?;
@@ -99,8 +99,8 @@ fn save_finished<'a, F: Folder>(
 
 /// The saved file of what is known. `Write` of its path where its elements pass their limits.
 fn saved_octets<'a>(alloc: Global, path: &'a str, finished: &Finished) -> Result<Vec<u8>, Fault<'a>>
-    ensures { MatchResult result (λ octets. MakesSaved path.entry.now finished.now (Ok octets.items))
-        (λ fault. MakesSaved path.entry.now finished.now (Err fault)) }
+    ensures { MatchResult result (λ octets. SavedOctetsResult path.entry.now finished.now (Ok octets.items))
+        (λ fault. SavedOctetsResult path.entry.now finished.now (Err fault)) }
 {
     let mut octets = Vec::new(alloc);
     match save(
@@ -124,10 +124,10 @@ pub(crate) fn finish<'a, 'o: 'a, F: Folder, W: Write, E: Write>(
     output: &mut Output<'o, W>,
     errors: &mut Output<'_, E>,
 ) -> Result<Status, Fault<'a>>
-    requires { IsSound finished.now }
-    ensures { Finishes finished.now (option_map (λ path. path.now) saved.entry)
-        (held W.contents output.old) (held W.contents output.new)
-        (held E.contents errors.old) (held E.contents errors.new) result }
+    requires { HasNames finished.now }
+    ensures { FinishResult finished.now (option_map (λ path. path.now) saved.entry)
+        (output_device W.contents output.old) (output_device W.contents output.new)
+        (output_device E.contents errors.old) (output_device E.contents errors.new) result }
 {
     put_finished(alloc, finished, output, errors)?;
     save_finished(alloc, files, saved, finished)?;

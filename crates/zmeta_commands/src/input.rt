@@ -1,7 +1,7 @@
 //! Devices that are read to their end.
 ghost use Rattle.std.specs.Prelude.{◌≡◌, ◌≤◌, ◌*◌, ◌⊎◌, IfOk, IfSome, IfErr, OnOk, Err, vec_len, true, false};
 ghost use Rattle.std.specs.Io.KnownBytes.{IsAtEnd};
-ghost use Rattle.zmeta_commands.specs.Input.{LosesFront};
+ghost use Rattle.zmeta_commands.specs.Input.{HasLostFront};
 
 use crate::fault::Fault;
 use std::alloc::Global;
@@ -47,7 +47,7 @@ impl<'a, R: Read> Input<'a, R> {
         ensures path { self.new.path ≡ self.old.path }
         ensures err { IfErr result (λ f. ((f ≡ Fault.Read self.old.path) × (self.new.has_failed ≡ true))
             ⊎ (f ≡ Fault.Memory)) }
-        ensures rest { LosesFront (R.remaining self.old.reader) (R.remaining self.new.reader) }
+        ensures rest { HasLostFront (R.remaining self.old.reader) (R.remaining self.new.reader) }
         ensures kept { result ≡ Err Fault.Memory → self.new.has_failed ≡ self.old.has_failed }
     {
         let answer = read_pieces(alloc, &mut self.reader, self.path);
@@ -67,7 +67,7 @@ fn read_pieces<'a, R: Read>(
     ensures whole { IfOk result (λ v. IfSome (R.remaining reader.old) (λ xs. v.items ≡ xs)) }
     ensures end { OnOk result (IsAtEnd (R.remaining reader.new)) }
     ensures short { IfOk result (λ v. vec_len v ≤ 4096 * 1000000) }
-    ensures rest { LosesFront (R.remaining reader.old) (R.remaining reader.new) }
+    ensures rest { HasLostFront (R.remaining reader.old) (R.remaining reader.new) }
     ensures err { IfErr result (λ f. (f ≡ Fault.Read path.entry) ⊎ (f ≡ Fault.Memory)) }
 {
     let mut octets = Vec::new(alloc);

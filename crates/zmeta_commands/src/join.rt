@@ -1,8 +1,8 @@
 //! The command `join`: what saved files know together.
 ghost use Rattle.std.specs.Prelude.{◌≡◌, ◌↔◌, ◌∷◌, IsTrue, IfSome, IfErr, Result};
 ghost use Rattle.zmeta_args.specs.Texts.{texts_of};
-ghost use Rattle.zmeta_commands.specs.Join.{IsKnownStatus, Loads, LoadsAt, LoadsAll, Absorbs, AbsorbsAll, IsOfFile, PutsList, Joins, DoesJoin};
-ghost use Rattle.zmeta_commands.specs.Devices.{held};
+ghost use Rattle.zmeta_commands.specs.Join.{IsKnownStatus, LoadFileResult, LoadNamedResult, LoadAllResult, AbsorbNamedResult, AbsorbAllResult, IsOfFile, PutListResult, JoinResult, AfterJoin};
+ghost use Rattle.zmeta_commands.specs.Devices.{output_device};
 ghost use Rattle.zmeta_commands.specs.declared.fault.Fault.{Fault};
 ghost use Rattle.zmeta_commands.specs.declared.fault.Status.{Status};
 
@@ -27,9 +27,9 @@ pub fn join_named<'a, 'o: 'a, F: Folder, W: Write, E: Write>(
     output: &mut Output<'o, W>,
     errors: &mut Output<'_, E>,
 ) -> Status
-    ensures { DoesJoin mode (F.octets files.now) (first.entry.now ∷ texts_of others.now)
-        (held W.contents output.old) (held W.contents output.new)
-        (held E.contents errors.old) (held E.contents errors.new) result }
+    ensures { AfterJoin mode (F.octets files.now) (first.entry.now ∷ texts_of others.now)
+        (output_device W.contents output.old) (output_device W.contents output.new)
+        (output_device E.contents errors.old) (output_device E.contents errors.new) result }
 {
     match join_files(alloc, files, first, others, mode, output) {
         Ok(status) => status,
@@ -46,8 +46,8 @@ fn join_files<'a, 'o: 'a, F: Folder, W: Write>(
     mode: Mode,
     output: &mut Output<'o, W>,
 ) -> Result<Status, Fault<'a>>
-    ensures { Joins mode (F.octets files.now) (first.entry.now ∷ texts_of others.now)
-        (held W.contents output.old) (held W.contents output.new) result }
+    ensures { JoinResult mode (F.octets files.now) (first.entry.now ∷ texts_of others.now)
+        (output_device W.contents output.old) (output_device W.contents output.new) result }
 {
     let known = load_all(alloc, files, first, others)?;
     let status = known_status(&known.0);
@@ -64,7 +64,8 @@ fn put_list<'o, W: Write>(
     text: &[u8],
     status: Status,
 ) -> Result<Status, Fault<'o>>
-    ensures { PutsList text.now status (held W.contents output.old) (held W.contents output.new) result }
+    ensures { PutListResult text.now status (output_device W.contents output.old)
+        (output_device W.contents output.new) result }
 {
     match output.put(text) {
         Ok(()) => Ok(status),
@@ -90,7 +91,7 @@ pub(crate) fn load_all<'a, F: Folder>(
     first: &'a str,
     others: &[&'a str],
 ) -> Result<(Knowledge, Names), Fault<'a>>
-    ensures { LoadsAll (F.octets files.now) (first.entry.now ∷ texts_of others.now) result }
+    ensures { LoadAllResult (F.octets files.now) (first.entry.now ∷ texts_of others.now) result }
 {
     let (mut knowledge, names) = load_named(alloc, files, first)?;
     absorb_all(alloc, files, others, &mut knowledge, &names)?;
@@ -105,7 +106,7 @@ fn absorb_all<'a, F: Folder>(
     knowledge: &mut Knowledge,
     names: &Names,
 ) -> Result<(), Fault<'a>>
-    ensures { AbsorbsAll (F.octets files.now) names.now (texts_of paths.now)
+    ensures { AbsorbAllResult (F.octets files.now) names.now (texts_of paths.now)
         knowledge.old knowledge.new result }
 {
     for path in paths {
@@ -122,7 +123,7 @@ fn absorb_named<'a, F: Folder>(
     knowledge: &mut Knowledge,
     names: &Names,
 ) -> Result<(), Fault<'a>>
-    ensures { Absorbs (F.octets files.now) names.now path.entry.now knowledge.old knowledge.new result }
+    ensures { AbsorbNamedResult (F.octets files.now) names.now path.entry.now knowledge.old knowledge.new result }
 {
     let other = load_named(alloc, files, path)?;
     if !are_same(names, &other.1) {
@@ -142,7 +143,7 @@ fn load_named<'a, F: Folder>(
     files: &'a F,
     path: &'a str,
 ) -> Result<(Knowledge, Names), Fault<'a>>
-    ensures { LoadsAt (F.octets files.now) path.entry.now result }
+    ensures { LoadNamedResult (F.octets files.now) path.entry.now result }
 {
     let mut file = file_at(files, path);
     load_file(alloc, &mut file)
@@ -153,7 +154,7 @@ fn load_file<'a, R: Read>(
     alloc: Global,
     file: &mut Input<'a, R>,
 ) -> Result<(Knowledge, Names), Fault<'a>>
-    ensures loaded { IfSome (R.remaining file.old.reader) (λ octets. Loads octets result) }
+    ensures loaded { IfSome (R.remaining file.old.reader) (λ octets. LoadFileResult octets result) }
     ensures fault { IfErr result (λ f. IsOfFile file.old.path.now f) }
 {
     let octets = file.read_all(alloc)?;

@@ -2,11 +2,11 @@
 
 ghost use Rattle.std.specs.Prelude.{IfOk, IfErr, IfSome};
 ghost use Rattle.std.specs.Option.{option_map};
-ghost use Rattle.zmeta_commands.specs.Devices.{held};
-ghost use Rattle.zmeta_commands.specs.Finished.{IsSound, IsOfPaths};
-ghost use Rattle.zmeta_commands.specs.Loop.{IsOfNetwork, LoopsFile, Loops, DoesLoop};
-ghost use Rattle.zmeta_world.specs.Fitness.{IsArrangement};
-ghost use Rattle.zmeta_commands.specs.Run.{IsRunOf};
+ghost use Rattle.zmeta_commands.specs.Devices.{output_device};
+ghost use Rattle.zmeta_commands.specs.Finished.{HasNames, IsOfPaths};
+ghost use Rattle.zmeta_commands.specs.Loop.{IsOfNetwork, LoopFileResult, LoopResult, AfterLoop};
+ghost use Rattle.zmeta_world.specs.InMemoryRuns.{CanBeRun};
+ghost use Rattle.zmeta_commands.specs.Run.{IsListedRun};
 ghost use Rattle.zmeta_commands.specs.Serve.{IsOfService};
 
 use crate::fault::{Fault, Status};
@@ -14,12 +14,12 @@ use crate::files::{Folder, file_at};
 use crate::finished::{Finished, Paths, finish};
 use crate::input::Input;
 use crate::output::Output;
-use crate::run::arrange_file;
+use crate::run::read_in_memory;
 use std::alloc::Global;
 use std::io::{Read, Write};
 use std::net::Net;
 use zknow::Mode;
-use zmeta_world::fitness::Arrangement;
+use zmeta_world::in_memory::Arrangement;
 use zoom::run_loopback;
 
 /// As `run_named`, with both ends of each connection in this process and the octets going over TCP on 127.0.0.1. The
@@ -32,9 +32,10 @@ pub fn loop_named<'a, 'o: 'a, S: Folder + Net, W: Write, E: Write>(
     output: &mut Output<'o, W>,
     errors: &mut Output<'_, E>,
 ) -> Status
-    ensures { DoesLoop mode paths.entry.world.now (option_map (λ path. path.now) paths.entry.saved)
-        (S.octets system.now paths.entry.world.now) (held W.contents output.old) (held W.contents output.new)
-        (held E.contents errors.old) (held E.contents errors.new) result }
+    ensures { AfterLoop mode paths.entry.world.now (option_map (λ path. path.now) paths.entry.saved)
+        (S.octets system.now paths.entry.world.now) (output_device W.contents output.old)
+        (output_device W.contents output.new)
+        (output_device E.contents errors.old) (output_device E.contents errors.new) result }
 {
     match loop_paths(alloc, system, paths, mode, output, errors) {
         Ok(status) => status,
@@ -52,11 +53,11 @@ fn loop_paths<'a, 'o: 'a, S: Folder + Net, W: Write, E: Write>(
     errors: &mut Output<'_, E>,
 ) -> Result<Status, Fault<'a>>
     ensures loops { IfSome (S.octets system.now paths.entry.world.now)
-        (λ octets. Loops mode octets (option_map (λ path. path.now) paths.entry.saved)
-        (held W.contents output.old) (held W.contents output.new)
-        (held E.contents errors.old) (held E.contents errors.new) result) }
+        (λ octets. LoopResult mode octets (option_map (λ path. path.now) paths.entry.saved)
+        (output_device W.contents output.old) (output_device W.contents output.new)
+        (output_device E.contents errors.old) (output_device E.contents errors.new) result) }
     ensures paths { IsOfPaths paths.entry.world.now (option_map (λ path. path.now) paths.entry.saved)
-        (held W.contents output.new) result }
+        (output_device W.contents output.new) result }
 {
     let mut world = file_at(system, paths.world);
     let finished = loop_file(alloc, system, &mut world, mode)?;
@@ -72,24 +73,24 @@ fn loop_file<'a, N: Net, R: Read>(
     file: &mut Input<'a, R>,
     mode: Mode,
 ) -> Result<Finished, Fault<'a>>
-    ensures ran { IfSome (R.remaining file.old.reader) (λ octets. LoopsFile mode octets result) }
-    ensures sound { IfOk result IsSound }
+    ensures ran { IfSome (R.remaining file.old.reader) (λ octets. LoopFileResult mode octets result) }
+    ensures sound { IfOk result HasNames }
     ensures path { IfErr result (IsOfService file.old.path.now) }
 {
-    let arrangement = arrange_file(alloc, file)?;
-    loop_arranged(alloc, net, arrangement, mode)
+    let run = read_in_memory(alloc, file)?;
+    loop_in_memory(alloc, net, run, mode)
 }
 
 /// Runs a world, and makes its list.
-fn loop_arranged<'a, N: Net>(
+fn loop_in_memory<'a, N: Net>(
     alloc: Global,
     net: &N,
-    arrangement: Arrangement,
+    run: Arrangement,
     mode: Mode,
 ) -> Result<Finished, Fault<'a>>
-    requires { IsArrangement arrangement }
-    ensures run { IfOk result (IsRunOf mode arrangement) }
-    ensures sound { IfOk result IsSound }
+    requires { CanBeRun run }
+    ensures run { IfOk result (IsListedRun mode run) }
+    ensures sound { IfOk result HasNames }
     ensures network { IfErr result IsOfNetwork }
 {
     let Arrangement {
@@ -98,7 +99,7 @@ fn loop_arranged<'a, N: Net>(
         targets,
         names,
         moves: _,
-    } = arrangement;
+    } = run;
     let meta = run_loopback(
         alloc,
         net,

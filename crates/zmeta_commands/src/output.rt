@@ -1,8 +1,8 @@
 //! Devices that are written.
 ghost use Rattle.std.specs.Prelude.{◌≡◌, ◌≤◌, OnOk, IfSome, IfErr, true, false, length};
 ghost use Rattle.std.specs.Io.KnownBytes.{Appends};
-ghost use Rattle.zmeta_commands.specs.Devices.{held, PutsPieces, Puts, Tells};
-ghost use Rattle.zmeta_commands.specs.Pieces.{PutsPiece};
+ghost use Rattle.zmeta_commands.specs.Devices.{output_device, WritePiecesResult, PutResult, AfterTell};
+ghost use Rattle.zmeta_commands.specs.Pieces.{WritePieceResult};
 
 use crate::fault::Fault;
 use std::fmt::Display;
@@ -35,7 +35,7 @@ impl<'a, W: Write> Output<'a, W> {
 
     /// Writes the whole text, or where the stream fails a front of it: then `Write` of the stream's path.
     pub fn put(&mut self, text: &[u8]) -> Result<(), Fault<'a>>
-        ensures { Puts (held W.contents self.old) (held W.contents self.new) text.now result }
+        ensures { PutResult (output_device W.contents self.old) (output_device W.contents self.new) text.now result }
     {
         if write_pieces(&mut self.writer, text) {
             return Ok(());
@@ -46,7 +46,7 @@ impl<'a, W: Write> Output<'a, W> {
 
     /// Writes the line that tells of a fault; a failure is noted alone.
     pub fn tell(&mut self, fault: &Fault<'_>)
-        ensures { Tells (held W.contents self.old) (held W.contents self.new) fault.now }
+        ensures { AfterTell (output_device W.contents self.old) (output_device W.contents self.new) fault.now }
     {
         if writeln!(self.writer, "zmeta: {fault}").is_err() {
             self.has_failed = true;
@@ -72,7 +72,7 @@ impl<'a, W: Write> Output<'a, W> {
 /// Writes a text in pieces; whether all of it was taken. What was taken is its front.
 #[tactic(auto, using(crate::proofs::DeviceSteps::put_front, crate::proofs::DeviceSteps::stopped_front, crate::proofs::DeviceSteps::none_put))]
 fn write_pieces<W: Write>(writer: &mut W, text: &[u8]) -> bool
-    ensures { PutsPieces (W.contents writer.old) (W.contents writer.new) text.now result }
+    ensures { WritePiecesResult (W.contents writer.old) (W.contents writer.new) text.now result }
 {
     let mut rest = text;
     for _ in 0..u64::MAX {
@@ -91,7 +91,7 @@ fn write_pieces<W: Write>(writer: &mut W, text: &[u8]) -> bool
 #[tactic(auto, using(crate::proofs::DeviceSteps::nothing_put))]
 fn write_piece<W: Write>(writer: &mut W, text: &[u8]) -> Option<usize>
     ensures bound { IfSome result (λ count. count ≤ length text.now) }
-    ensures bytes { PutsPiece (W.contents writer.old) (W.contents writer.new) text.now result }
+    ensures bytes { WritePieceResult (W.contents writer.old) (W.contents writer.new) text.now result }
 {
     match writer.write(text) {
         Ok(0) => None,

@@ -4,8 +4,8 @@ ghost use Rattle.zber.specs.Elements.{Element};
 ghost use Rattle.zquery.specs.Notation.Printing.{query_text};
 ghost use Rattle.zquery.specs.Element.Type1.{WritesQuery};
 ghost use Rattle.zquery.specs.Element.Type1Reading.{query_spelt};
-ghost use Rattle.zmeta_commands.specs.Pqf.{IsQueryOf, element_text, PutsQuery, TellsQuery, PrintsQuery, DoesPqf};
-ghost use Rattle.zmeta_commands.specs.Devices.{held};
+ghost use Rattle.zmeta_commands.specs.Pqf.{IsQueryOf, element_text, PutBothResult, PutQueryResult, PqfResult, AfterPqf};
+ghost use Rattle.zmeta_commands.specs.Devices.{output_device};
 
 use crate::fault::{Fault, Status};
 use crate::output::Output;
@@ -24,8 +24,8 @@ pub fn pqf<W: Write, E: Write>(
     output: &mut Output<'_, W>,
     errors: &mut Output<'_, E>,
 ) -> Status
-    ensures { DoesPqf text.now (held W.contents output.old) (held W.contents output.new)
-        (held E.contents errors.old) (held E.contents errors.new) result }
+    ensures { AfterPqf text.now (output_device W.contents output.old) (output_device W.contents output.new)
+        (output_device E.contents errors.old) (output_device E.contents errors.new) result }
 {
     match pqf_text(alloc, text.as_bytes(), output) {
         Ok(()) => Status::Done,
@@ -38,7 +38,8 @@ fn pqf_text<'a, W: Write>(
     text: &[u8],
     output: &mut Output<'a, W>,
 ) -> Result<(), Fault<'a>>
-    ensures printed { PrintsQuery text.now (held W.contents output.old) (held W.contents output.new) result }
+    ensures printed { PqfResult text.now (output_device W.contents output.old)
+        (output_device W.contents output.new) result }
 {
     let mut lines = Vec::new(alloc);
     match put_query(alloc, text, &mut lines) {
@@ -49,7 +50,7 @@ fn pqf_text<'a, W: Write>(
 
 /// Appends both lines of a text.
 fn put_query(alloc: Global, text: &[u8], lines: &mut Vec<u8>) -> Result<(), Fault<'static>>
-    ensures { TellsQuery text.now lines.old.items lines.new.items result }
+    ensures { PutQueryResult text.now lines.old.items lines.new.items result }
 {
     let query = parse_pqf(alloc, text)?;
     let put = put_both(alloc, &query, lines);
@@ -61,7 +62,7 @@ fn put_query(alloc: Global, text: &[u8], lines: &mut Vec<u8>) -> Result<(), Faul
 #[tactic(auto, unfolding(crate::specs::Pqf::query_lines))]
 fn put_both(alloc: Global, query: &Query, lines: &mut Vec<u8>) -> Result<(), Fault<'static>>
     requires { (text : List ℕ) × IsQueryOf text query.now }
-    ensures { PutsQuery query.now lines.old.items lines.new.items result }
+    ensures { PutBothResult query.now lines.old.items lines.new.items result }
 {
     put_text(alloc, query, lines)?;
     lines.extend_from_slice(b"\n")?;

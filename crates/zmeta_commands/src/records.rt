@@ -2,10 +2,10 @@
 
 ghost use Rattle.std.specs.Prelude.{◌≡◌, ◌++◌, ◌∷◌, IfOk, OnOk, Ok, Err};
 ghost use Rattle.std.specs.Option.{option_map};
-ghost use Rattle.zmeta_commands.specs.Devices.{held};
+ghost use Rattle.zmeta_commands.specs.Devices.{output_device};
 ghost use Rattle.zknow_records.specs.Records.{records_octets, left_out};
 ghost use Rattle.zmeta_args.specs.Texts.{texts_of};
-ghost use Rattle.zmeta_commands.specs.Records.{ReadsSyntax, left_line, left_text, extract, PutsRecords, Extracts, DoesRecords};
+ghost use Rattle.zmeta_commands.specs.Records.{SyntaxResult, left_line, left_text, extract, PutRecordsResult, RecordsResult, AfterRecords};
 
 use crate::fault::{Fault, Status};
 use crate::files::Folder;
@@ -47,10 +47,10 @@ pub fn records_named<'a, 'o: 'a, F: Folder, W: Write, E: Write>(
     output: &mut Output<'o, W>,
     errors: &mut Output<'_, E>,
 ) -> Status
-    ensures { DoesRecords (extract wanted.entry) (F.octets files.now)
+    ensures { AfterRecords (extract wanted.entry) (F.octets files.now)
         (saved.entry.first.now ∷ texts_of saved.entry.others.now)
-        (held W.contents output.old) (held W.contents output.new)
-        (held E.contents errors.old) (held E.contents errors.new) result }
+        (output_device W.contents output.old) (output_device W.contents output.new)
+        (output_device E.contents errors.old) (output_device E.contents errors.new) result }
 {
     match records_files(alloc, files, saved, wanted, output, errors) {
         Ok(status) => status,
@@ -67,10 +67,10 @@ fn records_files<'a, 'o: 'a, F: Folder, W: Write, E: Write>(
     output: &mut Output<'o, W>,
     errors: &mut Output<'_, E>,
 ) -> Result<Status, Fault<'a>>
-    ensures { Extracts (extract wanted.entry) (F.octets files.now)
+    ensures { RecordsResult (extract wanted.entry) (F.octets files.now)
         (saved.entry.first.now ∷ texts_of saved.entry.others.now)
-        (held W.contents output.old) (held W.contents output.new)
-        (held E.contents errors.old) (held E.contents errors.new) result }
+        (output_device W.contents output.old) (output_device W.contents output.new)
+        (output_device E.contents errors.old) (output_device E.contents errors.new) result }
 {
     let syntax = syntax_of(alloc, wanted.syntax)?;
     let (knowledge, _) = load_all(alloc, files, saved.first, saved.others)?;
@@ -100,7 +100,7 @@ fn take_records(
 
 /// The object identifier of a text, where there is a text.
 fn syntax_of<'a>(alloc: Global, text: Option<&'a str>) -> Result<Option<Oid>, Fault<'a>>
-    ensures { ReadsSyntax (option_map (λ text. text.now) text.entry) result }
+    ensures { SyntaxResult (option_map (λ text. text.now) text.entry) result }
 {
     let Some(text) = text else {
         return Ok(None);
@@ -150,8 +150,9 @@ fn put_records<'o, W: Write, E: Write>(
     output: &mut Output<'o, W>,
     errors: &mut Output<'_, E>,
 ) -> Result<(), Fault<'o>>
-    ensures { PutsRecords octets.now lines.now (held W.contents output.old) (held W.contents output.new)
-        (held E.contents errors.old) (held E.contents errors.new) result }
+    ensures { PutRecordsResult octets.now lines.now (output_device W.contents output.old)
+        (output_device W.contents output.new)
+        (output_device E.contents errors.old) (output_device E.contents errors.new) result }
 {
     output.put(octets)?;
     // What cannot be told is noted of the stream alone.

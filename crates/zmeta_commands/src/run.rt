@@ -2,10 +2,10 @@
 
 ghost use Rattle.std.specs.Prelude.{IfOk, IfErr, IfSome};
 ghost use Rattle.std.specs.Option.{option_map};
-ghost use Rattle.zmeta_commands.specs.Devices.{held};
-ghost use Rattle.zmeta_commands.specs.Finished.{IsSound, IsOfPaths, IsOfWorld};
-ghost use Rattle.zmeta_world.specs.Fitness.{IsArrangement};
-ghost use Rattle.zmeta_commands.specs.Run.{Arranges, IsWholeRunOf, RunsFile, Runs, DoesRun};
+ghost use Rattle.zmeta_commands.specs.Devices.{output_device};
+ghost use Rattle.zmeta_commands.specs.Finished.{HasNames, IsOfPaths, IsOfWorld};
+ghost use Rattle.zmeta_world.specs.InMemoryRuns.{CanBeRun};
+ghost use Rattle.zmeta_commands.specs.Run.{ReadInMemoryResult, IsCompleteListedRun, RunFileResult, RunResult, AfterRun};
 
 use crate::fault::{Fault, Status};
 use crate::files::{Folder, file_at};
@@ -17,7 +17,7 @@ use bytes::Bytes;
 use std::alloc::{AllocError, Global};
 use std::io::{Read, Write};
 use zknow::Mode;
-use zmeta_world::fitness::Arrangement;
+use zmeta_world::in_memory::Arrangement;
 use zoom::run_world;
 
 /// Prints the list of what the targets of a world file answer, tells on standard error each connection that failed, and
@@ -34,9 +34,10 @@ pub fn run_named<'a, 'o: 'a, F: Folder, W: Write, E: Write>(
     output: &mut Output<'o, W>,
     errors: &mut Output<'_, E>,
 ) -> Status
-    ensures { DoesRun mode paths.entry.world.now (option_map (λ path. path.now) paths.entry.saved)
-        (F.octets files.now paths.entry.world.now) (held W.contents output.old) (held W.contents output.new)
-        (held E.contents errors.old) (held E.contents errors.new) result }
+    ensures { AfterRun mode paths.entry.world.now (option_map (λ path. path.now) paths.entry.saved)
+        (F.octets files.now paths.entry.world.now) (output_device W.contents output.old)
+        (output_device W.contents output.new)
+        (output_device E.contents errors.old) (output_device E.contents errors.new) result }
 {
     match run_paths(alloc, files, paths, mode, output, errors) {
         Ok(status) => status,
@@ -54,11 +55,11 @@ fn run_paths<'a, 'o: 'a, F: Folder, W: Write, E: Write>(
     errors: &mut Output<'_, E>,
 ) -> Result<Status, Fault<'a>>
     ensures runs { IfSome (F.octets files.now paths.entry.world.now)
-        (λ octets. Runs mode octets (option_map (λ path. path.now) paths.entry.saved)
-        (held W.contents output.old) (held W.contents output.new)
-        (held E.contents errors.old) (held E.contents errors.new) result) }
+        (λ octets. RunResult mode octets (option_map (λ path. path.now) paths.entry.saved)
+        (output_device W.contents output.old) (output_device W.contents output.new)
+        (output_device E.contents errors.old) (output_device E.contents errors.new) result) }
     ensures paths { IsOfPaths paths.entry.world.now (option_map (λ path. path.now) paths.entry.saved)
-        (held W.contents output.new) result }
+        (output_device W.contents output.new) result }
 {
     let mut world = file_at(files, paths.world);
     let finished = run_file(alloc, &mut world, mode)?;
@@ -73,33 +74,33 @@ fn run_file<'a, R: Read>(
     file: &mut Input<'a, R>,
     mode: Mode,
 ) -> Result<Finished, Fault<'a>>
-    ensures ran { IfSome (R.remaining file.old.reader) (λ octets. RunsFile mode octets result) }
-    ensures sound { IfOk result IsSound }
+    ensures ran { IfSome (R.remaining file.old.reader) (λ octets. RunFileResult mode octets result) }
+    ensures sound { IfOk result HasNames }
     ensures path { IfErr result (IsOfWorld file.old.path.now) }
 {
-    let arrangement = arrange_file(alloc, file)?;
-    Ok(run_arranged(alloc, arrangement, mode)?)
+    let run = read_in_memory(alloc, file)?;
+    Ok(run_in_memory(alloc, run, mode)?)
 }
 
 /// The world of a file, arranged to be run.
-pub(crate) fn arrange_file<'a, R: Read>(
+pub(crate) fn read_in_memory<'a, R: Read>(
     alloc: Global,
     file: &mut Input<'a, R>,
 ) -> Result<Arrangement, Fault<'a>>
-    ensures arranged { IfSome (R.remaining file.old.reader) (λ octets. Arranges octets result) }
-    ensures fit { IfOk result IsArrangement }
+    ensures in_memory_run { IfSome (R.remaining file.old.reader) (λ octets. ReadInMemoryResult octets result) }
+    ensures fit { IfOk result CanBeRun }
     ensures path { IfErr result (IsOfWorld file.old.path.now) }
 {
     let world = world_in(alloc, file)?;
     let name = Bytes::copy_from_slice(alloc, NAME)?;
-    Ok(world.arrange(alloc, name)?)
+    Ok(world.in_memory(alloc, name)?)
 }
 
 /// Runs a world, and makes its list.
-fn run_arranged(alloc: Global, arrangement: Arrangement, mode: Mode) -> Result<Finished, AllocError>
-    requires { IsArrangement arrangement }
-    ensures run { IfOk result (IsWholeRunOf mode arrangement) }
-    ensures sound { IfOk result IsSound }
+fn run_in_memory(alloc: Global, run: Arrangement, mode: Mode) -> Result<Finished, AllocError>
+    requires { CanBeRun run }
+    ensures run { IfOk result (IsCompleteListedRun mode run) }
+    ensures sound { IfOk result HasNames }
 {
     let Arrangement {
         questions,
@@ -107,7 +108,7 @@ fn run_arranged(alloc: Global, arrangement: Arrangement, mode: Mode) -> Result<F
         targets,
         names,
         moves,
-    } = arrangement;
+    } = run;
     let mut list = Vec::new(alloc);
     let meta = run_world(
         alloc,

@@ -1,9 +1,9 @@
 //! The command `serve`: a target of a world file answers clients over TCP.
 
 ghost use Rattle.std.specs.Prelude.{IfSome};
-ghost use Rattle.zmeta_world.specs.Fitness.{IsFit};
-ghost use Rattle.zmeta_commands.specs.Devices.{held};
-ghost use Rattle.zmeta_commands.specs.Serve.{Serves, ServesWorld, EndsOf, DoesServe};
+ghost use Rattle.zmeta_world.specs.InMemoryRuns.{IsFit};
+ghost use Rattle.zmeta_commands.specs.Devices.{output_device};
+ghost use Rattle.zmeta_commands.specs.Serve.{ServeResult, ServeWorldResult, IsServiceEnd, AfterServe};
 
 use crate::fault::{Fault, Status};
 use crate::files::{Folder, file_at};
@@ -38,8 +38,8 @@ pub fn serve_named<'a, S: Folder + Net + Clock, E: Write>(
     service: Service<'a>,
     errors: &mut Output<'_, E>,
 ) -> Status
-    ensures { DoesServe service.entry.name.now service.entry.world.now (S.octets system.now service.entry.world.now)
-        (held E.contents errors.old) (held E.contents errors.new) result }
+    ensures { AfterServe service.entry.name.now service.entry.world.now (S.octets system.now service.entry.world.now)
+        (output_device E.contents errors.old) (output_device E.contents errors.new) result }
 {
     match serve_target(alloc, system, service) {
         Ok(()) => Status::Done,
@@ -54,8 +54,8 @@ fn serve_target<'a, S: Folder + Net + Clock>(
     service: Service<'a>,
 ) -> Result<(), Fault<'a>>
     ensures serves { IfSome (S.octets system.now service.entry.world.now)
-        (λ octets. Serves service.entry.name.now octets result) }
-    ensures path { EndsOf service.entry.world.now result }
+        (λ octets. ServeResult service.entry.name.now octets result) }
+    ensures path { IsServiceEnd service.entry.world.now result }
 {
     let mut file = file_at(system, service.world);
     let world = world_in(alloc, &mut file)?;
@@ -72,7 +72,7 @@ fn serve_world<'a, S: Net + Clock>(
     world: &World,
 ) -> Result<(), Fault<'a>>
     requires { IsFit world.now }
-    ensures { ServesWorld service.entry.name.now world.now result }
+    ensures { ServeWorldResult service.entry.name.now world.now result }
 {
     let Some(target) = world.target(service.name.as_bytes()) else {
         return Err(Fault::Serve);

@@ -1,9 +1,9 @@
 //! The command `show`: what the messages say that octets begin with.
 ghost use Rattle.std.specs.Prelude.{◌≡◌, None, IfSome};
-ghost use Rattle.zmeta_commands.specs.Show.{ShowsText, DoesShow, OneShowing};
+ghost use Rattle.zmeta_commands.specs.Show.{ShowResult, AfterShow, OneShowing};
 ghost use Rattle.zber.specs.declared.framer.TheConstants.{MESSAGE_LIMIT};
-ghost use Rattle.zmeta_commands.specs.Steps.{PrintsLines, ShowsOctets, ShowsNext};
-ghost use Rattle.zmeta_commands.specs.Devices.{left, held, IsOfStream};
+ghost use Rattle.zmeta_commands.specs.Steps.{PrintLinesResult, ShowOctetsResult, ShowNextResult};
+ghost use Rattle.zmeta_commands.specs.Devices.{left, output_device, IsOfStream};
 
 use crate::digits::decode;
 use crate::fault::{Fault, Status};
@@ -25,9 +25,9 @@ pub fn show<'a, R: Read, W: Write, E: Write>(
     output: &mut Output<'a, W>,
     errors: &mut Output<'_, E>,
 ) -> Status
-    ensures { DoesShow (left R.remaining input.old) (left R.remaining input.new)
-        (held W.contents output.old) (held W.contents output.new)
-        (held E.contents errors.old) (held E.contents errors.new) result }
+    ensures { AfterShow (left R.remaining input.old) (left R.remaining input.new)
+        (output_device W.contents output.old) (output_device W.contents output.new)
+        (output_device E.contents errors.old) (output_device E.contents errors.new) result }
 {
     match show_text(alloc, input, output) {
         Ok(()) => Status::Done,
@@ -50,9 +50,9 @@ fn show_text<'a, R: Read, W: Write>(
     output: &mut Output<'a, W>,
 ) -> Result<(), Fault<'a>>
     ensures shown { IfSome (R.remaining input.old.reader)
-        (λ text. ShowsText text (held W.contents output.old) (held W.contents output.new) result) }
+        (λ text. ShowResult text (output_device W.contents output.old) (output_device W.contents output.new) result) }
     ensures path { input.new.path ≡ input.old.path }
-    ensures failed { IsOfStream (left R.remaining input.new) (held W.contents output.new) result }
+    ensures failed { IsOfStream (left R.remaining input.new) (output_device W.contents output.new) result }
 {
     let text = input.read_all(alloc)?;
     let octets = decode(alloc, text.as_slice())?;
@@ -67,8 +67,8 @@ fn print_lines<'a, W: Write>(
     lines: &[u8],
     answer: Result<(), Fault<'a>>,
 ) -> Result<(), Fault<'a>>
-    ensures { PrintsLines lines.now answer.entry (held W.contents output.old)
-        (held W.contents output.new) result }
+    ensures { PrintLinesResult lines.now answer.entry (output_device W.contents output.old)
+        (output_device W.contents output.new) result }
 {
     if matches!(answer, Err(Fault::Memory)) {
         return answer;
@@ -81,7 +81,7 @@ fn print_lines<'a, W: Write>(
 
 /// Appends the lines of each message in turn, up to the fault that ends them.
 fn show_octets(alloc: Global, octets: &[u8], text: &mut Vec<u8>) -> Result<(), Fault<'static>>
-    ensures { ShowsOctets octets.now text.old.items text.new.items result }
+    ensures { ShowOctetsResult octets.now text.old.items text.new.items result }
 {
     let mut framer = Framer::new(alloc, MESSAGE_LIMIT);
     framer.feed(octets)?;
@@ -94,7 +94,7 @@ fn show_octets(alloc: Global, octets: &[u8], text: &mut Vec<u8>) -> Result<(), F
 fn show_next(alloc: Global, framer: &mut Framer, text: &mut Vec<u8>) -> Result<bool, Fault<'static>>
     requires limited { framer.old.stream.limit ≡ MESSAGE_LIMIT }
     requires sound { framer.old.stream.fault ≡ None }
-    ensures { ShowsNext framer.old.stream framer.new.stream text.old.items text.new.items result }
+    ensures { ShowNextResult framer.old.stream framer.new.stream text.old.items text.new.items result }
 {
     let Some(message) = framer.next()? else {
         return Ok(false);

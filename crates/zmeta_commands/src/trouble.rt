@@ -1,12 +1,12 @@
 //! Whether all that was to be asked was asked and answered.
 ghost use Rattle.std.specs.Prelude.{◌≡◌, ◌<◌, ◌^◌, not, ◌||◌, length};
-ghost use Rattle.zoom.specs.Metas.{Tells};
+ghost use Rattle.zoom.specs.Metas.{IsTranscriptValue};
 ghost use Rattle.zmeta_commands.specs.Finished.{is_failed, is_troubled, is_asked, IsTroubledAt, HasTrouble, IsStatusOf, IsFinishedStatus};
 
 use crate::fault::Status;
 use crate::finished::Finished;
 use bytes::Bytes;
-use zoom::laws::{one_hearing, up_to};
+use zoom::laws::{one_transcript, up_to};
 use zoom::{Meta, State};
 
 fn is_failed(state: State) -> bool
@@ -24,10 +24,10 @@ fn is_any(failed: bool, complete: bool, skipped: bool) -> bool
 /// Whether a connection failed, its target closed it first, or its question was not asked.
 fn is_troubled(meta: &Meta, c: u32) -> bool
     requires { c < length meta.now.pool.connections }
-    ensures { Tells c meta.now is_troubled result }
+    ensures { IsTranscriptValue c meta.now is_troubled result }
 {
     up_to();
-    one_hearing();
+    one_transcript();
     let failed = is_failed(meta.state(c));
     let complete = meta.complete(c);
     let skipped = meta.skipped(c);

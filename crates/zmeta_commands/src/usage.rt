@@ -1,6 +1,6 @@
 //! What is told where words ask for nothing to be done: why they are wrong, or help.
-ghost use Rattle.zmeta_commands.specs.Devices.{held};
-ghost use Rattle.zmeta_commands.specs.Words.{TellsWords};
+ghost use Rattle.zmeta_commands.specs.Devices.{output_device};
+ghost use Rattle.zmeta_commands.specs.Arguments.{AfterUsage};
 
 use crate::fault::{Fault, Status};
 use crate::output::Output;
@@ -14,8 +14,8 @@ pub(crate) fn tell<'a, W: Write, E: Write>(
     output: &mut Output<'a, W>,
     errors: &mut Output<'a, E>,
 ) -> Status
-    ensures { TellsWords error.now (held W.contents output.old) (held W.contents output.new)
-        (held E.contents errors.old) (held E.contents errors.new) result }
+    ensures { AfterUsage error.now (output_device W.contents output.old) (output_device W.contents output.new)
+        (output_device E.contents errors.old) (output_device E.contents errors.new) result }
 {
     if error.kind() == ErrorKind::OutOfMemory {
         return Fault::Memory.report(errors);
@@ -23,7 +23,7 @@ pub(crate) fn tell<'a, W: Write, E: Write>(
     if error.use_stderr() {
         // Words that cannot be told to be wrong are wrong all the same.
         let _ = errors.show(error);
-        return Status::Words;
+        return Status::Arguments;
     }
     match output.show(error) {
         Ok(()) => Status::Done,

@@ -1,9 +1,9 @@
 //! World files, read by the commands.
 
 ghost use Rattle.std.specs.Prelude.{IfOk, IfErr, IfSome};
-ghost use Rattle.zmeta_world.specs.Fitness.{IsFit};
+ghost use Rattle.zmeta_world.specs.InMemoryRuns.{IsFit};
 ghost use Rattle.zmeta_commands.specs.Finished.{IsOfWorld};
-ghost use Rattle.zmeta_commands.specs.Worlds.{SaysWorld};
+ghost use Rattle.zmeta_commands.specs.Worlds.{WorldResult};
 
 use crate::fault::Fault;
 use crate::input::Input;
@@ -16,7 +16,7 @@ pub(crate) fn world_in<'a, R: Read>(
     alloc: Global,
     file: &mut Input<'a, R>,
 ) -> Result<World, Fault<'a>>
-    ensures says { IfSome (R.remaining file.old.reader) (λ octets. SaysWorld octets result) }
+    ensures says { IfSome (R.remaining file.old.reader) (λ octets. WorldResult octets result) }
     ensures fit { IfOk result IsFit }
     ensures path { IfErr result (IsOfWorld file.old.path.now) }
 {

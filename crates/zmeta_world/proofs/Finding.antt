@@ -6,11 +6,11 @@ use Rattle.zmeta_world.specs.declared.world.AskedQuestion.{AskedQuestion}
 use Rattle.zmeta_world.specs.declared.world.WorldError.{WorldError}
 use Rattle.zmeta_world.specs.declared.world.WorldError.TheVariants as errors
 use Rattle.zmeta_world.specs.declared.parts.Parts.{Parts}
-use Rattle.zmeta_world.specs.Finding.{questions_of, AreParts, IsOneMore, FindsOne, AreFound, IsFirstAtNone}
-use Rattle.zmeta_world.specs.Fitness.{IsFit}
+use Rattle.zmeta_world.specs.Finding.{questions_of, AreParts, IsOneMore, FindResult, AreFound, IsFirstUnfound}
+use Rattle.zmeta_world.specs.InMemoryRuns.{IsFit}
 
 pub one_found : {A : Type 0} (find : AskedQuestion → Option A) (qs : List AskedQuestion) (i : ℕ) (q : AskedQuestion) (found new : List A) (x : A)
-    → i < length qs → q ≡ get_or qs i q → AreFound find (take i qs) found → FindsOne find q (Ok x) → new ≡ found ++ x ∷ []
+    → i < length qs → q ≡ get_or qs i q → AreFound find (take i qs) found → FindResult find q (Ok x) → new ≡ found ++ x ∷ []
     → AreFound find (take (i + 1) qs) new
 one_found find qs i q found new x lt is h f e =
     ap (map find) (take_more qs i q lt ∙ ap (λ z. take i qs ++ z ∷ []) (sym is))
@@ -28,7 +28,7 @@ one_more qs q old new h m = record {
 -- ---- the first for which nothing is
 
 pub first_at_none : {A : Type 0} (find : AskedQuestion → Option A) (qs : List AskedQuestion) (i : ℕ) (q : AskedQuestion) (found : List A) (e : WorldError)
-    → i < length qs → q ≡ get_or qs i q → AreFound find (take i qs) found → FindsOne find q (Err e) → IsFirstAtNone find qs e
+    → i < length qs → q ≡ get_or qs i q → AreFound find (take i qs) found → FindResult find q (Err e) → IsFirstUnfound find qs e
 first_at_none find qs i q found (errors.Refused line) lt is h f = record {
   front = take i qs;
   found = found;

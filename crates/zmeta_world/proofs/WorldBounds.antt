@@ -1,11 +1,11 @@
 -- How many questions so many lines can put.
 use Rattle.std.proofs.Common.{◌≡◌, ◌∙◌, sym, ap, ℕ, ◌≤◌, ◌+◌, List, [], ◌∷◌, ◌++◌, length, Bool, true, false, if◌then◌else◌, Option, Some, None, refl, arith, length-append}
 use Rattle.std.specs.Option.{option_map}
-use Rattle.zmeta_world.specs.Worlds.{Leaves, AreWorld, none, more, with_targets, new_target, new_host, asked_question, move_of, end_of, is_defined, is_among, place_of, asked_names, target_names}
+use Rattle.zmeta_world.specs.Worlds.{AfterLine, AreWorld, none, more, with_targets, new_target, new_host, asked_question, move_of, end_of, is_defined, is_among, place_of, asked_names, target_names}
 use Rattle.zmeta_world.specs.declared.world.World.{World}
 use Rattle.zmeta_world.specs.declared.world.line.Line.{Line}
 use Rattle.zmeta_world.specs.declared.world.line.Line.TheVariants as lines
-use Rattle.zmeta_world.proofs.WorldSaid.{none_some, some_same}
+use Rattle.zmeta_world.proofs.WorldParsing.{none_some, some_same}
 
 same_asked : (x v : World) → Some x ≡ Some v → length x.questions ≡ length v.questions
 same_asked x v e = ap (λ z. length z.questions) (some_same x v e)
@@ -28,7 +28,7 @@ with true n change o v same e = mapped n change o v same e
 with false n change o v same e = absurd (none_some e)
 
 -- a line puts one question at most
-leaves_one : (number : ℕ) (line : Line) (w v : World) → Leaves number line w v → length v.questions ≤ length w.questions + 1
+leaves_one : (number : ℕ) (line : Line) (w v : World) → AfterLine number line w v → length v.questions ≤ length w.questions + 1
 leaves_one number lines.Empty w v h = let same : length w.questions ≡ length v.questions = same_asked w v h in omega arith
 leaves_one number (lines.Step n) w v h = let same : length w.questions ≡ length v.questions = same_asked (record w { step = n }) v h in omega arith
 leaves_one number (lines.Window n) w v h = let same : length w.questions ≡ length v.questions = same_asked (record w { window = n }) v h in omega arith
@@ -54,5 +54,5 @@ pub few_questions : {front : List (List ℕ)} {w : World} → AreWorld front w �
 few_questions none = omega arith
 few_questions (more {front = front} {text = text} {w = w} {v = v} a m) =
     let before : length w.questions ≤ length front = few_questions a in
-    let step : length v.questions ≤ length w.questions + 1 = leaves_one (length front + 1) m.line w v m.leaves in
+    let step : length v.questions ≤ length w.questions + 1 = leaves_one (length front + 1) m.line w v m.effect in
     rw (length-append front (text ∷ [])) (omega arith)

@@ -7,12 +7,12 @@ use Rattle.ztarget.specs.declared.settings.TargetSettings.{TargetSettings}
 use Rattle.zmeta_world.specs.Worlds.{in_last, in_database, in_target, add_database, change_target, with_targets, new_database, is_among, target_names, database_names}
 use Rattle.zmeta_world.specs.declared.world.World.{World}
 use Rattle.zmeta_world.specs.declared.world.NamedTarget.{NamedTarget}
-use Rattle.zmeta_world.specs.World.{Answers}
-use Rattle.zmeta_world.specs.WorldParts.{listed, target}
+use Rattle.zmeta_world.specs.World.{LineResult}
+use Rattle.zmeta_world.specs.WorldParts.{list_of, target}
 use Rattle.zmeta_world.specs.declared.world.fault.LineFault.{LineFault}
 use Rattle.zmeta_world.specs.declared.world.fault.LineFault.TheVariants as faults
 use Rattle.zmeta_world.proofs.WorldLast.{in_last_end}
-use Rattle.zmeta_world.proofs.WorldSaid.{none_some, some_same}
+use Rattle.zmeta_world.proofs.WorldParsing.{none_some, some_same}
 
 -- ---- a target and a host
 
@@ -53,11 +53,11 @@ last_kept : (change : Database → Option Database) (before : List NamedTarget) 
 last_kept change before t e =
     in_last_end (in_target change) before t ∙ ap (λ z. option_map (λ y. before ++ y ∷ []) (option_map (λ databases. record t { databases = databases }) z)) e
 
-refused_by : (change : Database → Option Database) (before : List NamedTarget) (t : NamedTarget) (e : LineFault) → Answers {A = List Database} (in_last change t.databases) (Err e) → Answers {A = List NamedTarget} (in_last (in_target change) (before ++ t ∷ [])) (Err e)
+refused_by : (change : Database → Option Database) (before : List NamedTarget) (t : NamedTarget) (e : LineFault) → LineResult {A = List Database} (in_last change t.databases) (Err e) → LineResult {A = List NamedTarget} (in_last (in_target change) (before ++ t ∷ [])) (Err e)
 refused_by change before t faults.Refused h = last_kept change before t h
 refused_by change before t faults.Memory h = tt
 
-pub refused_in : (change : Database → Option Database) (before : List NamedTarget) (t : NamedTarget) (e f : LineFault) (r : Result (List NamedTarget) LineFault) → r ≡ Err f → f ≡ e → Answers {A = List Database} (in_last change t.databases) (Err e) → Answers (in_last (in_target change) (before ++ t ∷ [])) r
+pub refused_in : (change : Database → Option Database) (before : List NamedTarget) (t : NamedTarget) (e f : LineFault) (r : Result (List NamedTarget) LineFault) → r ≡ Err f → f ≡ e → LineResult {A = List Database} (in_last change t.databases) (Err e) → LineResult (in_last (in_target change) (before ++ t ∷ [])) r
 refused_in change before t e f r is of h = rw (is, of) (refused_by change before t e h)
 
 chosen : (b : Bool) (t u v : NamedTarget) → t.name ≡ u.name → (if b then None else Some u) ≡ Some v → t.name ≡ v.name
@@ -81,6 +81,6 @@ target_keeps change t u e = mapped (in_last change t.databases) t u e
 pub still_named : (change : Database → Option Database) (keys : List (List ℕ)) (had es : List Database) → ((d u : Database) → change d ≡ Some u → d.name ≡ u.name) → keys ≡ database_names had → in_last change had ≡ Some es → keys ≡ database_names es
 still_named change keys had es k n e = n ∙ databases_stay change had es k e
 
-pub refused_last : (change : Database → Option Database) (before : List NamedTarget) (name : List ℕ) (settings : TargetSettings) (had : List Database) (whole : Option (List NamedTarget)) (last : List NamedTarget) (e f : LineFault) (r : Result (List NamedTarget) LineFault) → whole ≡ Some last → before ++ target name settings had ∷ [] ≡ last → r ≡ Err f → f ≡ e → Answers {A = List Database} (in_last change had) (Err e) → Answers (in_last (in_target change) (listed whole)) r
+pub refused_last : (change : Database → Option Database) (before : List NamedTarget) (name : List ℕ) (settings : TargetSettings) (had : List Database) (whole : Option (List NamedTarget)) (last : List NamedTarget) (e f : LineFault) (r : Result (List NamedTarget) LineFault) → whole ≡ Some last → before ++ target name settings had ∷ [] ≡ last → r ≡ Err f → f ≡ e → LineResult {A = List Database} (in_last change had) (Err e) → LineResult (in_last (in_target change) (list_of whole)) r
 refused_last change before name settings had whole last e f r some view err of h =
-    subst (λ z. Answers {A = List NamedTarget} (in_last (in_target change) z) r) (view ∙ sym (ap listed some)) (refused_in change before (target name settings had) e f r err of h)
+    subst (λ z. LineResult {A = List NamedTarget} (in_last (in_target change) z) r) (view ∙ sym (ap list_of some)) (refused_in change before (target name settings had) e f r err of h)

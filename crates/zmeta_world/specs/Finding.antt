@@ -25,17 +25,17 @@ pub record IsOneMore (asked_question : AskedQuestion) (old new : Parts) : Type 0
 -- ---- what is found for each
 
 -- what is found for a question, or its line, where nothing is
-abbrev pub FindsOne : {A : Type 0} → (AskedQuestion → Option A) → AskedQuestion → Result A WorldError → Type 0
-FindsOne find asked_question (Ok found) = find asked_question ≡ Some found
-FindsOne find asked_question (Err (errors.Refused line)) = (find asked_question ≡ None) × (line ≡ asked_question.line)
-FindsOne find asked_question (Err errors.Memory) = Unit {0}
+abbrev pub FindResult : {A : Type 0} → (AskedQuestion → Option A) → AskedQuestion → Result A WorldError → Type 0
+FindResult find asked_question (Ok found) = find asked_question ≡ Some found
+FindResult find asked_question (Err (errors.Refused line)) = (find asked_question ≡ None) × (line ≡ asked_question.line)
+FindResult find asked_question (Err errors.Memory) = Unit {0}
 
 -- these are found for the questions, one each
 abbrev pub AreFound : {A : Type 0} → (AskedQuestion → Option A) → List AskedQuestion → List A → Type 0
 AreFound find asked_questions found = map find asked_questions ≡ map Some found
 
 -- The line is that of the first of the questions that nothing is found for.
-pub record IsOfFirstNone {A : Type 0} (find : AskedQuestion → Option A) (asked_questions : List AskedQuestion)
+pub record IsFirstUnfoundLine {A : Type 0} (find : AskedQuestion → Option A) (asked_questions : List AskedQuestion)
     (line : ℕ) : Type 0 where
   pub front : List AskedQuestion
   pub found : List A
@@ -46,6 +46,6 @@ pub record IsOfFirstNone {A : Type 0} (find : AskedQuestion → Option A) (asked
   pub none : find asked_question ≡ None
   pub place : line ≡ asked_question.line
 
-abbrev pub IsFirstAtNone : {A : Type 0} → (AskedQuestion → Option A) → List AskedQuestion → WorldError → Type 0
-IsFirstAtNone find asked_questions (errors.Refused line) = IsOfFirstNone find asked_questions line
-IsFirstAtNone find asked_questions errors.Memory = Unit {0}
+abbrev pub IsFirstUnfound : {A : Type 0} → (AskedQuestion → Option A) → List AskedQuestion → WorldError → Type 0
+IsFirstUnfound find asked_questions (errors.Refused line) = IsFirstUnfoundLine find asked_questions line
+IsFirstUnfound find asked_questions errors.Memory = Unit {0}

@@ -5,5 +5,5 @@ pub mod Worlds
 pub mod WorldParts
 pub mod WorldReading
 pub mod Finding
-pub mod Fitness
-pub mod Enquiries
+pub mod InMemoryRuns
+pub mod NetworkRuns

@@ -5,10 +5,10 @@ use Rattle.zmeta_world.specs.declared.world.fault.LineFault.{LineFault}
 use Rattle.zmeta_world.specs.declared.world.fault.LineFault.TheVariants as faults
 
 -- what is due is answered; where nothing is due, the line is refused
-abbrev pub Answers : {A : Type 0} → Option A → Result A LineFault → Type 0
-Answers due (Ok value) = due ≡ Some value
-Answers due (Err faults.Refused) = due ≡ None
-Answers due (Err faults.Memory) = Unit {0}
+abbrev pub LineResult : {A : Type 0} → Option A → Result A LineFault → Type 0
+LineResult due (Ok value) = due ≡ Some value
+LineResult due (Err faults.Refused) = due ≡ None
+LineResult due (Err faults.Memory) = Unit {0}
 
 -- the pieces of a rest
 abbrev pub pieces : ℕ → Option (List ℕ) → List (List ℕ)

@@ -7,8 +7,8 @@ use Rattle.zquery.specs.declared.notation.token.Token.{Token}
 use Rattle.zquery.specs.Notation.Sets.{oid_of}
 use Rattle.ztarget.specs.declared.settings.TargetSettings.{TargetSettings}
 use Rattle.zmeta_world.specs.WorldWants.{number_in, wanted_of}
-use Rattle.zmeta_world.specs.declared.world.word.Keyword.{Keyword}
-use Rattle.zmeta_world.specs.declared.world.word.Keyword.TheVariants as keys
+use Rattle.zmeta_world.specs.declared.world.keyword.Keyword.{Keyword}
+use Rattle.zmeta_world.specs.declared.world.keyword.Keyword.TheVariants as keys
 use Rattle.zmeta_world.specs.declared.world.line.Content.TheVariants as contents
 use Rattle.zmeta_world.specs.declared.world.line.Line.{Line}
 use Rattle.zmeta_world.specs.declared.world.line.Line.TheVariants as lines
@@ -25,8 +25,8 @@ abbrev pub lines_of : List ℕ → List (List ℕ)
 lines_of text = slice_split is_feed text
 
 -- the words of a line: its tokens, quoted or not
-abbrev pub words : List Token → List (List ℕ)
-words ts = map (λ t. t.text) ts
+abbrev pub token_texts : List Token → List (List ℕ)
+token_texts ts = map (λ t. t.text) ts
 
 unfoldable pub keyword_of : List ℕ → Option Keyword
 keyword_of w =
@@ -62,15 +62,15 @@ is_flag b = (b == 99) || (b == 110) || (b == 114)
 abbrev pub are_flags : List ℕ → Bool
 are_flags text = bytes_eq text (codes "-") || (not (length text == 0) && list_all is_flag text)
 
-abbrev pub has : ℕ → List ℕ → Bool
-has flag text = list_any (λ b. b == flag) text
+abbrev pub has_flag : ℕ → List ℕ → Bool
+has_flag flag text = list_any (λ b. b == flag) text
 
 abbrev pub settings : List ℕ → ℕ → TargetSettings
 settings flags size = record {
   size = pos size;
-  concurrent = has 99 flags;
-  named = has 110 flags;
-  refuse = has 114 flags;
+  concurrent = has_flag 99 flags;
+  named = has_flag 110 flags;
+  refuse = has_flag 114 flags;
 }
 
 -- target NAME SIZE FLAGS: from one octet on

@@ -7,9 +7,9 @@ use Rattle.ztarget.specs.declared.settings.TargetSettings.{TargetSettings}
 use Rattle.zmeta_world.specs.declared.world.NamedTarget.{NamedTarget}
 
 -- the list, empty where there is none yet
-abbrev pub listed : {A : Type 0} → Option (List A) → List A
-listed None = []
-listed (Some xs) = xs
+abbrev pub list_of : {A : Type 0} → Option (List A) → List A
+list_of None = []
+list_of (Some xs) = xs
 
 abbrev pub entry : List ℕ → List ℕ → List Field → Entry
 entry syntax octets fields = record { syntax = syntax; octets = octets; fields = fields }

@@ -12,9 +12,9 @@ use Rattle.zmeta_world.specs.declared.world.fault.LineFault.{LineFault}
 use Rattle.zmeta_world.specs.declared.world.fault.LineFault.TheVariants as faults
 use Rattle.zmeta_world.specs.declared.world.line.Line.{Line}
 use Rattle.zmeta_world.specs.declared.world.reader.Reader.{Reader}
-use Rattle.zmeta_world.specs.WorldLines.{lines_of, line_of, words}
-use Rattle.zmeta_world.specs.WorldParts.{listed}
-use Rattle.zmeta_world.specs.Worlds.{target_names, host_names, asked_names, IsQueryOf, Leaves, Makes, AreWorld, IsRefused}
+use Rattle.zmeta_world.specs.WorldLines.{lines_of, line_of, token_texts}
+use Rattle.zmeta_world.specs.WorldParts.{list_of}
+use Rattle.zmeta_world.specs.Worlds.{target_names, host_names, asked_names, IsQueryOf, AfterLine, AfterLineText, AreWorld, IsRefused}
 use Rattle.zmeta_world.specs.World.{pieces}
 
 -- the world that was read
@@ -22,49 +22,49 @@ abbrev pub world_of : Reader → World
 world_of r = record {
   step = r.step;
   window = r.window;
-  targets = listed r.targets;
+  targets = list_of r.targets;
   hosts = r.hosts.items;
   questions = r.questions.items;
   moves = r.moves.items;
 }
 
 -- the sets of names are those of what was read
-pub record IsSound (r : Reader) : Type 0 where
-  pub targets : r.target_names.keys ≡ target_names (listed r.targets)
+pub record IsSoundReader (r : Reader) : Type 0 where
+  pub targets : r.target_names.keys ≡ target_names (list_of r.targets)
   pub hosts : r.host_names.keys ≡ host_names r.hosts.items
   pub asked : r.asked_names.keys ≡ asked_names r.questions.items
 
 -- what is due was read then; where nothing is due, the line is refused
-abbrev pub Gives : Option World → Reader → Result Unit LineFault → Type 0
-Gives due r (Ok _) = IsSound r × (due ≡ Some (world_of r))
-Gives due r (Err faults.Refused) = due ≡ None
-Gives due r (Err faults.Memory) = Unit {0}
+abbrev pub AddResult : Option World → Reader → Result Unit LineFault → Type 0
+AddResult due r (Ok _) = IsSoundReader r × (due ≡ Some (world_of r))
+AddResult due r (Err faults.Refused) = due ≡ None
+AddResult due r (Err faults.Memory) = Unit {0}
 
 -- the line leaves what was read then; where it leaves nothing, it is refused
-abbrev pub Follows : ℕ → Line → World → Reader → Result Unit LineFault → Type 0
-Follows number line w r (Ok _) = IsSound r × Leaves number line w (world_of r)
-Follows number line w r (Err faults.Refused) = (v : World) → Leaves number line w v → ⊥
-Follows number line w r (Err faults.Memory) = Unit {0}
+abbrev pub AddLineResult : ℕ → Line → World → Reader → Result Unit LineFault → Type 0
+AddLineResult number line w r (Ok _) = IsSoundReader r × AfterLine number line w (world_of r)
+AddLineResult number line w r (Err faults.Refused) = (v : World) → AfterLine number line w v → ⊥
+AddLineResult number line w r (Err faults.Memory) = Unit {0}
 
-abbrev pub MakesOr : ℕ → List ℕ → World → Reader → Result Unit LineFault → Type 0
-MakesOr number text w r (Ok _) = IsSound r × Makes number text w (world_of r)
-MakesOr number text w r (Err faults.Refused) = (v : World) → Makes number text w v → ⊥
-MakesOr number text w r (Err faults.Memory) = Unit {0}
+abbrev pub ReadResult : ℕ → List ℕ → World → Reader → Result Unit LineFault → Type 0
+ReadResult number text w r (Ok _) = IsSoundReader r × AfterLineText number text w (world_of r)
+ReadResult number text w r (Err faults.Refused) = (v : World) → AfterLineText number text w v → ⊥
+ReadResult number text w r (Err faults.Memory) = Unit {0}
 
 -- the text's words say this, and nothing else
-pub record IsSaid (text : List ℕ) (line : Line) : Type 0 where
+pub record IsOnlyLine (text : List ℕ) (line : Line) : Type 0 where
   pub tokens : List Token
   pub lexed : AreTokens tokens text
-  pub says : line_of (words tokens) ≡ Some line
+  pub meaning : line_of (token_texts tokens) ≡ Some line
   pub only : (others : List Token) (other : Line) → AreTokens others text
-      → line_of (words others) ≡ Some other → line ≡ other
+      → line_of (token_texts others) ≡ Some other → line ≡ other
 
 -- what the words of a text say, if anything
-abbrev pub Says : List ℕ → Result Line LineFault → Type 0
-Says text (Ok line) = IsSaid text line
-Says text (Err faults.Refused) =
-    (tokens : List Token) (line : Line) → AreTokens tokens text → line_of (words tokens) ≡ Some line → ⊥
-Says text (Err faults.Memory) = Unit {0}
+abbrev pub ParseResult : List ℕ → Result Line LineFault → Type 0
+ParseResult text (Ok line) = IsOnlyLine text line
+ParseResult text (Err faults.Refused) =
+    (tokens : List Token) (line : Line) → AreTokens tokens text → line_of (token_texts tokens) ≡ Some line → ⊥
+ParseResult text (Err faults.Memory) = Unit {0}
 
 -- the query of a text, if it has one
 abbrev pub HasQuery : List ℕ → Result RpnQuery LineFault → Type 0
@@ -80,9 +80,9 @@ fault_of _ = faults.Refused
 -- ---- the lines one after the other
 
 -- how many octets are left, and one where there is a line
-abbrev pub left : Option (List ℕ) → ℕ
-left None = 0
-left (Some rest) = length rest + 1
+abbrev pub octets_left : Option (List ℕ) → ℕ
+octets_left None = 0
+octets_left (Some rest) = length rest + 1
 
 -- so many lines were read, and others are left
 pub record IsReading (file : List ℕ) (number : ℕ) (rest : Option (List ℕ)) (r : Reader) : Type 0 where
@@ -90,14 +90,15 @@ pub record IsReading (file : List ℕ) (number : ℕ) (rest : Option (List ℕ))
   pub cut : lines_of file ≡ front ++ pieces 10 rest
   pub place : number ≡ length front
   pub world : AreWorld front (world_of r)
-  pub sound : IsSound r
-  pub within : number + left rest ≤ length file + 1
+  pub sound : IsSoundReader r
+  pub within : number + octets_left rest ≤ length file + 1
 
 -- what line `number` makes of what was read; or it is the one that is refused
-abbrev pub Reads : ℕ → List ℕ → World → Reader → Result Unit WorldError → Type 0
-Reads number text w r (Ok _) = IsSound r × Makes number text w (world_of r)
-Reads number text w r (Err (errors.Refused line)) = (line ≡ number) × ((v : World) → Makes number text w v → ⊥)
-Reads number text w r (Err errors.Memory) = Unit {0}
+abbrev pub ReadLineResult : ℕ → List ℕ → World → Reader → Result Unit WorldError → Type 0
+ReadLineResult number text w r (Ok _) = IsSoundReader r × AfterLineText number text w (world_of r)
+ReadLineResult number text w r (Err (errors.Refused line)) = (line ≡ number)
+    × ((v : World) → AfterLineText number text w v → ⊥)
+ReadLineResult number text w r (Err errors.Memory) = Unit {0}
 
 -- the file's first line at fault
 abbrev pub IsFaultOf : List ℕ → WorldError → Type 0

@@ -27,7 +27,7 @@ use Rattle.zmeta_world.specs.declared.world.line.Line.{Line}
 use Rattle.zmeta_world.specs.declared.world.line.Line.TheVariants as lines
 use Rattle.zmeta_world.specs.declared.world.line.Way.{Way}
 use Rattle.zmeta_world.specs.declared.world.line.Way.TheVariants as ways
-use Rattle.zmeta_world.specs.WorldLines.{lines_of, words, line_of}
+use Rattle.zmeta_world.specs.WorldLines.{lines_of, token_texts, line_of}
 
 -- ---- names
 
@@ -174,33 +174,34 @@ abbrev pub IsQueryOf : List ℕ → RpnQuery → Type 0
 IsQueryOf text query = IsText text query × (height query.root ≤ 32)
 
 -- line `number`, which says this, makes of the first world the second
-abbrev pub Leaves : ℕ → Line → World → World → Type 0
-Leaves number lines.Empty w v = Some w ≡ Some v
-Leaves number (lines.Step n) w v = Some (record w { step = n }) ≡ Some v
-Leaves number (lines.Window n) w v = Some (record w { window = n }) ≡ Some v
-Leaves number (lines.Target name settings) w v = put_target name settings w ≡ Some v
-Leaves number (lines.Host name address) w v = put_host name address w ≡ Some v
-Leaves number (lines.Database name) w v = change_target (add_database name) w ≡ Some v
-Leaves number (lines.Content content) w v =
+abbrev pub AfterLine : ℕ → Line → World → World → Type 0
+AfterLine number lines.Empty w v = Some w ≡ Some v
+AfterLine number (lines.Step n) w v = Some (record w { step = n }) ≡ Some v
+AfterLine number (lines.Window n) w v = Some (record w { window = n }) ≡ Some v
+AfterLine number (lines.Target name settings) w v = put_target name settings w ≡ Some v
+AfterLine number (lines.Host name address) w v = put_host name address w ≡ Some v
+AfterLine number (lines.Database name) w v = change_target (add_database name) w ≡ Some v
+AfterLine number (lines.Content content) w v =
     change_target (in_target (in_database (add_content content))) w ≡ Some v
-Leaves number (lines.Ask line) w v =
+AfterLine number (lines.Ask line) w v =
     (query : RpnQuery) × IsQueryOf line.text query × (put_question number line query w ≡ Some v)
-Leaves number (lines.Carry way name k) w v = put_move way name k w ≡ Some v
+AfterLine number (lines.Carry way name k) w v = put_move way name k w ≡ Some v
 
 -- Line `number` has words, which say something that makes of the first world the second.
-pub record Makes (number : ℕ) (text : List ℕ) (w v : World) : Type 0 where
+pub record AfterLineText (number : ℕ) (text : List ℕ) (w v : World) : Type 0 where
   pub tokens : List Token
   pub line : Line
   pub lexed : AreTokens tokens text
-  pub says : line_of (words tokens) ≡ Some line
-  pub leaves : Leaves number line w v
+  pub meaning : line_of (token_texts tokens) ≡ Some line
+  pub effect : AfterLine number line w v
 
 -- ---- the world of a file
 
 -- the world that lines make, the first being line 1
 pub data AreWorld : List (List ℕ) → World → Type 0 where
   none : AreWorld [] empty
-  more : {front : List (List ℕ)} {text : List ℕ} {w v : World} → AreWorld front w → Makes (length front + 1) text w v
+  more : {front : List (List ℕ)} {text : List ℕ} {w v : World} → AreWorld front w
+      → AfterLineText (length front + 1) text w v
       → AreWorld (front ++ text ∷ []) v
 
 abbrev pub IsWorld : List ℕ → World → Type 0
@@ -215,4 +216,4 @@ pub record IsRefused (file : List ℕ) (number : ℕ) : Type 0 where
   pub cut : lines_of file ≡ front ++ text ∷ rest
   pub place : number ≡ length front + 1
   pub before : AreWorld front world
-  pub fault : (v : World) → Makes number text world v → ⊥
+  pub fault : (v : World) → AfterLineText number text world v → ⊥

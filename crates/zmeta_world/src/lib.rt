@@ -1,7 +1,7 @@
 //! Worlds.
 #![tactic(auto)]
 
-pub mod enquiry;
-pub mod fitness;
+pub mod in_memory;
+pub mod network;
 mod parts;
 pub mod world;

@@ -2,20 +2,20 @@
 
 ghost use Rattle.std.specs.Prelude.{◌≡◌, ◌<◌, ◌^◌, length, IfOk, IfErr};
 ghost use Rattle.zmeta_world.specs.declared.world.WorldError.TheVariants.{Memory};
-ghost use Rattle.zmeta_world.specs.WorldReading.{IsSound, Reads, IsFaultOf, world_of};
+ghost use Rattle.zmeta_world.specs.WorldReading.{IsSoundReader, ReadLineResult, IsFaultOf, world_of};
 ghost use Rattle.zmeta_world.specs.Worlds.{IsWorld};
-ghost use Rattle.zmeta_world.specs.Fitness.{IsFit};
+ghost use Rattle.zmeta_world.specs.InMemoryRuns.{IsFit};
 
 mod cut;
 mod fault;
+mod keyword;
 mod line;
 mod names;
 mod number;
+mod parsing;
 mod reader;
-mod said;
 mod targets;
 mod wanted;
-mod word;
 
 use crate::world::cut::first_piece;
 use crate::world::fault::LineFault;
@@ -104,9 +104,9 @@ impl From<AllocError> for WorldError {
 
 /// Reads line `number`.
 fn read_line(reader: &mut Reader, number: u64, text: &[u8]) -> Result<(), WorldError>
-    requires sound { IsSound reader.old }
+    requires sound { IsSoundReader reader.old }
     requires few { length reader.old.questions.items < 2 ^ 32 }
-    ensures { Reads number text.now (world_of reader.old) reader.new result }
+    ensures { ReadLineResult number text.now (world_of reader.old) reader.new result }
 {
     match reader.read(number, text) {
         Ok(()) => Ok(()),

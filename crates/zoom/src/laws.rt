@@ -2,6 +2,6 @@
 
 pub use zoom_laws::laws::{accord_laws, catalogue_laws, exchange_laws, schedule_laws};
 pub use zoom_pool::laws::{
-    conflicts, meta_laws, one_hearing, one_meeting, order_does_not_matter, take_laws, up_to,
+    conflicts, meta_laws, one_input, one_transcript, order_does_not_matter, take_laws, up_to,
 };
 pub use zoom_sim::laws::run_law;

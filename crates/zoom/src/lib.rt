@@ -7,11 +7,11 @@
 pub mod laws;
 
 pub use zoom_io::{
-    AnswerError, Device, Ends, Failed, Phase, Polled, PushError, Sink, Source, TalkError,
-    Unwatched, Watch, answer, push, talk, talk_at_once,
+    AnswerError, Counting, Failed, Halves, NonBlocking, PushError, Sink, Source, TalkError,
+    TalkPhase, Unwatched, Watch, answer, push, talk, talk_at_once,
 };
 pub use zoom_pool::{Call, Host, Meta, Pool, Reason, ResultSet, State, Step, TakeError};
 pub use zoom_questions::{MetaSettings, Move, Question};
-pub use zoom_sim::ways::{Way, Within};
+pub use zoom_sim::channels::{Way, Within};
 pub use zoom_sim::{run_over, run_world};
-pub use zoom_tcp::{Line, ServeError, ask, ask_at_once, run_loopback, serve};
+pub use zoom_tcp::{ServeError, TcpLink, ask, ask_at_once, run_loopback, serve};

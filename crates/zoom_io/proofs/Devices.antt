@@ -3,7 +3,7 @@ use Rattle.std.proofs.Common.{◌≡◌, ◌∙◌, sym, ap, ℕ, ◌-◌, List,
 use Rattle.std.specs.Io.KnownBytes.{Keeps, Appends, Consumes}
 use Rattle.std.proofs.KnownBytes.{Appends-trans}
 use Rattle.std.proofs.lemmas.List.{take_rest}
-use Rattle.zoom_io.specs.Devices.{DeviceState, Writes}
+use Rattle.zoom_io.specs.Devices.{DeviceState, AfterWrite}
 
 -- ---- failures
 
@@ -17,7 +17,7 @@ pub record HasWritten (old now : DeviceState) (all rest : List ℕ) : Type 0 whe
   pub failures : now.failures ≡ old.failures
 
 pub more_written : (E : Type 0) (old now then : DeviceState) (all rest : List ℕ) (n : ℕ) → HasWritten old now all rest
-    → Writes {E = E} now then (Ok n) rest → HasWritten old then all (take (length rest - n) (drop n rest))
+    → AfterWrite {E = E} now then (Ok n) rest → HasWritten old then all (take (length rest - n) (drop n rest))
 more_written E old now then all rest n h w = record {
   front = h.front ++ take n rest;
   cut = h.cut ∙ ap (λ l. h.front ++ l) (sym (take-append-drop n rest))

@@ -9,24 +9,24 @@ use Rattle.zoom_pool.specs.declared.state.Reason.TheVariants as reasons
 use Rattle.zoom_pool.specs.declared.state.State.{State}
 use Rattle.zoom_pool.specs.declared.state.State.TheVariants as states
 use Rattle.zoom_pool.specs.States.{is_stopped}
-use Rattle.zoom_pool.specs.Heard.{Feeds, Takes, Ends, Stops, state_at}
-use Rattle.zoom_pool.specs.Links.{stop_at, OthersStay}
-use Rattle.zoom_pool.specs.Befalling.{IsStateAt}
-use Rattle.zoom_pool.specs.Laws.{OneHearing, OneMeeting, UpToLaw}
+use Rattle.zoom_pool.specs.Transcripts.{Fed, Took, InputEnded, Stopped, state_at}
+use Rattle.zoom_pool.specs.Links.{stop_at, SameOthers}
+use Rattle.zoom_pool.specs.PoolSteps.{IsStateAt}
+use Rattle.zoom_pool.specs.Laws.{OneTranscript, OneInput, UpToLaw}
 use Rattle.zoom_pool.specs.History.{History}
-use Rattle.zoom_pool.specs.Metas.{MetaLinks, MetaAfter, MetaAfterUpTo, MetaBefell, MetaTook, settings_of}
+use Rattle.zoom_pool.specs.Metas.{MetaLinks, MetaAfter, MetaAfterUpTo, MetaRecorded, MetaTakeStep, settings_of}
 use Rattle.zoom_pool.proofs.Metas.{state_tells}
 use Rattle.zoom_io.specs.declared.conversation.TalkError.TheVariants as errors
-use Rattle.zoom_io.specs.Devices.{DeviceState, HasFailed, Rests}
-use Rattle.zoom_io.specs.Talks.{reason_of, ended_well, IsStoppedFor, Stage, Due, Waiting, Over, Ended, Talk, GoesOn, Stopped, Talks, reads, ends, same}
-use Rattle.zoom_io.specs.Turns.{GoesAlone}
+use Rattle.zoom_io.specs.Devices.{DeviceState, HasFailed, IsUntouched}
+use Rattle.zoom_io.specs.TalkTraces.{reason_of, ended_well, IsStoppedFor, Stage, Due, Waiting, Over, Ended, Talk, TalkStep, StoppedTalk, AfterTalk, piece_read, input_end, same}
+use Rattle.zoom_io.specs.TalkSteps.{TalkStepAlone}
 use Rattle.zoom_io.specs.declared.conversation.TalkError.{TalkError}
 use Rattle.zoom_io.specs.declared.outgoing.PushError.{PushError}
 use Rattle.zoom_io.specs.declared.outgoing.PushError.TheVariants as pushes
-use Rattle.zoom_io.specs.Pushes.{IsBroken}
-use Rattle.zoom_io.specs.Talking.{EndedWell, Settles, Listens, Finishes, talk_error}
-use Rattle.zoom_io.proofs.Hearing.{ends_stopped}
-use Rattle.zoom_io.proofs.Speaking.{Begun, begun_on}
+use Rattle.zoom_io.specs.Pushing.{IsBroken}
+use Rattle.zoom_io.specs.Talking.{IsWellEnded, AfterSettle, AfterListen, AfterFinish, talk_error}
+use Rattle.zoom_io.proofs.Taking.{ends_stopped}
+use Rattle.zoom_io.proofs.Sending.{Begun, begun_on}
 
 -- the same, of a reader that gave nothing more
 kept : (c n : ℕ) (stage : Stage) (a b : MetaLinks) (l l2 l3 k k2 : DeviceState)
@@ -38,27 +38,27 @@ kept c n stage a b l l2 l3 k k2 one still q s h x =
       more = t.more;
       read = t.read;
       written = t.written;
-      follows = t.follows;
+      trace = t.trace;
       after = t.after;
       stands = t.stands;
-      came = Consumes-kept l.octets l2.octets l3.octets t.read t.came still;
-      went = t.went;
+      consumed = Consumes-kept l.octets l2.octets l3.octets t.read t.consumed still;
+      appended = t.appended;
     }
 
 -- octets were read and fed
-pub fed_on : (c : ℕ) (old new : MetaLinks) (piece : List ℕ) (l l2 : DeviceState) → MetaBefell c (Feeds piece) old new
+pub fed_on : (c : ℕ) (old new : MetaLinks) (piece : List ℕ) (l l2 : DeviceState) → MetaRecorded c (Fed piece) old new
     → Consumes l.octets l2.octets piece → l2.failures ≡ l.failures → 0 < length piece → length piece ≤ 4096
-    → (held : DeviceState) → GoesOn c Waiting Due suc old new l l2 held held
-fed_on c old new piece l l2 befell came sound some few held = record {
+    → (held : DeviceState) → TalkStep c Waiting Due suc old new l l2 held held
+fed_on c old new piece l l2 befell consumed sound some few held = record {
   on = λ q s h n source sink t. record {
-    more = (c, Feeds piece) ∷ t.more;
+    more = (c, Fed piece) ∷ t.more;
     read = t.read ++ piece;
     written = t.written;
-    follows = reads piece t.follows some few;
+    trace = piece_read piece t.trace some few;
     after = befell q s (t.more ++ h) t.after;
     stands = tt;
-    came = Consumes-trans source.octets l.octets l2.octets t.read piece t.came came;
-    went = t.went;
+    consumed = Consumes-trans source.octets l.octets l2.octets t.read piece t.consumed consumed;
+    appended = t.appended;
   };
   reader = sound;
   writer = refl;
@@ -68,8 +68,8 @@ fed_on c old new piece l l2 befell came sound some few held = record {
 
 -- the connection was stopped by its messages
 pub ends_over : (c n turns : ℕ) (a b d : MetaLinks) (l l2 k k2 k3 : DeviceState) → n ≤ turns
-    → Begun c n Due a b l l2 k k2 → (r : Bool) → Settles c (Ok r) b d k2 k3 → r ≡ true
-    → Talks c turns (Ok tt) a d l l2 k k3
+    → Begun c n Due a b l l2 k k2 → (r : Bool) → AfterSettle c (Ok r) b d k2 k3 → r ≡ true
+    → AfterTalk c turns (Ok tt) a d l l2 k k3
 ends_over c n turns a b d l l2 k k2 k3 few one true s e = record {
   on = λ q s' h x.
       let t = (s l2).on q s' h n l k (one.on q s' h x) in
@@ -81,15 +81,15 @@ ends_over c n turns a b d l l2 k k2 k3 few one false s e = absurd (true≢false 
 
 -- no message is there
 pub waits_on : (c n : ℕ) (a b d : MetaLinks) (l l2 k k2 k3 : DeviceState) → Begun c n Due a b l l2 k k2
-    → (r : Bool) → Settles c (Ok r) b d k2 k3 → r ≡ false → Begun c n Waiting a d l l2 k k3
+    → (r : Bool) → AfterSettle c (Ok r) b d k2 k3 → r ≡ false → Begun c n Waiting a d l l2 k k3
 waits_on c n a b d l l2 k k2 k3 one true s e = absurd (true≢false e)
 waits_on c n a b d l l2 k k2 k3 one false s e =
     begun_on c n Due Waiting same a b d l l2 l2 k k2 k3 one (s l2)
 
 -- a write failed, or memory was wanting
 pub ends_unsettled : (c n turns : ℕ) (a b d : MetaLinks) (l l2 k k2 k3 : DeviceState) → n ≤ turns
-    → Begun c n Due a b l l2 k k2 → (e : PushError) → Settles c (Err e) b d k2 k3 → IsBroken {A = Bool} c (Err e) d
-    → Talks c turns (Err (talk_error e)) a d l l2 k k3
+    → Begun c n Due a b l l2 k k2 → (e : PushError) → AfterSettle c (Err e) b d k2 k3 → IsBroken {A = Bool} c (Err e) d
+    → AfterTalk c turns (Err (talk_error e)) a d l l2 k k3
 ends_unsettled c n turns a b d l l2 k k2 k3 few one pushes.Write off broken = record {
   on = λ q s h x. (n, few, off.on q s h n l l2 k (one.on q s h x));
   blamed = (subst (λ z. HasFailed z k3.failures) one.writer off.failed, one.reader);
@@ -103,28 +103,28 @@ ends_unsettled c n turns a b d l l2 k k2 k3 few one pushes.Memory off broken = r
 
 stopped_by : (c n : ℕ) (stage : Stage) (reason : Reason) (a b d : MetaLinks) (l l2 k k2 : DeviceState)
     → ((q : List Question) (s : MetaSettings) (h : History) → MetaAfter q s h a → Talk q s c h n stage b l l2 k k2)
-    → MetaBefell c (Stops reason) b d
+    → MetaRecorded c (Stopped reason) b d
     → (q : List Question) (s : MetaSettings) (h : History) → MetaAfter q s h a
-    → Stopped q s c h n stage reason d l l2 k k2
+    → StoppedTalk q s c h n stage reason d l l2 k k2
 stopped_by c n stage reason a b d l l2 k k2 talk befell q s h x =
     let t = talk q s h x in
     record { meta = b; talk = t; after = befell q s (t.more ++ h) t.after }
 
 -- as many reads gave octets as may be made
-pub ends_turned : (c n : ℕ) (a b d : MetaLinks) (l l2 k k2 : DeviceState) → Begun c n Waiting a b l l2 k k2
-    → MetaBefell c (Stops reasons.Turns) b d → stop_at d.pool c ≡ Some (states.Failed reasons.Turns)
-    → Talks c n (Err errors.Turns) a d l l2 k k2
-ends_turned c n a b d l l2 k k2 one befell is = record {
+pub ends_at_limit : (c n : ℕ) (a b d : MetaLinks) (l l2 k k2 : DeviceState) → Begun c n Waiting a b l l2 k k2
+    → MetaRecorded c (Stopped reasons.Turns) b d → stop_at d.pool c ≡ Some (states.Failed reasons.Turns)
+    → AfterTalk c n (Err errors.Turns) a d l l2 k k2
+ends_at_limit c n a b d l l2 k k2 one befell is = record {
   on = λ q s h x. stopped_by c n Waiting reasons.Turns a b d l l2 k k2 (λ q s h x. one.on q s h x) befell q s h x;
   blamed = (one.reader, one.writer);
   stopped = is;
 }
 
 -- a read failed, or memory was wanting
-pub ends_unheard : (c n turns : ℕ) (a b d : MetaLinks) (l l2 l3 k k2 : DeviceState) → n < turns
-    → Begun c n Waiting a b l l2 k k2 → (e : TalkError) → Listens c (Err e) b d l2 l3
-    → Talks c turns (Err e) a d l l3 k k2
-ends_unheard c n turns a b d l l2 l3 k k2 few one errors.Read h = record {
+pub ends_unread : (c n turns : ℕ) (a b d : MetaLinks) (l l2 l3 k k2 : DeviceState) → n < turns
+    → Begun c n Waiting a b l l2 k k2 → (e : TalkError) → AfterListen c (Err e) b d l2 l3
+    → AfterTalk c turns (Err e) a d l l3 k k2
+ends_unread c n turns a b d l l2 l3 k k2 few one errors.Read h = record {
   on = λ q s g x. (
     n,
     few,
@@ -133,22 +133,22 @@ ends_unheard c n turns a b d l l2 l3 k k2 few one errors.Read h = record {
   blamed = (subst (λ z. HasFailed z l3.failures) one.reader h.2, one.writer);
   stopped = h.3;
 }
-ends_unheard c n turns a b d l l2 l3 k k2 few one errors.Write h = absurd h
-ends_unheard c n turns a b d l l2 l3 k k2 few one errors.Ended h = absurd h
-ends_unheard c n turns a b d l l2 l3 k k2 few one errors.Turns h = absurd h
-ends_unheard c n turns a b d l l2 l3 k k2 few one errors.Memory h = record {
+ends_unread c n turns a b d l l2 l3 k k2 few one errors.Write h = absurd h
+ends_unread c n turns a b d l l2 l3 k k2 few one errors.Ended h = absurd h
+ends_unread c n turns a b d l l2 l3 k k2 few one errors.Turns h = absurd h
+ends_unread c n turns a b d l l2 l3 k k2 few one errors.Memory h = record {
   on = λ q s g x. record { meta = d; halted = h k2 q s g n l l2 k (one.on q s g x); known = refl; others = λ i far. refl; drivers = refl };
   blamed = tt;
   stopped = tt;
 }
 
 -- octets were read
-pub hears_on : (c n : ℕ) (a b d : MetaLinks) (l l2 l3 k k2 : DeviceState) → Begun c n Waiting a b l l2 k k2
-    → (r : Bool) → Listens c (Ok r) b d l2 l3 → r ≡ true → Begun c (n + 1) Due a d l l3 k k2
-hears_on c n a b d l l2 l3 k k2 one true h e =
+pub listened_on : (c n : ℕ) (a b d : MetaLinks) (l l2 l3 k k2 : DeviceState) → Begun c n Waiting a b l l2 k k2
+    → (r : Bool) → AfterListen c (Ok r) b d l2 l3 → r ≡ true → Begun c (n + 1) Due a d l l3 k k2
+listened_on c n a b d l l2 l3 k k2 one true h e =
     let one_more : suc n ≡ n + 1 = omega arith in
     subst (λ z. Begun c z Due a d l l3 k k2) one_more (begun_on c n Waiting Due suc a b d l l2 l3 k k2 k2 one (h k2))
-hears_on c n a b d l l2 l3 k k2 one false h e = absurd (true≢false (sym e))
+listened_on c n a b d l l2 l3 k k2 one false h e = absurd (true≢false (sym e))
 
 -- ended, and that for the end of its input
 pub cut_off : (state : State) → is_stopped state ≡ true → ended_well state ≡ false → state ≡ states.Failed reasons.Ended
@@ -169,14 +169,14 @@ cut_off (states.Failed reasons.Memory) over e = absurd (true≢false e)
 
 -- the input ended
 module _ (c n turns : ℕ) (a b : MetaLinks) (l l2 l3 k k2 : DeviceState) (few : n < turns)
-    (one : Begun c n Waiting a b l l2 k k2) (still : Rests l2 l3) (end : IsAtEnd l3.octets)
+    (one : Begun c n Waiting a b l l2 k k2) (still : IsUntouched l2 l3) (end : IsAtEnd l3.octets)
   where
-    at_end : (d : MetaLinks) → GoesAlone c Waiting Ended b d
+    at_end : (d : MetaLinks) → TalkStepAlone c Waiting Ended b d
         → (q : List Question) (s : MetaSettings) (h : History) → MetaAfter q s h a → Talk q s c h n Ended d l l3 k k2
     at_end d goes q s h x =
         (goes l3 k2).on q s h n l k (kept c n Waiting a b l l2 l3 k k2 one still.octets q s h x)
 
-    finished : (d : MetaLinks) (r : Result (Unit {0}) TalkError) → Finishes c r b d → Talks c turns r a d l l3 k k2
+    finished : (d : MetaLinks) (r : Result (Unit {0}) TalkError) → AfterFinish c r b d → AfterTalk c turns r a d l l3 k k2
     finished d (Ok u) f = record {
       on = λ q s h x.
           let t = at_end d f.0 q s h x in
@@ -184,7 +184,7 @@ module _ (c n turns : ℕ) (a b : MetaLinks) (l l2 l3 k k2 : DeviceState) (few :
             reads = n;
             stage = Ended;
             talk = t;
-            at = (few, end, λ p heard. sym (f.1 q s (t.more ++ h) p t.after heard));
+            at = (few, end, λ p transcript. sym (f.1 q s (t.more ++ h) p t.after transcript));
             over = t.stands;
           };
       blamed = (still.failures ∙ one.reader, one.writer);
@@ -197,8 +197,8 @@ module _ (c n turns : ℕ) (a b : MetaLinks) (l l2 l3 k k2 : DeviceState) (few :
             reads = n;
             few = few;
             stopped = record { meta = f.0.0; talk = t; after = f.0.3 q s (t.more ++ h) t.after };
-            cut = λ p heard.
-                cut_off (state_at p) (t.stands p heard) (sym (f.0.2 q s (t.more ++ h) p t.after heard));
+            cut = λ p transcript.
+                cut_off (state_at p) (t.stands p transcript) (sym (f.0.2 q s (t.more ++ h) p t.after transcript));
           };
       blamed = (end, still.failures ∙ one.reader, one.writer);
       stopped = f.1;
@@ -213,16 +213,16 @@ module _ (c n turns : ℕ) (a b : MetaLinks) (l l2 l3 k k2 : DeviceState) (few :
     }
 
 pub ends_finished : (c n turns : ℕ) (a b d g : MetaLinks) (l l2 l3 k k2 : DeviceState) → n < turns
-    → Begun c n Waiting a b l l2 k k2 → (r : Bool) → Listens c (Ok r) b d l2 l3 → r ≡ false
-    → (f : Result (Unit {0}) TalkError) → Finishes c f d g → Talks c turns f a g l l3 k k2
+    → Begun c n Waiting a b l l2 k k2 → (r : Bool) → AfterListen c (Ok r) b d l2 l3 → r ≡ false
+    → (f : Result (Unit {0}) TalkError) → AfterFinish c f d g → AfterTalk c turns f a g l l3 k k2
 ends_finished c n turns a b d g l l2 l3 k k2 few one true h e f fin = absurd (true≢false e)
 ends_finished c n turns a b d g l l2 l3 k k2 few one false h e f fin =
-    finished c n turns a b l l2 l3 k k2 few one h.1 h.2 g f (subst (λ z. Finishes c f z g) h.0 fin)
+    finished c n turns a b l l2 l3 k k2 few one h.1 h.2 g f (subst (λ z. AfterFinish c f z g) h.0 fin)
 
 -- memory was wanting, and the connection was stopped for that
 pub ends_starved : (c turns : ℕ) (a b d : MetaLinks) (l l2 k k2 : DeviceState)
-    → Talks c turns (Err errors.Memory) a b l l2 k k2 → d.pool.knowledge ≡ b.pool.knowledge
-    → OthersStay c b.pool d.pool → d.drivers ≡ b.drivers → Talks c turns (Err errors.Memory) a d l l2 k k2
+    → AfterTalk c turns (Err errors.Memory) a b l l2 k k2 → d.pool.knowledge ≡ b.pool.knowledge
+    → SameOthers c b.pool d.pool → d.drivers ≡ b.drivers → AfterTalk c turns (Err errors.Memory) a d l l2 k k2
 ends_starved c turns a b d l l2 k k2 t same_known stay same_drivers = record {
   on = λ q s h x.
       let starved = t.on q s h x in
@@ -240,20 +240,20 @@ ends_starved c turns a b d l l2 k k2 t same_known stay same_drivers = record {
 -- ---- the end of the input
 
 -- what was left of it was taken
-pub goes_ended : UpToLaw → OneMeeting → (c : ℕ) (old mid new : MetaLinks) → MetaBefell c Ends old mid
-    → MetaTook c mid new → GoesAlone c Waiting Ended old new
+pub goes_ended : UpToLaw → OneInput → (c : ℕ) (old mid new : MetaLinks) → MetaRecorded c InputEnded old mid
+    → MetaTakeStep c mid new → TalkStepAlone c Waiting Ended old new
 goes_ended law meeting c old mid new befell took left held = record {
   on = λ q s h n source sink t.
-      let a : MetaAfter q s ((c, Ends) ∷ (t.more ++ h)) mid = befell q s (t.more ++ h) t.after in
+      let a : MetaAfter q s ((c, InputEnded) ∷ (t.more ++ h)) mid = befell q s (t.more ++ h) t.after in
       record {
-        more = (c, Takes) ∷ (c, Ends) ∷ t.more;
+        more = (c, Took) ∷ (c, InputEnded) ∷ t.more;
         read = t.read;
         written = t.written;
-        follows = ends t.follows;
-        after = took q s ((c, Ends) ∷ (t.more ++ h)) (up q s ((c, Ends) ∷ (t.more ++ h)) a);
-        stands = ends_stopped meeting t.follows refl;
-        came = t.came;
-        went = t.went;
+        trace = input_end t.trace;
+        after = took q s ((c, InputEnded) ∷ (t.more ++ h)) (up q s ((c, InputEnded) ∷ (t.more ++ h)) a);
+        stands = ends_stopped meeting t.trace refl;
+        consumed = t.consumed;
+        appended = t.appended;
       };
   reader = refl;
   writer = refl;
@@ -269,10 +269,10 @@ goes_ended law meeting c old mid new befell took left held = record {
     }
 
 -- what is told of the connection's state
-pub well_tells : UpToLaw → OneHearing → (c : ℕ) (meta : MetaLinks) (state : State) (well : Bool)
-    → c < length meta.pool.connections → IsStateAt c meta.pool state → ended_well state ≡ well → EndedWell c meta well
-well_tells law hearing c meta state well lt is e q s h p a heard =
-    sym e ∙ state_tells law hearing ended_well c meta state lt is q s h p a heard
+pub well_tells : UpToLaw → OneTranscript → (c : ℕ) (meta : MetaLinks) (state : State) (well : Bool)
+    → c < length meta.pool.connections → IsStateAt c meta.pool state → ended_well state ≡ well → IsWellEnded c meta well
+well_tells law hearing c meta state well lt is e q s h p a transcript =
+    sym e ∙ state_tells law hearing ended_well c meta state lt is q s h p a transcript
 
 -- ---- the reason
 

@@ -1,5 +1,5 @@
-pub mod Hearing
-pub mod Speaking
+pub mod Taking
+pub mod Sending
 pub mod Devices
 pub mod Ending
 pub mod Answering

@@ -8,23 +8,23 @@ use Rattle.std.proofs.KnownBytes.{Appends-nil, Consumes-nil}
 use Rattle.zoom_questions.specs.declared.question.Question.{Question}
 use Rattle.zoom_questions.specs.declared.question.MetaSettings.{MetaSettings}
 use Rattle.zoom_pool.specs.declared.state.Reason.{Reason}
-use Rattle.zoom_pool.specs.History.{History, only}
+use Rattle.zoom_pool.specs.History.{History, events_on}
 use Rattle.zoom_pool.specs.Metas.{MetaLinks, MetaAfter}
-use Rattle.zoom_io.specs.declared.among.Ends.{Ends}
-use Rattle.zoom_io.specs.declared.among.Phase.{Phase}
-use Rattle.zoom_io.specs.declared.among.Phase.TheVariants as phases
+use Rattle.zoom_io.specs.declared.among.Halves.{Halves}
+use Rattle.zoom_io.specs.declared.among.TalkPhase.{TalkPhase}
+use Rattle.zoom_io.specs.declared.among.TalkPhase.TheVariants as phases
 use Rattle.zoom_io.specs.Devices.{DeviceState}
-use Rattle.zoom_io.specs.Talks.{Stage, begins}
-use Rattle.zoom_io.specs.Among.{Seen, seen, TalkAmong, GoesAmong, StoppedAmong, BrokenAmong, EndsAmong, closes, drains, fails_to_read, fails_to_write, is_cut_off, turns_out, PhaseAmong, flat, ends_at, IsAt, AreAt}
-use Rattle.zoom_io.specs.Rounds.{Among, AllAmong, for_each, one_more_below, OptionSteps, Goes, RoundsFrom}
-use Rattle.zoom_io.specs.AtOnce.{IsDone, TalksAtOnce}
+use Rattle.zoom_io.specs.TalkTraces.{Stage, beginning}
+use Rattle.zoom_io.specs.TalksAmong.{View, view_of, TalkAmong, OngoingTalkAmong, StoppedTalkAmong, BrokenTalkAmong, TalkEndAmong, stopped_by_itself, input_ended, read_failed, write_failed, cut_short, out_of_turns, PhaseAmong, flat, halves_at, IsAtPhase, AreAtPhase}
+use Rattle.zoom_io.specs.PollRounds.{IsAmongIf, AreAmong, for_each, one_more_below, OptionStep, RoundStep, AfterRounds}
+use Rattle.zoom_io.specs.AtOnce.{IsTalkDone, AfterTalkAtOnce}
 use Rattle.zoom_io.proofs.Apart.{over_alike}
 use Rattle.zoom_io.proofs.Joining.{risen_none}
 
 -- ---- histories that tell the same of a connection
 
-module _ (q : List Question) (s : MetaSettings) (c : ℕ) (h now later : History) (first last : Seen)
-    (e : only c later ≡ only c now)
+module _ (q : List Question) (s : MetaSettings) (c : ℕ) (h now later : History) (first last : View)
+    (e : events_on c later ≡ events_on c now)
   where
     talk_same : {reads : ℕ} {stage : Stage} → TalkAmong q s c h now reads stage first last
         → TalkAmong q s c h later reads stage first last
@@ -32,70 +32,70 @@ module _ (q : List Question) (s : MetaSettings) (c : ℕ) (h now later : History
       more = t.more;
       read = t.read;
       written = t.written;
-      follows = t.follows;
+      trace = t.trace;
       mine = e ∙ t.mine;
-      came = t.came;
-      went = t.went;
+      consumed = t.consumed;
+      appended = t.appended;
     }
 
-    stopped_same : {reads : ℕ} {stage : Stage} {reason : Reason} → StoppedAmong q s c h now reads stage reason first last
-        → StoppedAmong q s c h later reads stage reason first last
+    stopped_same : {reads : ℕ} {stage : Stage} {reason : Reason} → StoppedTalkAmong q s c h now reads stage reason first last
+        → StoppedTalkAmong q s c h later reads stage reason first last
     stopped_same t = record {
       more = t.more;
       read = t.read;
       written = t.written;
-      follows = t.follows;
+      trace = t.trace;
       mine = e ∙ t.mine;
-      came = t.came;
-      went = t.went;
+      consumed = t.consumed;
+      appended = t.appended;
     }
 
-    broken_same : {reads : ℕ} → BrokenAmong q s c h now reads first last → BrokenAmong q s c h later reads first last
+    broken_same : {reads : ℕ} → BrokenTalkAmong q s c h now reads first last → BrokenTalkAmong q s c h later reads first last
     broken_same b = record {
       more = b.more;
       read = b.read;
       written = b.written;
       octets = b.octets;
-      follows = b.follows;
+      trace = b.trace;
       mine = e ∙ b.mine;
-      came = b.came;
+      consumed = b.consumed;
       before = b.before;
-      went = b.went;
+      appended = b.appended;
       front = b.front;
     }
 
-    ends_same : {reads turns : ℕ} → EndsAmong q s c h now reads turns first last
-        → EndsAmong q s c h later reads turns first last
-    ends_same (closes t sound) = closes (talk_same t) sound
-    ends_same (drains t well end sound) =
-        drains
+    ends_same : {reads turns : ℕ} → TalkEndAmong q s c h now reads turns first last
+        → TalkEndAmong q s c h later reads turns first last
+    ends_same (stopped_by_itself t sound) = stopped_by_itself (talk_same t) sound
+    ends_same (input_ended t well end sound) =
+        input_ended
         (record {
           more = t.more;
           read = t.read;
           written = t.written;
-          follows = t.follows;
+          trace = t.trace;
           mine = e ∙ t.mine;
-          came = t.came;
-          went = t.went;
+          consumed = t.consumed;
+          appended = t.appended;
         })
         well end sound
-    ends_same (fails_to_read t failed sound) = fails_to_read (stopped_same t) failed sound
-    ends_same (fails_to_write b failed sound) = fails_to_write (broken_same b) failed sound
-    ends_same (is_cut_off t cut end sound) =
-        is_cut_off
+    ends_same (read_failed t failed sound) = read_failed (stopped_same t) failed sound
+    ends_same (write_failed b failed sound) = write_failed (broken_same b) failed sound
+    ends_same (cut_short t cut end sound) =
+        cut_short
         (record {
           more = t.more;
           read = t.read;
           written = t.written;
-          follows = t.follows;
+          trace = t.trace;
           mine = e ∙ t.mine;
-          came = t.came;
-          went = t.went;
+          consumed = t.consumed;
+          appended = t.appended;
         })
         cut end sound
-    ends_same (turns_out t risen sound) = turns_out (stopped_same t) risen sound
+    ends_same (out_of_turns t risen sound) = out_of_turns (stopped_same t) risen sound
 
-    goes_same : {n : ℕ} {stage : Stage} → GoesAmong q s c h now n stage first last → GoesAmong q s c h later n stage first last
+    goes_same : {n : ℕ} {stage : Stage} → OngoingTalkAmong q s c h now n stage first last → OngoingTalkAmong q s c h later n stage first last
     goes_same t = record {
       reads = t.reads;
       talk = talk_same t.talk;
@@ -105,7 +105,7 @@ module _ (q : List Question) (s : MetaSettings) (c : ℕ) (h now later : History
       writer = t.writer;
     }
 
-    phase_same : (n turns : ℕ) (phase : Phase) → PhaseAmong phase q s c h now n turns first last
+    phase_same : (n turns : ℕ) (phase : TalkPhase) → PhaseAmong phase q s c h now n turns first last
         → PhaseAmong phase q s c h later n turns first last
     phase_same n turns phases.Due t = goes_same t
     phase_same n turns phases.Waiting t = goes_same t
@@ -121,47 +121,47 @@ module _ (q : List Question) (s : MetaSettings) (c : ℕ) (h now later : History
 
 -- ---- one connection of many
 
-module _ {E : Type 0} (see : E → Seen) (q : List Question) (s : MetaSettings) (h : History) where
-  among_same : (c n turns : ℕ) (now later : History) (first last : Option E) → only c later ≡ only c now
-      → Among see q s c h now n turns first last → Among see q s c h later n turns first last
+module _ {E : Type 0} (view : E → View) (q : List Question) (s : MetaSettings) (h : History) where
+  among_same : (c n turns : ℕ) (now later : History) (first last : Option E) → events_on c later ≡ events_on c now
+      → IsAmongIf view q s c h now n turns first last → IsAmongIf view q s c h later n turns first last
   among_same c n turns now later None None e a = e ∙ a
   among_same c n turns now later (Some x) (Some y) e a =
-      phase_same q s c h now later (see x) (see y) e n turns (see y).phase a
+      phase_same q s c h now later (view x) (view y) e n turns (view y).phase a
   among_same c n turns now later None (Some y) e a = absurd a
   among_same c n turns now later (Some x) None e a = absurd a
 
   -- where there are no ends, the count says nothing
-  among_none : (c n m turns : ℕ) (now : History) (first : Option E) → Among see q s c h now n turns first None
-      → Among see q s c h now m turns first None
+  among_none : (c n m turns : ℕ) (now : History) (first : Option E) → IsAmongIf view q s c h now n turns first None
+      → IsAmongIf view q s c h now m turns first None
   among_none c n m turns now None a = a
   among_none c n m turns now (Some x) a = absurd a
 
-record SteppedOne {E : Type 0}
-    (see : E → Seen) (q : List Question) (s : MetaSettings) (c : ℕ) (h now : History) (n turns : ℕ)
+record AfterOptionStep {E : Type 0}
+    (view : E → View) (q : List Question) (s : MetaSettings) (c : ℕ) (h now : History) (n turns : ℕ)
     (first last : Option E) (new : MetaLinks)
     : Type 0 where
   pub later : History
   pub after : MetaAfter q s later new
-  pub among : Among see q s c h later n turns first last
-  pub others : (i : ℕ) → (c == i) ≡ false → only i later ≡ only i now
+  pub among : IsAmongIf view q s c h later n turns first last
+  pub others : (i : ℕ) → (c == i) ≡ false → events_on i later ≡ events_on i now
 
-option_step : {E : Type 0} (see : E → Seen) (q : List Question) (s : MetaSettings) (c : ℕ) (h now : History)
+option_step : {E : Type 0} (view : E → View) (q : List Question) (s : MetaSettings) (c : ℕ) (h now : History)
     (n m turns : ℕ) (old new : MetaLinks) (first before last : Option E)
-    → OptionSteps see c n m turns before last old new → MetaAfter q s now old
-    → Among see q s c h now n turns first before → SteppedOne see q s c h now m turns first last new
-option_step see q s c h now n m turns old new None None None e a among = record {
+    → OptionStep view c n m turns before last old new → MetaAfter q s now old
+    → IsAmongIf view q s c h now n turns first before → AfterOptionStep view q s c h now m turns first last new
+option_step view q s c h now n m turns old new None None None e a among = record {
   later = now;
   after = subst (λ z. MetaAfter q s now z) (sym e) a;
   among = among;
   others = λ i far. refl;
 }
-option_step see q s c h now n m turns old new (Some x) (Some y) (Some z) steps a among =
-    let r = steps.on q s h now (see x) a among in
+option_step view q s c h now n m turns old new (Some x) (Some y) (Some z) steps a among =
+    let r = steps.on q s h now (view x) a among in
     record { later = r.later; after = r.after; among = r.among; others = r.others }
-option_step see q s c h now n m turns old new None None (Some z) steps a among = absurd steps
-option_step see q s c h now n m turns old new (Some x) (Some y) None steps a among = absurd steps
-option_step see q s c h now n m turns old new None (Some y) last steps a among = absurd among
-option_step see q s c h now n m turns old new (Some x) None last steps a among = absurd among
+option_step view q s c h now n m turns old new None None (Some z) steps a among = absurd steps
+option_step view q s c h now n m turns old new (Some x) (Some y) None steps a among = absurd steps
+option_step view q s c h now n m turns old new None (Some y) last steps a among = absurd among
+option_step view q s c h now n m turns old new (Some x) None last steps a among = absurd among
 
 -- ---- one element of a list
 
@@ -183,56 +183,56 @@ set_length xs c x = length-set xs c x
 
 -- ---- all connections
 
-module _ {E : Type 0} (see : E → Seen) (c k m : ℕ) (n next : ℕ → ℕ) (turns : ℕ) (ends : List (Option E))
-    (before last : Option E) (old new : MetaLinks) (lt : c < length ends) (is : slice_get ends c ≡ Some before)
+module _ {E : Type 0} (view : E → View) (c k m : ℕ) (n next : ℕ → ℕ) (turns : ℕ) (halves : List (Option E))
+    (before last : Option E) (old new : MetaLinks) (lt : c < length halves) (is : slice_get halves c ≡ Some before)
     (at : n c ≡ k) (to : next c ≡ m) (others : (i : ℕ) → (c == i) ≡ false → next i ≡ n i)
-    (steps : OptionSteps see c k m turns before last old new)
+    (steps : OptionStep view c k m turns before last old new)
   where
-    here : ends_at (slice_set ends c last) c ≡ last
-    here = ap flat (set_same ends c last lt)
+    here : halves_at (slice_set halves c last) c ≡ last
+    here = ap flat (set_same halves c last lt)
 
-    there : (i : ℕ) → (c == i) ≡ false → ends_at (slice_set ends c last) i ≡ ends_at ends i
-    there i far = ap flat (set_other ends c i last far)
+    there : (i : ℕ) → (c == i) ≡ false → halves_at (slice_set halves c last) i ≡ halves_at halves i
+    there i far = ap flat (set_other halves c i last far)
 
     step_on : (q : List Question) (s : MetaSettings) (h : History) (first : List (Option E))
-        → AllAmong see q s h n turns first ends old → AllAmong see q s h next turns first (slice_set ends c last) new
+        → AreAmong view q s h n turns first halves old → AreAmong view q s h next turns first (slice_set halves c last) new
     step_on q s h first all =
-        let was : Among see q s c h all.now k turns (ends_at first c) before =
-        subst (λ z. Among see q s c h all.now k turns (ends_at first c) z) (ap flat is)
-        (subst (λ z. Among see q s c h all.now z turns (ends_at first c) (ends_at ends c)) at (all.each c)) in
-        let r : SteppedOne see q s c h all.now m turns (ends_at first c) last new =
-        option_step see q s c h all.now k m turns old new (ends_at first c) before last steps all.after was in
-        let mine : Among see q s c h r.later (next c) turns (ends_at first c) (ends_at (slice_set ends c last) c) =
-        subst (λ z. Among see q s c h r.later z turns (ends_at first c) (ends_at (slice_set ends c last) c)) (sym to)
-        (subst (λ z. Among see q s c h r.later m turns (ends_at first c) z) (sym here) r.among) in
+        let was : IsAmongIf view q s c h all.now k turns (halves_at first c) before =
+        subst (λ z. IsAmongIf view q s c h all.now k turns (halves_at first c) z) (ap flat is)
+        (subst (λ z. IsAmongIf view q s c h all.now z turns (halves_at first c) (halves_at halves c)) at (all.each c)) in
+        let r : AfterOptionStep view q s c h all.now m turns (halves_at first c) last new =
+        option_step view q s c h all.now k m turns old new (halves_at first c) before last steps all.after was in
+        let mine : IsAmongIf view q s c h r.later (next c) turns (halves_at first c) (halves_at (slice_set halves c last) c) =
+        subst (λ z. IsAmongIf view q s c h r.later z turns (halves_at first c) (halves_at (slice_set halves c last) c)) (sym to)
+        (subst (λ z. IsAmongIf view q s c h r.later m turns (halves_at first c) z) (sym here) r.among) in
         let by : (i : ℕ) (b : Bool) → (c == i) ≡ b
-        → Among see q s i h r.later (next i) turns (ends_at first i) (ends_at (slice_set ends c last) i) =
+        → IsAmongIf view q s i h r.later (next i) turns (halves_at first i) (halves_at (slice_set halves c last) i) =
         λ i b e. each q s h first all r mine i b e in
         record { now = r.later; after = r.after; each = λ i. by i (c == i) refl }
       where
         each : (q : List Question) (s : MetaSettings) (h : History) (first : List (Option E))
-            (all : AllAmong see q s h n turns first ends old)
-            (r : SteppedOne see q s c h all.now m turns (ends_at first c) last new)
-            → Among see q s c h r.later (next c) turns (ends_at first c) (ends_at (slice_set ends c last) c)
+            (all : AreAmong view q s h n turns first halves old)
+            (r : AfterOptionStep view q s c h all.now m turns (halves_at first c) last new)
+            → IsAmongIf view q s c h r.later (next c) turns (halves_at first c) (halves_at (slice_set halves c last) c)
             → (i : ℕ) (b : Bool) → (c == i) ≡ b
-            → Among see q s i h r.later (next i) turns (ends_at first i) (ends_at (slice_set ends c last) i)
+            → IsAmongIf view q s i h r.later (next i) turns (halves_at first i) (halves_at (slice_set halves c last) i)
         each q s h first all r mine i true e =
             let same : c ≡ i = grind (arith, nat_tests) in
-            subst (λ z. Among see q s z h r.later (next z) turns (ends_at first z) (ends_at (slice_set ends c last) z))
+            subst (λ z. IsAmongIf view q s z h r.later (next z) turns (halves_at first z) (halves_at (slice_set halves c last) z))
             same mine
         each q s h first all r mine i false e =
-            subst (λ z. Among see q s i h r.later z turns (ends_at first i) (ends_at (slice_set ends c last) i))
+            subst (λ z. IsAmongIf view q s i h r.later z turns (halves_at first i) (halves_at (slice_set halves c last) i))
             (sym (others i e))
-            (subst (λ z. Among see q s i h r.later (n i) turns (ends_at first i) z) (sym (there i e))
-            (among_same see q s h i (n i) turns all.now r.later (ends_at first i) (ends_at ends i) (r.others i e)
+            (subst (λ z. IsAmongIf view q s i h r.later (n i) turns (halves_at first i) z) (sym (there i e))
+            (among_same view q s h i (n i) turns all.now r.later (halves_at first i) (halves_at halves i) (r.others i e)
             (all.each i)))
 
-    pub goes_step : Goes see n next turns ends (slice_set ends c last) old new
+    pub goes_step : RoundStep view n next turns halves (slice_set halves c last) old new
     goes_step = record { on = step_on }
 
-pub goes_trans : {E : Type 0} (see : E → Seen) (n m k : ℕ → ℕ) (turns : ℕ) (x y z : List (Option E)) (a b d : MetaLinks)
-    → Goes see n m turns x y a b → Goes see m k turns y z b d → Goes see n k turns x z a d
-goes_trans see n m k turns x y z a b d one two = record {
+pub goes_trans : {E : Type 0} (view : E → View) (n m k : ℕ → ℕ) (turns : ℕ) (x y z : List (Option E)) (a b d : MetaLinks)
+    → RoundStep view n m turns x y a b → RoundStep view m k turns y z b d → RoundStep view n k turns x z a d
+goes_trans view n m k turns x y z a b d one two = record {
   on = λ q s h first all. two.on q s h first (one.on q s h first all);
 }
 
@@ -249,20 +249,20 @@ below_all : (n i c : ℕ) → c < i → one_more_below i n c ≡ n + 1
 below_all n i c lt = grind (arith, nat_tests)
 
 -- one connection takes part
-pub round_goes : {E : Type 0} (see : E → Seen) (c n turns : ℕ) (x ends : List (Option E)) (before last : Option E)
-    (a b d : MetaLinks) → c < length ends → slice_get ends c ≡ Some before
-    → Goes see (for_each n) (one_more_below c n) turns x ends a b → OptionSteps see c n (n + 1) turns before last b d
-    → Goes see (for_each n) (one_more_below (c + 1) n) turns x (slice_set ends c last) a d
-round_goes see c n turns x ends before last a b d lt is goes steps =
-    goes_trans see (for_each n) (one_more_below c n) (one_more_below (c + 1) n) turns x ends (slice_set ends c last) a b d goes
-    (goes_step see c n (n + 1) (one_more_below c n) (one_more_below (c + 1) n) turns ends before last b d lt is
+pub round_goes : {E : Type 0} (view : E → View) (c n turns : ℕ) (x halves : List (Option E)) (before last : Option E)
+    (a b d : MetaLinks) → c < length halves → slice_get halves c ≡ Some before
+    → RoundStep view (for_each n) (one_more_below c n) turns x halves a b → OptionStep view c n (n + 1) turns before last b d
+    → RoundStep view (for_each n) (one_more_below (c + 1) n) turns x (slice_set halves c last) a d
+round_goes view c n turns x halves before last a b d lt is goes steps =
+    goes_trans view (for_each n) (one_more_below c n) (one_more_below (c + 1) n) turns x halves (slice_set halves c last) a b d goes
+    (goes_step view c n (n + 1) (one_more_below c n) (one_more_below (c + 1) n) turns halves before last b d lt is
     (below_here n c) (below_next n c) (below_others n c) steps)
 
 -- each took part
-pub round_ends : {E : Type 0} (see : E → Seen) (i n turns : ℕ) (x ends : List (Option E)) (a b : MetaLinks)
-    → length ends ≤ i → Goes see (for_each n) (one_more_below i n) turns x ends a b
-    → Goes see (for_each n) (for_each (n + 1)) turns x ends a b
-round_ends {E = E} see i n turns x ends a b le goes = goes_trans see (for_each n) (one_more_below i n) (for_each (n + 1)) turns x ends ends a b b goes
+pub round_ends : {E : Type 0} (view : E → View) (i n turns : ℕ) (x halves : List (Option E)) (a b : MetaLinks)
+    → length halves ≤ i → RoundStep view (for_each n) (one_more_below i n) turns x halves a b
+    → RoundStep view (for_each n) (for_each (n + 1)) turns x halves a b
+round_ends {E = E} view i n turns x halves a b le goes = goes_trans view (for_each n) (one_more_below i n) (for_each (n + 1)) turns x halves halves a b b goes
     (record {
       on = λ q s h first all. record {
         now = all.now;
@@ -272,49 +272,49 @@ round_ends {E = E} see i n turns x ends a b le goes = goes_trans see (for_each n
     })
   where
     counted : (q : List Question) (s : MetaSettings) (h : History) (first : List (Option E))
-        (all : AllAmong see q s h (one_more_below i n) turns first ends b) (c : ℕ) → (c < i) ⊎ (i ≤ c)
-        → Among see q s c h all.now (n + 1) turns (ends_at first c) (ends_at ends c)
+        (all : AreAmong view q s h (one_more_below i n) turns first halves b) (c : ℕ) → (c < i) ⊎ (i ≤ c)
+        → IsAmongIf view q s c h all.now (n + 1) turns (halves_at first c) (halves_at halves c)
     counted q s h first all c (inl lt) =
-        subst (λ z. Among see q s c h all.now z turns (ends_at first c) (ends_at ends c)) (below_all n i c lt) (all.each c)
+        subst (λ z. IsAmongIf view q s c h all.now z turns (halves_at first c) (halves_at halves c)) (below_all n i c lt) (all.each c)
     counted q s h first all c (inr past) =
-        let none : ends_at ends c ≡ None = ap flat (slice_get_past ends c (omega (arith, le, past))) in
-        subst (λ z. Among see q s c h all.now (n + 1) turns (ends_at first c) z) (sym none)
-        (among_none see q s h c (one_more_below i n c) (n + 1) turns all.now (ends_at first c)
-        (subst (λ z. Among see q s c h all.now (one_more_below i n c) turns (ends_at first c) z) none (all.each c)))
+        let none : halves_at halves c ≡ None = ap flat (slice_get_past halves c (omega (arith, le, past))) in
+        subst (λ z. IsAmongIf view q s c h all.now (n + 1) turns (halves_at first c) z) (sym none)
+        (among_none view q s h c (one_more_below i n c) (n + 1) turns all.now (halves_at first c)
+        (subst (λ z. IsAmongIf view q s c h all.now (one_more_below i n c) turns (halves_at first c) z) none (all.each c)))
 
 -- one connection takes leave
-pub leave_goes : {E : Type 0} (see : E → Seen) (c n : ℕ) (x ends : List (Option E)) (before last : Option E)
-    (a b d : MetaLinks) → c < length ends → slice_get ends c ≡ Some before
-    → Goes see (for_each n) (for_each n) n x ends a b → OptionSteps see c n n n before last b d
-    → Goes see (for_each n) (for_each n) n x (slice_set ends c last) a d
-leave_goes see c n x ends before last a b d lt is goes steps =
-    goes_trans see (for_each n) (for_each n) (for_each n) n x ends (slice_set ends c last) a b d goes
-    (goes_step see c n n (for_each n) (for_each n) n ends before last b d lt is refl refl (λ i far. refl) steps)
+pub leave_goes : {E : Type 0} (view : E → View) (c n : ℕ) (x halves : List (Option E)) (before last : Option E)
+    (a b d : MetaLinks) → c < length halves → slice_get halves c ≡ Some before
+    → RoundStep view (for_each n) (for_each n) n x halves a b → OptionStep view c n n n before last b d
+    → RoundStep view (for_each n) (for_each n) n x (slice_set halves c last) a d
+leave_goes view c n x halves before last a b d lt is goes steps =
+    goes_trans view (for_each n) (for_each n) (for_each n) n x halves (slice_set halves c last) a b d goes
+    (goes_step view c n n (for_each n) (for_each n) n halves before last b d lt is refl refl (λ i far. refl) steps)
 
 -- rounds, and one more
-pub rounds_go : {E : Type 0} (see : E → Seen) (n turns : ℕ) (x y z : List (Option E)) (a b d : MetaLinks)
-    → RoundsFrom see n turns x y a b → Goes see (for_each n) (for_each (n + 1)) turns y z b d
-    → RoundsFrom see (n + 1) turns x z a d
-rounds_go see n turns x y z a b d one two = record { on = λ q s h after. two.on q s h x (one.on q s h after) }
+pub rounds_go : {E : Type 0} (view : E → View) (n turns : ℕ) (x y z : List (Option E)) (a b d : MetaLinks)
+    → AfterRounds view n turns x y a b → RoundStep view (for_each n) (for_each (n + 1)) turns y z b d
+    → AfterRounds view (n + 1) turns x z a d
+rounds_go view n turns x y z a b d one two = record { on = λ q s h after. two.on q s h x (one.on q s h after) }
 
 -- ---- where each talk stands
 
 module _ {R W : Type 0} (state : R → DeviceState) (polls : R → ℕ) (held : W → DeviceState) where
-  begun_at : (q : List Question) (s : MetaSettings) (h : History) (c turns : ℕ) (ends : Option (Ends R W))
-      → IsAt phases.Due ends → Among (seen state polls held) q s c h h 0 turns ends ends
+  begun_at : (q : List Question) (s : MetaSettings) (h : History) (c turns : ℕ) (halves : Option (Halves R W))
+      → IsAtPhase phases.Due halves → IsAmongIf (view_of state polls held) q s c h h 0 turns halves halves
   begun_at q s h c turns None at = refl
   begun_at q s h c turns (Some e) at =
-      subst (λ z. PhaseAmong z q s c h h 0 turns (seen state polls held e) (seen state polls held e)) (sym at)
+      subst (λ z. PhaseAmong z q s c h h 0 turns (view_of state polls held e) (view_of state polls held e)) (sym at)
       (record {
         reads = 0;
         talk = record {
           more = [];
           read = [];
           written = [];
-          follows = begins;
+          trace = beginning;
           mine = refl;
-          came = Consumes-nil (state e.source).octets;
-          went = Appends-nil (held e.sink).octets;
+          consumed = Consumes-nil (state e.source).octets;
+          appended = Appends-nil (held e.sink).octets;
         };
         few = omega arith;
         polled = risen_none (polls e.source);
@@ -323,38 +323,38 @@ module _ {R W : Type 0} (state : R → DeviceState) (polls : R → ℕ) (held : 
       })
 
   -- before the first round
-  pub rounds_begin : (turns : ℕ) (ends : List (Option (Ends R W))) (meta : MetaLinks) → AreAt phases.Due ends
-      → RoundsFrom (seen state polls held) 0 turns ends ends meta meta
-  rounds_begin turns ends meta at = record {
+  pub rounds_begin : (turns : ℕ) (halves : List (Option (Halves R W))) (meta : MetaLinks) → AreAtPhase phases.Due halves
+      → AfterRounds (view_of state polls held) 0 turns halves halves meta meta
+  rounds_begin turns halves meta at = record {
     on = λ q s h after. record {
       now = h;
       after = after;
-      each = λ c. begun_at q s h c turns (ends_at ends c) (at c);
+      each = λ c. begun_at q s h c turns (halves_at halves c) (at c);
     };
   }
 
   -- where it is over, the count says nothing
-  done_at : (q : List Question) (s : MetaSettings) (h now : History) (c n turns : ℕ) (first last : Option (Ends R W))
-      → IsAt phases.Over last → Among (seen state polls held) q s c h now n turns first last
-      → IsDone (seen state polls held) q s c h now turns first last
+  done_at : (q : List Question) (s : MetaSettings) (h now : History) (c n turns : ℕ) (first last : Option (Halves R W))
+      → IsAtPhase phases.Over last → IsAmongIf (view_of state polls held) q s c h now n turns first last
+      → IsTalkDone (view_of state polls held) q s c h now turns first last
   done_at q s h now c n turns None None at among = among
   done_at q s h now c n turns (Some x) (Some y) at among =
-      subst (λ z. PhaseAmong z q s c h now n turns (seen state polls held x) (seen state polls held y)) at among
+      subst (λ z. PhaseAmong z q s c h now n turns (view_of state polls held x) (view_of state polls held y)) at among
   done_at q s h now c n turns None (Some y) at among = absurd among
   done_at q s h now c n turns (Some x) None at among = absurd among
 
-  among_done : (q : List Question) (s : MetaSettings) (h now : History) (c n turns : ℕ) (first last : Option (Ends R W))
-      → IsAt phases.Over last → IsDone (seen state polls held) q s c h now turns first last
-      → Among (seen state polls held) q s c h now n turns first last
+  among_done : (q : List Question) (s : MetaSettings) (h now : History) (c n turns : ℕ) (first last : Option (Halves R W))
+      → IsAtPhase phases.Over last → IsTalkDone (view_of state polls held) q s c h now turns first last
+      → IsAmongIf (view_of state polls held) q s c h now n turns first last
   among_done q s h now c n turns None None at done = done
   among_done q s h now c n turns (Some x) (Some y) at done =
-      subst (λ z. PhaseAmong z q s c h now n turns (seen state polls held x) (seen state polls held y)) (sym at) done
+      subst (λ z. PhaseAmong z q s c h now n turns (view_of state polls held x) (view_of state polls held y)) (sym at) done
   among_done q s h now c n turns None (Some y) at done = absurd done
   among_done q s h now c n turns (Some x) None at done = absurd done
 
   -- where each is over, as many rounds as may be were as good
-  pub rounds_over : (n m turns : ℕ) (x y : List (Option (Ends R W))) (a b : MetaLinks) → AreAt phases.Over y
-      → RoundsFrom (seen state polls held) n turns x y a b → RoundsFrom (seen state polls held) m turns x y a b
+  pub rounds_over : (n m turns : ℕ) (x y : List (Option (Halves R W))) (a b : MetaLinks) → AreAtPhase phases.Over y
+      → AfterRounds (view_of state polls held) n turns x y a b → AfterRounds (view_of state polls held) m turns x y a b
   rounds_over n m turns x y a b over rounds = record {
     on = λ q s h after.
         let all = rounds.on q s h after in
@@ -362,16 +362,16 @@ module _ {R W : Type 0} (state : R → DeviceState) (polls : R → ℕ) (held : 
           now = all.now;
           after = all.after;
           each = λ c.
-              among_done q s h all.now c m turns (ends_at x c) (ends_at y c) (over c)
-              (done_at q s h all.now c n turns (ends_at x c) (ends_at y c) (over c) (all.each c));
+              among_done q s h all.now c m turns (halves_at x c) (halves_at y c) (over c)
+              (done_at q s h all.now c n turns (halves_at x c) (halves_at y c) (over c) (all.each c));
         };
   }
 
   -- and then the rest take leave
-  pub talks_done : (turns : ℕ) (x y z : List (Option (Ends R W))) (a b d : MetaLinks)
-      → RoundsFrom (seen state polls held) turns turns x y a b
-      → Goes (seen state polls held) (for_each turns) (for_each turns) turns y z b d → AreAt phases.Over z
-      → TalksAtOnce (seen state polls held) turns x z a d
+  pub talks_done : (turns : ℕ) (x y z : List (Option (Halves R W))) (a b d : MetaLinks)
+      → AfterRounds (view_of state polls held) turns turns x y a b
+      → RoundStep (view_of state polls held) (for_each turns) (for_each turns) turns y z b d → AreAtPhase phases.Over z
+      → AfterTalkAtOnce (view_of state polls held) turns x z a d
   talks_done turns x y z a b d rounds leaves over = record {
     on = λ q s h after.
         let all = leaves.on q s h x (rounds.on q s h after) in
@@ -379,34 +379,34 @@ module _ {R W : Type 0} (state : R → DeviceState) (polls : R → ℕ) (held : 
           now = all.now;
           after = all.after;
           each = λ c.
-              done_at q s h all.now c turns turns (ends_at x c) (ends_at z c) (over c) (all.each c);
+              done_at q s h all.now c turns turns (halves_at x c) (halves_at z c) (over c) (all.each c);
         };
   }
 
   -- below a number, one more
-  pub over_more : (ends : List (Option (Ends R W))) (c : ℕ) (last : Option (Ends R W)) → c < length ends
-      → IsAt phases.Over last → ((i : ℕ) → i < c → IsAt phases.Over (ends_at ends i))
-      → (i : ℕ) → i < c + 1 → IsAt phases.Over (ends_at (slice_set ends c last) i)
-  over_more ends c last lt over below i less = by (c == i) refl
+  pub over_more : (halves : List (Option (Halves R W))) (c : ℕ) (last : Option (Halves R W)) → c < length halves
+      → IsAtPhase phases.Over last → ((i : ℕ) → i < c → IsAtPhase phases.Over (halves_at halves i))
+      → (i : ℕ) → i < c + 1 → IsAtPhase phases.Over (halves_at (slice_set halves c last) i)
+  over_more halves c last lt over below i less = by (c == i) refl
     where
-      by : (b : Bool) → (c == i) ≡ b → IsAt phases.Over (ends_at (slice_set ends c last) i)
+      by : (b : Bool) → (c == i) ≡ b → IsAtPhase phases.Over (halves_at (slice_set halves c last) i)
       by true e =
           let same : c ≡ i = grind (arith, nat_tests) in
-          subst (λ z. IsAt phases.Over (ends_at (slice_set ends c last) z)) same
-          (subst (IsAt phases.Over) (sym (ap flat (set_same ends c last lt))) over)
+          subst (λ z. IsAtPhase phases.Over (halves_at (slice_set halves c last) z)) same
+          (subst (IsAtPhase phases.Over) (sym (ap flat (set_same halves c last lt))) over)
       by false e =
           let before : i < c = grind (arith, nat_tests) in
-          subst (IsAt phases.Over) (sym (ap flat (set_other ends c i last e))) (below i before)
+          subst (IsAtPhase phases.Over) (sym (ap flat (set_other halves c i last e))) (below i before)
 
 -- each below a number that is the length
-pub over_all : {R W : Type 0} (ends : List (Option (Ends R W))) (n : ℕ) → length ends ≤ n
-    → ((i : ℕ) → i < n → IsAt phases.Over (ends_at ends i)) → AreAt phases.Over ends
-over_all ends n le below c = by (cases_lt c n)
+pub over_all : {R W : Type 0} (halves : List (Option (Halves R W))) (n : ℕ) → length halves ≤ n
+    → ((i : ℕ) → i < n → IsAtPhase phases.Over (halves_at halves i)) → AreAtPhase phases.Over halves
+over_all halves n le below c = by (cases_lt c n)
   where
-    by : (c < n) ⊎ (n ≤ c) → IsAt phases.Over (ends_at ends c)
+    by : (c < n) ⊎ (n ≤ c) → IsAtPhase phases.Over (halves_at halves c)
     by (inl lt) = below c lt
     by (inr past) =
-        subst (IsAt phases.Over) (sym (ap flat (slice_get_past ends c (omega (arith, le, past))))) tt
+        subst (IsAtPhase phases.Over) (sym (ap flat (slice_get_past halves c (omega (arith, le, past))))) tt
 
 -- ---- what is told where memory was found
 

@@ -12,23 +12,23 @@ abbrev pub most_failures : ℕ
 most_failures = 2 ^ 64 - 1
 
 -- one more, until the count stands at its largest value
-abbrev pub raised : ℕ → ℕ
-raised n = min (n + 1) most_failures
+abbrev pub next_count : ℕ → ℕ
+next_count n = min (n + 1) most_failures
 
 -- a call that failed is counted
-abbrev pub Counts : {A E : Type 0} → ℕ → ℕ → Result A E → Type 0
-Counts old new (Ok _) = new ≡ old
-Counts old new (Err _) = new ≡ raised old
+abbrev pub IsCounted : {A E : Type 0} → ℕ → ℕ → Result A E → Type 0
+IsCounted old new (Ok _) = new ≡ old
+IsCounted old new (Err _) = new ≡ next_count old
 
 -- what a read gave is no longer left, and it gave none only at the end or with no room; one that failed is counted
-pub record Reads {E : Type 0} (old new : DeviceState) (answer : Result ℕ E) (piece : List ℕ) : Type 0 where
+pub record AfterRead {E : Type 0} (old new : DeviceState) (answer : Result ℕ E) (piece : List ℕ) : Type 0 where
   pub octets : ReadConsumes old.octets new.octets answer piece
-  pub count : Counts old.failures new.failures answer
+  pub count : IsCounted old.failures new.failures answer
 
 -- what a write took is held; one that failed is counted
-pub record Writes {E : Type 0} (old new : DeviceState) (answer : Result ℕ E) (piece : List ℕ) : Type 0 where
+pub record AfterWrite {E : Type 0} (old new : DeviceState) (answer : Result ℕ E) (piece : List ℕ) : Type 0 where
   pub octets : WriteAppends old.octets new.octets answer piece
-  pub count : Counts old.failures new.failures answer
+  pub count : IsCounted old.failures new.failures answer
 
 -- the count rose by so many, or stands at its largest value
 abbrev pub HasRisen : ℕ → ℕ → ℕ → Type 0
@@ -43,31 +43,32 @@ abbrev pub HasNoFailure : DeviceState → DeviceState → Type 0
 HasNoFailure old new = new.failures ≡ old.failures
 
 -- known octets grow by a front of these
-pub record AppendsFront (old new : Option (List ℕ)) (octets : List ℕ) : Type 0 where
+pub record HasAppendedFront (old new : Option (List ℕ)) (octets : List ℕ) : Type 0 where
   pub front : List ℕ
   pub rest : List ℕ
   pub cut : octets ≡ front ++ rest
   pub written : Appends old new front
 
 -- all the octets were written, or a front of them where the device failed
-abbrev pub WritesAll : {E : Type 0} → DeviceState → DeviceState → List ℕ → Result (Unit {0}) E → Type 0
-WritesAll old new octets (Ok _) = Appends old.octets new.octets octets × (new.failures ≡ old.failures)
-WritesAll old new octets (Err _) = AppendsFront old.octets new.octets octets × HasFailed old.failures new.failures
+abbrev pub AfterWriteAll : {E : Type 0} → DeviceState → DeviceState → List ℕ → Result (Unit {0}) E → Type 0
+AfterWriteAll old new octets (Ok _) = Appends old.octets new.octets octets × (new.failures ≡ old.failures)
+AfterWriteAll old new octets (Err _) =
+    HasAppendedFront old.octets new.octets octets × HasFailed old.failures new.failures
 
 -- nothing was read or written
-pub record Rests (old new : DeviceState) : Type 0 where
+pub record IsUntouched (old new : DeviceState) : Type 0 where
   pub octets : Keeps old.octets new.octets
   pub failures : new.failures ≡ old.failures
 
 -- ---- a device that need not wait
 
 -- a poll that gave octets gave no more than there was room for
-abbrev pub PollsAtMost : {E : Type 0} → Result (Option ℕ) E → List ℕ → Type 0
-PollsAtMost {E} (Ok (Some n)) piece = ReadsAtMost {E = E} (Ok n) piece
-PollsAtMost _ piece = Unit {0}
+abbrev pub IsBoundedPoll : {E : Type 0} → Result (Option ℕ) E → List ℕ → Type 0
+IsBoundedPoll {E} (Ok (Some n)) piece = ReadsAtMost {E = E} (Ok n) piece
+IsBoundedPoll _ piece = Unit {0}
 
 -- a poll reads, or nothing came yet
-abbrev pub Polls : {E : Type 0} → DeviceState → DeviceState → Result (Option ℕ) E → List ℕ → Type 0
-Polls {E} old new (Ok (Some n)) piece = Reads {E = E} old new (Ok n) piece
-Polls old new (Ok None) piece = Rests old new
-Polls {E} old new (Err e) piece = Reads {E = E} old new (Err e) piece
+abbrev pub AfterPoll : {E : Type 0} → DeviceState → DeviceState → Result (Option ℕ) E → List ℕ → Type 0
+AfterPoll {E} old new (Ok (Some n)) piece = AfterRead {E = E} old new (Ok n) piece
+AfterPoll old new (Ok None) piece = IsUntouched old new
+AfterPoll {E} old new (Err e) piece = AfterRead {E = E} old new (Err e) piece

@@ -1,11 +1,11 @@
 pub mod Devices
 pub mod Streams
-pub mod Talks
-pub mod Turns
+pub mod TalkTraces
+pub mod TalkSteps
 pub mod Talking
-pub mod Pushes
-pub mod Answers
-pub mod Among
+pub mod Pushing
+pub mod Answering
+pub mod TalksAmong
 pub mod Arrivals
-pub mod Rounds
+pub mod PollRounds
 pub mod AtOnce

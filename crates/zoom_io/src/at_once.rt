@@ -1,12 +1,12 @@
 //! Connections are talked over at once, without threads: in rounds, in which each is polled once.
 ghost use Rattle.std.specs.Prelude.{◌≡◌, ◌<◌, ◌^◌, ℕ, ◌+◌, true, length, OnOk};
-ghost use Rattle.zoom_io.specs.declared.among.Phase.TheVariants as phases;
-ghost use Rattle.zoom_io.specs.Among.{seen, IsAt, AreAt};
-ghost use Rattle.zoom_io.specs.AtOnce.{TalksAtOnce};
-ghost use Rattle.zoom_io.specs.Rounds.{OptionSteps, Rounds, RoundsFrom, Leaves};
+ghost use Rattle.zoom_io.specs.declared.among.TalkPhase.TheVariants as phases;
+ghost use Rattle.zoom_io.specs.TalksAmong.{view_of, IsAtPhase, AreAtPhase};
+ghost use Rattle.zoom_io.specs.AtOnce.{AfterTalkAtOnce};
+ghost use Rattle.zoom_io.specs.PollRounds.{OptionStep, AfterRound, AfterRounds, AfterLeaveAll};
 
-use crate::among::{Ends, Part, Phase, take_leave, take_part};
-use crate::device::{Polled, Sink};
+use crate::among::{Halves, Part, TalkPhase, take_leave, take_part};
+use crate::device::{NonBlocking, Sink};
 use crate::watch::Watch;
 use std::alloc::{AllocError, Global};
 use zoom_pool::Meta;
@@ -23,55 +23,55 @@ use zoom_pool::Meta;
 /// on.
 ///
 /// An error only where no memory was found; of the connections nothing more is told then.
-pub fn talk_at_once<R: Polled, W: Sink, V: Watch>(
+pub fn talk_at_once<R: NonBlocking, W: Sink, V: Watch>(
     alloc: Global,
     meta: &mut Meta,
-    ends: &mut [Option<Ends<R, W>>],
+    halves: &mut [Option<Halves<R, W>>],
     turns: u32,
     watch: &mut V,
 ) -> Result<(), AllocError>
     requires few { length meta.old.pool.connections < 2 ^ 32 }
-    requires equal { length ends.old ≡ length meta.old.pool.connections }
-    requires due { AreAt phases.Due ends.old }
-    ensures talks { OnOk result (TalksAtOnce (seen R.state R.polls W.state) turns ends.old ends.new
+    requires equal { length halves.old ≡ length meta.old.pool.connections }
+    requires due { AreAtPhase phases.Due halves.old }
+    ensures talks { OnOk result (AfterTalkAtOnce (view_of R.state R.polls W.state) turns halves.old halves.new
         meta.old meta.new) }
     ensures size { length meta.new.pool.connections ≡ length meta.old.pool.connections }
 {
-    go_rounds(alloc, meta, ends, turns, watch)?;
-    leave_all(alloc, meta, ends)
+    go_rounds(alloc, meta, halves, turns, watch)?;
+    leave_all(alloc, meta, halves)
 }
 
 /// Goes as many rounds, fewer where each talk is over before.
-fn go_rounds<R: Polled, W: Sink, V: Watch>(
+fn go_rounds<R: NonBlocking, W: Sink, V: Watch>(
     alloc: Global,
     meta: &mut Meta,
-    ends: &mut [Option<Ends<R, W>>],
+    halves: &mut [Option<Halves<R, W>>],
     turns: u32,
     watch: &mut V,
 ) -> Result<(), AllocError>
     requires few { length meta.old.pool.connections < 2 ^ 32 }
-    requires equal { length ends.old ≡ length meta.old.pool.connections }
-    requires due { AreAt phases.Due ends.old }
-    ensures rounds { OnOk result (RoundsFrom (seen R.state R.polls W.state) turns turns ends.old ends.new
+    requires equal { length halves.old ≡ length meta.old.pool.connections }
+    requires due { AreAtPhase phases.Due halves.old }
+    ensures rounds { OnOk result (AfterRounds (view_of R.state R.polls W.state) turns turns halves.old halves.new
         meta.old meta.new) }
     ensures size { length meta.new.pool.connections ≡ length meta.old.pool.connections }
 {
     let mut idle = false;
     for _ in 0..turns {
-        if are_over(ends) {
+        if are_over(halves) {
             return Ok(());
         }
         watch.look(meta);
-        idle = go_round(alloc, meta, ends, idle)?;
+        idle = go_round(alloc, meta, halves, idle)?;
     }
     Ok(())
 }
 
 /// Whether each talk is over.
-fn are_over<R, W>(ends: &[Option<Ends<R, W>>]) -> bool
-    ensures { result ≡ true → AreAt phases.Over ends.now }
+fn are_over<R, W>(halves: &[Option<Halves<R, W>>]) -> bool
+    ensures { result ≡ true → AreAtPhase phases.Over halves.now }
 {
-    for one in ends {
+    for one in halves {
         if !is_over(one) {
             return false;
         }
@@ -79,31 +79,31 @@ fn are_over<R, W>(ends: &[Option<Ends<R, W>>]) -> bool
     true
 }
 
-fn is_over<R, W>(ends: &Option<Ends<R, W>>) -> bool
-    ensures { result ≡ true → IsAt phases.Over ends.now }
+fn is_over<R, W>(halves: &Option<Halves<R, W>>) -> bool
+    ensures { result ≡ true → IsAtPhase phases.Over halves.now }
 {
-    match ends {
+    match halves {
         None => true,
-        Some(ends) => ends.phase == Phase::Over,
+        Some(halves) => halves.phase == TalkPhase::Over,
     }
 }
 
 /// Goes one round; whether no octets came in it. After such a round the first poll may wait.
-fn go_round<R: Polled, W: Sink>(
+fn go_round<R: NonBlocking, W: Sink>(
     alloc: Global,
     meta: &mut Meta,
-    ends: &mut [Option<Ends<R, W>>],
+    halves: &mut [Option<Halves<R, W>>],
     idle: bool,
 ) -> Result<bool, AllocError>
     requires few { length meta.old.pool.connections < 2 ^ 32 }
-    requires equal { length ends.old ≡ length meta.old.pool.connections }
-    ensures round { OnOk result (Rounds (seen R.state R.polls W.state) ends.old ends.new meta.old meta.new) }
+    requires equal { length halves.old ≡ length meta.old.pool.connections }
+    ensures round { OnOk result (AfterRound (view_of R.state R.polls W.state) halves.old halves.new meta.old meta.new) }
     ensures size { length meta.new.pool.connections ≡ length meta.old.pool.connections }
 {
     let mut wait = idle;
     let mut none_came = true;
-    for c in 0..ends.len() {
-        let part = take_part_if(alloc, meta, c as u32, &mut ends[c], wait)?;
+    for c in 0..halves.len() {
+        let part = take_part_if(alloc, meta, c as u32, &mut halves[c], wait)?;
         wait &= part == Part::Out;
         none_came &= part != Part::Busy;
     }
@@ -111,57 +111,58 @@ fn go_round<R: Polled, W: Sink>(
 }
 
 /// Takes part in a round, where there are ends.
-fn take_part_if<R: Polled, W: Sink>(
+fn take_part_if<R: NonBlocking, W: Sink>(
     alloc: Global,
     meta: &mut Meta,
     c: u32,
-    ends: &mut Option<Ends<R, W>>,
+    halves: &mut Option<Halves<R, W>>,
     wait: bool,
 ) -> Result<Part, AllocError>
     requires { c < length meta.old.pool.connections }
-    ensures steps { OnOk result ((n turns : ℕ) → n < turns → OptionSteps (seen R.state R.polls W.state) c n (n + 1)
-        turns ends.old ends.new meta.old meta.new) }
+    ensures steps { OnOk result ((n turns : ℕ) → n < turns → OptionStep (view_of R.state R.polls W.state) c n (n + 1)
+        turns halves.old halves.new meta.old meta.new) }
     ensures size { length meta.new.pool.connections ≡ length meta.old.pool.connections }
 {
-    match ends {
+    match halves {
         None => Ok(Part::Out),
-        Some(ends) => take_part(alloc, meta, c, ends, wait),
+        Some(halves) => take_part(alloc, meta, c, halves, wait),
     }
 }
 
 /// Has each connection that is not over take leave.
-fn leave_all<R: Polled, W: Sink>(
+fn leave_all<R: NonBlocking, W: Sink>(
     alloc: Global,
     meta: &mut Meta,
-    ends: &mut [Option<Ends<R, W>>],
+    halves: &mut [Option<Halves<R, W>>],
 ) -> Result<(), AllocError>
     requires few { length meta.old.pool.connections < 2 ^ 32 }
-    requires equal { length ends.old ≡ length meta.old.pool.connections }
-    ensures leaves { OnOk result (Leaves (seen R.state R.polls W.state) ends.old ends.new meta.old meta.new) }
-    ensures over { OnOk result (AreAt phases.Over ends.new) }
+    requires equal { length halves.old ≡ length meta.old.pool.connections }
+    ensures leaves { OnOk result (AfterLeaveAll
+        (view_of R.state R.polls W.state) halves.old halves.new meta.old meta.new) }
+    ensures over { OnOk result (AreAtPhase phases.Over halves.new) }
     ensures size { length meta.new.pool.connections ≡ length meta.old.pool.connections }
 {
-    for c in 0..ends.len() {
-        take_leave_if(alloc, meta, c as u32, &mut ends[c])?;
+    for c in 0..halves.len() {
+        take_leave_if(alloc, meta, c as u32, &mut halves[c])?;
     }
     Ok(())
 }
 
 /// Takes leave, where there are ends.
-fn take_leave_if<R: Polled, W: Sink>(
+fn take_leave_if<R: NonBlocking, W: Sink>(
     alloc: Global,
     meta: &mut Meta,
     c: u32,
-    ends: &mut Option<Ends<R, W>>,
+    halves: &mut Option<Halves<R, W>>,
 ) -> Result<(), AllocError>
     requires { c < length meta.old.pool.connections }
-    ensures steps { OnOk result ((n : ℕ) → OptionSteps (seen R.state R.polls W.state) c n n n
-        ends.old ends.new meta.old meta.new) }
-    ensures over { OnOk result (IsAt phases.Over ends.new) }
+    ensures steps { OnOk result ((n : ℕ) → OptionStep (view_of R.state R.polls W.state) c n n n
+        halves.old halves.new meta.old meta.new) }
+    ensures over { OnOk result (IsAtPhase phases.Over halves.new) }
     ensures size { length meta.new.pool.connections ≡ length meta.old.pool.connections }
 {
-    match ends {
+    match halves {
         None => Ok(()),
-        Some(ends) => take_leave(alloc, meta, c, ends),
+        Some(halves) => take_leave(alloc, meta, c, halves),
     }
 }

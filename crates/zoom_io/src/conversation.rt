@@ -2,18 +2,18 @@
 ghost use Rattle.std.specs.Prelude.{◌≡◌, ◌<◌, length, Some, IfErr, OnOk, OnErr};
 ghost use Rattle.zoom_pool.specs.declared.state.State.TheVariants as states;
 ghost use Rattle.zoom_pool.specs.Links.{stop_at};
-ghost use Rattle.zoom_pool.specs.Metas.{MetaTook, MetaKeeps};
+ghost use Rattle.zoom_pool.specs.Metas.{MetaTakeStep, MetaIncompleteTake};
 ghost use Rattle.zoom_io.specs.declared.conversation.TalkError.TheVariants as errors;
-ghost use Rattle.zoom_io.specs.Pushes.{IsBroken};
-ghost use Rattle.zoom_io.specs.Talks.{Talks, ended_well, reason_of};
-ghost use Rattle.zoom_io.specs.Talking.{talk_error, Settles, Listens, Finishes};
+ghost use Rattle.zoom_io.specs.Pushing.{IsBroken};
+ghost use Rattle.zoom_io.specs.TalkTraces.{AfterTalk, ended_well, reason_of};
+ghost use Rattle.zoom_io.specs.Talking.{talk_error, AfterSettle, AfterListen, AfterFinish};
 
 use crate::device::{Sink, Source};
 use crate::outgoing::PushError;
-use crate::turns::{Turn, take_turn};
+use crate::talk_steps::{Receipt, send_and_take};
 use std::alloc::{AllocError, Global};
 use thiserror::Error;
-use zoom_pool::laws::{one_hearing, one_meeting, up_to};
+use zoom_pool::laws::{one_input, one_transcript, up_to};
 use zoom_pool::{Meta, Reason, State, TakeError};
 
 /// The most octets of one read.
@@ -68,16 +68,16 @@ pub(crate) fn settle<W: Sink>(
     sink: &mut W,
 ) -> Result<bool, PushError>
     requires { c < length meta.old.pool.connections }
-    ensures settles { Settles c result meta.old meta.new (W.state sink.old) (W.state sink.new) }
+    ensures settles { AfterSettle c result meta.old meta.new (W.state sink.old) (W.state sink.new) }
     ensures stopped { IsBroken c result meta.new }
     ensures size { length meta.new.pool.connections ≡ length meta.old.pool.connections }
 {
     up_to();
     for _ in 0..u64::MAX {
-        match take_turn(alloc, meta, c, sink)? {
-            Turn::Message => {}
-            Turn::Nothing => return Ok(false),
-            Turn::Over => return Ok(true),
+        match send_and_take(alloc, meta, c, sink)? {
+            Receipt::Message => {}
+            Receipt::Nothing => return Ok(false),
+            Receipt::Over => return Ok(true),
         }
     }
     // more messages than memory holds
@@ -87,7 +87,7 @@ pub(crate) fn settle<W: Sink>(
 /// Reads a piece of octets, and feeds it to the connection; `false` where none are left.
 fn listen<R: Source>(meta: &mut Meta, c: u32, source: &mut R) -> Result<bool, TalkError>
     requires { c < length meta.old.pool.connections }
-    ensures listens { Listens c result meta.old meta.new (R.state source.old) (R.state source.new) }
+    ensures listens { AfterListen c result meta.old meta.new (R.state source.old) (R.state source.new) }
     ensures size { length meta.new.pool.connections ≡ length meta.old.pool.connections }
 {
     up_to();
@@ -119,8 +119,8 @@ fn ended_well(state: State) -> bool
 /// Takes what is left of the input; an error for want of memory.
 fn take_last(meta: &mut Meta, c: u32) -> Result<(), AllocError>
     requires { c < length meta.old.pool.connections }
-    ensures took { OnOk result (MetaTook c meta.old meta.new) }
-    ensures keeps { OnErr result (MetaKeeps c meta.old meta.new) }
+    ensures took { OnOk result (MetaTakeStep c meta.old meta.new) }
+    ensures keeps { OnErr result (MetaIncompleteTake c meta.old meta.new) }
     ensures size { length meta.new.pool.connections ≡ length meta.old.pool.connections }
 {
     match meta.take(c) {
@@ -135,12 +135,12 @@ fn take_last(meta: &mut Meta, c: u32) -> Result<(), AllocError>
 /// Ends the input of a connection, and takes what is left of it.
 pub(crate) fn finish(meta: &mut Meta, c: u32) -> Result<(), TalkError>
     requires { c < length meta.old.pool.connections }
-    ensures finishes { Finishes c result meta.old meta.new }
+    ensures finishes { AfterFinish c result meta.old meta.new }
     ensures size { length meta.new.pool.connections ≡ length meta.old.pool.connections }
 {
     up_to();
-    one_hearing();
-    one_meeting();
+    one_transcript();
+    one_input();
     meta.end(c);
     take_last(meta, c)?;
     if ended_well(meta.state(c)) {
@@ -160,7 +160,7 @@ fn converse<R: Source, W: Sink>(
     turns: u32,
 ) -> Result<(), TalkError>
     requires { c < length meta.old.pool.connections }
-    ensures talks { Talks c turns result meta.old meta.new (R.state source.old) (R.state source.new)
+    ensures talks { AfterTalk c turns result meta.old meta.new (R.state source.old) (R.state source.new)
         (W.state sink.old) (W.state sink.new) }
     ensures size { length meta.new.pool.connections ≡ length meta.old.pool.connections }
 {
@@ -200,7 +200,7 @@ pub fn talk<R: Source, W: Sink>(
     turns: u32,
 ) -> Result<(), TalkError>
     requires { c < length meta.old.pool.connections }
-    ensures talks { Talks c turns result meta.old meta.new (R.state source.old) (R.state source.new)
+    ensures talks { AfterTalk c turns result meta.old meta.new (R.state source.old) (R.state source.new)
         (W.state sink.old) (W.state sink.new) }
     ensures stopped { IfErr result (λ e. stop_at meta.new.pool c ≡ Some (states.Failed (reason_of e))) }
     ensures size { length meta.new.pool.connections ≡ length meta.old.pool.connections }

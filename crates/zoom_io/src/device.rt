@@ -1,7 +1,7 @@
 //! Devices that octets are read from and written to, each with a count of the calls of it that failed.
 ghost use Rattle.std.specs.Prelude.{◌≡◌, ◌<◌, ℕ, length, IfOk};
 ghost use Rattle.std.specs.Io.{ReadsAtMost, WritesAtMost};
-ghost use Rattle.zoom_io.specs.Devices.{DeviceState, Reads, Writes, PollsAtMost, Polls, raised};
+ghost use Rattle.zoom_io.specs.Devices.{DeviceState, AfterRead, AfterWrite, IsBoundedPoll, AfterPoll, next_count};
 
 use thiserror::Error;
 
@@ -19,7 +19,7 @@ pub trait Source {
     /// left.
     fn read(&mut self, piece: &mut [u8]) -> Result<usize, Failed>
         ensures bound { ReadsAtMost result piece.new }
-        ensures reads { Reads (state self.old) (state self.new) result piece.new };
+        ensures reads { AfterRead (state self.old) (state self.new) result piece.new };
 
     /// How many calls failed, up to the largest number there is. It takes no memory.
     fn failures(&self) -> u64
@@ -27,7 +27,7 @@ pub trait Source {
 }
 
 /// What octets are read from as they come: it need not wait for them.
-pub trait Polled {
+pub trait NonBlocking {
     /// The octets that are left, where they are known, and how many calls failed.
     ghost state: { Self → DeviceState };
 
@@ -37,9 +37,9 @@ pub trait Polled {
     /// Reads the octets that are there into the front of a piece, and answers how many: none only where no room was
     /// given, or none are left. `None` where none came yet. Where `wait` holds it may wait some milliseconds for them.
     fn poll(&mut self, piece: &mut [u8], wait: bool) -> Result<Option<usize>, Failed>
-        ensures bound { PollsAtMost result piece.new }
-        ensures reads { Polls (state self.old) (state self.new) result piece.new }
-        ensures counts { polls self.new ≡ raised (polls self.old) };
+        ensures bound { IsBoundedPoll result piece.new }
+        ensures reads { AfterPoll (state self.old) (state self.new) result piece.new }
+        ensures counts { polls self.new ≡ next_count (polls self.old) };
 }
 
 /// What octets are written to.
@@ -51,7 +51,7 @@ pub trait Sink {
     fn write(&mut self, piece: &[u8]) -> Result<usize, Failed>
         ensures bound { WritesAtMost result piece.now }
         ensures some { IfOk result (λ n. 0 < length piece.now → 0 < n) }
-        ensures writes { Writes (state self.old) (state self.new) result piece.now };
+        ensures writes { AfterWrite (state self.old) (state self.new) result piece.now };
 
     /// How many calls failed, up to the largest number there is. It takes no memory.
     fn failures(&self) -> u64

@@ -8,14 +8,14 @@ mod device;
 mod outgoing;
 mod replies;
 mod stream;
-mod turns;
+mod talk_steps;
 mod watch;
 
-pub use among::{Ends, Phase};
+pub use among::{Halves, TalkPhase};
 pub use at_once::talk_at_once;
 pub use conversation::{TalkError, talk};
-pub use device::{Failed, Polled, Sink, Source};
+pub use device::{Failed, NonBlocking, Sink, Source};
 pub use outgoing::{PushError, push};
 pub use replies::{AnswerError, answer};
-pub use stream::Device;
+pub use stream::Counting;
 pub use watch::{Unwatched, Watch};

@@ -2,8 +2,8 @@
 ghost use Rattle.std.specs.Prelude.{◌≡◌, ◌<◌, [], length, OnOk};
 ghost use Rattle.zoom_pool.specs.Links.{waiting_at};
 ghost use Rattle.zoom_io.specs.declared.outgoing.PushError.TheVariants as errors;
-ghost use Rattle.zoom_io.specs.Devices.{WritesAll};
-ghost use Rattle.zoom_io.specs.Pushes.{Pushes, IsBroken};
+ghost use Rattle.zoom_io.specs.Devices.{AfterWriteAll};
+ghost use Rattle.zoom_io.specs.Pushing.{AfterPush, IsBroken};
 
 use crate::device::{Failed, Sink};
 use std::alloc::{AllocError, Global};
@@ -32,7 +32,7 @@ impl From<AllocError> for PushError {
 
 /// Writes all the octets, in as many calls as the device wants.
 pub(crate) fn write_all<W: Sink>(sink: &mut W, octets: &[u8]) -> Result<(), Failed>
-    ensures { WritesAll (W.state sink.old) (W.state sink.new) octets.now result }
+    ensures { AfterWriteAll (W.state sink.old) (W.state sink.new) octets.now result }
 {
     let mut rest = octets;
     while !rest.is_empty() {
@@ -48,7 +48,7 @@ pub(crate) fn write_all<W: Sink>(sink: &mut W, octets: &[u8]) -> Result<(), Fail
 /// written or forgotten then.
 pub fn push<W: Sink>(alloc: Global, meta: &mut Meta, c: u32, sink: &mut W) -> Result<(), PushError>
     requires { c < length meta.old.pool.connections }
-    ensures pushes { Pushes c result meta.old meta.new (W.state sink.old) (W.state sink.new) }
+    ensures pushes { AfterPush c result meta.old meta.new (W.state sink.old) (W.state sink.new) }
     ensures none { OnOk result (waiting_at meta.new.pool c ≡ []) }
     ensures stopped { IsBroken c result meta.new }
     ensures known { meta.new.pool.knowledge ≡ meta.old.pool.knowledge }

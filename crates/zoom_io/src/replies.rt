@@ -1,7 +1,7 @@
 //! A target in memory answers over devices.
 ghost use Rattle.std.specs.Prelude.{◌≡◌, ◌||◌};
 ghost use Rattle.zoom_io.specs.declared.replies.AnswerError.TheVariants as errors;
-ghost use Rattle.zoom_io.specs.Answers.{ServesAll, Hands, AnswersPiece, Answers};
+ghost use Rattle.zoom_io.specs.Answering.{AfterReleaseAll, AfterWriteReplies, AfterAnswerPiece, AfterAnswer};
 
 use crate::device::{Sink, Source};
 use crate::outgoing::write_all;
@@ -39,7 +39,7 @@ impl From<AllocError> for AnswerError {
 
 /// Releases all replies, in order.
 fn release_all(host: &mut Host) -> Result<(), AllocError>
-    ensures { ServesAll result host.old host.new }
+    ensures { AfterReleaseAll result host.old host.new }
 {
     for _ in 0..u64::MAX {
         if !host.release(0)? {
@@ -51,7 +51,7 @@ fn release_all(host: &mut Host) -> Result<(), AllocError>
 
 /// Writes what waits to go out.
 fn write_replies<W: Sink>(alloc: Global, host: &mut Host, sink: &mut W) -> Result<(), AnswerError>
-    ensures { Hands result host.old host.new (W.state sink.old) (W.state sink.new) }
+    ensures { AfterWriteReplies result host.old host.new (W.state sink.old) (W.state sink.new) }
 {
     let mut octets = Vec::new(alloc);
     host.outgoing(&mut octets)?;
@@ -75,7 +75,7 @@ fn answer_piece<R: Source, W: Sink>(
     source: &mut R,
     sink: &mut W,
 ) -> Result<bool, AnswerError>
-    ensures { AnswersPiece result host.old host.new (R.state source.old) (R.state source.new)
+    ensures { AfterAnswerPiece result host.old host.new (R.state source.old) (R.state source.new)
         (W.state sink.old) (W.state sink.new) }
 {
     let mut piece = [0u8; PIECE];
@@ -105,7 +105,7 @@ pub fn answer<R: Source, W: Sink>(
     sink: &mut W,
     reads: u32,
 ) -> Result<(), AnswerError>
-    ensures { Answers reads result host.old host.new (R.state source.old) (R.state source.new)
+    ensures { AfterAnswer reads result host.old host.new (R.state source.old) (R.state source.new)
         (W.state sink.old) (W.state sink.new) }
 {
     for _ in 0..reads {

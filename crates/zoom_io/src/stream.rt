@@ -1,7 +1,7 @@
 //! Readers and writers of the standard library as devices: TCP streams, and octets in memory.
 ghost use Rattle.std.specs.Prelude.{◌≡◌};
-ghost use Rattle.zoom_io.specs.Devices.{raised};
-ghost use Rattle.zoom_io.specs.Streams.{ReadsPiece, WritesPiece};
+ghost use Rattle.zoom_io.specs.Devices.{next_count};
+ghost use Rattle.zoom_io.specs.Streams.{AfterReadAgain, AfterWriteAgain};
 
 use crate::device::{Failed, Sink, Source};
 use std::io::{ErrorKind, Read, Write};
@@ -10,39 +10,39 @@ use std::io::{ErrorKind, Read, Write};
 /// `Vec` that is written. Of a stream nothing is known of its octets. A call that was interrupted is made again. A
 /// write that takes none of a piece that has some is a failure.
 #[derive(Drop)]
-pub struct Device<D> {
+pub struct Counting<D> {
     inner: D,
     failures: u64,
 }
 
-impl<D> Device<D> {
+impl<D> Counting<D> {
     /// A device of a reader or writer, of which no call failed yet. It takes no memory.
-    pub fn new(inner: D) -> Device<D>
+    pub fn new(inner: D) -> Counting<D>
         ensures inner { result.inner ≡ inner }
         ensures failures { result.failures ≡ 0 }
     {
-        Device { inner, failures: 0 }
+        Counting { inner, failures: 0 }
     }
 
     /// The reader or writer. It takes no memory.
     pub fn into_inner(self) -> D
         ensures { result ≡ self.inner }
     {
-        let Device { inner, failures: _ } = self;
+        let Counting { inner, failures: _ } = self;
         inner
     }
 
     /// Counts a failure.
     fn fail(&mut self) -> Failed
         ensures inner { self.new.inner ≡ self.old.inner }
-        ensures raised { self.new.failures ≡ raised self.old.failures }
+        ensures next_count { self.new.failures ≡ next_count self.old.failures }
     {
         self.failures = self.failures.saturating_add(1);
         Failed
     }
 }
 
-impl<D: Read> Source for Device<D> {
+impl<D: Read> Source for Counting<D> {
     ghost state = { λ d. record { octets = D.remaining d.inner; failures = d.failures } };
 
     fn read(&mut self, piece: &mut [u8]) -> Result<usize, Failed> {
@@ -57,7 +57,7 @@ impl<D: Read> Source for Device<D> {
     }
 }
 
-impl<D: Write> Sink for Device<D> {
+impl<D: Write> Sink for Counting<D> {
     ghost state = { λ d. record { octets = D.contents d.inner; failures = d.failures } };
 
     fn write(&mut self, piece: &[u8]) -> Result<usize, Failed> {
@@ -74,7 +74,7 @@ impl<D: Write> Sink for Device<D> {
 
 /// Reads, again where it was interrupted. `None` where it failed.
 fn read_again<D: Read>(reader: &mut D, piece: &mut [u8]) -> Option<usize>
-    ensures { ReadsPiece (D.remaining reader.old) (D.remaining reader.new) result piece.new }
+    ensures { AfterReadAgain (D.remaining reader.old) (D.remaining reader.new) result piece.new }
 {
     for _ in 0..u64::MAX {
         match reader.read(piece) {
@@ -91,7 +91,7 @@ fn read_again<D: Read>(reader: &mut D, piece: &mut [u8]) -> Option<usize>
 
 /// Writes, again where it was interrupted. `None` where it failed, or took none of some octets.
 fn write_again<D: Write>(writer: &mut D, piece: &[u8]) -> Option<usize>
-    ensures { WritesPiece (D.contents writer.old) (D.contents writer.new) result piece.now }
+    ensures { AfterWriteAgain (D.contents writer.old) (D.contents writer.new) result piece.now }
 {
     for _ in 0..u64::MAX {
         match writer.write(piece) {

@@ -3,7 +3,7 @@ pub mod Replies
 pub mod States
 pub mod Framing
 pub mod Events
-pub mod Hearings
+pub mod Transcripts
 pub mod Sounds
 pub mod Steps
 pub mod Endings

@@ -33,7 +33,7 @@ abbrev pub replies_due : List Database → TargetSettings → Settings → Log �
 replies_due databases target settings log = replies databases target (requests settings log)
 
 -- The origin took from this target alone: each reply that it accepted is owed to what it sent; it refused none.
-pub record Converses (databases : List Database) (target : TargetSettings) (settings : Settings) (log : Log)
+pub record IsConversation (databases : List Database) (target : TargetSettings) (settings : Settings) (log : Log)
     : Type 0 where
   pub owed : (x : Accepted) → Contains (past settings log).accepted x
       → Contains (replies_due databases target settings log) x.reply
@@ -61,13 +61,13 @@ IsTakenAs settings log reply x =
 abbrev pub TakenLaw : Type 0
 TakenLaw =
     (databases : List Database) (target : TargetSettings) (settings : Settings) (log : Log)
-    → Converses databases target settings log → AreTaken databases target (requests settings log)
+    → IsConversation databases target settings log → AreTaken databases target (requests settings log)
 
 -- each reply that is owed and was not accepted yet is accepted, until a Close is
-abbrev pub AcceptsLaw : Type 0
-AcceptsLaw =
+abbrev pub AcceptanceLaw : Type 0
+AcceptanceLaw =
     (databases : List Database) (target : TargetSettings) (settings : Settings) (log : Log) (reply : Apdu)
-    → Converses databases target settings log → (past settings log).closed ≡ false
+    → IsConversation databases target settings log → (past settings log).closed ≡ false
     → Contains (replies_due databases target settings log) reply → IsUnanswered settings log reply
     → (x : Taken) × (verdict (standing (past settings log)) reply ≡ Ok x) × IsTakenAs settings log reply x
 
@@ -75,7 +75,7 @@ AcceptsLaw =
 abbrev pub UnansweredLaw : Type 0
 UnansweredLaw =
     (databases : List Database) (target : TargetSettings) (settings : Settings) (log : Log) (close : Close)
-    → Converses databases target settings log
+    → IsConversation databases target settings log
     → Contains (replies_due databases target settings log) (apdus.Close close)
     → IsUnanswered settings log (apdus.Close close)
 
@@ -88,32 +88,32 @@ ApartLaw =
     → Contains released a → Contains pending b → id_of a ≢ id_of b
 
 -- a reply is owed to each operation that was admitted
-abbrev pub OwesLaw : Type 0
-OwesLaw =
+abbrev pub OwedReplyLaw : Type 0
+OwedReplyLaw =
     (databases : List Database) (target : TargetSettings) (settings : Settings) (log : Log) (q : Asked)
-    → Converses databases target settings log → Contains (asked (past settings log)) q
+    → IsConversation databases target settings log → Contains (asked (past settings log)) q
     → (reply : Apdu) × Contains (replies_due databases target settings log) reply
     × (id_of reply ≡ Some (reference_id q.op))
 
 -- where Close was admitted, a Close is owed behind all other replies
-abbrev pub OwesCloseLaw : Type 0
-OwesCloseLaw =
+abbrev pub OwedCloseLaw : Type 0
+OwedCloseLaw =
     (databases : List Database) (target : TargetSettings) (settings : Settings) (log : Log)
-    → Converses databases target settings log → Contains (past settings log).admitted calls.Close
+    → IsConversation databases target settings log → Contains (past settings log).admitted calls.Close
     → (close : Close) × (others : List Apdu)
     × (replies_due databases target settings log ≡ others ++ apdus.Close close ∷ [])
 
 -- the reply that is owed to an operation fits it
-abbrev pub FitsLaw : Type 0
-FitsLaw =
+abbrev pub FittingLaw : Type 0
+FittingLaw =
     (databases : List Database) (target : TargetSettings) (settings : Settings) (log : Log) (q : Asked) (reply : Apdu)
     → Contains (replies_due databases target settings log) reply → IsReplyTo settings log reply q → Fits q.what reply
 
 pub record AccordLaws : Type 0 where
   pub taken : TakenLaw
-  pub accepts : AcceptsLaw
+  pub accepts : AcceptanceLaw
   pub unanswered : UnansweredLaw
   pub apart : ApartLaw
-  pub owes : OwesLaw
-  pub owes_close : OwesCloseLaw
-  pub fits : FitsLaw
+  pub owes : OwedReplyLaw
+  pub owes_close : OwedCloseLaw
+  pub fits : FittingLaw

@@ -20,10 +20,10 @@ use Rattle.ztarget.specs.Replies.{replies}
 use Rattle.zoom_questions.specs.declared.question.Question.{Question}
 use Rattle.zoom_questions.specs.declared.question.MetaSettings.{MetaSettings}
 use Rattle.zoom_pool.specs.Steering.{ask_of}
-use Rattle.zoom_pool.specs.Heard.{Heard, HasHeard, past_of}
-use Rattle.zoom_pool.specs.History.{History, only, accepted, facts_at}
+use Rattle.zoom_pool.specs.Transcripts.{Transcript, IsTranscript, past_of}
+use Rattle.zoom_pool.specs.History.{History, events_on, accepted, facts_at}
 use Rattle.zoom_pool.specs.Metas.{MetaLinks, MetaAfter, settings_of}
-use Rattle.zoom_laws.specs.Schedules.{IsComplete}
+use Rattle.zoom_laws.specs.Schedules.{IsCompleteTranscript}
 
 -- ---- the catalogue's answer
 
@@ -49,9 +49,9 @@ found_facts target q found =
 abbrev pub fault_facts : ℕ → Reason → List Fact
 fault_facts target reason = Failed target 1 ∷ Diag target 1 (pos 0) (Default (diagnostic reason)) ∷ []
 
-abbrev pub answer_facts : ℕ → Question → List Found → Option Reason → List Fact
-answer_facts target q found None = found_facts target q found
-answer_facts target q found (Some reason) = fault_facts target reason
+abbrev pub facts_for_question : ℕ → Question → List Found → Option Reason → List Fact
+facts_for_question target q found None = found_facts target q found
+facts_for_question target q found (Some reason) = fault_facts target reason
 
 -- What a question brings from the target of this number that has these databases and settings: that it refuses
 -- associations; or what of the question it does not support; or what it finds.
@@ -59,12 +59,12 @@ abbrev pub catalogue : ℕ → Question → List Database → TargetSettings →
 catalogue target q databases settings =
     if settings.refuse
     then Failed target 0 ∷ []
-    else answer_facts target q (entries_for q databases) (match_fault databases q.databases q.query)
+    else facts_for_question target q (entries_for q databases) (match_fault databases q.databases q.query)
 
 -- ---- an exchange with the target
 
 -- each reply that was accepted is one that such a target owes to the requests that were sent
-abbrev pub AreOwed : List Database → TargetSettings → Heard → Type 0
+abbrev pub AreOwed : List Database → TargetSettings → Transcript → Type 0
 AreOwed databases settings p =
     (x : Answer) → Contains (accepted p) x → Contains (replies databases settings (reverse (past_of p).sent)) x.reply
 
@@ -73,8 +73,8 @@ abbrev pub size_given : TargetSettings → ℕ
 size_given settings = natural (int_min settings.size (pos 1048576))
 
 -- each record that is due is within this size
-abbrev pub RecordsFit : Question → List Database → TargetSettings → Type 0
-RecordsFit q databases settings =
+abbrev pub HasFittingRecords : Question → List Database → TargetSettings → Type 0
+HasFittingRecords q databases settings =
     (p : ℕ) (f : Found) → IsIn p (positions_due q (entries_for q databases))
     → IsIn f (at_positions (entries_for q databases) (p ∷ []))
     → size_of (in_syntax q.syntax f) ≤ size_given settings
@@ -87,19 +87,21 @@ CanAsk q settings =
 -- a connection that was driven to its end, and that heard this target alone, knows exactly the catalogue's answer
 abbrev pub CatalogueLaw : Type 0
 CatalogueLaw =
-    (questions : List Question) (s : MetaSettings) (h : History) (meta : MetaLinks) (c : ℕ) (q : Question) (p : Heard)
+    (questions : List Question) (s : MetaSettings) (h : History) (meta : MetaLinks) (c : ℕ) (q : Question)
+    (p : Transcript)
     (databases : List Database) (settings : TargetSettings)
-    → MetaAfter questions s h meta → slice_get questions c ≡ Some q → HasHeard (settings_of s) (only c h) p
-    → IsComplete p → AreOwed databases settings p → CanAsk q settings → RecordsFit q databases settings
+    → MetaAfter questions s h meta → slice_get questions c ≡ Some q → IsTranscript (settings_of s) (events_on c h) p
+    → IsCompleteTranscript p → AreOwed databases settings p → CanAsk q settings → HasFittingRecords q databases settings
     → (f : Fact) → Contains (facts_at c p) f ↔ Contains (catalogue c q databases settings) f
 
 -- one to which the search could not be sent knows nothing
 abbrev pub UnaskedLaw : Type 0
 UnaskedLaw =
-    (questions : List Question) (s : MetaSettings) (h : History) (meta : MetaLinks) (c : ℕ) (q : Question) (p : Heard)
+    (questions : List Question) (s : MetaSettings) (h : History) (meta : MetaLinks) (c : ℕ) (q : Question)
+    (p : Transcript)
     (databases : List Database) (settings : TargetSettings)
-    → MetaAfter questions s h meta → slice_get questions c ≡ Some q → HasHeard (settings_of s) (only c h) p
-    → IsComplete p → AreOwed databases settings p → settings.refuse ≡ false
+    → MetaAfter questions s h meta → slice_get questions c ≡ Some q → IsTranscript (settings_of s) (events_on c h) p
+    → IsCompleteTranscript p → AreOwed databases settings p → settings.refuse ≡ false
     → is_unsendable (search_request settings.named 1 1 (ask_of q)) ≡ true
     → (f : Fact) → Contains (facts_at c p) f → ⊥
 

@@ -14,27 +14,27 @@ use Rattle.zoom_questions.specs.declared.question.Question.{Question}
 use Rattle.zoom_questions.specs.declared.question.MetaSettings.{MetaSettings}
 use Rattle.zoom_pool.specs.declared.state.State.TheVariants as states
 use Rattle.zoom_pool.specs.States.{is_stopped}
-use Rattle.zoom_pool.specs.Coming.{Met, IsBehind}
+use Rattle.zoom_pool.specs.Inputs.{Input, IsBehind}
 use Rattle.zber.specs.declared.framer.TheConstants.{MESSAGE_LIMIT}
-use Rattle.zoom_pool.specs.Heard.{Deed, Calls, Feeds, Takes, Gives, Heard, HasHeard, Meets, silence, past_of, state_at, sent, take_at, hears_call, hears_piece}
+use Rattle.zoom_pool.specs.Transcripts.{Event, Called, Fed, Took, HandedOut, Transcript, IsTranscript, NextInput, empty_transcript, past_of, state_at, sent, after_take, after_call, after_feed}
 use Rattle.zoom_pool.specs.Steering.{errand_of, complete_in, is_rejected, IsTried}
-use Rattle.zoom_pool.specs.Hosts.{HostState, Holdings, HostAfter, Served, HasServed, Event, Fed, FedPart, Released, HandedOut, handed_out, replies_to}
-use Rattle.zoom_pool.specs.History.{History, only}
-use Rattle.zoom_pool.specs.Leaving.{AreReadBack}
+use Rattle.zoom_pool.specs.Hosts.{HostState, Holdings, HostAfter, HostTranscript, IsHostTranscript, HostEvent, HostFed, HostFedPart, Released, HostHandedOut, handed_out, replies_to}
+use Rattle.zoom_pool.specs.History.{History, events_on}
+use Rattle.zoom_pool.specs.Connections.{AreReadBack}
 use Rattle.zoom_pool.specs.Metas.{MetaLinks, MetaAfter, NoneIsNext, settings_of}
-use Rattle.zoom_laws.specs.Accord.{requests, Converses}
+use Rattle.zoom_laws.specs.Accord.{requests, IsConversation}
 
 -- the octets that came to a host, joined
-abbrev pub fed_to : List Event → List ℕ
+abbrev pub fed_to : List HostEvent → List ℕ
 fed_to [] = []
-fed_to (Fed piece ∷ events) = fed_to events ++ piece
-fed_to (FedPart piece ∷ events) = fed_to events ++ piece
+fed_to (HostFed piece ∷ events) = fed_to events ++ piece
+fed_to (HostFedPart piece ∷ events) = fed_to events ++ piece
 fed_to (_ ∷ events) = fed_to events
 
 -- memory was not wanting for any piece
-abbrev pub ArePlain : List Event → Type 0
+abbrev pub ArePlain : List HostEvent → Type 0
 ArePlain [] = Unit {0}
-ArePlain (FedPart piece ∷ events) = ⊥
+ArePlain (HostFedPart piece ∷ events) = ⊥
 ArePlain (_ ∷ events) = ArePlain events
 
 -- the APDUs that the log's entries got, the oldest first
@@ -45,10 +45,11 @@ got_in (Made call ∷ log) = got_in log
 
 -- The octets that came to either are the front of what the other sent; neither failed; and what the connection took are
 -- the replies that the host put, in order, up to those that are coming.
-pub record IsSound (holdings : Holdings) (settings : Settings) (deeds : List Deed) (p : Heard) (events : List Event)
+pub record IsSoundExchange (holdings : Holdings) (settings : Settings) (deeds : List Event) (p : Transcript)
+    (events : List HostEvent)
     (host : HostState) : Type 0 where
   -- what the deeds and the events amount to
-  pub heard : HasHeard settings deeds p
+  pub transcript : IsTranscript settings deeds p
   pub served : HostAfter holdings events host
   pub plain : ArePlain events
   -- octets on their way to the host
@@ -62,7 +63,7 @@ pub record IsSound (holdings : Holdings) (settings : Settings) (deeds : List Dee
   pub goes_on : p.ended ≡ false
   pub sound : (past_of p).fault ≡ None
   -- the host did not stop
-  pub serves : served.served.stopped ≡ false
+  pub serving : served.served.stopped ≡ false
   -- the replies put that were not taken yet
   pub coming : List Apdu
   pub got : served.served.sent ≡ got_in p.log ++ coming
@@ -76,93 +77,104 @@ pub record IsSound (holdings : Holdings) (settings : Settings) (deeds : List Dee
 -- events with no want of memory amount to one thing
 abbrev pub OneServedLaw : Type 0
 OneServedLaw =
-    (holdings : Holdings) (events : List Event) (p q : Served)
-    → ArePlain events → HasServed holdings events p → HasServed holdings events q → p ≡ q
+    (holdings : Holdings) (events : List HostEvent) (p q : HostTranscript)
+    → ArePlain events → IsHostTranscript holdings events p → IsHostTranscript holdings events q → p ≡ q
 
 -- nothing was done
-abbrev pub StartsLaw : Type 0
-StartsLaw =
+abbrev pub StartLaw : Type 0
+StartLaw =
     (holdings : Holdings) (settings : Settings) (host : HostState)
-    → HostAfter holdings [] host → IsSound holdings settings [] (silence settings) [] host
+    → HostAfter holdings [] host → IsSoundExchange holdings settings [] (empty_transcript settings) [] host
 
 -- a call was made, and what was sent is read back
-abbrev pub CallsLaw : Type 0
-CallsLaw =
-    (holdings : Holdings) (settings : Settings) (deeds : List Deed) (p : Heard) (events : List Event) (host : HostState)
+abbrev pub CallLaw : Type 0
+CallLaw =
+    (holdings : Holdings) (settings : Settings) (deeds : List Event) (p : Transcript) (events : List HostEvent)
+    (host : HostState)
     (call : Call)
-    → IsSound holdings settings deeds p events host → AreReadBack (past_of (hears_call p call)).sent
-    → IsSound holdings settings (Calls call ∷ deeds) (hears_call p call) events host
+    → IsSoundExchange holdings settings deeds p events host → AreReadBack (past_of (after_call p call)).sent
+    → IsSoundExchange holdings settings (Called call ∷ deeds) (after_call p call) events host
 
 -- octets were handed out by the connection
-abbrev pub GivesLaw : Type 0
-GivesLaw =
-    (holdings : Holdings) (settings : Settings) (deeds : List Deed) (p : Heard) (events : List Event) (host : HostState)
+abbrev pub HandedOutLaw : Type 0
+HandedOutLaw =
+    (holdings : Holdings) (settings : Settings) (deeds : List Event) (p : Transcript) (events : List HostEvent)
+    (host : HostState)
     (octets : List ℕ)
-    → IsSound holdings settings deeds p events host → IsSound holdings settings (Gives octets ∷ deeds) p events host
+    → IsSoundExchange holdings settings deeds p events host
+    → IsSoundExchange holdings settings (HandedOut octets ∷ deeds) p events host
 
 -- a piece of what was sent came to the host
 abbrev pub HostFedLaw : Type 0
 HostFedLaw =
-    (holdings : Holdings) (settings : Settings) (deeds : List Deed) (p : Heard) (events : List Event)
-    (host later : HostState) (piece rest : List ℕ) (s : IsSound holdings settings deeds p events host)
-    → s.to ≡ piece ++ rest → HostAfter holdings (Fed piece ∷ events) later
-    → IsSound holdings settings deeds p (Fed piece ∷ events) later
+    (holdings : Holdings) (settings : Settings) (deeds : List Event) (p : Transcript) (events : List HostEvent)
+    (host later : HostState) (piece rest : List ℕ) (s : IsSoundExchange holdings settings deeds p events host)
+    → s.to ≡ piece ++ rest → HostAfter holdings (HostFed piece ∷ events) later
+    → IsSoundExchange holdings settings deeds p (HostFed piece ∷ events) later
 
 -- the host handed out what waited
-abbrev pub HandedLaw : Type 0
-HandedLaw =
-    (holdings : Holdings) (settings : Settings) (deeds : List Deed) (p : Heard) (events : List Event)
+abbrev pub HostHandedOutLaw : Type 0
+HostHandedOutLaw =
+    (holdings : Holdings) (settings : Settings) (deeds : List Event) (p : Transcript) (events : List HostEvent)
     (host later : HostState)
-    → IsSound holdings settings deeds p events host → HostAfter holdings (HandedOut host.waiting ∷ events) later
-    → IsSound holdings settings deeds p (HandedOut host.waiting ∷ events) later
+    → IsSoundExchange holdings settings deeds p events host
+    → HostAfter holdings (HostHandedOut host.waiting ∷ events) later
+    → IsSoundExchange holdings settings deeds p (HostHandedOut host.waiting ∷ events) later
 
 -- a piece of what was handed out came to the connection
 abbrev pub FedLaw : Type 0
 FedLaw =
-    (holdings : Holdings) (settings : Settings) (deeds : List Deed) (p : Heard) (events : List Event) (host : HostState)
-    (piece rest : List ℕ) (s : IsSound holdings settings deeds p events host)
-    → s.from ≡ piece ++ rest → IsSound holdings settings (Feeds piece ∷ deeds) (hears_piece p piece) events host
+    (holdings : Holdings) (settings : Settings) (deeds : List Event) (p : Transcript) (events : List HostEvent)
+    (host : HostState)
+    (piece rest : List ℕ) (s : IsSoundExchange holdings settings deeds p events host)
+    → s.from ≡ piece ++ rest → IsSoundExchange holdings settings (Fed piece ∷ deeds) (after_feed p piece) events host
 
 -- the connection took what it met
-abbrev pub TakesLaw : Type 0
-TakesLaw =
-    (holdings : Holdings) (settings : Settings) (deeds : List Deed) (p : Heard) (events : List Event) (host : HostState)
-    (met : Met)
-    → IsSound holdings settings deeds p events host → Meets p met
-    → IsSound holdings settings (Takes ∷ deeds) (take_at p met) events host
+abbrev pub TakeStepLaw : Type 0
+TakeStepLaw =
+    (holdings : Holdings) (settings : Settings) (deeds : List Event) (p : Transcript) (events : List HostEvent)
+    (host : HostState)
+    (input : Input)
+    → IsSoundExchange holdings settings deeds p events host → NextInput p input
+    → IsSoundExchange holdings settings (Took ∷ deeds) (after_take p input) events host
 
 -- pending reply k was put
 abbrev pub ReleasedLaw : Type 0
 ReleasedLaw =
-    (holdings : Holdings) (settings : Settings) (deeds : List Deed) (p : Heard) (events : List Event)
+    (holdings : Holdings) (settings : Settings) (deeds : List Event) (p : Transcript) (events : List HostEvent)
     (host later : HostState) (k : ℕ)
-    → IsSound holdings settings deeds p events host
-    → HostAfter holdings (Released k ∷ events) later → IsSound holdings settings deeds p (Released k ∷ events) later
+    → IsSoundExchange holdings settings deeds p events host
+    → HostAfter holdings (Released k ∷ events) later
+    → IsSoundExchange holdings settings deeds p (Released k ∷ events) later
 
 -- ---- where it leads
 
 -- what was taken are the replies that were put, as many as were taken
-abbrev pub TookLaw : Type 0
-TookLaw =
-    (holdings : Holdings) (settings : Settings) (deeds : List Deed) (p : Heard) (events : List Event) (host : HostState)
-    (s : IsSound holdings settings deeds p events host)
+abbrev pub TakenRepliesLaw : Type 0
+TakenRepliesLaw =
+    (holdings : Holdings) (settings : Settings) (deeds : List Event) (p : Transcript) (events : List HostEvent)
+    (host : HostState)
+    (s : IsSoundExchange holdings settings deeds p events host)
     → got_in p.log ≡ take p.taken s.served.served.sent
 
 -- the origin took what this target owes to what it sent, and nothing else
-abbrev pub ConversesLaw : Type 0
-ConversesLaw =
-    (holdings : Holdings) (settings : Settings) (deeds : List Deed) (p : Heard) (events : List Event) (host : HostState)
-    → IsSound holdings settings deeds p events host
-    → Converses holdings.databases holdings.settings p.settings p.log
+abbrev pub ConversationLaw : Type 0
+ConversationLaw =
+    (holdings : Holdings) (settings : Settings) (deeds : List Event) (p : Transcript) (events : List HostEvent)
+    (host : HostState)
+    → IsSoundExchange holdings settings deeds p events host
+    → IsConversation holdings.databases holdings.settings p.settings p.log
 
 -- a connection that is over was rejected, or sent its Close
-abbrev pub EndsLaw : Type 0
-EndsLaw =
-    (holdings : Holdings) (settings : Settings) (deeds : List Deed) (p : Heard) (events : List Event) (host : HostState)
-    → IsSound holdings settings deeds p events host → is_stopped (state_at p) ≡ true → complete_in (past_of p) ≡ true
+abbrev pub CompletenessLaw : Type 0
+CompletenessLaw =
+    (holdings : Holdings) (settings : Settings) (deeds : List Event) (p : Transcript) (events : List HostEvent)
+    (host : HostState)
+    → IsSoundExchange holdings settings deeds p events host → is_stopped (state_at p) ≡ true → complete_in (past_of p)
+    ≡ true
 
 -- The replies that were put are all that are owed to what was sent; they came; and none is waited for.
-pub record IsSettled (holdings : Holdings) (p : Heard) (replies : List Apdu) : Type 0 where
+pub record IsSettled (holdings : Holdings) (p : Transcript) (replies : List Apdu) : Type 0 where
   pub answered : IsPermutation (replies_to holdings (requests p.settings p.log)) replies
   pub stream : p.stream ≡ flat_map encoding_of replies
   pub waits : outstanding (past_of p) ≡ []
@@ -170,15 +182,16 @@ pub record IsSettled (holdings : Holdings) (p : Heard) (replies : List Apdu) : T
   pub closed : state_at p ≢ states.Closing
 
 -- behind the messages taken the octets begin with no message
-abbrev pub TookAll : Heard → Type 0
-TookAll p = (rest : List ℕ) × IsBehind p.stream p.taken rest × IsUnfinished MESSAGE_LIMIT rest
+abbrev pub HasTakenAll : Transcript → Type 0
+HasTakenAll p = (rest : List ℕ) × IsBehind p.stream p.taken rest × IsUnfinished MESSAGE_LIMIT rest
 
 -- nothing is on its way, nothing waits to go out, no reply is pending, and the connection took all messages
-abbrev pub RestsLaw : Type 0
-RestsLaw =
-    (holdings : Holdings) (settings : Settings) (deeds : List Deed) (p : Heard) (events : List Event) (host : HostState)
-    (s : IsSound holdings settings deeds p events host)
-    → s.to ≡ [] → s.from ≡ [] → host.waiting ≡ [] → host.target.pending ≡ [] → TookAll p
+abbrev pub SettledLaw : Type 0
+SettledLaw =
+    (holdings : Holdings) (settings : Settings) (deeds : List Event) (p : Transcript) (events : List HostEvent)
+    (host : HostState)
+    (s : IsSoundExchange holdings settings deeds p events host)
+    → s.to ≡ [] → s.from ≡ [] → host.waiting ≡ [] → host.target.pending ≡ [] → HasTakenAll p
     → IsSettled holdings p s.served.served.sent
 
 -- ---- what is owed, and how much
@@ -186,8 +199,9 @@ RestsLaw =
 -- a reply that is pending is owed to what was sent
 abbrev pub PendingLaw : Type 0
 PendingLaw =
-    (holdings : Holdings) (settings : Settings) (deeds : List Deed) (p : Heard) (events : List Event) (host : HostState)
-    → IsSound holdings settings deeds p events host → (v : Apdu) → Contains host.target.pending v
+    (holdings : Holdings) (settings : Settings) (deeds : List Event) (p : Transcript) (events : List HostEvent)
+    (host : HostState)
+    → IsSoundExchange holdings settings deeds p events host → (v : Apdu) → Contains host.target.pending v
     → Contains (replies_to holdings (requests p.settings p.log)) v
 
 -- a reply that is owed to what a log sent is owed to what a longer one sent
@@ -200,22 +214,25 @@ LongerLaw =
 -- as many replies as requests at most were taken, and put
 abbrev pub CountLaw : Type 0
 CountLaw =
-    (holdings : Holdings) (settings : Settings) (deeds : List Deed) (p : Heard) (events : List Event) (host : HostState)
-    (s : IsSound holdings settings deeds p events host)
+    (holdings : Holdings) (settings : Settings) (deeds : List Event) (p : Transcript) (events : List HostEvent)
+    (host : HostState)
+    (s : IsSoundExchange holdings settings deeds p events host)
     → (p.taken ≤ length (past_of p).sent) × (length s.served.served.sent ≤ length (past_of p).sent)
 
 -- where the first pending reply may not go out, none is pending: a Close is the last
 abbrev pub EmptyLaw : Type 0
 EmptyLaw =
-    (holdings : Holdings) (settings : Settings) (deeds : List Deed) (p : Heard) (events : List Event) (host : HostState)
-    → IsSound holdings settings deeds p events host → may_release host.target.pending 0 ≡ false
+    (holdings : Holdings) (settings : Settings) (deeds : List Event) (p : Transcript) (events : List HostEvent)
+    (host : HostState)
+    → IsSoundExchange holdings settings deeds p events host → may_release host.target.pending 0 ≡ false
     → host.target.pending ≡ []
 
 -- once a connection is over, the replies that were put are all that are owed to what was sent, and they came
 abbrev pub OverLaw : Type 0
 OverLaw =
-    (holdings : Holdings) (settings : Settings) (deeds : List Deed) (p : Heard) (events : List Event) (host : HostState)
-    (s : IsSound holdings settings deeds p events host)
+    (holdings : Holdings) (settings : Settings) (deeds : List Event) (p : Transcript) (events : List HostEvent)
+    (host : HostState)
+    (s : IsSoundExchange holdings settings deeds p events host)
     → is_stopped (state_at p) ≡ true
     → IsPermutation (replies_to holdings (requests p.settings p.log)) s.served.served.sent
     × (p.stream ≡ flat_map encoding_of s.served.served.sent)
@@ -225,39 +242,42 @@ OverLaw =
 -- where no call is next and no reply is waited for, the connection is over
 abbrev pub EndedLaw : Type 0
 EndedLaw =
-    (questions : List Question) (s : MetaSettings) (h : History) (meta : MetaLinks) (c : ℕ) (q : Question) (p : Heard)
-    → MetaAfter questions s h meta → slice_get questions c ≡ Some q → HasHeard (settings_of s) (only c h) p
+    (questions : List Question) (s : MetaSettings) (h : History) (meta : MetaLinks) (c : ℕ) (q : Question)
+    (p : Transcript)
+    → MetaAfter questions s h meta → slice_get questions c ≡ Some q → IsTranscript (settings_of s) (events_on c h) p
     → NoneIsNext (errand_of s q) p → p.stop ≡ None → outstanding (past_of p) ≡ []
     → state_at p ≢ states.Initialising → state_at p ≢ states.Closing → is_stopped (state_at p) ≡ true
 
 -- one that is complete and was not rejected tried its search: it was admitted, or skipped
 abbrev pub TriedLaw : Type 0
 TriedLaw =
-    (questions : List Question) (s : MetaSettings) (h : History) (meta : MetaLinks) (c : ℕ) (q : Question) (p : Heard)
-    → MetaAfter questions s h meta → slice_get questions c ≡ Some q → HasHeard (settings_of s) (only c h) p
+    (questions : List Question) (s : MetaSettings) (h : History) (meta : MetaLinks) (c : ℕ) (q : Question)
+    (p : Transcript)
+    → MetaAfter questions s h meta → slice_get questions c ≡ Some q → IsTranscript (settings_of s) (events_on c h) p
     → complete_in (past_of p) ≡ true → is_rejected (opening (past_of p)) ≡ false → IsTried p.settings p.log
 
 -- so many requests are sent at most, and so many octets
 abbrev pub FewLaw : Type 0
 FewLaw =
-    (questions : List Question) (s : MetaSettings) (h : History) (meta : MetaLinks) (c : ℕ) (q : Question) (p : Heard)
-    → MetaAfter questions s h meta → slice_get questions c ≡ Some q → HasHeard (settings_of s) (only c h) p
+    (questions : List Question) (s : MetaSettings) (h : History) (meta : MetaLinks) (c : ℕ) (q : Question)
+    (p : Transcript)
+    → MetaAfter questions s h meta → slice_get questions c ≡ Some q → IsTranscript (settings_of s) (events_on c h) p
     → (length (past_of p).sent ≤ 1000003) × (length (sent (past_of p)) ≤ 1000003 * MESSAGE_LIMIT)
 
 pub record ExchangeLaws : Type 0 where
   pub one_served : OneServedLaw
-  pub starts : StartsLaw
-  pub calls : CallsLaw
-  pub gives : GivesLaw
+  pub starts : StartLaw
+  pub calls : CallLaw
+  pub gives : HandedOutLaw
   pub host_fed : HostFedLaw
-  pub handed : HandedLaw
+  pub handed : HostHandedOutLaw
   pub fed : FedLaw
-  pub takes : TakesLaw
+  pub takes : TakeStepLaw
   pub released : ReleasedLaw
-  pub took : TookLaw
-  pub converses : ConversesLaw
-  pub ends : EndsLaw
-  pub rests : RestsLaw
+  pub took : TakenRepliesLaw
+  pub conversation : ConversationLaw
+  pub ends : CompletenessLaw
+  pub rests : SettledLaw
   pub pending : PendingLaw
   pub longer : LongerLaw
   pub count : CountLaw

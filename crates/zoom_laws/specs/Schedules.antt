@@ -8,40 +8,41 @@ use Rattle.zoom_questions.specs.declared.question.Question.{Question}
 use Rattle.zoom_questions.specs.declared.question.MetaSettings.{MetaSettings}
 use Rattle.zoom_pool.specs.Driving.{operation_for, events_of}
 use Rattle.zoom_pool.specs.Steering.{ask_of, complete_in}
-use Rattle.zoom_pool.specs.Heard.{Heard, HasHeard, past_of}
-use Rattle.zoom_pool.specs.History.{History, only, accepted}
-use Rattle.zoom_pool.specs.Laws.{plain, KnowSame}
+use Rattle.zoom_pool.specs.Transcripts.{Transcript, IsTranscript, past_of}
+use Rattle.zoom_pool.specs.History.{History, events_on, accepted}
+use Rattle.zoom_pool.specs.Laws.{plain, SameKnowledge}
 use Rattle.zoom_pool.specs.Metas.{MetaLinks, MetaAfter, settings_of}
 
 -- the association was rejected, or Close was sent
-abbrev pub IsComplete : Heard → Type 0
-IsComplete p = complete_in (past_of p) ≡ true
+abbrev pub IsCompleteTranscript : Transcript → Type 0
+IsCompleteTranscript p = complete_in (past_of p) ≡ true
 
 -- the replies that a connection had, as far as they decide what is asked
-abbrev pub replies_of : Question → Heard → Replies
+abbrev pub replies_of : Question → Transcript → Replies
 replies_of q p = replies_in (events_of (ask_of q) p.settings p.log)
 
 -- exactly the operations were answered that are asked, for the replies that the connection had
-pub record AnswersAsked (q : Question) (step : ℕ) (p : Heard) : Type 0 where
-  pub only : (x : Answer) → Contains (accepted p) x
+pub record HasExactAnswers (q : Question) (step : ℕ) (p : Transcript) : Type 0 where
+  pub events_on : (x : Answer) → Contains (accepted p) x
       → IsAsked (positions q.wanted) step (replies_of q p) (operation_for x.asked.what)
   pub all : (a : Operation) → IsAsked (positions q.wanted) step (replies_of q p) a
       → (x : Answer) × Contains (accepted p) x × (operation_for x.asked.what ≡ a)
 
 abbrev pub AskedLaw : Type 0
 AskedLaw =
-    (questions : List Question) (s : MetaSettings) (h : History) (meta : MetaLinks) (c : ℕ) (q : Question) (p : Heard)
-    → MetaAfter questions s h meta → slice_get questions c ≡ Some q → HasHeard (settings_of s) (only c h) p
-    → IsComplete p → AnswersAsked q s.step p
+    (questions : List Question) (s : MetaSettings) (h : History) (meta : MetaLinks) (c : ℕ) (q : Question)
+    (p : Transcript)
+    → MetaAfter questions s h meta → slice_get questions c ≡ Some q → IsTranscript (settings_of s) (events_on c h) p
+    → IsCompleteTranscript p → HasExactAnswers q s.step p
 
 -- equal operations had equal replies, reference ids aside
-abbrev pub HadEqualReplies : Heard → Heard → Type 0
-HadEqualReplies one other =
+abbrev pub HaveEqualReplies : Transcript → Transcript → Type 0
+HaveEqualReplies one other =
     (x y : Answer) → Contains (accepted one) x → Contains (accepted other) y
     → operation_for x.asked.what ≡ operation_for y.asked.what → plain x.reply ≡ plain y.reply
 
 -- each accepted answer of the one has one of the other, to the same operation, with the same reply, reference ids aside
-abbrev pub AreAnsweredAlike : Heard → Heard → Type 0
+abbrev pub AreAnsweredAlike : Transcript → Transcript → Type 0
 AreAnsweredAlike one other =
     (x : Answer) → Contains (accepted one) x
     → (y : Answer) × Contains (accepted other) y
@@ -50,20 +51,20 @@ AreAnsweredAlike one other =
 -- two runs of the same questions, by the same step, in each of which each connection is complete, and equal operations
 -- had equal replies
 pub record AreAlike
-    (questions : List Question) (s t : MetaSettings) (one other : ℕ → Heard)
+    (questions : List Question) (s t : MetaSettings) (one other : ℕ → Transcript)
     : Type 0 where
   pub step : s.step ≡ t.step
-  pub first : (c : ℕ) → c < length questions → IsComplete (one c)
-  pub second : (c : ℕ) → c < length questions → IsComplete (other c)
-  pub equal : (c : ℕ) → HadEqualReplies (one c) (other c)
+  pub first : (c : ℕ) → c < length questions → IsCompleteTranscript (one c)
+  pub second : (c : ℕ) → c < length questions → IsCompleteTranscript (other c)
+  pub equal : (c : ℕ) → HaveEqualReplies (one c) (other c)
 
 abbrev pub SameListLaw : Type 0
 SameListLaw =
     (questions : List Question) (s t : MetaSettings) (g h : History) (one other : MetaLinks)
     (a : MetaAfter questions s g one) (b : MetaAfter questions t h other)
-    → AreAlike questions s t a.pool.heard b.pool.heard
-    → ((c : ℕ) → AreAnsweredAlike (a.pool.heard c) (b.pool.heard c))
-    × ((c : ℕ) → AreAnsweredAlike (b.pool.heard c) (a.pool.heard c)) × KnowSame one.pool other.pool
+    → AreAlike questions s t a.pool.transcript b.pool.transcript
+    → ((c : ℕ) → AreAnsweredAlike (a.pool.transcript c) (b.pool.transcript c))
+    × ((c : ℕ) → AreAnsweredAlike (b.pool.transcript c) (a.pool.transcript c)) × SameKnowledge one.pool other.pool
 
 pub record ScheduleLaws : Type 0 where
   pub asked : AskedLaw

@@ -5,7 +5,7 @@ ghost use Rattle.zoom_laws.specs.Exchange.{ExchangeLaws};
 ghost use Rattle.zoom_laws.specs.Schedules.{ScheduleLaws};
 
 use zoom_pool::driving::driven_laws;
-use zoom_pool::laws::{meta_laws, one_hearing};
+use zoom_pool::laws::{meta_laws, one_transcript};
 use zorigin::laws::{accepted_replies, orderly_logs};
 use zplan::laws::{agenda_laws, next_laws, shown_laws};
 use ztarget::laws::{kept_sets, what_fits};
@@ -30,7 +30,7 @@ pub fn exchange_laws()
     next_laws();
     agenda_laws();
     driven_laws();
-    one_hearing();
+    one_transcript();
     meta_laws();
 }
 

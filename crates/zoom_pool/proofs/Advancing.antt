@@ -22,46 +22,46 @@ use Rattle.zoom_pool.specs.declared.state.State.{State}
 use Rattle.zoom_pool.specs.declared.call.Call.{Call as RustCall}
 use Rattle.zoom_pool.specs.CallsOf.{call_of}
 use Rattle.zoom_pool.specs.States.{state_as, or_else, is_stopped}
-use Rattle.zoom_pool.specs.Heard.{Heard, HasHeard, Deed, Calls, hears_call, called_as, dropped, past_of, state_at}
+use Rattle.zoom_pool.specs.Transcripts.{Transcript, IsTranscript, Event, Called, after_call, connection_call_result, dropped, past_of, state_at}
 use Rattle.zoom_pool.specs.Links.{Link, Links}
-use Rattle.zoom_pool.specs.History.{History, only, After}
-use Rattle.zoom_pool.specs.Befalling.{Befell, IsStateAt, IsCallAnswer, IsPoolFinished}
-use Rattle.zoom_pool.specs.Laws.{OneHearing}
+use Rattle.zoom_pool.specs.History.{History, events_on, After}
+use Rattle.zoom_pool.specs.PoolSteps.{Recorded, IsStateAt, IsCallResult, IsPoolFinished}
+use Rattle.zoom_pool.specs.Laws.{OneTranscript}
 use Rattle.zoom_pool.specs.Steering.{Errand, errand_of}
-use Rattle.zoom_pool.specs.Drivers.{DriverState, IsDriver, Stays, Offers, Rests, GivesNext, KnowsSent, KnowsRefused}
-use Rattle.zoom_pool.specs.Metas.{MetaLinks, settings_of, AreDriven, MetaAfter, MetaAfterUpTo, made, Progress, Drives}
-use Rattle.zoom_pool.specs.Metas.{left_of, left_at, Gave, AdvancesBy, AdvancesTo, IssuesTo, DrivesTo}
-use Rattle.zoom_pool.specs.Metas.{Tells, TellsUpTo, is_skipped, is_complete, IsFinished, IsFinishedUpTo}
-use Rattle.zoom_pool.specs.declared.meta.Turn.{Turn}
-use Rattle.zoom_pool.specs.declared.meta.Turn.TheVariants as turns
+use Rattle.zoom_pool.specs.Drivers.{DriverState, IsDriver, SameDriver, IsOffer, HasNoNextCall, NextCallResult, NoteSentStep, NoteRefusedStep}
+use Rattle.zoom_pool.specs.Metas.{MetaLinks, settings_of, AreDriven, MetaAfter, MetaAfterUpTo, call_events, Progress, CompleteDrive}
+use Rattle.zoom_pool.specs.Metas.{left_of, left_at, IsGivenCall, AdvanceResultAt, AdvanceResult, IssueResult, DriveResult}
+use Rattle.zoom_pool.specs.Metas.{IsTranscriptValue, IsTranscriptValueUpTo, is_skipped, is_complete, IsFinished, IsFinishedUpTo}
+use Rattle.zoom_pool.specs.declared.meta.Turn.{Advance}
+use Rattle.zoom_pool.specs.declared.meta.Turn.TheVariants as stages
 use Rattle.zoom_pool.proofs.Pools.{only_same, after_up_to, got, get_same}
 use Rattle.zoom_pool.proofs.Metas.{goes, driven_more, heard_at, get_other, slice_some}
 
 -- ---- calls as deeds
 
-only_made : (c : ℕ) (cs : List Call) (h : History) → only c (made c cs ++ h) ≡ map (λ call. Calls call) cs ++ only c h
+only_made : (c : ℕ) (cs : List Call) (h : History) → events_on c (call_events c cs ++ h) ≡ map (λ call. Called call) cs ++ events_on c h
 only_made c [] h = refl
-only_made c (x ∷ cs) h = only_same c (Calls x) (made c cs ++ h) ∙ ap (λ l. Calls x ∷ l) (only_made c cs h)
+only_made c (x ∷ cs) h = only_same c (Called x) (call_events c cs ++ h) ∙ ap (λ l. Called x ∷ l) (only_made c cs h)
 
-made_more : (c : ℕ) (ds cs : List Call) (h : History) → made c (ds ++ cs) ++ h ≡ made c ds ++ (made c cs ++ h)
+made_more : (c : ℕ) (ds cs : List Call) (h : History) → call_events c (ds ++ cs) ++ h ≡ call_events c ds ++ (call_events c cs ++ h)
 made_more c [] cs h = refl
-made_more c (d ∷ ds) cs h = ap (λ l. (c, Calls d) ∷ l) (made_more c ds cs h)
+made_more c (d ∷ ds) cs h = ap (λ l. (c, Called d) ∷ l) (made_more c ds cs h)
 
-heard_before : (settings : Settings) (xs ys : List Deed) (q : Heard) → HasHeard settings (xs ++ ys) q
-    → (r : Heard) × HasHeard settings ys r
+heard_before : (settings : Settings) (xs ys : List Event) (q : Transcript) → IsTranscript settings (xs ++ ys) q
+    → (r : Transcript) × IsTranscript settings ys r
 heard_before settings [] ys q e = (q, e)
 heard_before settings (x ∷ xs) ys q e = heard_before settings xs ys e.0 e.1
 
 -- ---- progress
 
-pub progress_none : OneHearing → (questions : List Question) (s : MetaSettings) (c : ℕ) (h : History) (new : MetaLinks)
+pub progress_none : OneTranscript → (questions : List Question) (s : MetaSettings) (c : ℕ) (h : History) (new : MetaLinks)
     → MetaAfter questions s h new → Progress questions s c h 0 new
 progress_none hearing questions s c h new a = record {
   calls = [];
   after = a;
   count = λ p q x y.
-      let is = hearing (settings_of s) (only c h) p q x y in
-      let n : length (past_of q).admitted ≡ length (past_of p).admitted = ap (λ (z : Heard). length (past_of z).admitted) (sym is) in
+      let is = hearing (settings_of s) (events_on c h) p q x y in
+      let n : length (past_of q).admitted ≡ length (past_of p).admitted = ap (λ (z : Transcript). length (past_of z).admitted) (sym is) in
       let m : length (past_of q).admitted ≡ length (past_of p).admitted + 0 = omega (arith, n) in m;
 }
 
@@ -75,57 +75,57 @@ admitted_more : (p : Past) (call : Call) (r : Option CallRefused)
 admitted_more p call None = length-append p.admitted (call ∷ [])
 admitted_more p call (Some reason) = let e : length p.admitted ≡ length p.admitted + 0 = omega arith in e
 
-pub heard_call : (p : Heard) (call : Call) → p.stop ≡ None → hears_call p call ≡ record p { log = Made call ∷ p.log }
+pub heard_call : (p : Transcript) (call : Call) → p.stop ≡ None → after_call p call ≡ record p { log = Made call ∷ p.log }
 heard_call p call none = ap (λ o. cond (is_some o) p (record p { log = Made call ∷ p.log })) none
 
-pub progress_one : OneHearing → (questions : List Question) (s : MetaSettings) (c : ℕ) (h : History) (new : MetaLinks)
-    (call : Call) (r : Option CallRefused) → MetaAfter questions s ((c, Calls call) ∷ h) new
-    → ((p : Heard) → HasHeard (settings_of s) (only c h) p
+pub progress_one : OneTranscript → (questions : List Question) (s : MetaSettings) (c : ℕ) (h : History) (new : MetaLinks)
+    (call : Call) (r : Option CallRefused) → MetaAfter questions s ((c, Called call) ∷ h) new
+    → ((p : Transcript) → IsTranscript (settings_of s) (events_on c h) p
     → (p.stop ≡ None) × (refusal (standing (past_of p)) call ≡ r))
     → Progress questions s c h (so_many r) new
 progress_one hearing questions s c h new call r a so = record {
   calls = call ∷ [];
   after = a;
   count = λ p q x y.
-      let z = subst (λ l. HasHeard (settings_of s) l q) (only_same c (Calls call) h) y in
-      let is : z.0 ≡ p = hearing (settings_of s) (only c h) z.0 p z.1 x in
-      let q_is : q ≡ record p { log = Made call ∷ p.log } = z.2 ∙ ap (λ t. hears_call t call) is
+      let z = subst (λ l. IsTranscript (settings_of s) l q) (only_same c (Called call) h) y in
+      let is : z.0 ≡ p = hearing (settings_of s) (events_on c h) z.0 p z.1 x in
+      let q_is : q ≡ record p { log = Made call ∷ p.log } = z.2 ∙ ap (λ t. after_call t call) is
       ∙ heard_call p call (so p x).0 in
-      ap (λ (t : Heard). length (past_of t).admitted) q_is
+      ap (λ (t : Transcript). length (past_of t).admitted) q_is
       ∙ ap (λ o. length (admit_unless (past_of p) call o).admitted) (so p x).1
       ∙ admitted_more (past_of p) call r;
 }
 
 pub progress_join : (questions : List Question) (s : MetaSettings) (c : ℕ) (h : History) (n m : ℕ) (mid new : MetaLinks)
-    → (x : Progress questions s c h n mid) → Progress questions s c (made c x.calls ++ h) m new
+    → (x : Progress questions s c h n mid) → Progress questions s c (call_events c x.calls ++ h) m new
     → Progress questions s c h (n + m) new
 progress_join questions s c h n m mid new x y = record {
   calls = y.calls ++ x.calls;
   after = subst (λ l. MetaAfter questions s l new) (sym (made_more c y.calls x.calls h)) y.after;
   count = λ p q a b.
-      let b' = subst (λ l. HasHeard (settings_of s) (only c l) q) (made_more c y.calls x.calls h) b in
-      let mid = heard_before (settings_of s) (map (λ call. Calls call) y.calls) (only c (made c x.calls ++ h)) q
-      (subst (λ l. HasHeard (settings_of s) l q) (only_made c y.calls (made c x.calls ++ h)) b') in
+      let b' = subst (λ l. IsTranscript (settings_of s) (events_on c l) q) (made_more c y.calls x.calls h) b in
+      let mid = heard_before (settings_of s) (map (λ call. Called call) y.calls) (events_on c (call_events c x.calls ++ h)) q
+      (subst (λ l. IsTranscript (settings_of s) l q) (only_made c y.calls (call_events c x.calls ++ h)) b') in
       let first = x.count p mid.0 a mid.1 in
       let second = y.count mid.0 q mid.1 b' in
       let e : length (past_of q).admitted ≡ length (past_of p).admitted + (n + m) = omega (arith, first, second) in e;
 }
 
 pub drives_join : (questions : List Question) (s : MetaSettings) (c : ℕ) (h : History) (n m : ℕ) (mid new : MetaLinks)
-    → (x : Progress questions s c h n mid) → Drives questions s c (made c x.calls ++ h) m new
-    → Drives questions s c h (n + m) new
+    → (x : Progress questions s c h n mid) → CompleteDrive questions s c (call_events c x.calls ++ h) m new
+    → CompleteDrive questions s c h (n + m) new
 unfolding progress_join
 drives_join questions s c h n m mid new x y = record {
   progress = progress_join questions s c h n m mid new x y.progress;
-  rests = λ question q asked heard. y.rests question q asked
-      (subst (λ l. HasHeard (settings_of s) (only c l) q) (made_more c y.progress.calls x.calls h) heard);
-  tried = λ q heard. y.tried q
-      (subst (λ l. HasHeard (settings_of s) (only c l) q) (made_more c y.progress.calls x.calls h) heard);
+  rests = λ question q asked transcript. y.rests question q asked
+      (subst (λ l. IsTranscript (settings_of s) (events_on c l) q) (made_more c y.progress.calls x.calls h) transcript);
+  tried = λ q transcript. y.tried q
+      (subst (λ l. IsTranscript (settings_of s) (events_on c l) q) (made_more c y.progress.calls x.calls h) transcript);
 }
 
 -- ---- what a call answered
 
-ok_call : (p : Heard) (call : Call) → p.stop ≡ None → Ok tt ≡ called_as p call → refusal (standing (past_of p)) call ≡ None
+ok_call : (p : Transcript) (call : Call) → p.stop ≡ None → Ok tt ≡ connection_call_result p call → refusal (standing (past_of p)) call ≡ None
 ok_call p call none e = by (refusal (standing (past_of p)) call) (request_of (standing (past_of p)) call)
     (e ∙ ap (λ o. cond (is_some o) (Err calls.WrongState) (dropped (call_answer (standing (past_of p)) call))) none)
   where
@@ -133,8 +133,8 @@ ok_call p call none e = by (refusal (standing (past_of p)) call) (request_of (st
     by None o f = refl
     by (Some reason) o f = absurd (cc)
 
-err_call : ((s : Standing) (call : Call) → refusal s call ≡ None → IsSent s call) → (p : Heard) (call : Call)
-    (reason : CallRefused) → p.stop ≡ None → Err reason ≡ called_as p call
+err_call : ((s : Standing) (call : Call) → refusal s call ≡ None → IsSent s call) → (p : Transcript) (call : Call)
+    (reason : CallRefused) → p.stop ≡ None → Err reason ≡ connection_call_result p call
     → refusal (standing (past_of p)) call ≡ Some reason
 err_call law p call reason none e = by (refusal (standing (past_of p)) call) refl
     (e ∙ ap (λ o. cond (is_some o) (Err calls.WrongState) (dropped (call_answer (standing (past_of p)) call))) none)
@@ -159,26 +159,26 @@ set_is : (ds : List DriverState) (c : ℕ) (was x d : DriverState) → slice_get
 set_is ds c was x d at e = same_Some x d (sym (get_same ds c x (slice_get_within ds c was at)) ∙ e)
 
 pub call_after : (questions : List Question) (s : MetaSettings) (h : History) (old new : MetaLinks) (c : ℕ) (call : Call)
-    (r : Option CallRefused) (was x : DriverState) → MetaAfter questions s h old → Gave questions s c h call old
-    → ((p : Heard) → HasHeard (settings_of s) (only c h) p → p.stop ≡ None
+    (r : Option CallRefused) (was x : DriverState) → MetaAfter questions s h old → IsGivenCall questions s c h call old
+    → ((p : Transcript) → IsTranscript (settings_of s) (events_on c h) p → p.stop ≡ None
     → refusal (standing (past_of p)) call ≡ r)
-    → Befell c (Calls call) old.pool new.pool → slice_get old.drivers c ≡ Some was
-    → ((e : Errand) (settings : Settings) (log : Log) → Offers e settings log was call
+    → Recorded c (Called call) old.pool new.pool → slice_get old.drivers c ≡ Some was
+    → ((e : Errand) (settings : Settings) (log : Log) → IsOffer e settings log was call
     → refusal (standing (past settings log)) call ≡ r → IsDriver e settings (Made call ∷ log) x)
     → new.drivers ≡ slice_set old.drivers c x → length new.pool.connections ≡ length old.pool.connections
-    → MetaAfter questions s ((c, Calls call) ∷ h) new
+    → MetaAfter questions s ((c, Called call) ∷ h) new
 call_after questions s h old new c call r was x a gave so befell at knows ds size = record {
   fit = a.fit;
   askable = a.askable;
   pool = befell (settings_of s) h a.pool;
-  driven = subst (AreDriven questions s ((c, Calls call) ∷ h)) (sym ds)
-      (driven_more questions s h old.drivers (slice_set old.drivers c x) c (Calls call) a.driven
-      (length-set old.drivers c x) (λ i f. get_other old.drivers c i x f) (λ q d p t asked drives heard hears.
-      let g = gave q was p asked at heard in
-      let is : record p { log = Made call ∷ p.log } ≡ t = sym (heard_call p call g.0) ∙ sym hears in
+  driven = subst (AreDriven questions s ((c, Called call) ∷ h)) (sym ds)
+      (driven_more questions s h old.drivers (slice_set old.drivers c x) c (Called call) a.driven
+      (length-set old.drivers c x) (λ i f. get_other old.drivers c i x f) (λ q d p t asked drives transcript is_step.
+      let g = gave q was p asked at transcript in
+      let is : record p { log = Made call ∷ p.log } ≡ t = sym (heard_call p call g.0) ∙ sym is_step in
       subst (λ z. IsDriver (errand_of s q) t.settings t.log z) (set_is old.drivers c was x d at drives)
-      (subst (λ (z : Heard). IsDriver (errand_of s q) z.settings z.log x) is
-      (knows (errand_of s q) p.settings p.log g.1 (so p heard g.0)))));
+      (subst (λ (z : Transcript). IsDriver (errand_of s q) z.settings z.log x) is
+      (knows (errand_of s q) p.settings p.log g.1 (so p transcript g.0)))));
   size = size ∙ a.size;
 }
 
@@ -204,60 +204,60 @@ question_at questions s h meta c a lt = let n = a.size in
 
 heard_now : (questions : List Question) (s : MetaSettings) (h : History) (meta : MetaLinks) (c : ℕ)
     → (a : MetaAfter questions s h meta) → c < length meta.pool.connections
-    → HasHeard (settings_of s) (only c h) (a.pool.heard c)
-heard_now questions s h meta c a lt = heard_at (settings_of s) h a.pool.heard meta.pool.connections c a.pool.stands lt
+    → IsTranscript (settings_of s) (events_on c h) (a.pool.transcript c)
+heard_now questions s h meta c a lt = heard_at (settings_of s) h a.pool.transcript meta.pool.connections c a.pool.stands lt
 
 -- what it answers, where all that is known is what was accepted
 answered_call : (settings : Settings) (h : History) (pool : Links) (c : ℕ) (call : Call)
-    (answer : Result (Unit {0}) CallRefused) (a : After settings h pool) → IsCallAnswer c call pool answer
-    → IsCalled answer → answer ≡ called_as (a.heard c) call
+    (answer : Result (Unit {0}) CallRefused) (a : After settings h pool) → IsCallResult c call pool answer
+    → IsCalled answer → answer ≡ connection_call_result (a.transcript c) call
 unfolding after_up_to
 answered_call settings h pool c call answer a is done = is settings c h (after_up_to settings c h pool a) done
 
-pub admitted_to : (E : Type 0) → OneHearing → (c : ℕ) (call : Call) (old new : MetaLinks) (was x : DriverState)
-    → c < length old.pool.connections → Befell c (Calls call) old.pool new.pool
-    → IsCallAnswer c call old.pool (Ok tt) → slice_get old.drivers c ≡ Some was → KnowsSent call was x
+pub admitted_to : (E : Type 0) → OneTranscript → (c : ℕ) (call : Call) (old new : MetaLinks) (was x : DriverState)
+    → c < length old.pool.connections → Recorded c (Called call) old.pool new.pool
+    → IsCallResult c call old.pool (Ok tt) → slice_get old.drivers c ≡ Some was → NoteSentStep call was x
     → new.drivers ≡ slice_set old.drivers c x → length new.pool.connections ≡ length old.pool.connections
-    → IssuesTo {E = E} c call (Ok turns.Admitted) old new
+    → IssueResult {E = E} c call (Ok stages.Admitted) old new
 admitted_to E hearing c call old new was x lt befell answer at knows ds size questions s h a gave = (
   progress_one hearing questions s c h new call None
       (call_after questions s h old new c call None was x a gave none befell at
-      (λ e settings log o n. (knows e settings log o n).0) ds size) (λ p heard. (stop p heard, none p heard (stop p heard))),
+      (λ e settings log o n. (knows e settings log o n).0) ds size) (λ p transcript. (stop p transcript, none p transcript (stop p transcript))),
   left_then old.drivers new.drivers c was x at ds less,
 )
   where
     question : (q : Question) × (slice_get questions c ≡ Some q)
     question = question_at questions s h old c a lt
 
-    now : HasHeard (settings_of s) (only c h) (a.pool.heard c)
+    now : IsTranscript (settings_of s) (events_on c h) (a.pool.transcript c)
     now = heard_now questions s h old c a lt
 
-    stop : (p : Heard) → HasHeard (settings_of s) (only c h) p → p.stop ≡ None
-    stop p heard = (gave question.0 was p question.1 at heard).0
+    stop : (p : Transcript) → IsTranscript (settings_of s) (events_on c h) p → p.stop ≡ None
+    stop p transcript = (gave question.0 was p question.1 at transcript).0
 
-    none : (p : Heard) → HasHeard (settings_of s) (only c h) p → p.stop ≡ None → refusal (standing (past_of p)) call ≡ None
-    none p heard n = ok_call p call n (subst (λ z. Ok tt ≡ called_as z call)
-        (hearing (settings_of s) (only c h) (a.pool.heard c) p now heard) (answered_call (settings_of s) h old.pool c call (Ok tt) a.pool answer tt))
+    none : (p : Transcript) → IsTranscript (settings_of s) (events_on c h) p → p.stop ≡ None → refusal (standing (past_of p)) call ≡ None
+    none p transcript n = ok_call p call n (subst (λ z. Ok tt ≡ connection_call_result z call)
+        (hearing (settings_of s) (events_on c h) (a.pool.transcript c) p now transcript) (answered_call (settings_of s) h old.pool c call (Ok tt) a.pool answer tt))
 
     less : x.left < was.left
     less =
-        let p = a.pool.heard c in
+        let p = a.pool.transcript c in
         (knows (errand_of s question.0) p.settings p.log (gave question.0 was p question.1 at now).1
         (none p now (stop p now))).1
 
-pub refused_to : (E : Type 0) → OneHearing → ((s : Standing) (call : Call) → refusal s call ≡ None → IsSent s call)
+pub refused_to : (E : Type 0) → OneTranscript → ((s : Standing) (call : Call) → refusal s call ≡ None → IsSent s call)
     → (c : ℕ) (call : Call) (reason : CallRefused) (old new : MetaLinks) (was x : DriverState)
     → reason ≢ calls.Memory
-    → c < length old.pool.connections → Befell c (Calls call) old.pool new.pool
-    → IsCallAnswer c call old.pool (Err reason) → slice_get old.drivers c ≡ Some was → KnowsRefused was x
+    → c < length old.pool.connections → Recorded c (Called call) old.pool new.pool
+    → IsCallResult c call old.pool (Err reason) → slice_get old.drivers c ≡ Some was → NoteRefusedStep was x
     → new.drivers ≡ slice_set old.drivers c x → length new.pool.connections ≡ length old.pool.connections
-    → IssuesTo {E = E} c call (Ok turns.Skipped) old new
+    → IssueResult {E = E} c call (Ok stages.Skipped) old new
 refused_to E hearing law c call reason old new was x other lt befell answer at knows ds size questions s h a gave = (
   progress_one hearing questions s c h new call (Some reason)
       (call_after questions s h old new c call (Some reason) was x a gave none befell at
       (λ e settings log o n. (knows e settings log call reason o n).0) ds size)
-      (λ p heard. (stop p heard, none p heard (stop p heard))),
-  left_then old.drivers new.drivers c was x at ds (let p = a.pool.heard c in
+      (λ p transcript. (stop p transcript, none p transcript (stop p transcript))),
+  left_then old.drivers new.drivers c was x at ds (let p = a.pool.transcript c in
       (knows (errand_of s question.0) p.settings p.log call reason (offers question.0 p question.1 now)
       (none p now (stop p now))).1),
 )
@@ -265,24 +265,24 @@ refused_to E hearing law c call reason old new was x other lt befell answer at k
     question : (q : Question) × (slice_get questions c ≡ Some q)
     question = question_at questions s h old c a lt
 
-    now : HasHeard (settings_of s) (only c h) (a.pool.heard c)
+    now : IsTranscript (settings_of s) (events_on c h) (a.pool.transcript c)
     now = heard_now questions s h old c a lt
 
-    stop : (p : Heard) → HasHeard (settings_of s) (only c h) p → p.stop ≡ None
-    stop p heard = (gave question.0 was p question.1 at heard).0
+    stop : (p : Transcript) → IsTranscript (settings_of s) (events_on c h) p → p.stop ≡ None
+    stop p transcript = (gave question.0 was p question.1 at transcript).0
 
-    none : (p : Heard) → HasHeard (settings_of s) (only c h) p → p.stop ≡ None
+    none : (p : Transcript) → IsTranscript (settings_of s) (events_on c h) p → p.stop ≡ None
         → refusal (standing (past_of p)) call ≡ Some reason
-    none p heard n = err_call law p call reason n (subst (λ z. Err reason ≡ called_as z call)
-        (hearing (settings_of s) (only c h) (a.pool.heard c) p now heard) (answered_call (settings_of s) h old.pool c call (Err reason) a.pool answer other))
+    none p transcript n = err_call law p call reason n (subst (λ z. Err reason ≡ connection_call_result z call)
+        (hearing (settings_of s) (events_on c h) (a.pool.transcript c) p now transcript) (answered_call (settings_of s) h old.pool c call (Err reason) a.pool answer other))
 
-    offers : (q : Question) (p : Heard) → slice_get questions c ≡ Some q → HasHeard (settings_of s) (only c h) p
-        → Offers (errand_of s q) p.settings p.log was call
-    offers q p asked heard = (gave q was p asked at heard).1
+    offers : (q : Question) (p : Transcript) → slice_get questions c ≡ Some q → IsTranscript (settings_of s) (events_on c h) p
+        → IsOffer (errand_of s q) p.settings p.log was call
+    offers q p asked transcript = (gave q was p asked at transcript).1
 
 -- want of memory: nothing was done
-pub kept_to : (E : Type 0) → OneHearing → (c : ℕ) (call : Call) (old new : MetaLinks) (error : E) → new ≡ old
-    → IssuesTo c call (Err error) old new
+pub kept_to : (E : Type 0) → OneTranscript → (c : ℕ) (call : Call) (old new : MetaLinks) (error : E) → new ≡ old
+    → IssueResult c call (Err error) old new
 kept_to E hearing c call old new error same questions s h a gave =
     progress_none hearing questions s c h new (subst (MetaAfter questions s h) (sym same) a)
 
@@ -290,120 +290,120 @@ kept_to E hearing c call old new error same questions s h a gave =
 
 pub stays_after : (questions : List Question) (s : MetaSettings) (h : History) (old new : MetaLinks) (c : ℕ)
     (was x : DriverState) → MetaAfter questions s h old → new.pool ≡ old.pool → slice_get old.drivers c ≡ Some was
-    → new.drivers ≡ slice_set old.drivers c x → Stays was x → MetaAfter questions s h new
+    → new.drivers ≡ slice_set old.drivers c x → SameDriver was x → MetaAfter questions s h new
 stays_after questions s h old new c was x a pool at ds stays = record {
   fit = a.fit;
   askable = a.askable;
   pool = subst (After (settings_of s) h) (sym pool) a.pool;
   driven = subst (AreDriven questions s h) (sym ds) (record {
     size = length-set old.drivers c x ∙ a.driven.size;
-    each = λ i q d p asked drives heard. by i q d p asked drives heard (c == i) refl;
+    each = λ i q d p asked drives transcript. by i q d p asked drives transcript (c == i) refl;
   });
   size = ap (λ (z : Links). length z.connections) pool ∙ a.size;
 }
   where
-    at_c : (q : Question) (d : DriverState) (p : Heard) → slice_get questions c ≡ Some q
-        → slice_get (slice_set old.drivers c x) c ≡ Some d → HasHeard (settings_of s) (only c h) p
+    at_c : (q : Question) (d : DriverState) (p : Transcript) → slice_get questions c ≡ Some q
+        → slice_get (slice_set old.drivers c x) c ≡ Some d → IsTranscript (settings_of s) (events_on c h) p
         → IsDriver (errand_of s q) p.settings p.log d
-    at_c q d p asked drives heard = subst (IsDriver (errand_of s q) p.settings p.log)
+    at_c q d p asked drives transcript = subst (IsDriver (errand_of s q) p.settings p.log)
         (set_is old.drivers c was x d at drives)
-        (stays.0 (errand_of s q) p.settings p.log (a.driven.each c q was p asked at heard))
+        (stays.0 (errand_of s q) p.settings p.log (a.driven.each c q was p asked at transcript))
 
-    by : (i : ℕ) (q : Question) (d : DriverState) (p : Heard) → slice_get questions i ≡ Some q
-        → slice_get (slice_set old.drivers c x) i ≡ Some d → HasHeard (settings_of s) (only i h) p → (b : Bool)
+    by : (i : ℕ) (q : Question) (d : DriverState) (p : Transcript) → slice_get questions i ≡ Some q
+        → slice_get (slice_set old.drivers c x) i ≡ Some d → IsTranscript (settings_of s) (events_on i h) p → (b : Bool)
         → (c == i) ≡ b → IsDriver (errand_of s q) p.settings p.log d
-    by i q d p asked drives heard true t =
+    by i q d p asked drives transcript true t =
         let is : c ≡ i = grind (arith, nat_tests) in
         subst (λ n. slice_get questions n ≡ Some q → slice_get (slice_set old.drivers c x) n ≡ Some d
-        → HasHeard (settings_of s) (only n h) p → IsDriver (errand_of s q) p.settings p.log d) is
-        (at_c q d p) asked drives heard
-    by i q d p asked drives heard false f = a.driven.each i q d p asked
-        (sym (get_other old.drivers c i x f) ∙ drives) heard
+        → IsTranscript (settings_of s) (events_on n h) p → IsDriver (errand_of s q) p.settings p.log d) is
+        (at_c q d p) asked drives transcript
+    by i q d p asked drives transcript false f = a.driven.each i q d p asked
+        (sym (get_other old.drivers c i x f) ∙ drives) transcript
 
 -- the state of the connection
-pub state_is : OneHearing → (questions : List Question) (s : MetaSettings) (h : History) (meta : MetaLinks) (c : ℕ)
+pub state_is : OneTranscript → (questions : List Question) (s : MetaSettings) (h : History) (meta : MetaLinks) (c : ℕ)
     (state : State) → MetaAfter questions s h meta → c < length meta.pool.connections → IsStateAt c meta.pool state
-    → (p : Heard) → HasHeard (settings_of s) (only c h) p → state ≡ state_at p
+    → (p : Transcript) → IsTranscript (settings_of s) (events_on c h) p → state ≡ state_at p
 unfolding after_up_to
-state_is hearing questions s h meta c state a lt is p heard =
+state_is hearing questions s h meta c state a lt is p transcript =
     is (settings_of s) c h (after_up_to (settings_of s) c h meta.pool a.pool)
-    ∙ ap state_at (hearing (settings_of s) (only c h) (a.pool.heard c) p (heard_now questions s h meta c a lt) heard)
+    ∙ ap state_at (hearing (settings_of s) (events_on c h) (a.pool.transcript c) p (heard_now questions s h meta c a lt) transcript)
 
-origin_state : (settings : Settings) (deeds : List Deed) (p : Heard) → HasHeard settings deeds p
+origin_state : (settings : Settings) (events : List Event) (p : Transcript) → IsTranscript settings events p
     → is_stopped (state_at p) ≡ false → state_at p ≡ state_as (state_of (past_of p))
-origin_state settings deeds p heard f = ap (or_else (state_as (state_of (past_of p)))) (goes settings deeds p heard f)
+origin_state settings events p transcript f = ap (or_else (state_as (state_of (past_of p)))) (goes settings events p transcript f)
 
 -- a connection that was stopped
-pub stopped_to : (E : Type 0) → OneHearing → (c : ℕ) (old : MetaLinks) (state : State) → c < length old.pool.connections
-    → IsStateAt c old.pool state → is_stopped state ≡ true → AdvancesTo {E = E} c (Ok turns.Rests) old old
+pub stopped_to : (E : Type 0) → OneTranscript → (c : ℕ) (old : MetaLinks) (state : State) → c < length old.pool.connections
+    → IsStateAt c old.pool state → is_stopped state ≡ true → AdvanceResult {E = E} c (Ok stages.Rests) old old
 unfolding progress_none
 stopped_to E hearing c old state lt is stopped questions s h a = record {
   progress = progress_none hearing questions s c h old a;
-  rests = λ q p asked heard. λ f.
-      let e = state_is hearing questions s h old c state a lt is p heard in
+  rests = λ q p asked transcript. λ f.
+      let e = state_is hearing questions s h old c state a lt is p transcript in
       absurd (true≢false (sym stopped ∙ ap is_stopped e ∙ f));
-  tried = λ p heard. λ f o.
-      let e = state_is hearing questions s h old c state a lt is p heard in
+  tried = λ p transcript. λ f o.
+      let e = state_is hearing questions s h old c state a lt is p transcript in
       absurd (true≢false (sym stopped ∙ ap is_stopped e ∙ f));
 }
 
 -- none was given
-pub idle_to : (E : Type 0) → OneHearing → (c : ℕ) (old new : MetaLinks) (state : State) (was x : DriverState)
+pub idle_to : (E : Type 0) → OneTranscript → (c : ℕ) (old new : MetaLinks) (state : State) (was x : DriverState)
     → c < length old.pool.connections → IsStateAt c old.pool state → new.pool ≡ old.pool
-    → slice_get old.drivers c ≡ Some was → new.drivers ≡ slice_set old.drivers c x → Stays was x
-    → GivesNext state None x → AdvancesTo {E = E} c (Ok turns.Rests) old new
+    → slice_get old.drivers c ≡ Some was → new.drivers ≡ slice_set old.drivers c x → SameDriver was x
+    → NextCallResult state None x → AdvanceResult {E = E} c (Ok stages.Rests) old new
 unfolding progress_none
 idle_to E hearing c old new state was x lt is pool at ds stays gives questions s h a =
     let b = stays_after questions s h old new c was x a pool at ds stays in
     let drives : slice_get new.drivers c ≡ Some x = ap (λ z. slice_get z c) ds
     ∙ get_same old.drivers c x (slice_get_within old.drivers c was at) in
     let here = question_at questions s h old c a lt in
-    let rests : (q : Question) (p : Heard) → slice_get questions c ≡ Some q → HasHeard (settings_of s) (only c h) p
-    → is_stopped (state_at p) ≡ false → Rests (errand_of s q) p.settings p.log = λ q p asked heard f.
-    gives (errand_of s q) p.settings p.log (b.driven.each c q x p asked drives heard)
-    (state_is hearing questions s h old c state a lt is p heard
-    ∙ origin_state (settings_of s) (only c h) p heard f) in
+    let rests : (q : Question) (p : Transcript) → slice_get questions c ≡ Some q → IsTranscript (settings_of s) (events_on c h) p
+    → is_stopped (state_at p) ≡ false → HasNoNextCall (errand_of s q) p.settings p.log = λ q p asked transcript f.
+    gives (errand_of s q) p.settings p.log (b.driven.each c q x p asked drives transcript)
+    (state_is hearing questions s h old c state a lt is p transcript
+    ∙ origin_state (settings_of s) (events_on c h) p transcript f) in
     record {
       progress = progress_none hearing questions s c h new b;
-      rests = λ q p asked heard. λ f call next. (rests q p asked heard f).none call next;
-      tried = λ p heard. λ f o. (rests here.0 p here.1 heard f).tried
-          (sym (ap is_stopped (origin_state (settings_of s) (only c h) p heard f)) ∙ f) o;
+      rests = λ q p asked transcript. λ f call next. (rests q p asked transcript f).none call next;
+      tried = λ p transcript. λ f o. (rests here.0 p here.1 transcript f).tried
+          (sym (ap is_stopped (origin_state (settings_of s) (events_on c h) p transcript f)) ∙ f) o;
     }
 
 -- memory was wanting
-pub wanting_to : (E : Type 0) → OneHearing → (c : ℕ) (old new : MetaLinks) (error : E) (was x : DriverState)
-    → new.pool ≡ old.pool → slice_get old.drivers c ≡ Some was → new.drivers ≡ slice_set old.drivers c x → Stays was x
-    → AdvancesTo c (Err error) old new
+pub wanting_to : (E : Type 0) → OneTranscript → (c : ℕ) (old new : MetaLinks) (error : E) (was x : DriverState)
+    → new.pool ≡ old.pool → slice_get old.drivers c ≡ Some was → new.drivers ≡ slice_set old.drivers c x → SameDriver was x
+    → AdvanceResult c (Err error) old new
 wanting_to E hearing c old new error was x pool at ds stays questions s h a =
     progress_none hearing questions s c h new (stays_after questions s h old new c was x a pool at ds stays)
 
-advances_from : (E : Type 0) → (questions : List Question) (s : MetaSettings) (c : ℕ) (h : History) (answer : Result Turn E)
-    (old mid new : MetaLinks) → left_at mid c ≡ left_at old c → AdvancesBy questions s c h answer mid new
-    → AdvancesBy questions s c h answer old new
-advances_from E questions s c h (Ok turns.Admitted) old mid new e p = (p.0, subst (λ n. left_at new c < n) e p.1)
-advances_from E questions s c h (Ok turns.Skipped) old mid new e p = (p.0, subst (λ n. left_at new c < n) e p.1)
-advances_from E questions s c h (Ok turns.Rests) old mid new e p = p
+advances_from : (E : Type 0) → (questions : List Question) (s : MetaSettings) (c : ℕ) (h : History) (answer : Result Advance E)
+    (old mid new : MetaLinks) → left_at mid c ≡ left_at old c → AdvanceResultAt questions s c h answer mid new
+    → AdvanceResultAt questions s c h answer old new
+advances_from E questions s c h (Ok stages.Admitted) old mid new e p = (p.0, subst (λ n. left_at new c < n) e p.1)
+advances_from E questions s c h (Ok stages.Skipped) old mid new e p = (p.0, subst (λ n. left_at new c < n) e p.1)
+advances_from E questions s c h (Ok stages.Rests) old mid new e p = p
 advances_from E questions s c h (Err error) old mid new e p = p
 
 -- one was given, and made
-pub issued_to : (E : Type 0) → OneHearing → (c : ℕ) (old mid new : MetaLinks) (state : State) (was x : DriverState) (call : RustCall)
-    (answer : Result Turn E) → c < length old.pool.connections → IsStateAt c old.pool state
+pub issued_to : (E : Type 0) → OneTranscript → (c : ℕ) (old mid new : MetaLinks) (state : State) (was x : DriverState) (call : RustCall)
+    (answer : Result Advance E) → c < length old.pool.connections → IsStateAt c old.pool state
     → is_stopped state ≡ false → mid.pool ≡ old.pool → slice_get old.drivers c ≡ Some was
-    → mid.drivers ≡ slice_set old.drivers c x → Stays was x → GivesNext state (Some call) x
-    → IssuesTo c (call_of call) answer mid new → AdvancesTo c answer old new
+    → mid.drivers ≡ slice_set old.drivers c x → SameDriver was x → NextCallResult state (Some call) x
+    → IssueResult c (call_of call) answer mid new → AdvanceResult c answer old new
 issued_to E hearing c old mid new state was x call answer lt is going pool at ds stays gives issues questions s h a =
     let b = stays_after questions s h old mid c was x a pool at ds stays in
     let drives : slice_get mid.drivers c ≡ Some x = ap (λ z. slice_get z c) ds
     ∙ get_same old.drivers c x (slice_get_within old.drivers c was at) in
     let left : left_at mid c ≡ left_at old c = ap left_of drives ∙ stays.1 ∙ sym (ap left_of at) in
-    advances_from E questions s c h answer old mid new left (issues questions s h b (λ q d p asked same heard.
-    let e = state_is hearing questions s h old c state a lt is p heard in
+    advances_from E questions s c h answer old mid new left (issues questions s h b (λ q d p asked same transcript.
+    let e = state_is hearing questions s h old c state a lt is p transcript in
     let f : is_stopped (state_at p) ≡ false = sym (ap is_stopped e) ∙ going in
     let d_is : x ≡ d = same_Some x d (sym drives ∙ same) in (
-      goes (settings_of s) (only c h) p heard f,
-      subst (λ z. Offers (errand_of s q) p.settings p.log z (call_of call)) d_is
-          (gives (errand_of s q) p.settings p.log (b.driven.each c q x p asked drives heard)
-          (e ∙ origin_state (settings_of s) (only c h) p heard f)),
+      goes (settings_of s) (events_on c h) p transcript f,
+      subst (λ z. IsOffer (errand_of s q) p.settings p.log z (call_of call)) d_is
+          (gives (errand_of s q) p.settings p.log (b.driven.each c q x p asked drives transcript)
+          (e ∙ origin_state (settings_of s) (events_on c h) p transcript f)),
     )))
 
 -- ---- driving
@@ -415,29 +415,29 @@ Drove c n k old now =
     → Progress questions s c h n now × (left_at now c + k ≤ left_at old c)
 
 pub drove_admitted : (E : Type 0) → (c n k : ℕ) (old mid new : MetaLinks) → Drove c n k old mid
-    → AdvancesTo {E = E} c (Ok turns.Admitted) mid new → Drove c (n + 1) (k + 1) old new
+    → AdvanceResult {E = E} c (Ok stages.Admitted) mid new → Drove c (n + 1) (k + 1) old new
 drove_admitted E c n k old mid new d adv questions s h a =
     let x = d questions s h a in
-    let y = adv questions s (made c x.0.calls ++ h) x.0.after in
+    let y = adv questions s (call_events c x.0.calls ++ h) x.0.after in
     (progress_join questions s c h n 1 mid new x.0 y.0, omega (arith, x.1, y.1))
 
 pub drove_skipped : (E : Type 0) → (c n k : ℕ) (old mid new : MetaLinks) → Drove c n k old mid
-    → AdvancesTo {E = E} c (Ok turns.Skipped) mid new → Drove c n (k + 1) old new
+    → AdvanceResult {E = E} c (Ok stages.Skipped) mid new → Drove c n (k + 1) old new
 drove_skipped E c n k old mid new d adv questions s h a =
     let x = d questions s h a in
-    let y = adv questions s (made c x.0.calls ++ h) x.0.after in
+    let y = adv questions s (call_events c x.0.calls ++ h) x.0.after in
     let e : n + 0 ≡ n = omega arith in (
       subst (λ m. Progress questions s c h m new) e (progress_join questions s c h n 0 mid new x.0 y.0),
       omega (arith, x.1, y.1),
     )
 
 pub drove_rests : (E : Type 0) → (c n k : ℕ) (old mid new : MetaLinks) → Drove c n k old mid
-    → AdvancesTo {E = E} c (Ok turns.Rests) mid new → DrivesTo {E = E} c (Ok n) old new
+    → AdvanceResult {E = E} c (Ok stages.Rests) mid new → DriveResult {E = E} c (Ok n) old new
 drove_rests E c n k old mid new d adv questions s h a =
     let x = d questions s h a in
-    let y = adv questions s (made c x.0.calls ++ h) x.0.after in
+    let y = adv questions s (call_events c x.0.calls ++ h) x.0.after in
     let e : n + 0 ≡ n = omega arith in
-    subst (λ m. Drives questions s c h m new) e (drives_join questions s c h n 0 mid new x.0 y)
+    subst (λ m. CompleteDrive questions s c h m new) e (drives_join questions s c h n 0 mid new x.0 y)
 
 few_in : (e : Errand) (settings : Settings) (log : Log) (o : Option DriverState)
     → ((d : DriverState) → o ≡ Some d → IsDriver e settings log d) → left_of o ≤ 3 + e.window
@@ -446,11 +446,11 @@ few_in e settings log (Some d) each = (each d refl).few
 
 -- there are no more turns than that
 pub drove_all : (E : Type 0) → (c n k : ℕ) (old new : MetaLinks) → Drove c n k old new → c < length old.pool.connections → 68 ≤ k
-    → DrivesTo {E = E} c (Ok n) old new
+    → DriveResult {E = E} c (Ok n) old new
 drove_all E c n k old new d lt many questions s h a =
     let x = d questions s h a in
     let q = question_at questions s h old c a lt in
-    let p = a.pool.heard c in
+    let p = a.pool.transcript c in
     let few = few_in (errand_of s q.0) p.settings p.log (slice_get old.drivers c)
     (λ t is. a.driven.each c q.0 t p q.1 is (heard_now questions s h old c a lt)) in
     let wide = a.fit.widest in
@@ -458,18 +458,18 @@ drove_all E c n k old new d lt many questions s h a =
 
 -- ---- what is told
 
-pub finished_meta : OneHearing → (meta : MetaLinks) (answer : Bool) → IsPoolFinished meta.pool answer
+pub finished_meta : OneTranscript → (meta : MetaLinks) (answer : Bool) → IsPoolFinished meta.pool answer
     → IsFinishedUpTo meta answer
 finished_meta hearing meta answer fin questions s d h a =
     let f = fin (settings_of s) d h a.pool in
-    let now : (c : ℕ) → c < length meta.pool.connections → HasHeard (settings_of s) (only c h) (a.pool.heard c) =
-    λ c lt. heard_at (settings_of s) h a.pool.heard meta.pool.connections c a.pool.stands lt in (
-      λ t c p lt heard.
+    let now : (c : ℕ) → c < length meta.pool.connections → IsTranscript (settings_of s) (events_on c h) (a.pool.transcript c) =
+    λ c lt. heard_at (settings_of s) h a.pool.transcript meta.pool.connections c a.pool.stands lt in (
+      λ t c p lt transcript.
           let in_pool : c < length meta.pool.connections = subst (λ n. c < n) (sym a.size) lt in
           subst (λ z. is_stopped (state_at z) ≡ true)
-          (hearing (settings_of s) (only c h) (a.pool.heard c) p (now c in_pool) heard)
+          (hearing (settings_of s) (events_on c h) (a.pool.transcript c) p (now c in_pool) transcript)
           (f.0 t c in_pool),
-      λ all. f.1 (λ c lt. all c (a.pool.heard c) (subst (λ n. c < n) a.size lt) (now c lt)),
+      λ all. f.1 (λ c lt. all c (a.pool.transcript c) (subst (λ n. c < n) a.size lt) (now c lt)),
     )
 
 -- the question of a connection
@@ -480,16 +480,16 @@ asked_at questions s d h meta c a lt = let n = a.size in
     slice_some questions c (let le : c < length questions = omega (arith, lt, n) in le)
 
 pub skipped_tells : (meta : MetaLinks) (c : ℕ) (d : DriverState) → c < length meta.pool.connections
-    → slice_get meta.drivers c ≡ Some d → TellsUpTo c meta is_skipped d.skipped
-skipped_tells meta c d lt at questions s i h p a heard =
+    → slice_get meta.drivers c ≡ Some d → IsTranscriptValueUpTo c meta is_skipped d.skipped
+skipped_tells meta c d lt at questions s i h p a transcript =
     let q = asked_at questions s i h meta c a lt in
-    (a.driven.each c q.0 d p q.1 at heard).skipped
+    (a.driven.each c q.0 d p q.1 at transcript).skipped
 
 pub complete_tells : (meta : MetaLinks) (c : ℕ) (d : DriverState) → c < length meta.pool.connections
-    → slice_get meta.drivers c ≡ Some d → TellsUpTo c meta is_complete d.complete
-complete_tells meta c d lt at questions s i h p a heard =
+    → slice_get meta.drivers c ≡ Some d → IsTranscriptValueUpTo c meta is_complete d.complete
+complete_tells meta c d lt at questions s i h p a transcript =
     let q = asked_at questions s i h meta c a lt in
-    (a.driven.each c q.0 d p q.1 at heard).complete
+    (a.driven.each c q.0 d p q.1 at transcript).complete
 
 -- ---- where no Take found no memory
 
@@ -503,27 +503,27 @@ meta_up_to questions s d h meta a = record {
   size = a.size;
 }
 
-pub tells_after : (c : ℕ) (meta : MetaLinks) (tells : Heard → Bool) (answer : Bool) → TellsUpTo c meta tells answer
-    → Tells c meta tells answer
-tells_after c meta tells answer t questions s h p a heard =
-    t questions s c h p (meta_up_to questions s c h meta a) heard
+pub tells_after : (c : ℕ) (meta : MetaLinks) (value : Transcript → Bool) (answer : Bool) → IsTranscriptValueUpTo c meta value answer
+    → IsTranscriptValue c meta value answer
+tells_after c meta value answer t questions s h p a transcript =
+    t questions s c h p (meta_up_to questions s c h meta a) transcript
 
 pub finished_after : (meta : MetaLinks) (answer : Bool) → IsFinishedUpTo meta answer → IsFinished meta answer
 finished_after meta answer f questions s h a = f questions s 0 h (meta_up_to questions s 0 h meta a)
 
 -- ---- want of memory, as `?` answers it
 
-pub wanting_any : (E F : Type 0) → OneHearing → (c : ℕ) (old new : MetaLinks) (answer : Result Turn F) → IsErr answer
+pub wanting_any : (E F : Type 0) → OneTranscript → (c : ℕ) (old new : MetaLinks) (answer : Result Advance F) → IsErr answer
     → (was x : DriverState) → new.pool ≡ old.pool → slice_get old.drivers c ≡ Some was
-    → new.drivers ≡ slice_set old.drivers c x → Stays was x → AdvancesTo c answer old new
-wanting_any E F hearing c old new (Ok turn) is was x pool at ds stays = absurd (true≢false (sym is))
+    → new.drivers ≡ slice_set old.drivers c x → SameDriver was x → AdvanceResult c answer old new
+wanting_any E F hearing c old new (Ok stage) is was x pool at ds stays = absurd (true≢false (sym is))
 wanting_any E F hearing c old new (Err error) is was x pool at ds stays =
     wanting_to F hearing c old new error was x pool at ds stays
 
 pub drove_wanting : (E F : Type 0) → (c n k : ℕ) (old mid new : MetaLinks) (error : E) (answer : Result ℕ F) → IsErr answer
-    → Drove c n k old mid → AdvancesTo c (Err error) mid new → DrivesTo c answer old new
+    → Drove c n k old mid → AdvanceResult c (Err error) mid new → DriveResult c answer old new
 drove_wanting E F c n k old mid new error (Ok m) is d adv questions s h a = absurd (true≢false (sym is))
 drove_wanting E F c n k old mid new error (Err other) is d adv questions s h a =
     let x = d questions s h a in
-    let y = adv questions s (made c x.0.calls ++ h) x.0.after in
+    let y = adv questions s (call_events c x.0.calls ++ h) x.0.after in
     (n + 0, progress_join questions s c h n 0 mid new x.0 y)

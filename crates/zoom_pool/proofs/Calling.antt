@@ -13,8 +13,8 @@ use Rattle.zorigin.specs.Calls.{call_answer, answer_by, refusal}
 use Rattle.zorigin.specs.Sending.{encoding_of, request_of, sent_of, IsReadBack}
 use Rattle.zorigin.specs.Log.{Made, Past, standing, request_list, admit_unless, After as OriginAfter}
 use Rattle.zoom_pool.specs.Links.{Link}
-use Rattle.zoom_pool.specs.Heard.{Heard, Deed, Calls, past_of, hears_call, given, joined}
-use Rattle.zoom_pool.specs.Leaving.{Matches, GivesAll, AreReadBack, Leaves}
+use Rattle.zoom_pool.specs.Transcripts.{Transcript, Event, Called, past_of, after_call, given, joined}
+use Rattle.zoom_pool.specs.Connections.{AreConsistent, WaitingAfter, AreReadBack, ConnectionAfter}
 
 no_err : {A E : Type 0} {x : A} {e : E} → Ok x ≡ Err e → ⊥
 no_err q = cc
@@ -53,18 +53,18 @@ grown_read p call x (Some reason) a b q = absurd (no_err q)
 grown_read p call x None a b q = requested_read p.sent x (request_of (standing p) call) a b q
 
 -- a call that was admitted
-pub called : (settings : Settings) (deeds : List Deed) (p : Heard) (c d : Link) (call : Call) (x : Sent)
-    → Leaves settings deeds p c → is_some c.stop ≡ false → IsReadBack x
+pub called : (settings : Settings) (events : List Event) (p : Transcript) (c d : Link) (call : Call) (x : Sent)
+    → ConnectionAfter settings events p c → is_some c.stop ≡ false → IsReadBack x
     → Ok x ≡ call_answer (standing (past_of p)) call
     → OriginAfter p.settings (Made call ∷ p.log) d.origin
     → d.framer ≡ c.framer → d.held ≡ c.held → d.ended ≡ c.ended → d.stop ≡ c.stop → d.waiting ≡ c.waiting ++ x.octets
-    → Leaves settings (Calls call ∷ deeds) (hears_call p call) d
-called settings deeds p c d call x l stopped read answer after framer held ended stop waits =
+    → ConnectionAfter settings (Called call ∷ events) (after_call p call) d
+called settings events p c d call x l stopped read answer after framer held ended stop waits =
     let m = l.matches in
     let going : is_some p.stop ≡ false = ap is_some (sym m.stop) ∙ stopped in
-    let q : Heard = record p { log = Made call ∷ p.log } in
-    let is : hears_call p call ≡ q = rw going refl in
-    let matches : Matches q d = record {
+    let q : Transcript = record p { log = Made call ∷ p.log } in
+    let is : after_call p call ≡ q = rw going refl in
+    let matches : AreConsistent q d = record {
       origin = after;
       frames = rw (framer, held) (record {
         rest = m.frames.rest;
@@ -76,14 +76,14 @@ called settings deeds p c d call x l stopped read answer after framer held ended
       ended = ended ∙ m.ended;
       stop = stop ∙ m.stop;
     } in
-    let waiting : GivesAll (Calls call ∷ deeds) q d.waiting =
-    λ lost. ap (λ z. given deeds ++ z) waits
-    ∙ sym (append_assoc (given deeds) c.waiting x.octets)
+    let waiting : WaitingAfter (Called call ∷ events) q d.waiting =
+    λ lost. ap (λ z. given events ++ z) waits
+    ∙ sym (append_assoc (given events) c.waiting x.octets)
     ∙ ap (λ z. z ++ x.octets) (l.waiting lost)
     ∙ sym (grown (past_of p) call x (refusal (standing (past_of p)) call) answer) in
-    subst (λ z. Leaves settings (Calls call ∷ deeds) z d) (sym is)
+    subst (λ z. ConnectionAfter settings (Called call ∷ events) z d) (sym is)
     (record {
-      heard = (p, l.heard, sym is);
+      transcript = (p, l.transcript, sym is);
       matches = matches;
       waiting = waiting;
       reads = grown_read (past_of p) call x (refusal (standing (past_of p)) call) l.reads read answer;

@@ -137,12 +137,12 @@ module _ (ask : Ask) (settings : Settings) where
   -- what was admitted was sent
   pub sent_known : (log : Log) (q : Asked) → IsIn q (asked (past settings log)) → IsIn (operation_for q.what) (asked_in (events_of ask settings log))
   sent_known [] q i = absurd i
-  sent_known (Made call ∷ log) q i = made (sent_known log q) (refusal (standing (past settings log)) call) i
+  sent_known (Made call ∷ log) q i = call_events (sent_known log q) (refusal (standing (past settings log)) call) i
     where
-      made : (IsIn q (asked (past settings log)) → IsIn (operation_for q.what) (asked_in (events_of ask settings log))) → (r : Option CallRefused)
+      call_events : (IsIn q (asked (past settings log)) → IsIn (operation_for q.what) (asked_in (events_of ask settings log))) → (r : Option CallRefused)
           → IsIn q (asked (admit_unless (past settings log) call r)) → IsIn (operation_for q.what) (asked_in (made_event r call (events_of ask settings log)))
-      made before (Some r) j = before j
-      made before None j = elim (in_either q (asked (past settings log)) (operation_of call) (subst (IsIn q) (asked_more (past settings log) call) j)) [
+      call_events before (Some r) j = before j
+      call_events before None j = elim (in_either q (asked (past settings log)) (operation_of call) (subst (IsIn q) (asked_more (past settings log) call) j)) [
         | inl k ↦ asked_still (operation_for q.what) call (events_of ask settings log) (before k)
         | inr k ↦ asked_call q call (events_of ask settings log) k
       ]
@@ -154,24 +154,24 @@ module _ (ask : Ask) (settings : Settings) where
   -- a reply came with an accepted answer
   pub replied : (log : Log) (a : Operation) (r : Reply) → replies_in (events_of ask settings log) a ≡ Some r → IsBy (past settings log).accepted a
   replied [] a r e = absurd (cc)
-  replied (Made call ∷ log) a r e = made (replied log a r) (refusal (standing (past settings log)) call) e
+  replied (Made call ∷ log) a r e = call_events (replied log a r) (refusal (standing (past settings log)) call) e
     where
-      made : (replies_in (events_of ask settings log) a ≡ Some r → IsBy (past settings log).accepted a) → (o : Option CallRefused)
+      call_events : (replies_in (events_of ask settings log) a ≡ Some r → IsBy (past settings log).accepted a) → (o : Option CallRefused)
           → replies_in (made_event o call (events_of ask settings log)) a ≡ Some r → IsBy (admit_unless (past settings log) call o).accepted a
-      made before (Some o) f = before f
-      made before None f = before (sym (replies_call a call (events_of ask settings log)) ∙ f)
+      call_events before (Some o) f = before f
+      call_events before None f = before (sym (replies_call a call (events_of ask settings log)) ∙ f)
   replied (Got reply ∷ log) a r e =
       by_verdict ask (past settings (Got reply ∷ log)) (past settings log) (verdict (standing (past settings log)) reply) (events_of ask settings log) a r (replied log a r) e
 
   -- as many were sent as were admitted
   sent_count : (log : Log) → length (asked (past settings log)) ≡ length (asked_in (events_of ask settings log))
   sent_count [] = refl
-  sent_count (Made call ∷ log) = made (sent_count log) (refusal (standing (past settings log)) call)
+  sent_count (Made call ∷ log) = call_events (sent_count log) (refusal (standing (past settings log)) call)
     where
-      made : length (asked (past settings log)) ≡ length (asked_in (events_of ask settings log)) → (r : Option CallRefused)
+      call_events : length (asked (past settings log)) ≡ length (asked_in (events_of ask settings log)) → (r : Option CallRefused)
           → length (asked (admit_unless (past settings log) call r)) ≡ length (asked_in (made_event r call (events_of ask settings log)))
-      made before (Some r) = before
-      made before None =
+      call_events before (Some r) = before
+      call_events before None =
           ap length (asked_more (past settings log) call) ∙ length-append (asked (past settings log)) (operation_of call)
           ∙ ap (λ n. n + length (operation_of call)) before ∙ sym (count_call call (events_of ask settings log))
   sent_count (Got reply ∷ log) =
@@ -183,13 +183,13 @@ module _ (ask : Ask) (settings : Settings) where
     -- the number of an operation is that of the plan
     pub numbered : (log : Log) → IsDrivenLog ask wanted step settings log → (q : Asked) → IsIn q (asked (past settings log)) → q.op ≡ number (operation_for q.what)
     numbered [] d q i = absurd i
-    numbered (Made call ∷ log) d q i = made (numbered log d.1 q) (refusal (standing (past settings log)) call) d.0 i
+    numbered (Made call ∷ log) d q i = call_events (numbered log d.1 q) (refusal (standing (past settings log)) call) d.0 i
       where
-        made : (IsIn q (asked (past settings log)) → q.op ≡ number (operation_for q.what)) → (r : Option CallRefused)
+        call_events : (IsIn q (asked (past settings log)) → q.op ≡ number (operation_for q.what)) → (r : Option CallRefused)
             → IsDueCall ask wanted step (events_of ask settings log) r call → IsIn q (asked (admit_unless (past settings log) call r))
             → q.op ≡ number (operation_for q.what)
-        made before (Some r) c j = before j
-        made before None c j = elim (in_either q (asked (past settings log)) (operation_of call) (subst (IsIn q) (asked_more (past settings log) call) j)) [
+        call_events before (Some r) c j = before j
+        call_events before None c j = elim (in_either q (asked (past settings log)) (operation_of call) (subst (IsIn q) (asked_more (past settings log) call) j)) [
           | inl k ↦ before k
           | inr k ↦ numbered_call q call c.0 k
         ]
@@ -228,11 +228,11 @@ module _ (ask : Ask) (settings : Settings) where
 
     pub driven : ((s : Settings) (l : Log) → IsOrderly (past s l)) → (log : Log) → IsDrivenLog ask wanted step settings log → IsDriven wanted step (events_of ask settings log)
     driven orderly [] d = tt
-    driven orderly (Made call ∷ log) d = made (driven orderly log d.1) (refusal (standing (past settings log)) call) d.0
+    driven orderly (Made call ∷ log) d = call_events (driven orderly log d.1) (refusal (standing (past settings log)) call) d.0
       where
-        made : IsDriven wanted step (events_of ask settings log) → (r : Option CallRefused) → IsDueCall ask wanted step (events_of ask settings log) r call → IsDriven wanted step (made_event r call (events_of ask settings log))
-        made before (Some r) c = before
-        made before None c = due_driven call (events_of ask settings log) c.1 before
+        call_events : IsDriven wanted step (events_of ask settings log) → (r : Option CallRefused) → IsDueCall ask wanted step (events_of ask settings log) r call → IsDriven wanted step (made_event r call (events_of ask settings log))
+        call_events before (Some r) c = before
+        call_events before None c = due_driven call (events_of ask settings log) c.1 before
     driven orderly (Got reply ∷ log) d =
         got (driven orderly log d) (fresh log orderly d) (verdict (standing (past settings log)) reply) (orderly settings (Got reply ∷ log))
       where

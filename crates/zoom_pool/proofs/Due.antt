@@ -35,7 +35,7 @@ use Rattle.zoom_pool.specs.declared.phase.Phase.TheVariants as phases
 use Rattle.zoom_pool.specs.Driving.{operation_for, DrivenLaws}
 use Rattle.zoom_questions.specs.Askable.{HasArcs}
 use Rattle.zoom_pool.specs.Steering.{Errand, IsNextCall, is_skip, may_call, room_in}
-use Rattle.zoom_pool.specs.Drivers.{DriverState, IsDriver, IsAt, AtOpened, HasOpening, HasFound, AllAnswered, events_at, found_events, opened_events}
+use Rattle.zoom_pool.specs.Drivers.{DriverState, IsDriver, IsAtPhase, AtOpened, HasOpening, HasFound, AllAnswered, events_at, found_events, opened_events}
 use Rattle.zoom_pool.specs.Due.{CanAskFor, CanBeCalled, DueLaws}
 use Rattle.zorigin.proofs.Members.{among, contained}
 use Rattle.zoom_pool.proofs.Drivings.{sent_known, replied}
@@ -53,11 +53,11 @@ no_some e = cc
 pub past_settings : (settings : Settings) (log : Log) → (past settings log).settings ≡ settings
 past_settings settings [] = refl
 past_settings settings (Made call ∷ log) =
-    made (refusal (standing (past settings log)) call) ∙ past_settings settings log
+    call_events (refusal (standing (past settings log)) call) ∙ past_settings settings log
   where
-    made : (r : Option CallRefused) → (admit_unless (past settings log) call r).settings ≡ (past settings log).settings
-    made None = refl
-    made (Some reason) = refl
+    call_events : (r : Option CallRefused) → (admit_unless (past settings log) call r).settings ≡ (past settings log).settings
+    call_events None = refl
+    call_events (Some reason) = refl
 past_settings settings (Got reply ∷ log) =
     got (past settings log) (verdict (standing (past settings log)) reply) ∙ past_settings settings log
   where
@@ -137,7 +137,7 @@ module _ (orderly : (s : Settings) (l : Log) → IsOrderly (past s l)) (laws : D
 
   -- ---- Init
 
-  fresh_at : (ph : Phase) → IsAt e settings log ph → IsDue e.wanted e.step events plan.Init
+  fresh_at : (ph : Phase) → IsAtPhase e settings log ph → IsDue e.wanted e.step events plan.Init
       → may_call (state_of p) ≡ true → is_fresh (state_of p) ≡ true
   fresh_at phases.Fresh a due h = or_first (is_fresh (state_of p)) (is_ready (state_of p)) h (unready_at p a.opening)
   fresh_at phases.Opening a due h =
@@ -168,7 +168,7 @@ module _ (orderly : (s : Settings) (l : Log) → IsOrderly (past s l)) (laws : D
 
   -- ---- Close
 
-  close_ready : (ph : Phase) → IsAt e settings log ph → IsNextCall e settings log Close → is_ready (state_of p) ≡ true
+  close_ready : (ph : Phase) → IsAtPhase e settings log ph → IsNextCall e settings log Close → is_ready (state_of p) ≡ true
   close_ready phases.Fresh a n =
       absurd (n.next.0 plan.Init (first, λ i. subst (λ ev. IsIn plan.Init (asked_in ev)) a.events i))
   close_ready phases.Opening a n =
@@ -235,7 +235,7 @@ module _ (orderly : (s : Settings) (l : Log) → IsOrderly (past s l)) (laws : D
     accepted : (three : Bool) × (replies_in events plan.Init ≡ Some (Opens true three))
     accepted = opened_of e.wanted e.step (replies_in events) n.next.0.0
 
-    search_here : (ph : Phase) → IsAt e settings log ph → refusal (standing p) (Search 1 1 e.ask) ≡ None
+    search_here : (ph : Phase) → IsAtPhase e settings log ph → refusal (standing p) (Search 1 1 e.ask) ≡ None
     search_here phases.Fresh a =
         absurd (no_some (sym accepted.1 ∙ ap (λ ev. replies_in ev plan.Init) a.events))
     search_here phases.Opening a =
@@ -276,7 +276,7 @@ module _ (orderly : (s : Settings) (l : Log) → IsOrderly (past s l)) (laws : D
     all : outstanding_in events ≡ 0 → AllAnswered events
 
   set_here : (op set : ℕ) (ranges : List Range) → IsNextCall e settings log (Present op set ranges)
-      → (ph : Phase) → IsAt e settings log ph → HasSet
+      → (ph : Phase) → IsAtPhase e settings log ph → HasSet
   set_here op set ranges n = here
     where
       counted : (count : ℕ) × (replies_in events plan.Search ≡ Some (Finds (Some count)))
@@ -287,7 +287,7 @@ module _ (orderly : (s : Settings) (l : Log) → IsOrderly (past s l)) (laws : D
       all_found three count b (inr (inl i)) x = no_some (sym (ap (replies_in (found_events three count)) i) ∙ x)
       all_found three count b (inr (inr i)) x = i
 
-      here : (ph : Phase) → IsAt e settings log ph → HasSet
+      here : (ph : Phase) → IsAtPhase e settings log ph → HasSet
       here phases.Fresh a = absurd (no_some (sym counted.1 ∙ ap (λ ev. replies_in ev plan.Search) a.events))
       here phases.Opening a = absurd (no_some (sym counted.1 ∙ ap (λ ev. replies_in ev plan.Search) a.events))
       here (phases.Opened present three) a =
@@ -412,7 +412,7 @@ module _ (orderly : (s : Settings) (l : Log) → IsOrderly (past s l)) (laws : D
       → is_ready (state_of p) ≡ true → refusal (standing p) (Search 1 1 e.ask) ≡ Some reason
       → is_skip (Some reason) (Search 1 1 e.ask) ≡ true
   skipped present three reason is ready q =
-      search_skips present three (subst (IsAt e settings log) is k.at) reason ready q
+      search_skips present three (subst (IsAtPhase e settings log) is k.at) reason ready q
 
 pub due_laws : ((s : Settings) (l : Log) → IsOrderly (past s l)) → DrivenLaws → NumberLaw → BoundLaws → SendableLaws
     → DueLaws

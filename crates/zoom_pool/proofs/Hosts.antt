@@ -18,16 +18,16 @@ use Rattle.zorigin.specs.Sending.{encoding_of, octets_of}
 use Rattle.ztarget.specs.Levels.{HasElement}
 use Rattle.ztarget.specs.Replies.{reply_of}
 use Rattle.ztarget.specs.Receiving.{TargetState, IsAnswered, After as TargetAfter}
-use Rattle.zoom_pool.specs.Coming.{Met, Message, Foreign, Fault, Rest, Nothing, Stopped, IsReadAs, AreMetAs}
+use Rattle.zoom_pool.specs.Inputs.{Input, Message, Foreign, Fault, Rest, Nothing, AlreadyStopped, IsReadAs, AreInput}
 use Rattle.zber.specs.declared.framer.TheConstants.{MESSAGE_LIMIT}
-use Rattle.zoom_pool.specs.Hosts.{HostState, IsLong, IsShort, Holdings, Received, nothing, message, ArePutLast, IsAt, replies_to}
-use Rattle.zoom_pool.specs.HostSteps.{Leads, Follows, FollowsPiece, Rests, Anywhere, TakesIn, StopsAt, ReceivesApdu, TurnsTo, IsTurnAt, HeedsMessage, ReceivesMessage, ReceivesAll, KeepsPut, ReceivesPiece}
-use Rattle.zoom_pool.specs.declared.receiving.Turn.{Turn}
+use Rattle.zoom_pool.specs.Hosts.{HostState, IsLong, IsShort, Holdings, AreReceived, nothing, message, ArePutLast, IsFramerAt, replies_to}
+use Rattle.zoom_pool.specs.HostSteps.{ReceiptStep, IsFollowing, IsFollowingPiece, IsReceiptEnd, AnyRest, ApduReceipt, MessageRefusal, ReceiveApduResult, ReceiveNextResult, IsReceptionOf, MessageReceipt, ReceiveMessageResult, ReceiveAllResult, SameOutput, ReceivePieceResult}
+use Rattle.zoom_pool.specs.declared.receiving.Turn.{Reception}
 use Rattle.zoom_pool.proofs.Streams.{begins_longer}
 use Rattle.zoom_pool.proofs.Taking.{foreign}
 
 pub messages_longer : {holdings : Holdings} {stream : List ℕ} {received : List Apdu} {rest : List ℕ} (piece : List ℕ)
-    → Received holdings stream received rest → Received holdings (stream ++ piece) received (rest ++ piece)
+    → AreReceived holdings stream received rest → AreReceived holdings (stream ++ piece) received (rest ++ piece)
 messages_longer piece nothing = nothing
 messages_longer piece (message {rest = rest} {last = last} {e = e} r b w t) = message (messages_longer piece r) (begins_longer rest last piece e b) w t
 
@@ -40,35 +40,35 @@ one_put holdings received pending now then later v p a = record {
   last = a.last ∙ ap (λ z. z ++ a.by.reply ∷ []) p.last ∙ append_assoc pending p.more (a.by.reply ∷ []);
 }
 
-met_message : (xs rest : List ℕ) (e : Element) (met : Met) → Begins MESSAGE_LIMIT xs e rest → IsReadAs e met → AreMetAs xs met
+met_message : (xs rest : List ℕ) (e : Element) (input : Input) → Begins MESSAGE_LIMIT xs e rest → IsReadAs e input → AreInput xs input
 met_message xs rest e (Message v) b r = record { element = e; rest = rest; begins = b; read = r }
 met_message xs rest e (Foreign error) b r = record { element = e; rest = rest; begins = b; read = r }
-met_message xs rest e Stopped b r = absurd r
+met_message xs rest e AlreadyStopped b r = absurd r
 met_message xs rest e (Fault kind at) b r = absurd r
 met_message xs rest e (Rest n) b r = absurd r
 met_message xs rest e Nothing b r = absurd r
 
 -- a message whose APDU was received, or not taken
-pub message_received : {E : Type 0} (n : Element) (v : Apdu) (r : Result Bool E) (old new : TargetState) → Writes v n → ReceivesApdu v r old new → ReceivesMessage n r old new
+pub message_received : {E : Type 0} (n : Element) (v : Apdu) (r : Result Bool E) (old new : TargetState) → Writes v n → ReceiveApduResult v r old new → ReceiveMessageResult n r old new
 message_received n v (Ok true) old new w t = (v, w, t)
 message_received n v (Ok false) old new w t = (t.0, λ holdings received released a. (Message v, w, t.1 holdings received released a))
 message_received n v (Err e) old new w t = t
 
-pub message_taken : (n : Element) (taken : Bool) (old new : TargetState) → HeedsMessage n taken old new → taken ≡ true → (v : Apdu) × Writes v n × TakesIn v old new
+pub message_taken : (n : Element) (taken : Bool) (old new : TargetState) → MessageReceipt n taken old new → taken ≡ true → (v : Apdu) × Writes v n × ApduReceipt v old new
 message_taken n true old new m is = m
 message_taken n false old new m is = absurd (true≢false (sym is))
 
-pub message_stops : (n : Element) (taken : Bool) (old new : TargetState) → HeedsMessage n taken old new → taken ≡ false → StopsAt n old new
+pub message_stops : (n : Element) (taken : Bool) (old new : TargetState) → MessageReceipt n taken old new → taken ≡ false → MessageRefusal n old new
 message_stops n true old new m is = absurd (true≢false is)
 message_stops n false old new m is = m
 
 -- a message that is no APDU
-pub message_foreign : (n : Element) (error : ApduError) (t : TargetState) → error ≢ decode.Memory → Decodes n (Err error) → StopsAt n t t
+pub message_foreign : (n : Element) (error : ApduError) (t : TargetState) → error ≢ decode.Memory → Decodes n (Err error) → MessageRefusal n t t
 message_foreign n error t other d = (refl, λ holdings received released a. (Foreign error, foreign n error other d, tt))
 
 module _ (framer later : Stream) (e : Element) (old new : TargetState) where
   -- a message was received
-  pub next_received : Answers framer (Ok (Some e)) later → (v : Apdu) → Writes v e → TakesIn v old new → Leads (Follows framer) (Follows later) old new
+  pub next_received : Answers framer (Ok (Some e)) later → (v : Apdu) → Writes v e → ApduReceipt v old new → ReceiptStep (IsFollowing framer) (IsFollowing later) old new
   next_received a v w t holdings stream released received pending r =
       let taken = t holdings.databases holdings.settings r.now released r.target_is in
       let begins : Begins MESSAGE_LIMIT r.rest e later.octets = subst (λ z. Begins z r.rest e later.octets) r.then.limited (subst (λ z. Begins framer.limit z e later.octets) (sym r.then.rest_is) a.1) in
@@ -82,7 +82,7 @@ module _ (framer later : Stream) (e : Element) (old new : TargetState) where
       }
 
   -- a message was not taken, and so stops the host
-  pub next_stopped : Answers framer (Ok (Some e)) later → StopsAt e old new → Leads (Follows framer) (Rests later true) old new
+  pub next_stopped : Answers framer (Ok (Some e)) later → MessageRefusal e old new → ReceiptStep (IsFollowing framer) (IsReceiptEnd later true) old new
   next_stopped a s holdings stream released received pending r =
       let same = s.0 in
       let is = s.1 holdings r.now released r.target_is in
@@ -98,7 +98,7 @@ module _ (framer later : Stream) (e : Element) (old new : TargetState) where
 
 -- what is reached leads to the same, where something else is behind it
 led : (Before Behind : Holdings → List Apdu → List ℕ → Type 0) (target : TargetState)
-    → ((holdings : Holdings) (received : List Apdu) (rest : List ℕ) → Before holdings received rest → Behind holdings received rest) → Leads Before Behind target target
+    → ((holdings : Holdings) (received : List Apdu) (rest : List ℕ) → Before holdings received rest → Behind holdings received rest) → ReceiptStep Before Behind target target
 led Before Behind target f holdings stream released received pending r = record {
   now = r.now;
   rest = r.rest;
@@ -109,13 +109,13 @@ led Before Behind target f holdings stream released received pending r = record 
 }
 
 -- no message is whole
-pub next_waits : (framer later : Stream) (target : TargetState) → Answers framer (Ok None) later → Leads (Follows framer) (Rests later false) target target
-next_waits framer later target a = led (Follows framer) (Rests later false) target (λ holdings received rest at. (
+pub next_waits : (framer later : Stream) (target : TargetState) → Answers framer (Ok None) later → ReceiptStep (IsFollowing framer) (IsReceiptEnd later false) target target
+next_waits framer later target a = led (IsFollowing framer) (IsReceiptEnd later false) target (λ holdings received rest at. (
   record { rest_is = at.rest_is ∙ sym (ap (λ z. z.octets) a.2); limited = ap (λ z. z.limit) a.2 ∙ at.limited; sound = ap (λ z. z.fault) a.2 ∙ at.sound },
   subst (λ z. IsUnfinished MESSAGE_LIMIT z) (sym at.rest_is) (subst (λ z. IsUnfinished z framer.octets) at.limited a.1),
 ))
 
-shown : (framer : Stream) (rest : List ℕ) (kind : FaultKind) (at : ℕ) → IsAt framer rest
+shown : (framer : Stream) (rest : List ℕ) (kind : FaultKind) (at : ℕ) → IsFramerAt framer rest
     → (framer.fault ≡ Some (kind, at)) ⊎ ((framer.fault ≡ None) × Shows framer.limit framer.octets kind at) → Shows MESSAGE_LIMIT rest kind at
 shown framer rest kind at is (inl f) = absurd (no_some (sym f ∙ is.sound)) where
   no_some : {A : Type 0} {x : A} → Some x ≡ None → ⊥
@@ -123,19 +123,19 @@ shown framer rest kind at is (inl f) = absurd (no_some (sym f ∙ is.sound)) whe
 shown framer rest kind at is (inr s) = subst (λ z. Shows MESSAGE_LIMIT z kind at) (sym is.rest_is) (subst (λ z. Shows z framer.octets kind at) is.limited s.1)
 
 -- the octets show a fault
-pub next_fault : (framer later : Stream) (target : TargetState) (kind : FaultKind) (at : ℕ) → Answers framer (Err (frames.Fault kind at)) later → Leads (Follows framer) (Rests later true) target target
-next_fault framer later target kind at a = led (Follows framer) (Rests later true) target (λ holdings received rest is. (Fault kind at, shown framer rest kind at is a.1, tt))
+pub next_fault : (framer later : Stream) (target : TargetState) (kind : FaultKind) (at : ℕ) → Answers framer (Err (frames.Fault kind at)) later → ReceiptStep (IsFollowing framer) (IsReceiptEnd later true) target target
+next_fault framer later target kind at a = led (IsFollowing framer) (IsReceiptEnd later true) target (λ holdings received rest is. (Fault kind at, shown framer rest kind at is a.1, tt))
 
-pub next_memory : (framer : Stream) (target : TargetState) → Leads (Follows framer) Anywhere target target
-next_memory framer target = led (Follows framer) Anywhere target (λ holdings received rest is. tt)
+pub next_memory : (framer : Stream) (target : TargetState) → ReceiptStep (IsFollowing framer) AnyRest target target
+next_memory framer target = led (IsFollowing framer) AnyRest target (λ holdings received rest is. tt)
 
 -- the framer answered an error
-pub next_error : (E : Type 0) (framer later : Stream) (target : TargetState) (error : FrameError) (turn : Result Turn E)
-    → Answers framer (Err error) later → IsTurnAt error turn → TurnsTo turn framer later target target
-next_error E framer later target (frames.Fault kind at) (Ok turn) a is =
-    subst (λ z. TurnsTo {E = E} (Ok z) framer later target target) (sym is) (next_fault framer later target kind at a)
+pub next_error : (E : Type 0) (framer later : Stream) (target : TargetState) (error : FrameError) (stage : Result Reception E)
+    → Answers framer (Err error) later → IsReceptionOf error stage → ReceiveNextResult stage framer later target target
+next_error E framer later target (frames.Fault kind at) (Ok stage) a is =
+    subst (λ z. ReceiveNextResult {E = E} (Ok z) framer later target target) (sym is) (next_fault framer later target kind at a)
 next_error E framer later target (frames.Fault kind at) (Err e) a is = absurd is
-next_error E framer later target frames.Memory (Ok turn) a is = absurd is
+next_error E framer later target frames.Memory (Ok stage) a is = absurd is
 next_error E framer later target frames.Memory (Err e) a is = next_memory framer target
 
 -- a message takes octets away
@@ -148,8 +148,8 @@ next_shorter framer later e a = omega (arith, spells_some a.1.is.spelled, ap len
 abbrev pub IsFedTo : Stream → List ℕ → Stream → Type 0
 IsFedTo framer piece fed = framer.fault ≡ None → (fed.octets ≡ framer.octets ++ piece) × (fed.limit ≡ framer.limit) × (fed.fault ≡ framer.fault)
 
-pub piece_follows : (framer fed : Stream) (piece : List ℕ) (target : TargetState) → IsFedTo framer piece fed → Leads (FollowsPiece framer piece) (Follows fed) target target
-piece_follows framer fed piece target w = led (FollowsPiece framer piece) (Follows fed) target (λ holdings received rest f.
+pub piece_follows : (framer fed : Stream) (piece : List ℕ) (target : TargetState) → IsFedTo framer piece fed → ReceiptStep (IsFollowingPiece framer piece) (IsFollowing fed) target target
+piece_follows framer fed piece target w = led (IsFollowingPiece framer piece) (IsFollowing fed) target (λ holdings received rest f.
     let is = w f.2.sound in
     record {
       rest_is = f.1 ∙ ap (λ z. z ++ piece) f.2.rest_is ∙ sym is.0;
@@ -158,15 +158,15 @@ piece_follows framer fed piece target w = led (FollowsPiece framer piece) (Follo
     })
 
 -- one step after another
-pub then_leads : (A B C : Holdings → List Apdu → List ℕ → Type 0) (old mid new : TargetState) → Leads A B old mid → Leads B C mid new → Leads A C old new
+pub then_leads : (A B C : Holdings → List Apdu → List ℕ → Type 0) (old mid new : TargetState) → ReceiptStep A B old mid → ReceiptStep B C mid new → ReceiptStep A C old new
 then_leads A B C old mid new f g holdings stream released received pending r = g holdings stream released received pending (f holdings stream released received pending r)
 
 -- a piece was fed, and all whole messages were received
 pub piece_done : {E : Type 0} (piece : List ℕ) (r : Result Bool E) (old new : HostState) (fed : Stream)
-    → KeepsPut old new → IsFedTo old.framer piece fed
-    → ReceivesAll r fed new.framer old.target new.target → ReceivesPiece piece r old new
-piece_done piece (Ok stopped) old new fed same f l = (same, then_leads (FollowsPiece old.framer piece) (Follows fed) (Rests new.framer stopped) old.target old.target new.target (piece_follows old.framer fed piece old.target f) l)
-piece_done piece (Err e) old new fed same f l = (same, then_leads (FollowsPiece old.framer piece) (Follows fed) Anywhere old.target old.target new.target (piece_follows old.framer fed piece old.target f) l)
+    → SameOutput old new → IsFedTo old.framer piece fed
+    → ReceiveAllResult r fed new.framer old.target new.target → ReceivePieceResult piece r old new
+piece_done piece (Ok stopped) old new fed same f l = (same, then_leads (IsFollowingPiece old.framer piece) (IsFollowing fed) (IsReceiptEnd new.framer stopped) old.target old.target new.target (piece_follows old.framer fed piece old.target f) l)
+piece_done piece (Err e) old new fed same f l = (same, then_leads (IsFollowingPiece old.framer piece) (IsFollowing fed) AnyRest old.target old.target new.target (piece_follows old.framer fed piece old.target f) l)
 
 -- ---- a reply
 

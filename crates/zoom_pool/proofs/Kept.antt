@@ -31,7 +31,7 @@ use Rattle.zoom_pool.specs.declared.phase.Phase.{Phase}
 use Rattle.zoom_pool.specs.declared.phase.Phase.TheVariants as phases
 use Rattle.zoom_pool.specs.Driving.{plan_of, operation_for, events_of, made_event, got_event, can_search, can_present, IsDueEvent, IsDueCall, DrivenLaws}
 use Rattle.zoom_pool.specs.Steering.{Errand, IsNextCall, IsSteeredCall, is_skip, may_call, skipped_in, complete_in, is_rejected, room_in, IsTried}
-use Rattle.zoom_pool.specs.Drivers.{DriverState, IsDriver, IsAt, AtFresh, AtOpened, AtCounted, AtAsking, AtDone, AtClosed, HasOpening, AllAnswered, NoneBegins, BeginApart, events_at, opened_events, searched_events, found_events, left_in, Stays, Offers, IsPrepared, Prepares, IsSamePhase, IsSentAgenda, SendsAt, KnowsSent, KnowsRefused, RefusedLaw, HasVersion, CanBeSent, HasFound}
+use Rattle.zoom_pool.specs.Drivers.{DriverState, IsDriver, IsAtPhase, AtFresh, AtOpened, AtCounted, AtAsking, AtDone, AtClosed, HasOpening, AllAnswered, IsFreeStart, HaveApartStarts, events_at, opened_events, searched_events, found_events, left_in, SameDriver, IsOffer, IsPrepared, PrepareStep, IsSamePhase, IsSentAgenda, SendStep, NoteSentStep, NoteRefusedStep, RefusedLaw, HasVersion, CanBeSent, HasFound}
 use Rattle.zoom_pool.proofs.Phases.{uncallable, any_last, none_due, length_put, apart_put}
 use Rattle.zoom_pool.proofs.Nexts.{room_few, found_some}
 use Rattle.zoom_pool.proofs.Drivings.{sent_known}
@@ -60,19 +60,19 @@ module _ (laws : AgendaLaws) (e : Errand) (settings : Settings) (log : Log) (w :
         opening = a.opening;
       }
 
-  prepared : IsDriven e.wanted e.step (events_at e settings log) → (old new : Phase) → IsPrepared e.wanted e.step old new → IsAt e settings log old
-      → IsAt e settings log new × (left_in e.window old ≡ left_in e.window new)
-  prepared driven phases.Fresh new p a = (subst (IsAt e settings log) (sym p) a, ap (left_in e.window) (sym p))
-  prepared driven phases.Opening new p a = (subst (IsAt e settings log) (sym p) a, ap (left_in e.window) (sym p))
-  prepared driven (phases.Opened present three) new p a = (subst (IsAt e settings log) (sym p) a, ap (left_in e.window) (sym p))
-  prepared driven (phases.Searching present three) new p a = (subst (IsAt e settings log) (sym p) a, ap (left_in e.window) (sym p))
+  prepared : IsDriven e.wanted e.step (events_at e settings log) → (old new : Phase) → IsPrepared e.wanted e.step old new → IsAtPhase e settings log old
+      → IsAtPhase e settings log new × (left_in e.window old ≡ left_in e.window new)
+  prepared driven phases.Fresh new p a = (subst (IsAtPhase e settings log) (sym p) a, ap (left_in e.window) (sym p))
+  prepared driven phases.Opening new p a = (subst (IsAtPhase e settings log) (sym p) a, ap (left_in e.window) (sym p))
+  prepared driven (phases.Opened present three) new p a = (subst (IsAtPhase e settings log) (sym p) a, ap (left_in e.window) (sym p))
+  prepared driven (phases.Searching present three) new p a = (subst (IsAtPhase e settings log) (sym p) a, ap (left_in e.window) (sym p))
   prepared driven (phases.Counted three count) new p a = (
-    subst (IsAt e settings log) (sym p) (whole driven three count a),
+    subst (IsAtPhase e settings log) (sym p) (whole driven three count a),
     (let z : e.window + 2 ≡ e.window + 2 - 0 = omega arith in z) ∙ ap (left_in e.window) (sym p),
   )
-  prepared driven (phases.Asking agenda) new p a = (subst (IsAt e settings log) (sym p) a, ap (left_in e.window) (sym p))
-  prepared driven phases.Done new p a = (subst (IsAt e settings log) (sym p) a, ap (left_in e.window) (sym p))
-  prepared driven phases.Closed new p a = (subst (IsAt e settings log) (sym p) a, ap (left_in e.window) (sym p))
+  prepared driven (phases.Asking agenda) new p a = (subst (IsAtPhase e settings log) (sym p) a, ap (left_in e.window) (sym p))
+  prepared driven phases.Done new p a = (subst (IsAtPhase e settings log) (sym p) a, ap (left_in e.window) (sym p))
+  prepared driven phases.Closed new p a = (subst (IsAtPhase e settings log) (sym p) a, ap (left_in e.window) (sym p))
 
   same_agenda : (a b : Agenda) → SameAgenda a b → AtAsking e settings log a → AtAsking e settings log b
   same_agenda a b s k = record {
@@ -84,7 +84,7 @@ module _ (laws : AgendaLaws) (e : Errand) (settings : Settings) (log : Log) (w :
     found = k.found;
     set = subst (λ t. HasFound e.ask (past settings log) t k.count) (sym s.three) k.set;
     outstanding = k.outstanding ∙ ap length (sym s.waiting);
-    apart = subst BeginApart (sym s.waiting) k.apart;
+    apart = subst HaveApartStarts (sym s.waiting) k.apart;
     opening = k.opening;
   }
 
@@ -106,12 +106,12 @@ same_left window phases.Done new p = ap (left_in window) p
 same_left window phases.Closed new p = ap (left_in window) p
 
 same_at : AgendaLaws → (e : Errand) (settings : Settings) (log : Log) → IsWanted e.wanted → 0 < e.step → (old new : Phase) → IsSamePhase old new
-    → IsAt e settings log old → IsAt e settings log new
-same_at laws e settings log w lo phases.Fresh new p a = subst (IsAt e settings log) (sym p) a
-same_at laws e settings log w lo phases.Opening new p a = subst (IsAt e settings log) (sym p) a
-same_at laws e settings log w lo (phases.Opened present three) new p a = subst (IsAt e settings log) (sym p) a
-same_at laws e settings log w lo (phases.Searching present three) new p a = subst (IsAt e settings log) (sym p) a
-same_at laws e settings log w lo (phases.Counted three count) new p a = subst (IsAt e settings log) (sym p) a
+    → IsAtPhase e settings log old → IsAtPhase e settings log new
+same_at laws e settings log w lo phases.Fresh new p a = subst (IsAtPhase e settings log) (sym p) a
+same_at laws e settings log w lo phases.Opening new p a = subst (IsAtPhase e settings log) (sym p) a
+same_at laws e settings log w lo (phases.Opened present three) new p a = subst (IsAtPhase e settings log) (sym p) a
+same_at laws e settings log w lo (phases.Searching present three) new p a = subst (IsAtPhase e settings log) (sym p) a
+same_at laws e settings log w lo (phases.Counted three count) new p a = subst (IsAtPhase e settings log) (sym p) a
 same_at laws e settings log w lo (phases.Asking a) (phases.Asking b) p k = same_agenda laws e settings log w lo a b p k
 same_at laws e settings log w lo (phases.Asking a) phases.Fresh p k = absurd p
 same_at laws e settings log w lo (phases.Asking a) phases.Opening p k = absurd p
@@ -120,13 +120,13 @@ same_at laws e settings log w lo (phases.Asking a) (phases.Searching present thr
 same_at laws e settings log w lo (phases.Asking a) (phases.Counted three count) p k = absurd p
 same_at laws e settings log w lo (phases.Asking a) phases.Done p k = absurd p
 same_at laws e settings log w lo (phases.Asking a) phases.Closed p k = absurd p
-same_at laws e settings log w lo phases.Done new p a = subst (IsAt e settings log) (sym p) a
-same_at laws e settings log w lo phases.Closed new p a = subst (IsAt e settings log) (sym p) a
+same_at laws e settings log w lo phases.Done new p a = subst (IsAtPhase e settings log) (sym p) a
+same_at laws e settings log w lo phases.Closed new p a = subst (IsAtPhase e settings log) (sym p) a
 
 -- a schedule was made, and what stands first of it was cut off
-pub stays : AgendaLaws → DrivenLaws → (old mid new : DriverState) → Prepares old mid → IsSamePhase mid.phase new.phase
+pub stays : AgendaLaws → DrivenLaws → (old mid new : DriverState) → PrepareStep old mid → IsSamePhase mid.phase new.phase
     → new.errand ≡ mid.errand → new.skipped ≡ mid.skipped → new.complete ≡ mid.complete
-    → mid.left ≡ left_in mid.errand.window mid.phase → new.left ≡ left_in new.errand.window new.phase → Stays old new
+    → mid.left ≡ left_in mid.errand.window mid.phase → new.left ≡ left_in new.errand.window new.phase → SameDriver old new
 stays laws driven old mid new p s er sk co l m =
     let kept : new.left ≡ mid.left =
     m ∙ ap (λ z. left_in z.window new.phase) er ∙ same_left mid.errand.window mid.phase new.phase s ∙ sym l in
@@ -210,7 +210,7 @@ still_tried : (e : Errand) (settings : Settings) (log more : Log) → Moved e se
 still_tried e settings log more m (inl some) = inl (λ none. some (sym (ap (flat_map search_in) m.admitted) ∙ none))
 still_tried e settings log more m (inr t) = inr (m.skipped t)
 
-moved_at : (e : Errand) (settings : Settings) (log more : Log) → Moved e settings log more → (ph : Phase) → IsAt e settings log ph → IsAt e settings more ph
+moved_at : (e : Errand) (settings : Settings) (log more : Log) → Moved e settings log more → (ph : Phase) → IsAtPhase e settings log ph → IsAtPhase e settings more ph
 moved_at e settings log more m phases.Fresh a = record {
   events = m.events ∙ a.events;
   opening = same_opening (past settings log) (past settings more) m.accepted ∙ a.opening;
@@ -287,9 +287,9 @@ refused_moved e settings log call reason q =
     }
 
 refused_driver : (e : Errand) (settings : Settings) (log : Log) (call : origin.Call) (reason : CallRefused) (old new : DriverState)
-    → Offers e settings log old call → refusal (standing (past settings log)) call ≡ Some reason → new.errand ≡ old.errand
+    → IsOffer e settings log old call → refusal (standing (past settings log)) call ≡ Some reason → new.errand ≡ old.errand
     → new.skipped ≡ (is_skip (Some reason) call || old.skipped) → new.complete ≡ old.complete → new.left ≡ left_in e.window new.phase
-    → new.left ≤ old.left → IsAt e settings (Made call ∷ log) new.phase → IsDriver e settings (Made call ∷ log) new
+    → new.left ≤ old.left → IsAtPhase e settings (Made call ∷ log) new.phase → IsDriver e settings (Made call ∷ log) new
 refused_driver e settings log call reason old new o q er sk co l le at =
     let k = o.knows in
     let same : past settings (Made call ∷ log) ≡ past settings log = ap (admit_unless (past settings log) call) q in
@@ -382,7 +382,7 @@ unskipped_close reasons.Memory = refl
 skipped_by : (op set : ℕ) (ask : Ask) (reason : CallRefused) (old new : DriverState) → new.errand ≡ old.errand → new.phase ≡ phases.Done
     → new.skipped ≡ (is_skip (Some reason) (origin.Search op set ask) || old.skipped) → new.complete ≡ old.complete
     → new.left ≡ left_in new.errand.window new.phase → (e : Errand) (settings : Settings) (log : Log)
-    → Offers e settings log old (origin.Search op set ask)
+    → IsOffer e settings log old (origin.Search op set ask)
     → refusal (standing (past settings log)) (origin.Search op set ask) ≡ Some reason
     → is_skip (Some reason) (origin.Search op set ask) ≡ true
     → IsDriver e settings (Made (origin.Search op set ask) ∷ log) new × (new.left < old.left)
@@ -390,13 +390,13 @@ skipped_by op set ask reason old new er ph sk co l e settings log o q t =
     let k = o.knows in let f = o.offered in
     let was : old.left ≡ 2 = k.left ∙ ap (left_in e.window) f.2 in
     let is : new.left ≡ 1 = l ∙ ap (left_in new.errand.window) ph in
-    let a : IsAt e settings log (phases.Opened f.0 f.1) = subst (IsAt e settings log) f.2 k.at in
+    let a : IsAtPhase e settings log (phases.Opened f.0 f.1) = subst (IsAtPhase e settings log) f.2 k.at in
     let c : origin.Search op set ask ≡ origin.Search 1 1 e.ask = search_same op set ask e.ask f.4 f.5 f.6 in
     let r : refusal (standing (past settings log)) (origin.Search 1 1 e.ask) ≡ Some reason = ap (refusal (standing (past settings log))) (sym c) ∙ q in
     let done : AtDone e settings (Made (origin.Search op set ask) ∷ log) =
     refused_search e settings log (origin.Search op set ask) reason f.0 f.1 q t r f.3 a in (
       refused_driver e settings log (origin.Search op set ask) reason old new o q er sk co (l ∙ ap (λ z. left_in z.window new.phase) (er ∙ k.errand))
-          (omega (arith, was, is)) (subst (IsAt e settings (Made (origin.Search op set ask) ∷ log)) (sym ph) done),
+          (omega (arith, was, is)) (subst (IsAtPhase e settings (Made (origin.Search op set ask) ∷ log)) (sym ph) done),
       omega (arith, was, is),
     )
   where
@@ -405,10 +405,10 @@ skipped_by op set ask reason old new er ph sk co l e settings log o q t =
 
 -- the origin refused the call: it was the search
 pub knows_refused : (old new : DriverState) → new.errand ≡ old.errand → new.phase ≡ phases.Done → new.skipped ≡ true
-    → new.complete ≡ old.complete → new.left ≡ left_in new.errand.window new.phase → KnowsRefused old new
+    → new.complete ≡ old.complete → new.left ≡ left_in new.errand.window new.phase → NoteRefusedStep old new
 knows_refused old new er ph sk co l e settings log call reason o q = by call o q (subst (λ r. IsSteeredCall e settings log r call) q o.steers).0
   where
-    by : (call : origin.Call) → Offers e settings log old call → refusal (standing (past settings log)) call ≡ Some reason
+    by : (call : origin.Call) → IsOffer e settings log old call → refusal (standing (past settings log)) call ≡ Some reason
         → is_skip (Some reason) call ≡ true → IsDriver e settings (Made call ∷ log) new × (new.left < old.left)
     by (origin.Search op set ask) o q t =
         skipped_by op set ask reason old new er ph (sk ∙ ap (λ b. b || old.skipped) (sym t)) co l e settings log o q t
@@ -505,11 +505,11 @@ closed_reply e settings log d reply k q =
 
 -- ---- an admitted call
 
-sent_driver : (e : Errand) (settings : Settings) (log : Log) (call : origin.Call) (old new : DriverState) → Offers e settings log old call
+sent_driver : (e : Errand) (settings : Settings) (log : Log) (call : origin.Call) (old new : DriverState) → IsOffer e settings log old call
     → refusal (standing (past settings log)) call ≡ None → IsNextCall e settings log call
     → IsDueEvent e.ask e.wanted e.step (events_at e settings log) (plan_of call) → new.errand ≡ old.errand → new.skipped ≡ old.skipped
     → new.complete ≡ (is_close_call call || old.complete) → new.left ≡ left_in e.window new.phase → new.left < old.left
-    → IsAt e settings (Made call ∷ log) new.phase → IsDriver e settings (Made call ∷ log) new × (new.left < old.left)
+    → IsAtPhase e settings (Made call ∷ log) new.phase → IsDriver e settings (Made call ∷ log) new × (new.left < old.left)
 sent_driver e settings log call old new o q n due er sk co l lt at =
     let k = o.knows in
     let p = past settings log in
@@ -608,7 +608,7 @@ sent_asking laws number e settings log a b op set ranges w lo driven q n s k =
     let ev : events_at e settings (Made (origin.Present op set ranges) ∷ log) ≡ Sends (plan.Present s.list) ∷ events_at e settings log =
     sent_events e settings log (origin.Present op set ranges) q ∙ ap (λ l. Sends (plan.Present l) ∷ events_at e settings log) is in
     let due : IsDue e.wanted e.step (events_at e settings log) (plan.Present s.list) = k.agenda.only s.list (subst (IsIn s.list) (sym s.due) (inl refl)) in
-    let apart : NoneBegins (first_of s.list) a.waiting = λ m i f.
+    let apart : IsFreeStart (first_of s.list) a.waiting = λ m i f.
     let was = k.agenda.asked m i in
     let same : plan.Present m ≡ plan.Present s.list = number e.wanted e.step (replies_in (events_at e settings log)) w lo (plan.Present m) (plan.Present s.list)
     (sent_asked e.wanted e.step (events_at e settings log) driven (plan.Present m) was) due.0 (ap (λ z. z + 1) f) in
@@ -625,7 +625,7 @@ sent_asking laws number e settings log a b op set ranges w lo driven q n s k =
           (ap (λ r. (admit_unless (past settings log) (origin.Present op set ranges) r).accepted) q)
           (subst (λ t. HasFound e.ask (past settings log) t k.count) (sym s.three) k.set);
       outstanding = ap outstanding_in ev ∙ ap (λ z. z + 1) k.outstanding ∙ sym (length_put s.list a.waiting) ∙ ap length (sym s.waiting);
-      apart = subst BeginApart (sym s.waiting) (apart_put s.list a.waiting apart k.apart);
+      apart = subst HaveApartStarts (sym s.waiting) (apart_put s.list a.waiting apart k.apart);
       opening = (k.opening.0, sent_opening settings log (origin.Present op set ranges) q ∙ k.opening.1);
     }
 
@@ -669,7 +669,7 @@ answered_whole e events none all a asked = by (replies_in events a) refl
     by (Some s) q = (s, q)
     by None q = absurd (none a (asked, λ i. all a i q))
 
-sent_close : (e : Errand) (settings : Settings) (log : Log) (old new : DriverState) → Offers e settings log old origin.Close
+sent_close : (e : Errand) (settings : Settings) (log : Log) (old new : DriverState) → IsOffer e settings log old origin.Close
     → refusal (standing (past settings log)) origin.Close ≡ None → new.phase ≡ phases.Closed → new.errand ≡ old.errand → new.skipped ≡ old.skipped
     → new.complete ≡ true → new.left ≡ left_in e.window new.phase → HasOpening (past settings log) → AllAnswered (events_at e settings log) → IsTried settings log → 0 < old.left
     → IsDriver e settings (Made origin.Close ∷ log) new × (new.left < old.left)
@@ -677,7 +677,7 @@ sent_close e settings log old new o q ph er sk co l op all tried lt =
     let n : IsNextCall e settings log origin.Close = o.offered.1 in
     let z : new.left ≡ 0 = l ∙ ap (left_in e.window) ph in
     sent_driver e settings log origin.Close old new o q n (answered_whole e (events_at e settings log) n.next.0 all) er sk co l (omega (arith, z, lt))
-    (subst (IsAt e settings (Made origin.Close ∷ log)) (sym ph) (sent_closed e settings log q op all tried))
+    (subst (IsAtPhase e settings (Made origin.Close ∷ log)) (sym ph) (sent_closed e settings log q op all tried))
 
 -- the request of a search that was admitted can be sent
 sent_sendable : (s : Standing) (op set : ℕ) (ask : Ask) → refusal s (origin.Search op set ask) ≡ None
@@ -691,17 +691,17 @@ sent_sendable s op set ask = by (early_refusal s (origin.Search op set ask)) (is
     by None false q = refl
 
 -- the origin admitted the call
-pub knows_sent : AgendaLaws → DrivenLaws → NumberLaw → (call : origin.Call) (old new : DriverState) → SendsAt call old.phase new.phase
+pub knows_sent : AgendaLaws → DrivenLaws → NumberLaw → (call : origin.Call) (old new : DriverState) → SendStep call old.phase new.phase
     → new.errand ≡ old.errand → new.skipped ≡ old.skipped → new.complete ≡ (is_close_call call || old.complete)
-    → new.left ≡ left_in new.errand.window new.phase → KnowsSent call old new
+    → new.left ≡ left_in new.errand.window new.phase → NoteSentStep call old new
 knows_sent laws driven number origin.Init old new s er sk co l = λ e settings log o q.
     let k = o.knows in
     let left : new.left ≡ left_in e.window new.phase = l ∙ ap (λ z. left_in z.window new.phase) (er ∙ k.errand) in
     let was : old.left ≡ 1 = k.left ∙ ap (left_in e.window) o.offered.0 in
     let is : new.left ≡ 0 = left ∙ ap (left_in e.window) s in
-    let a : AtFresh e settings log = subst (IsAt e settings log) o.offered.0 k.at in
+    let a : AtFresh e settings log = subst (IsAtPhase e settings log) o.offered.0 k.at in
     sent_driver e settings log origin.Init old new o q o.offered.1 o.offered.1.next.0 er sk co left (omega (arith, was, is))
-    (subst (IsAt e settings (Made origin.Init ∷ log)) (sym s) (record {
+    (subst (IsAtPhase e settings (Made origin.Init ∷ log)) (sym s) (record {
       events = sent_events e settings log origin.Init q ∙ ap (λ z. Sends plan.Init ∷ z) a.events;
       opening = sent_opening settings log origin.Init q ∙ a.opening;
     }))
@@ -709,14 +709,14 @@ knows_sent laws driven number (origin.Search op set ask) old new s er sk co l = 
     let k = o.knows in let f = o.offered in
     let left : new.left ≡ left_in e.window new.phase = l ∙ ap (λ z. left_in z.window new.phase) (er ∙ k.errand) in
     let was : old.left ≡ 2 = k.left ∙ ap (left_in e.window) f.2 in
-    let to : new.phase ≡ phases.Searching f.0 f.1 = subst (λ z. SendsAt (origin.Search op set ask) z new.phase) f.2 s in
+    let to : new.phase ≡ phases.Searching f.0 f.1 = subst (λ z. SendStep (origin.Search op set ask) z new.phase) f.2 s in
     let is : new.left ≡ 0 = left ∙ ap (left_in e.window) to in
-    let a : AtOpened e settings log f.0 f.1 = subst (IsAt e settings log) f.2 k.at in
+    let a : AtOpened e settings log f.0 f.1 = subst (IsAtPhase e settings log) f.2 k.at in
     let n : IsNextCall e settings log (origin.Search op set ask) = subst (λ r. IsSteeredCall e settings log r (origin.Search op set ask)) q o.steers in
     let c : origin.Search op set ask ≡ origin.Search 1 1 e.ask = search_as op set ask e.ask f.4 f.5 f.6 in
     let can : a.search ≡ true = sym (a.can f.3) ∙ ap is_none (ap (refusal (standing (past settings log))) (sym c) ∙ q) in
     sent_driver e settings log (origin.Search op set ask) old new o q n n.next.0 er sk co left (omega (arith, was, is))
-    (subst (IsAt e settings (Made (origin.Search op set ask) ∷ log)) (sym to) (record {
+    (subst (IsAtPhase e settings (Made (origin.Search op set ask) ∷ log)) (sym to) (record {
       events = sent_events e settings log (origin.Search op set ask) q ∙ ap (λ z. Sends plan.Search ∷ z) (a.events ∙ ap (λ b. opened_events b f.1) can);
       opening = (a.opening.0, sent_opening settings log (origin.Search op set ask) q ∙ a.opening.1);
       shows = same_present (past settings log) (past settings (Made (origin.Search op set ask) ∷ log)) f.0
@@ -735,12 +735,12 @@ knows_sent laws driven number (origin.Search op set ask) old new s er sk co l = 
 knows_sent laws driven number (origin.Present op set ranges) old new s er sk co l = λ e settings log o q.
     let k = o.knows in let f = o.offered in
     let left : new.left ≡ left_in e.window new.phase = l ∙ ap (λ z. left_in z.window new.phase) (er ∙ k.errand) in
-    let a : AtAsking e settings log f.0 = subst (IsAt e settings log) f.1 k.at in
+    let a : AtAsking e settings log f.0 = subst (IsAtPhase e settings log) f.1 k.at in
     let n : IsNextCall e settings log (origin.Present op set ranges) = f.3 in
-    let sends : IsSentAgenda true f.0 new.phase = subst (λ b. IsSentAgenda b f.0 new.phase) f.2 (subst (λ z. SendsAt (origin.Present op set ranges) z new.phase) f.1 s) in
+    let sends : IsSentAgenda true f.0 new.phase = subst (λ b. IsSentAgenda b f.0 new.phase) f.2 (subst (λ z. SendStep (origin.Present op set ranges) z new.phase) f.1 s) in
     by e settings log o q f.0 f.1 a n left new.phase refl sends
   where
-    by : (e : Errand) (settings : Settings) (log : Log) (o : Offers e settings log old (origin.Present op set ranges))
+    by : (e : Errand) (settings : Settings) (log : Log) (o : IsOffer e settings log old (origin.Present op set ranges))
         → refusal (standing (past settings log)) (origin.Present op set ranges) ≡ None → (a : Agenda) → old.phase ≡ phases.Asking a → AtAsking e settings log a
         → IsNextCall e settings log (origin.Present op set ranges) → new.left ≡ left_in e.window new.phase
         → (ph : Phase) → new.phase ≡ ph → IsSentAgenda true a ph → IsDriver e settings (Made (origin.Present op set ranges) ∷ log) new × (new.left < old.left)
@@ -753,7 +753,7 @@ knows_sent laws driven number (origin.Present op set ranges) old new s er sk co 
         let few : room_in e.window (past settings log) ≤ e.window + 1 = room_few e.window (past settings log) in
         let wide : new.left < old.left = omega (arith, before, after, more, room, out, few) in
         sent_driver e settings log (origin.Present op set ranges) old new o q n n.next.0 er sk co left wide
-        (subst (IsAt e settings (Made (origin.Present op set ranges) ∷ log)) (sym is)
+        (subst (IsAtPhase e settings (Made (origin.Present op set ranges) ∷ log)) (sym is)
         (sent_asking laws number e settings log a b op set ranges k.wanted k.steps (driven.driven e.ask e.wanted e.step settings log k.driven) q n sent at))
     by e settings log o q a was at n left phases.Fresh is sent = absurd sent
     by e settings log o q a was at n left phases.Opening is sent = absurd sent
@@ -767,11 +767,11 @@ knows_sent laws driven number origin.Close old new s er sk co l = λ e settings 
     let left : new.left ≡ left_in e.window new.phase = l ∙ ap (λ z. left_in z.window new.phase) (er ∙ k.errand) in
     elim o.offered.0 [
       | inl is ↦
-          let a : AtDone e settings log = subst (IsAt e settings log) is k.at in
+          let a : AtDone e settings log = subst (IsAtPhase e settings log) is k.at in
           let was : old.left ≡ 1 = k.left ∙ ap (left_in e.window) is in
           sent_close e settings log old new o q s er sk co left a.opening a.all a.tried (omega (arith, was))
       | inr x ↦
-          let a : AtAsking e settings log x.0 = subst (IsAt e settings log) x.1 k.at in
+          let a : AtAsking e settings log x.0 = subst (IsAtPhase e settings log) x.1 k.at in
           let was : old.left ≡ e.window + 2 - length x.0.waiting = k.left ∙ ap (left_in e.window) x.1 in
           let z = o.offered.1.next.1 in let out = a.outstanding in
           sent_close e settings log old new o q s er sk co left a.opening (idle_answered e settings log x.0 a z)

@@ -18,9 +18,9 @@ driver_of (x ∷ qs) (d ∷ ds) zero q e at = (d, refl)
 driver_of (x ∷ qs) (d ∷ ds) (suc c) q e at = driver_of qs ds c q (cc) at
 
 pub few_requests : DrivenLaws → FewRequests
-few_requests laws questions s h meta c q p a at heard =
+few_requests laws questions s h meta c q p a at transcript =
     let d = driver_of questions meta.drivers c q a.driven.size at in
-    let k = a.driven.each c q d.0 p at d.1 heard in
+    let k = a.driven.each c q d.0 p at d.1 transcript in
     laws.bound (ask_of q) (positions q.wanted) s.step p.settings p.log k.wanted k.steps k.driven
 
 pub same_list : OrderLaw → SameList

@@ -19,22 +19,22 @@ use Rattle.zoom_questions.specs.declared.question.MetaSettings.{MetaSettings}
 use Rattle.zoom_pool.specs.declared.state.State.{State}
 use Rattle.zoom_pool.specs.declared.state.State.TheVariants as states
 use Rattle.zoom_pool.specs.declared.state.Reason.{Reason}
-use Rattle.zoom_pool.specs.declared.answer.Told.{Told}
-use Rattle.zoom_pool.specs.declared.answer.Told.TheVariants as told
+use Rattle.zoom_pool.specs.declared.answer.Outcome.{Outcome}
+use Rattle.zoom_pool.specs.declared.answer.Outcome.TheVariants as outcome
 use Rattle.zoom_pool.specs.declared.answer.TakeError.{TakeError}
 use Rattle.zoom_pool.specs.declared.answer.TakeError.TheVariants as errors
 use Rattle.zoom_pool.specs.States.{state_as, or_else, is_stopped, is_closing}
-use Rattle.zoom_pool.specs.Coming.{Met, Stopped, Message, Foreign, Fault, Rest, Nothing}
-use Rattle.zoom_pool.specs.Heard.{Heard, HasHeard, Hears, Deed, Calls, Feeds, Takes, Ends, Gives, Stops, Meets, take_at, heed}
-use Rattle.zoom_pool.specs.Heard.{hears_call, hears_piece, stop_by, end_by, truncated, past_of, state_at, told_by, told_as, IsDone}
+use Rattle.zoom_pool.specs.Inputs.{Input, AlreadyStopped, Message, Foreign, Fault, Rest, Nothing}
+use Rattle.zoom_pool.specs.Transcripts.{Transcript, IsTranscript, EventStep, Event, Called, Fed, Took, InputEnded, HandedOut, Stopped, NextInput, after_take, after_reply}
+use Rattle.zoom_pool.specs.Transcripts.{after_call, after_feed, after_stop, end_by, truncated, past_of, state_at, outcome_of_reply, outcome_of, IsDone}
 use Rattle.zoom_pool.specs.Links.{Link}
-use Rattle.zoom_pool.specs.History.{History, only, Stands, After, AfterUpTo}
+use Rattle.zoom_pool.specs.History.{History, events_on, AreTranscripts, After, AfterUpTo}
 use Rattle.zoom_questions.specs.Askable.{IsAskable, AreFit, AreAskable}
 use Rattle.zoom_pool.specs.Steering.{Errand, errand_with, errand_of}
-use Rattle.zoom_pool.specs.Drivers.{DriverState, IsDriver, KnowsTold, RefusedLaw}
-use Rattle.zoom_pool.specs.Metas.{MetaLinks, settings_of, AreDriven, MetaAfter, MetaAfterUpTo, MetaTook, KnowsTake, LearnsTold, StandFor, Tells}
-use Rattle.zoom_pool.specs.Laws.{OneMeeting, OneHearing, UpToLaw}
-use Rattle.zoom_pool.specs.Befalling.{IsStateAt, IsToldAnswer, Took}
+use Rattle.zoom_pool.specs.Drivers.{DriverState, IsDriver, NoteReplyStep, RefusedLaw}
+use Rattle.zoom_pool.specs.Metas.{MetaLinks, settings_of, AreDriven, MetaAfter, MetaAfterUpTo, MetaTakeStep, DriverTakeStep, NoteTakeStep, AreNewDrivers, IsTranscriptValue}
+use Rattle.zoom_pool.specs.Laws.{OneInput, OneTranscript, UpToLaw}
+use Rattle.zoom_pool.specs.PoolSteps.{IsStateAt, IsTakeOutcome, TakeStep}
 use Rattle.zoom_pool.proofs.Pools.{only_same, only_other, get_same}
 
 -- ---- what stopped a connection
@@ -43,15 +43,15 @@ abbrev IsStop : Option State → Type 0
 IsStop None = Unit {0}
 IsStop (Some state) = is_stopped state ≡ true
 
-stops_call : (p : Heard) (call : Call) → IsStop p.stop → IsStop (hears_call p call).stop
+stops_call : (p : Transcript) (call : Call) → IsStop p.stop → IsStop (after_call p call).stop
 stops_call p call s = elim (is_some p.stop) as (λ b. IsStop (cond b p (record p { log = Made call ∷ p.log })).stop)
     [ true ↦ s | false ↦ s ]
 
-stops_piece : (p : Heard) (piece : List ℕ) → IsStop p.stop → IsStop (hears_piece p piece).stop
+stops_piece : (p : Transcript) (piece : List ℕ) → IsStop p.stop → IsStop (after_feed p piece).stop
 stops_piece p piece s = elim (is_stopped (state_at p) || p.ended) as
     (λ b. IsStop (cond b p (record p { stream = p.stream ++ piece })).stop) [ true ↦ s | false ↦ s ]
 
-stops_heed : (p : Heard) (v : Result Taken Refused) → IsStop p.stop → IsStop (heed p v).stop
+stops_heed : (p : Transcript) (v : Result Taken Refused) → IsStop p.stop → IsStop (after_reply p v).stop
 stops_heed p (Ok x) s = s
 stops_heed p (Err reason) s = refl
 
@@ -59,187 +59,187 @@ ended_state : (b : Bool) (reason : Reason) → is_stopped (cond b states.Closed 
 ended_state true reason = refl
 ended_state false reason = refl
 
-stops_take : (p : Heard) (met : Met) → IsStop p.stop → IsStop (take_at p met).stop
-stops_take p Stopped s = s
+stops_take : (p : Transcript) (input : Input) → IsStop p.stop → IsStop (after_take p input).stop
+stops_take p AlreadyStopped s = s
 stops_take p (Message v) s = stops_heed (record p { taken = suc p.taken; log = Got v ∷ p.log })
     (verdict (standing (past_of p)) v) s
 stops_take p (Foreign error) s = refl
 stops_take p (Fault kind at) s = refl
-stops_take p (Rest n) s = elim p.ended as (λ b. IsStop (cond b (stop_by p (truncated n)) p).stop) [ true ↦ refl | false ↦ s ]
+stops_take p (Rest n) s = elim p.ended as (λ b. IsStop (cond b (after_stop p (truncated n)) p).stop) [ true ↦ refl | false ↦ s ]
 stops_take p Nothing s = elim p.ended as (λ b. IsStop (cond b (end_by p) p).stop)
     [ true ↦ ended_state (is_closing (state_at p)) _ | false ↦ s ]
 
-stops_more : (deed : Deed) (p q : Heard) → Hears deed p q → IsStop p.stop → IsStop q.stop
-stops_more (Calls call) p q e s = subst (λ z. IsStop z.stop) (sym e) (stops_call p call s)
-stops_more (Feeds piece) p q e s = subst (λ z. IsStop z.stop) (sym e) (stops_piece p piece s)
-stops_more Takes p q e s = subst (λ z. IsStop z.stop) (sym e.2) (stops_take p e.0 s)
-stops_more Ends p q e s = subst (λ z. IsStop z.stop) (sym e) s
-stops_more (Gives octets) p q e s = subst (λ z. IsStop z.stop) (sym e) s
-stops_more (Stops reason) p q e s = subst (λ z. IsStop z.stop) (sym e) refl
+stops_more : (event : Event) (p q : Transcript) → EventStep event p q → IsStop p.stop → IsStop q.stop
+stops_more (Called call) p q e s = subst (λ z. IsStop z.stop) (sym e) (stops_call p call s)
+stops_more (Fed piece) p q e s = subst (λ z. IsStop z.stop) (sym e) (stops_piece p piece s)
+stops_more Took p q e s = subst (λ z. IsStop z.stop) (sym e.2) (stops_take p e.0 s)
+stops_more InputEnded p q e s = subst (λ z. IsStop z.stop) (sym e) s
+stops_more (HandedOut octets) p q e s = subst (λ z. IsStop z.stop) (sym e) s
+stops_more (Stopped reason) p q e s = subst (λ z. IsStop z.stop) (sym e) refl
 
-stop_stands : (settings : Settings) (deeds : List Deed) (p : Heard) → HasHeard settings deeds p → IsStop p.stop
+stop_stands : (settings : Settings) (events : List Event) (p : Transcript) → IsTranscript settings events p → IsStop p.stop
 stop_stands settings [] p e = subst (λ z. IsStop z.stop) (sym e) tt
-stop_stands settings (deed ∷ deeds) p e = stops_more deed e.0 p e.2 (stop_stands settings deeds e.0 e.1)
+stop_stands settings (event ∷ events) p e = stops_more event e.0 p e.2 (stop_stands settings events e.0 e.1)
 
 -- a connection that goes on was stopped by nothing
-pub goes : (settings : Settings) (deeds : List Deed) (p : Heard) → HasHeard settings deeds p
+pub goes : (settings : Settings) (events : List Event) (p : Transcript) → IsTranscript settings events p
     → is_stopped (state_at p) ≡ false → p.stop ≡ None
-goes settings deeds p heard s = by p.stop refl
+goes settings events p transcript s = by p.stop refl
   where
     by : (o : Option State) → p.stop ≡ o → p.stop ≡ None
     by None e = e
     by (Some state) e =
-        let t : is_stopped state ≡ true = subst IsStop e (stop_stands settings deeds p heard) in
+        let t : is_stopped state ≡ true = subst IsStop e (stop_stands settings events p transcript) in
         let f : is_stopped state ≡ false = subst (λ z. is_stopped (or_else (state_as (state_of (past_of p))) z) ≡ false) e s in
         absurd (true≢false (sym t ∙ f))
 
 -- ---- a deed more
 
 pub driven_more : (questions : List Question) (s : MetaSettings) (h : History) (old new : List DriverState) (c : ℕ)
-    (deed : Deed) → AreDriven questions s h old → length new ≡ length old
+    (event : Event) → AreDriven questions s h old → length new ≡ length old
     → ((i : ℕ) → (c == i) ≡ false → slice_get new i ≡ slice_get old i)
-    → ((q : Question) (d : DriverState) (p r : Heard) → slice_get questions c ≡ Some q → slice_get new c ≡ Some d
-    → HasHeard (settings_of s) (only c h) p → Hears deed p r → IsDriver (errand_of s q) r.settings r.log d)
-    → AreDriven questions s ((c, deed) ∷ h) new
-driven_more questions s h old new c deed a size same here = record {
+    → ((q : Question) (d : DriverState) (p r : Transcript) → slice_get questions c ≡ Some q → slice_get new c ≡ Some d
+    → IsTranscript (settings_of s) (events_on c h) p → EventStep event p r → IsDriver (errand_of s q) r.settings r.log d)
+    → AreDriven questions s ((c, event) ∷ h) new
+driven_more questions s h old new c event a size same here = record {
   size = size ∙ a.size;
-  each = λ i q d r asked drives heard. by i q d r asked drives heard (c == i) refl;
+  each = λ i q d r asked drives transcript. by i q d r asked drives transcript (c == i) refl;
 }
   where
-    at_c : (q : Question) (d : DriverState) (r : Heard) → slice_get questions c ≡ Some q → slice_get new c ≡ Some d
-        → HasHeard (settings_of s) (only c ((c, deed) ∷ h)) r → IsDriver (errand_of s q) r.settings r.log d
-    at_c q d r asked drives heard =
-        let more = subst (λ l. HasHeard (settings_of s) l r) (only_same c deed h) heard in
+    at_c : (q : Question) (d : DriverState) (r : Transcript) → slice_get questions c ≡ Some q → slice_get new c ≡ Some d
+        → IsTranscript (settings_of s) (events_on c ((c, event) ∷ h)) r → IsDriver (errand_of s q) r.settings r.log d
+    at_c q d r asked drives transcript =
+        let more = subst (λ l. IsTranscript (settings_of s) l r) (only_same c event h) transcript in
         here q d more.0 r asked drives more.1 more.2
 
-    by : (i : ℕ) (q : Question) (d : DriverState) (r : Heard) → slice_get questions i ≡ Some q → slice_get new i ≡ Some d
-        → HasHeard (settings_of s) (only i ((c, deed) ∷ h)) r → (b : Bool) → (c == i) ≡ b
+    by : (i : ℕ) (q : Question) (d : DriverState) (r : Transcript) → slice_get questions i ≡ Some q → slice_get new i ≡ Some d
+        → IsTranscript (settings_of s) (events_on i ((c, event) ∷ h)) r → (b : Bool) → (c == i) ≡ b
         → IsDriver (errand_of s q) r.settings r.log d
-    by i q d r asked drives heard true t =
+    by i q d r asked drives transcript true t =
         let at : c ≡ i = grind (arith, nat_tests) in
         subst (λ n. slice_get questions n ≡ Some q → slice_get new n ≡ Some d
-        → HasHeard (settings_of s) (only n ((c, deed) ∷ h)) r → IsDriver (errand_of s q) r.settings r.log d) at
-        (at_c q d r) asked drives heard
-    by i q d r asked drives heard false f = a.each i q d r asked (sym (same i f) ∙ drives)
-        (subst (λ l. HasHeard (settings_of s) l r) (only_other c i deed h f) heard)
+        → IsTranscript (settings_of s) (events_on n ((c, event) ∷ h)) r → IsDriver (errand_of s q) r.settings r.log d) at
+        (at_c q d r) asked drives transcript
+    by i q d r asked drives transcript false f = a.each i q d r asked (sym (same i f) ∙ drives)
+        (subst (λ l. IsTranscript (settings_of s) l r) (only_other c i event h f) transcript)
 
 -- what a deed leaves of the log, where it makes no call and takes nothing
-abbrev pub IsQuiet : Deed → Type 0
-IsQuiet (Calls call) = ⊥
-IsQuiet Takes = ⊥
+abbrev pub IsQuiet : Event → Type 0
+IsQuiet (Called call) = ⊥
+IsQuiet Took = ⊥
 IsQuiet _ = Unit {0}
 
-abbrev IsSameLog : Heard → Heard → Type 0
+abbrev IsSameLog : Transcript → Transcript → Type 0
 IsSameLog p r = (r.settings ≡ p.settings) × (r.log ≡ p.log)
 
-same_piece : (p : Heard) (piece : List ℕ) → IsSameLog p (hears_piece p piece)
+same_piece : (p : Transcript) (piece : List ℕ) → IsSameLog p (after_feed p piece)
 same_piece p piece = elim (is_stopped (state_at p) || p.ended) as
     (λ b. IsSameLog p (cond b p (record p { stream = p.stream ++ piece }))) [ true ↦ (refl, refl) | false ↦ (refl, refl) ]
 
-quiet : (deed : Deed) (p r : Heard) → IsQuiet deed → Hears deed p r → IsSameLog p r
-quiet (Calls call) p r q e = absurd q
-quiet (Feeds piece) p r q e = subst (IsSameLog p) (sym e) (same_piece p piece)
-quiet Takes p r q e = absurd q
-quiet Ends p r q e = subst (IsSameLog p) (sym e) (refl, refl)
-quiet (Gives octets) p r q e = subst (IsSameLog p) (sym e) (refl, refl)
-quiet (Stops reason) p r q e = subst (IsSameLog p) (sym e) (refl, refl)
+quiet : (event : Event) (p r : Transcript) → IsQuiet event → EventStep event p r → IsSameLog p r
+quiet (Called call) p r q e = absurd q
+quiet (Fed piece) p r q e = subst (IsSameLog p) (sym e) (same_piece p piece)
+quiet Took p r q e = absurd q
+quiet InputEnded p r q e = subst (IsSameLog p) (sym e) (refl, refl)
+quiet (HandedOut octets) p r q e = subst (IsSameLog p) (sym e) (refl, refl)
+quiet (Stopped reason) p r q e = subst (IsSameLog p) (sym e) (refl, refl)
 
-pub known_still : (e : Errand) (d : DriverState) (p r : Heard) → IsSameLog p r → IsDriver e p.settings p.log d
+pub known_still : (e : Errand) (d : DriverState) (p r : Transcript) → IsSameLog p r → IsDriver e p.settings p.log d
     → IsDriver e r.settings r.log d
 known_still e d p r same k = subst (λ z. IsDriver e z r.log d) (sym same.0)
     (subst (λ z. IsDriver e p.settings z d) (sym same.1) k)
 
-pub quiet_after : (questions : List Question) (s : MetaSettings) (h : History) (old new : MetaLinks) (c : ℕ) (deed : Deed)
-    → IsQuiet deed → MetaAfter questions s h old → After (settings_of s) ((c, deed) ∷ h) new.pool
+pub quiet_after : (questions : List Question) (s : MetaSettings) (h : History) (old new : MetaLinks) (c : ℕ) (event : Event)
+    → IsQuiet event → MetaAfter questions s h old → After (settings_of s) ((c, event) ∷ h) new.pool
     → new.drivers ≡ old.drivers → length new.pool.connections ≡ length old.pool.connections
-    → MetaAfter questions s ((c, deed) ∷ h) new
-quiet_after questions s h old new c deed is a pool drivers size = record {
+    → MetaAfter questions s ((c, event) ∷ h) new
+quiet_after questions s h old new c event is a pool drivers size = record {
   fit = a.fit;
   askable = a.askable;
   pool = pool;
-  driven = subst (AreDriven questions s ((c, deed) ∷ h)) (sym drivers)
-      (driven_more questions s h old.drivers old.drivers c deed a.driven refl (λ i f. refl)
-      (λ q d p r asked drives heard hears. known_still (errand_of s q) d p r (quiet deed p r is hears)
-      (a.driven.each c q d p asked drives heard)));
+  driven = subst (AreDriven questions s ((c, event) ∷ h)) (sym drivers)
+      (driven_more questions s h old.drivers old.drivers c event a.driven refl (λ i f. refl)
+      (λ q d p r asked drives transcript is_step. known_still (errand_of s q) d p r (quiet event p r is is_step)
+      (a.driven.each c q d p asked drives transcript)));
   size = size ∙ a.size;
 }
 
 -- ---- a Take
 
 -- what the origin took
-pub took_log : (p : Heard) (met : Met) (taken : Taken) → Ok (told.Took taken) ≡ told_as p met
-    → (v : Apdu) × (verdict (standing (past_of p)) v ≡ Ok taken) × ((take_at p met).log ≡ Got v ∷ p.log)
-    × ((take_at p met).settings ≡ p.settings)
-took_log p Stopped taken e = absurd (cc)
+pub took_log : (p : Transcript) (input : Input) (taken : Taken) → Ok (outcome.Took taken) ≡ outcome_of p input
+    → (v : Apdu) × (verdict (standing (past_of p)) v ≡ Ok taken) × ((after_take p input).log ≡ Got v ∷ p.log)
+    × ((after_take p input).settings ≡ p.settings)
+took_log p AlreadyStopped taken e = absurd (cc)
 took_log p (Message v) taken e = let t = by (verdict (standing (past_of p)) v) e in (v, t.0, t.1, t.2)
   where
-    q : Heard
+    q : Transcript
     q = record p { taken = suc p.taken; log = Got v ∷ p.log }
 
-    by : (w : Result Taken Refused) → Ok (told.Took taken) ≡ told_by w
-        → (w ≡ Ok taken) × ((heed q w).log ≡ Got v ∷ p.log) × ((heed q w).settings ≡ p.settings)
+    by : (w : Result Taken Refused) → Ok (outcome.Took taken) ≡ outcome_of_reply w
+        → (w ≡ Ok taken) × ((after_reply q w).log ≡ Got v ∷ p.log) × ((after_reply q w).settings ≡ p.settings)
     by (Ok x) f = (let same : x ≡ taken = cc in ap (λ z. Ok z) same, refl, refl)
     by (Err reason) f = absurd (cc)
 took_log p (Foreign error) taken e = absurd (cc)
 took_log p (Fault kind at) taken e = absurd (cc)
 took_log p (Rest n) taken e = absurd (by p.ended e)
   where
-    by : (b : Bool) → Ok (told.Took taken) ≡ cond b (Err (errors.Frame kinds.Truncated n)) (Ok told.Nothing) → ⊥
+    by : (b : Bool) → Ok (outcome.Took taken) ≡ cond b (Err (errors.Frame kinds.Truncated n)) (Ok outcome.Nothing) → ⊥
     by true f = cc
     by false f = cc
 took_log p Nothing taken e = absurd (by p.ended e)
   where
-    by : (b : Bool) → ◌≡◌ {A = Result Told TakeError} (Ok (told.Took taken)) (Ok (cond b told.Ended told.Nothing)) → ⊥
+    by : (b : Bool) → ◌≡◌ {A = Result Outcome TakeError} (Ok (outcome.Took taken)) (Ok (cond b outcome.Ended outcome.Nothing)) → ⊥
     by true f = cc
     by false f = cc
 
-pub knows_taken : (taken : Taken) (old new : DriverState) → KnowsTold taken old new → KnowsTake (Ok (told.Took taken)) old new
-knows_taken taken old new k = λ e p met is answer.
-    let t = took_log p met taken answer in
-    subst (λ z. IsDriver e z (take_at p met).log new) (sym t.3)
+pub knows_taken : (taken : Taken) (old new : DriverState) → NoteReplyStep taken old new → DriverTakeStep (Ok (outcome.Took taken)) old new
+knows_taken taken old new k = λ e p input is answer.
+    let t = took_log p input taken answer in
+    subst (λ z. IsDriver e z (after_take p input).log new) (sym t.3)
     (subst (λ z. IsDriver e p.settings z new) (sym t.2) (k e p.settings p.log t.0 is t.1))
 
-abbrev IsOther : Result Told TakeError → Type 0
-IsOther answer = (taken : Taken) → answer ≡ Ok (told.Took taken) → ⊥
+abbrev IsOther : Result Outcome TakeError → Type 0
+IsOther answer = (taken : Taken) → answer ≡ Ok (outcome.Took taken) → ⊥
 
 -- nothing was taken, or what was taken was refused
-pub knows_other : RefusedLaw → (answer : Result Told TakeError) (d : DriverState) → IsOther answer → KnowsTake answer d d
-knows_other law answer d other e p Stopped is t = is
+pub knows_other : RefusedLaw → (answer : Result Outcome TakeError) (d : DriverState) → IsOther answer → DriverTakeStep answer d d
+knows_other law answer d other e p AlreadyStopped is t = is
 knows_other law answer d other e p (Message v) is t = by (verdict (standing (past_of p)) v) refl t
   where
-    q : Heard
+    q : Transcript
     q = record p { taken = suc p.taken; log = Got v ∷ p.log }
 
-    by : (w : Result Taken Refused) → verdict (standing (past_of p)) v ≡ w → answer ≡ told_by w
-        → IsDriver e (heed q w).settings (heed q w).log d
+    by : (w : Result Taken Refused) → verdict (standing (past_of p)) v ≡ w → answer ≡ outcome_of_reply w
+        → IsDriver e (after_reply q w).settings (after_reply q w).log d
     by (Ok x) w f = absurd (other x f)
     by (Err reason) w f = law e p.settings p.log d v reason is w
 knows_other law answer d other e p (Foreign error) is t = is
 knows_other law answer d other e p (Fault kind at) is t = is
 knows_other law answer d other e p (Rest n) is t = elim p.ended as
-    (λ b. IsDriver e (cond b (stop_by p (truncated n)) p).settings (cond b (stop_by p (truncated n)) p).log d)
+    (λ b. IsDriver e (cond b (after_stop p (truncated n)) p).settings (cond b (after_stop p (truncated n)) p).log d)
     [ true ↦ is | false ↦ is ]
 knows_other law answer d other e p Nothing is t = elim p.ended as
     (λ b. IsDriver e (cond b (end_by p) p).settings (cond b (end_by p) p).log d) [ true ↦ is | false ↦ is ]
 
 -- what was told
-pub learns : RefusedLaw → (x : Told) (old new : DriverState) → LearnsTold x old new → KnowsTake (Ok x) old new
-learns law (told.Took taken) old new k = knows_taken taken old new k
-learns law told.Nothing old new k = subst (KnowsTake (Ok told.Nothing) old) (sym k)
-    (knows_other law (Ok told.Nothing) old (λ taken e. absurd (cc)))
-learns law told.Ended old new k = subst (KnowsTake (Ok told.Ended) old) (sym k)
-    (knows_other law (Ok told.Ended) old (λ taken e. absurd (cc)))
-learns law told.Stopped old new k = subst (KnowsTake (Ok told.Stopped) old) (sym k)
-    (knows_other law (Ok told.Stopped) old (λ taken e. absurd (cc)))
+pub learns : RefusedLaw → (x : Outcome) (old new : DriverState) → NoteTakeStep x old new → DriverTakeStep (Ok x) old new
+learns law (outcome.Took taken) old new k = knows_taken taken old new k
+learns law outcome.Nothing old new k = subst (DriverTakeStep (Ok outcome.Nothing) old) (sym k)
+    (knows_other law (Ok outcome.Nothing) old (λ taken e. absurd (cc)))
+learns law outcome.Ended old new k = subst (DriverTakeStep (Ok outcome.Ended) old) (sym k)
+    (knows_other law (Ok outcome.Ended) old (λ taken e. absurd (cc)))
+learns law outcome.Stopped old new k = subst (DriverTakeStep (Ok outcome.Stopped) old) (sym k)
+    (knows_other law (Ok outcome.Stopped) old (λ taken e. absurd (cc)))
 
 pub slice_some : {X : Type 0} (xs : List X) (c : ℕ) → c < length xs → (x : X) × (slice_get xs c ≡ Some x)
 slice_some [] c lt = absurd (omega arith)
 slice_some (x ∷ xs) zero lt = (x, refl)
 slice_some (x ∷ xs) (suc c) lt = slice_some xs c (omega arith)
 
-pub heard_at : (settings : Settings) (h : History) (heard : ℕ → Heard) (cs : List Link) (c : ℕ)
-    → Stands settings h heard cs → c < length cs → HasHeard settings (only c h) (heard c)
-heard_at settings h heard cs c s lt = let k = slice_some cs c lt in (s.each c k.0 k.1).heard
+pub heard_at : (settings : Settings) (h : History) (transcript : ℕ → Transcript) (cs : List Link) (c : ℕ)
+    → AreTranscripts settings h transcript cs → c < length cs → IsTranscript settings (events_on c h) (transcript c)
+heard_at settings h transcript cs c s lt = let k = slice_some cs c lt in (s.each c k.0 k.1).transcript
 
 -- what a history can have left, it can have left up to the connection's next take
 pub up_to_meta : UpToLaw → (q : List Question) (s : MetaSettings) (c : ℕ) (h : History) (meta : MetaLinks)
@@ -253,14 +253,14 @@ up_to_meta law q s c h meta a = record {
 }
 
 -- what the state of a connection tells
-pub state_tells : UpToLaw → OneHearing → (tells : State → Bool) (c : ℕ) (meta : MetaLinks) (state : State)
+pub state_tells : UpToLaw → OneTranscript → (value : State → Bool) (c : ℕ) (meta : MetaLinks) (state : State)
     → c < length meta.pool.connections → IsStateAt c meta.pool state
-    → Tells c meta (λ p. tells (state_at p)) (tells state)
-state_tells law hearing tells c meta state lt is q s h p a heard =
+    → IsTranscriptValue c meta (λ p. value (state_at p)) (value state)
+state_tells law hearing value c meta state lt is q s h p a transcript =
     let up : AfterUpTo (settings_of s) c h meta.pool = law (settings_of s) c h meta.pool a.pool in
-    let now = heard_at (settings_of s) h up.heard meta.pool.connections c up.stands lt in
-    let same : up.heard c ≡ p = hearing (settings_of s) (only c h) (up.heard c) p now heard in
-    ap tells (is (settings_of s) c h up ∙ ap state_at same)
+    let now = heard_at (settings_of s) h up.transcript meta.pool.connections c up.stands lt in
+    let same : up.transcript c ≡ p = hearing (settings_of s) (events_on c h) (up.transcript c) p now transcript in
+    ap value (is (settings_of s) c h up ∙ ap state_at same)
 
 -- the slices
 pub get_other : {X : Type 0} (xs : List X) (c i : ℕ) (x : X) → (c == i) ≡ false
@@ -272,59 +272,59 @@ get_other (y ∷ xs) (suc c) zero x f = refl
 get_other (y ∷ xs) (suc c) (suc i) x f = get_other xs c i x (let g : (c == i) ≡ false = grind (arith, nat_tests) in g)
 
 -- a Take that was answered so
-pub taken_more : OneMeeting → OneHearing → (questions : List Question) (s : MetaSettings) (h : History) (old : MetaLinks)
-    (drivers : List DriverState) (c : ℕ) (answer : Result Told TakeError)
-    → MetaAfterUpTo questions s c h old → IsToldAnswer c old.pool answer → IsDone answer
+pub taken_more : OneInput → OneTranscript → (questions : List Question) (s : MetaSettings) (h : History) (old : MetaLinks)
+    (drivers : List DriverState) (c : ℕ) (answer : Result Outcome TakeError)
+    → MetaAfterUpTo questions s c h old → IsTakeOutcome c old.pool answer → IsDone answer
     → c < length old.pool.connections → length drivers ≡ length old.drivers
     → ((i : ℕ) → (c == i) ≡ false → slice_get drivers i ≡ slice_get old.drivers i)
     → ((d : DriverState) → slice_get drivers c ≡ Some d
-    → (was : DriverState) × (slice_get old.drivers c ≡ Some was) × KnowsTake answer was d)
-    → AreDriven questions s ((c, Takes) ∷ h) drivers
-taken_more meeting hearing questions s h old drivers c answer a told done lt size same knows =
-    driven_more questions s h old.drivers drivers c Takes a.driven size same (λ q d p r asked drives heard hears.
-    let now = heard_at (settings_of s) h a.pool.heard old.pool.connections c a.pool.stands lt in
-    let is : a.pool.heard c ≡ p = hearing (settings_of s) (only c h) (a.pool.heard c) p now heard in
-    let t = told (settings_of s) c h a.pool done in
-    let met : t.0 ≡ hears.0 = meeting p t.0 hears.0 (subst (λ z. Meets z t.0) is t.1) hears.1 in
-    let answers : answer ≡ told_as p hears.0 = subst (λ z. answer ≡ told_as p z) met
-    (subst (λ z. answer ≡ told_as z t.0) is t.2) in
+    → (was : DriverState) × (slice_get old.drivers c ≡ Some was) × DriverTakeStep answer was d)
+    → AreDriven questions s ((c, Took) ∷ h) drivers
+taken_more meeting hearing questions s h old drivers c answer a outcome done lt size same knows =
+    driven_more questions s h old.drivers drivers c Took a.driven size same (λ q d p r asked drives transcript is_step.
+    let now = heard_at (settings_of s) h a.pool.transcript old.pool.connections c a.pool.stands lt in
+    let is : a.pool.transcript c ≡ p = hearing (settings_of s) (events_on c h) (a.pool.transcript c) p now transcript in
+    let t = outcome (settings_of s) c h a.pool done in
+    let input : t.0 ≡ is_step.0 = meeting p t.0 is_step.0 (subst (λ z. NextInput z t.0) is t.1) is_step.1 in
+    let answers : answer ≡ outcome_of p is_step.0 = subst (λ z. answer ≡ outcome_of p z) input
+    (subst (λ z. answer ≡ outcome_of z t.0) is t.2) in
     let k = knows d drives in
-    subst (λ (z : Heard). IsDriver (errand_of s q) z.settings z.log d) (sym hears.2)
-    (k.2 (errand_of s q) p hears.0 (a.driven.each c q k.0 p asked k.1 heard) answers))
+    subst (λ (z : Transcript). IsDriver (errand_of s q) z.settings z.log d) (sym is_step.2)
+    (k.2 (errand_of s q) p is_step.0 (a.driven.each c q k.0 p asked k.1 transcript) answers))
 
-pub took_meta : OneMeeting → OneHearing → (c : ℕ) (old new : MetaLinks) (was x : DriverState) (answer : Result Told TakeError)
-    → IsToldAnswer c old.pool answer → IsDone answer → Took c old.pool new.pool
+pub took_meta : OneInput → OneTranscript → (c : ℕ) (old new : MetaLinks) (was x : DriverState) (answer : Result Outcome TakeError)
+    → IsTakeOutcome c old.pool answer → IsDone answer → TakeStep c old.pool new.pool
     → c < length old.pool.connections → slice_get old.drivers c ≡ Some was
-    → KnowsTake answer was x → new.drivers ≡ slice_set old.drivers c x
-    → length new.pool.connections ≡ length old.pool.connections → MetaTook c old new
-took_meta meeting hearing c old new was x answer told done took lt at knows ds size =
+    → DriverTakeStep answer was x → new.drivers ≡ slice_set old.drivers c x
+    → length new.pool.connections ≡ length old.pool.connections → MetaTakeStep c old new
+took_meta meeting hearing c old new was x answer outcome done took lt at knows ds size =
     λ questions s h a. record {
       fit = a.fit;
       askable = a.askable;
       pool = took (settings_of s) h a.pool;
-      driven = subst (AreDriven questions s ((c, Takes) ∷ h)) (sym ds)
-          (taken_more meeting hearing questions s h old (slice_set old.drivers c x) c answer a told done lt
+      driven = subst (AreDriven questions s ((c, Took) ∷ h)) (sym ds)
+          (taken_more meeting hearing questions s h old (slice_set old.drivers c x) c answer a outcome done lt
           (length-set old.drivers c x) (λ i f. get_other old.drivers c i x f) (λ d is. (
             was,
             at,
-            subst (KnowsTake answer was)
+            subst (DriverTakeStep answer was)
                 (same_Some x d (sym (get_same old.drivers c x (slice_get_within old.drivers c was at)) ∙ is)) knows,
           )));
       size = size ∙ a.size;
     }
 
 -- a Take that was refused
-pub refused_meta : OneMeeting → OneHearing → RefusedLaw → (c : ℕ) (old new : MetaLinks) (error : TakeError)
-    → IsToldAnswer c old.pool (Err error) → IsDone {A = Told} (Err error) → Took c old.pool new.pool
+pub refused_meta : OneInput → OneTranscript → RefusedLaw → (c : ℕ) (old new : MetaLinks) (error : TakeError)
+    → IsTakeOutcome c old.pool (Err error) → IsDone {A = Outcome} (Err error) → TakeStep c old.pool new.pool
     → c < length old.pool.connections → new.drivers ≡ old.drivers
-    → length new.pool.connections ≡ length old.pool.connections → MetaTook c old new
-refused_meta meeting hearing law c old new error told done took lt ds size =
+    → length new.pool.connections ≡ length old.pool.connections → MetaTakeStep c old new
+refused_meta meeting hearing law c old new error outcome done took lt ds size =
     λ questions s h a. record {
       fit = a.fit;
       askable = a.askable;
       pool = took (settings_of s) h a.pool;
-      driven = subst (AreDriven questions s ((c, Takes) ∷ h)) (sym ds)
-          (taken_more meeting hearing questions s h old old.drivers c (Err error) a told done lt refl (λ i f. refl)
+      driven = subst (AreDriven questions s ((c, Took) ∷ h)) (sym ds)
+          (taken_more meeting hearing questions s h old old.drivers c (Err error) a outcome done lt refl (λ i f. refl)
           (λ d is. (d, is, knows_other law (Err error) d (λ taken e. absurd (cc)))));
       size = size ∙ a.size;
     }
@@ -336,15 +336,15 @@ askable_at [] q ys a = a.0
 askable_at (x ∷ xs) q ys a = askable_at xs q ys a.1
 
 pub stand_push : (qs : List Question) (step window : ℕ) (ds : List DriverState) (q : Question) (d : DriverState)
-    → StandFor qs step window ds
+    → AreNewDrivers qs step window ds
     → ((settings : Settings) → length settings.name ≤ 2000000 → IsDriver (errand_with q step window) settings [] d)
-    → StandFor (qs ++ q ∷ []) step window (ds ++ d ∷ [])
+    → AreNewDrivers (qs ++ q ∷ []) step window (ds ++ d ∷ [])
 stand_push [] step window [] q d s k = (k, tt)
 stand_push [] step window (x ∷ ds) q d s k = absurd s
 stand_push (x ∷ qs) step window [] q d s k = absurd s
 stand_push (x ∷ qs) step window (y ∷ ds) q d s k = (s.0, stand_push qs step window ds q d s.1 k)
 
-pub stand_size : (qs : List Question) (step window : ℕ) (ds : List DriverState) → StandFor qs step window ds
+pub stand_size : (qs : List Question) (step window : ℕ) (ds : List DriverState) → AreNewDrivers qs step window ds
     → length ds ≡ length qs
 stand_size [] step window [] s = refl
 stand_size [] step window (x ∷ ds) s = absurd s
@@ -352,7 +352,7 @@ stand_size (x ∷ qs) step window [] s = absurd s
 stand_size (x ∷ qs) step window (y ∷ ds) s = let n = stand_size qs step window ds s.1 in ap (λ m. suc m) n
 
 stand_at : (qs : List Question) (step window : ℕ) (ds : List DriverState) (c : ℕ) (q : Question) (d : DriverState)
-    → StandFor qs step window ds → slice_get qs c ≡ Some q → slice_get ds c ≡ Some d → (settings : Settings)
+    → AreNewDrivers qs step window ds → slice_get qs c ≡ Some q → slice_get ds c ≡ Some d → (settings : Settings)
     → length settings.name ≤ 2000000 → IsDriver (errand_with q step window) settings [] d
 stand_at [] step window ds c q d s a e settings name = absurd (cc)
 stand_at (x ∷ qs) step window [] c q d s a e settings name = absurd s
@@ -366,14 +366,14 @@ stand_at (x ∷ qs) step window (y ∷ ds) (suc c) q d s a e settings name =
 
 pub new_after : (questions : List Question) (s : MetaSettings) (meta : MetaLinks) → AreFit s → AreAskable questions
     → After (settings_of s) [] meta.pool → length meta.pool.connections ≡ length questions
-    → StandFor questions s.step s.window meta.drivers → MetaAfter questions s [] meta
+    → AreNewDrivers questions s.step s.window meta.drivers → MetaAfter questions s [] meta
 new_after questions s meta fit askable pool size stand = record {
   fit = fit;
   askable = askable;
   pool = pool;
   driven = record {
     size = stand_size questions s.step s.window meta.drivers stand;
-    each = λ c q d p asked drives heard. subst (λ (z : Heard). IsDriver (errand_of s q) z.settings z.log d) (sym heard)
+    each = λ c q d p asked drives transcript. subst (λ (z : Transcript). IsDriver (errand_of s q) z.settings z.log d) (sym transcript)
         (stand_at questions s.step s.window meta.drivers c q d stand asked drives (settings_of s) fit.name);
   };
   size = size;

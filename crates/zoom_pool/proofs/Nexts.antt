@@ -23,7 +23,7 @@ use Rattle.zoom_pool.specs.CallsOf.{call_of}
 use Rattle.zoom_pool.specs.States.{state_as, is_stopped}
 use Rattle.zoom_pool.specs.Driving.{plan_of, DrivenLaws}
 use Rattle.zoom_pool.specs.Steering.{Errand, IsNextCall, IsSteeredCall, room_in, may_call, is_rejected, IsTried}
-use Rattle.zoom_pool.specs.Drivers.{DriverState, IsDriver, IsAt, AtFresh, AtOpening, AtOpened, AtSearching, AtAsking, AtClosed, HasOpening, HasFound, events_at, opened_events, Offers, IsOffered, Rests, GivesNext, GivesAt, GivesIf, GivesAsked, GivesInRoom, AsksFirst, room_for, has_room, is_fresh_state}
+use Rattle.zoom_pool.specs.Drivers.{DriverState, IsDriver, IsAtPhase, AtFresh, AtOpening, AtOpened, AtSearching, AtAsking, AtClosed, HasOpening, HasFound, events_at, opened_events, IsOffer, IsOffered, HasNoNextCall, NextCallResult, GiveResult, IsGivenIf, NextAskedResult, IsGivenInRoom, IsFirstPresent, room_for, has_room, is_fresh_state}
 use Rattle.zoom_pool.specs.Due.{DueLaws, CanAskFor}
 use Rattle.zoom_pool.proofs.Wants.{few_ranges}
 use Rattle.zoom_pool.proofs.Phases.{unready, unfresh, concurrent_by, room_ready, no_room, fresh_as, no_call, call_ready, none_due, none_next, full_next}
@@ -54,11 +54,11 @@ room_some window p lo = elim (force_after (opening p)).concurrent as (λ b. 0 < 
 pub room_few : (window : ℕ) (p : Past) → room_in window p ≤ window + 1
 room_few window p = elim (force_after (opening p)).concurrent as (λ b. cond b window 1 ≤ window + 1) [ true ↦ omega arith | false ↦ omega arith ]
 
-given_none : (b : Bool) (call : origin.Call) → GivesIf b call None → b ≡ false
+given_none : (b : Bool) (call : origin.Call) → IsGivenIf b call None → b ≡ false
 given_none true call x = absurd x
 given_none false call x = refl
 
-given_some : (b : Bool) (call : origin.Call) (g : Call) → GivesIf b call (Some g) → (b ≡ true) × (call_of g ≡ call)
+given_some : (b : Bool) (call : origin.Call) (g : Call) → IsGivenIf b call (Some g) → (b ≡ true) × (call_of g ≡ call)
 given_some true call g x = (refl, x)
 given_some false call g x = absurd x
 
@@ -77,7 +77,7 @@ no_some e = cc
 
 offer_next : (e : Errand) (settings : Settings) (log : Log) (d : DriverState) → IsDriver e settings log d → (call : origin.Call)
     → refusal (standing (past settings log)) call ≡ None → IsNextCall e settings log call → IsOffered e settings log d.phase call
-    → Offers e settings log d call
+    → IsOffer e settings log d call
 offer_next e settings log d k call admitted n o = record {
   knows = k;
   steers = subst (λ r. IsSteeredCall e settings log r call) (sym admitted) n;
@@ -116,7 +116,7 @@ search_next e settings log present three lo a t rd =
 
 offer_search : DueLaws → (e : Errand) (settings : Settings) (log : Log) (d : DriverState) → IsDriver e settings log d → (present three : Bool)
     → d.phase ≡ phases.Opened present three → AtOpened e settings log present three → is_ready (state_of (past settings log)) ≡ true
-    → Offers e settings log d (origin.Search 1 1 e.ask)
+    → IsOffer e settings log d (origin.Search 1 1 e.ask)
 offer_search due e settings log d k present three is a rd = record {
   knows = k;
   steers = by (refusal (standing (past settings log)) (origin.Search 1 1 e.ask)) refl;
@@ -160,7 +160,7 @@ none_asked e settings log a k none plan.Search h = h.1 k.search
 none_asked e settings log a k none (plan.Present l) h = subst (IsIn l) none (k.agenda.all l h)
 
 asking_none : (e : Errand) (settings : Settings) (log : Log) (a : Agenda) (room : ℕ) → 0 < e.window → AtAsking e settings log a
-    → room_in e.window (past settings log) ≡ room → GivesAsked room a None → (call : origin.Call) → IsNextCall e settings log call → ⊥
+    → room_in e.window (past settings log) ≡ room → NextAskedResult room a None → (call : origin.Call) → IsNextCall e settings log call → ⊥
 asking_none e settings log a room lo k r (inl full) call n =
     full_next e.wanted e.step (room_in e.window (past settings log)) (events_at e settings log) (room_some e.window (past settings log) lo)
     (let o = k.outstanding in omega (arith, o, r, full)) (plan_of call) n.next
@@ -169,7 +169,7 @@ asking_none e settings log a room lo k r (inr x) call n =
 
 present_next : NextLaws → (e : Errand) (settings : Settings) (log : Log) (a : Agenda) (room : ℕ) (call : origin.Call) → IsWanted e.wanted → 0 < e.step
     → IsDriven e.wanted e.step (events_at e settings log) → AtAsking e settings log a → is_ready (state_of (past settings log)) ≡ true
-    → room_in e.window (past settings log) ≡ room → (x : AsksFirst room a call)
+    → room_in e.window (past settings log) ≡ room → (x : IsFirstPresent room a call)
     → IsNextCall e settings log (origin.Present (first_of (positions x.ranges) + 1) 1 x.ranges)
 present_next next e settings log a room call w lo driven k rd r x = record {
   stands = call_ready (state_of (past settings log)) rd;
@@ -182,7 +182,7 @@ present_next next e settings log a room call w lo driven k rd r x = record {
 module _ (next : NextLaws) (laws : DrivenLaws) (due : DueLaws) (bounds : BoundLaws) where
   -- its ranges can be asked for
   asks_ranges : (e : Errand) (settings : Settings) (log : Log) (d : DriverState) → IsDriver e settings log d → (a : Agenda) (room : ℕ)
-      → AtAsking e settings log a → (call : origin.Call) (x : AsksFirst room a call)
+      → AtAsking e settings log a → (call : origin.Call) (x : IsFirstPresent room a call)
       → IsNextCall e settings log (origin.Present (first_of (positions x.ranges) + 1) 1 x.ranges)
       → CanAskFor (force_after (opening (past settings log))).v3 x.ranges
   asks_ranges e settings log d k a room at call x n =
@@ -194,22 +194,22 @@ module _ (next : NextLaws) (laws : DrivenLaws) (due : DueLaws) (bounds : BoundLa
 
   asking_some : (e : Errand) (settings : Settings) (log : Log) (d : DriverState) → IsDriver e settings log d → (a : Agenda) (room : ℕ)
       → d.phase ≡ phases.Asking a → AtAsking e settings log a → is_ready (state_of (past settings log)) ≡ true
-      → room_in e.window (past settings log) ≡ room → (call : Call) → GivesAsked room a (Some call) → Offers e settings log d (call_of call)
+      → room_in e.window (past settings log) ≡ room → (call : Call) → NextAskedResult room a (Some call) → IsOffer e settings log d (call_of call)
   asking_some e settings log d k a room is at rd r call (inl x) =
       let n = present_next next e settings log a room (call_of call) k.wanted k.steps (laws.driven e.ask e.wanted e.step settings log k.driven) at rd r x in
       let admitted = due.admits e settings log d _ k n (asks_ranges e settings log d k a room at (call_of call) x n) in
-      subst (Offers e settings log d) (sym x.is) (offer_next e settings log d k _ admitted n (a, is, x.ready, n))
+      subst (IsOffer e settings log d) (sym x.is) (offer_next e settings log d k _ admitted n (a, is, x.ready, n))
   asking_some e settings log d k a room is at rd r call (inr x) =
       let n = close_next e settings log rd (next.closes e.wanted e.step (room_in e.window (past settings log)) (events_at e settings log) a k.wanted k.steps
       at.agenda x.none at.init at.search (at.outstanding ∙ x.idle)) in
       let admitted = due.admits e settings log d origin.Close k n tt in
-      subst (Offers e settings log d) (sym x.is) (offer_next e settings log d k origin.Close admitted n (inr (a, is), n))
+      subst (IsOffer e settings log d) (sym x.is) (offer_next e settings log d k origin.Close admitted n (inr (a, is), n))
 
 -- ---- at each phase
 
 abbrev GivesHere : Errand → Settings → Log → DriverState → Option Call → Type 0
-GivesHere e settings log d None = Rests e settings log
-GivesHere e settings log d (Some call) = Offers e settings log d (call_of call)
+GivesHere e settings log d None = HasNoNextCall e settings log
+GivesHere e settings log d (Some call) = IsOffer e settings log d (call_of call)
 
 unstanding : (e : Errand) (settings : Settings) (log : Log) → HasOpening (past settings log)
     → has_room (room_for e.window (state_as (state_of (past settings log)))) ≡ false → (call : origin.Call) → IsNextCall e settings log call → ⊥
@@ -232,18 +232,18 @@ found_some ask p three count h none = no_list (sym h.asked ∙ none)
 
 -- once the search was tried, it rests where none is next
 tried_rests : (e : Errand) (settings : Settings) (log : Log) → IsTried settings log
-    → ((call : origin.Call) → IsNextCall e settings log call → ⊥) → Rests e settings log
+    → ((call : origin.Call) → IsNextCall e settings log call → ⊥) → HasNoNextCall e settings log
 tried_rests e settings log tried none = record { none = none; tried = λ f o. tried }
 
 -- before the association was answered
 unopened_rests : (e : Errand) (settings : Settings) (log : Log) → opening (past settings log) ≡ None
-    → ((call : origin.Call) → IsNextCall e settings log call → ⊥) → Rests e settings log
+    → ((call : origin.Call) → IsNextCall e settings log call → ⊥) → HasNoNextCall e settings log
 unopened_rests e settings log n none = record { none = none; tried = λ f o. absurd (no_some (sym o.1 ∙ n)) }
 
 -- where the search is next, it rests in no connection that goes on
 opened_rests : (e : Errand) (settings : Settings) (log : Log) (present three : Bool)
     → (a : AtOpened e settings log present three)
-    → has_room (room_for e.window (state_as (state_of (past settings log)))) ≡ false → Rests e settings log
+    → has_room (room_for e.window (state_as (state_of (past settings log)))) ≡ false → HasNoNextCall e settings log
 opened_rests e settings log present three a f =
     let p = past settings log in
     let closing : list_any is_close_call p.admitted ≡ false =
@@ -255,7 +255,7 @@ opened_rests e settings log present three a f =
       tried = λ going o. absurd (true≢false (sym (open_ready p a.opening closing going) ∙ unready));
     }
 
-closed_rests : (e : Errand) (settings : Settings) (log : Log) → AtClosed e settings log → Rests e settings log
+closed_rests : (e : Errand) (settings : Settings) (log : Log) → AtClosed e settings log → HasNoNextCall e settings log
 closed_rests e settings log a = record {
   none = stands_not e settings log a.closed;
   tried = λ going o. by going (is_rejected (opening (past settings log))) refl;
@@ -267,8 +267,8 @@ closed_rests e settings log a = record {
     by going false t = a.tried t
 
 given_in : NextLaws → DrivenLaws → DueLaws → BoundLaws → (e : Errand) (settings : Settings) (log : Log) (d : DriverState) → IsDriver e settings log d
-    → (ph : Phase) → d.phase ≡ ph → IsAt e settings log ph → (g : Option Call)
-    → GivesAt e.ask e.window (state_as (state_of (past settings log))) ph g → GivesHere e settings log d g
+    → (ph : Phase) → d.phase ≡ ph → IsAtPhase e settings log ph → (g : Option Call)
+    → GiveResult e.ask e.window (state_as (state_of (past settings log))) ph g → GivesHere e settings log d g
 given_in next laws due bounds e settings log d k phases.Fresh is a None g =
     let p = past settings log in
     unopened_rests e settings log a.opening (stands_not e settings log
@@ -278,7 +278,7 @@ given_in next laws due bounds e settings log d k phases.Fresh is a (Some call) g
     let p = past settings log in
     let x = given_some (is_fresh_state (state_as (state_of p))) origin.Init call g in
     let n = init_next e settings log k.room a (sym (fresh_as (state_of p)) ∙ x.0) in
-    subst (Offers e settings log d) (sym x.1) (offer_next e settings log d k origin.Init (due.admits e settings log d origin.Init k n tt) n (is, n))
+    subst (IsOffer e settings log d) (sym x.1) (offer_next e settings log d k origin.Init (due.admits e settings log d origin.Init k n tt) n (is, n))
 given_in next laws due bounds e settings log d k phases.Opening is a None g =
     unopened_rests e settings log a.opening (opening_none e settings log a)
 given_in next laws due bounds e settings log d k phases.Opening is a (Some call) g = absurd (no_some g)
@@ -287,7 +287,7 @@ given_in next laws due bounds e settings log d k (phases.Opened present three) i
     (given_none (has_room (room_for e.window (state_as (state_of (past settings log))))) (origin.Search 1 1 e.ask) g)
 given_in next laws due bounds e settings log d k (phases.Opened present three) is a (Some call) g =
     let x = given_some (has_room (room_for e.window (state_as (state_of (past settings log))))) (origin.Search 1 1 e.ask) call g in
-    subst (Offers e settings log d) (sym x.1) (offer_search due e settings log d k present three is a (standing_ready e settings log x.0))
+    subst (IsOffer e settings log d) (sym x.1) (offer_search due e settings log d k present three is a (standing_ready e settings log x.0))
 given_in next laws due bounds e settings log d k (phases.Searching present three) is a None g =
     tried_rests e settings log (inl (λ none. no_list (sym a.search ∙ none))) (searching_none e settings log present three a)
 given_in next laws due bounds e settings log d k (phases.Searching present three) is a (Some call) g = absurd (no_some g)
@@ -297,7 +297,7 @@ given_in next laws due bounds e settings log d k (phases.Asking agenda) is a g x
     tried : IsTried settings log
     tried = inl (found_some e.ask (past settings log) agenda.three a.count a.set)
 
-    by : (o : Option ℕ) → room_for e.window (state_as (state_of (past settings log))) ≡ o → (g : Option Call) → GivesInRoom o agenda g → GivesHere e settings log d g
+    by : (o : Option ℕ) → room_for e.window (state_as (state_of (past settings log))) ≡ o → (g : Option Call) → IsGivenInRoom o agenda g → GivesHere e settings log d g
     by None q None x = tried_rests e settings log tried (unstanding e settings log a.opening (ap has_room q))
     by None q (Some call) x = absurd (no_some x)
     by (Some room) q None x =
@@ -311,14 +311,14 @@ given_in next laws due bounds e settings log d k phases.Done is a None g =
 given_in next laws due bounds e settings log d k phases.Done is a (Some call) g =
     let x = given_some (has_room (room_for e.window (state_as (state_of (past settings log))))) origin.Close call g in
     let n = close_next e settings log (standing_ready e settings log x.0) (a.none, a.outstanding) in
-    subst (Offers e settings log d) (sym x.1) (offer_next e settings log d k origin.Close (due.admits e settings log d origin.Close k n tt) n (inl is, n))
+    subst (IsOffer e settings log d) (sym x.1) (offer_next e settings log d k origin.Close (due.admits e settings log d origin.Close k n tt) n (inl is, n))
 given_in next laws due bounds e settings log d k phases.Closed is a None g = closed_rests e settings log a
 given_in next laws due bounds e settings log d k phases.Closed is a (Some call) g = absurd (no_some g)
 
 -- what is given at the phase is next
-pub gives : NextLaws → DrivenLaws → DueLaws → BoundLaws → (d : DriverState) (state : State) (g : Option Call) → GivesAt d.errand.ask d.errand.window state d.phase g
-    → GivesNext state g d
+pub gives : NextLaws → DrivenLaws → DueLaws → BoundLaws → (d : DriverState) (state : State) (g : Option Call) → GiveResult d.errand.ask d.errand.window state d.phase g
+    → NextCallResult state g d
 gives next laws due bounds d state None x = λ e settings log k s. given_in next laws due bounds e settings log d k d.phase refl k.at None
-    (subst (λ z. GivesAt e.ask e.window z d.phase None) s (subst (λ z. GivesAt z.ask z.window state d.phase None) k.errand x))
+    (subst (λ z. GiveResult e.ask e.window z d.phase None) s (subst (λ z. GiveResult z.ask z.window state d.phase None) k.errand x))
 gives next laws due bounds d state (Some call) x = λ e settings log k s. given_in next laws due bounds e settings log d k d.phase refl k.at (Some call)
-    (subst (λ z. GivesAt e.ask e.window z d.phase (Some call)) s (subst (λ z. GivesAt z.ask z.window state d.phase (Some call)) k.errand x))
+    (subst (λ z. GiveResult e.ask e.window z d.phase (Some call)) s (subst (λ z. GiveResult z.ask z.window state d.phase (Some call)) k.errand x))

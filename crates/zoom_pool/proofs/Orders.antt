@@ -71,15 +71,15 @@ among target xs ys q m k =
     of_answer target ys b.0 q b.1 (subst (λ z. Contains z q) (facts_as target a.0 b.0 b.2) a.2)
 
 same_knowledge : (settings others : Settings) (h1 h2 : History) (p1 p2 : Links) (a : After settings h1 p1)
-    (b : After others h2 p2) → AreSameAccepted a.heard b.heard → p1.knowledge ≡ p2.knowledge
+    (b : After others h2 p2) → AreSameAccepted a.transcript b.transcript → p1.knowledge ≡ p2.knowledge
 same_knowledge settings others h1 h2 p1 p2 a b same = same_facts p1.knowledge p2.knowledge a.lawful b.lawful (λ q. (
   λ k. (let known = (a.known q).0 k in (b.known q).1 (
     known.0,
-    among known.0 (accepted (a.heard known.0)) (accepted (b.heard known.0)) q (same known.0).0 known.1,
+    among known.0 (accepted (a.transcript known.0)) (accepted (b.transcript known.0)) q (same known.0).0 known.1,
   )),
   λ k. (let known = (b.known q).0 k in (a.known q).1 (
     known.0,
-    among known.0 (accepted (b.heard known.0)) (accepted (a.heard known.0)) q (same known.0).1 known.1,
+    among known.0 (accepted (b.transcript known.0)) (accepted (a.transcript known.0)) q (same known.0).1 known.1,
   )),
 ))
 

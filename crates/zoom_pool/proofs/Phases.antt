@@ -18,7 +18,7 @@ use Rattle.zorigin.specs.Changes.{force_in}
 use Rattle.zorigin.specs.Log.{state_from, state_by, closing_state, force_by, force_after, is_close_call}
 use Rattle.zoom_pool.specs.States.{state_as}
 use Rattle.zoom_pool.specs.Steering.{may_call}
-use Rattle.zoom_pool.specs.Drivers.{NoneBegins, BeginApart, room_for, is_fresh_state}
+use Rattle.zoom_pool.specs.Drivers.{IsFreeStart, HaveApartStarts, room_for, is_fresh_state}
 
 -- ---- states
 
@@ -160,15 +160,15 @@ length_put l (m ∷ ms) =
       | false ↦ omega (arith, later)
     ]
 
-pub apart_put : (l : List ℕ) (ms : List (List ℕ)) → NoneBegins (first_of l) ms → BeginApart ms → BeginApart (put_list l ms)
+pub apart_put : (l : List ℕ) (ms : List (List ℕ)) → IsFreeStart (first_of l) ms → HaveApartStarts ms → HaveApartStarts (put_list l ms)
 apart_put l [] n a = (λ m i. absurd i, tt)
 apart_put l (m ∷ ms) n a =
     let later = apart_put l ms (λ x i. n x (inr i)) a.1 in
-    let others : NoneBegins (first_of m) (put_list l ms) = λ x i f. elim (in_put x l ms i) [
+    let others : IsFreeStart (first_of m) (put_list l ms) = λ x i f. elim (in_put x l ms i) [
       | inl e ↦ n m (inl refl) (sym f ∙ ap first_of e)
       | inr j ↦ a.0 x j f
     ] in
-    elim (nat_lt (first_of l) (first_of m)) as (λ b. BeginApart (cond b (l ∷ m ∷ ms) (m ∷ put_list l ms))) [
+    elim (nat_lt (first_of l) (first_of m)) as (λ b. HaveApartStarts (cond b (l ∷ m ∷ ms) (m ∷ put_list l ms))) [
       | true ↦ (n, a)
       | false ↦ (others, later)
     ]

@@ -18,9 +18,9 @@ use Rattle.zorigin.specs.Fitting.{records_in, diagnostics_in}
 use Rattle.zplan.specs.Positions.{first_of}
 use Rattle.zplan.specs.Ranges.{positions}
 use Rattle.zorigin.specs.Facts.{seen_at, told_at, count_or_failed, facts_by, facts_of}
-use Rattle.zoom_pool.specs.Heard.{Heard}
+use Rattle.zoom_pool.specs.Transcripts.{Transcript}
 use Rattle.zoom_pool.specs.History.{accepted, IsKnown}
-use Rattle.zoom_pool.specs.Conflicts.{IsShownBy, Differ, ConflictLaw}
+use Rattle.zoom_pool.specs.Conflicts.{IsShownBy, DifferingRecords, ConflictLaw}
 use Rattle.zoom_pool.proofs.Orders.{from_answer, of_answer}
 
 -- all these facts are of the target
@@ -46,9 +46,9 @@ there_of c set [] records = none_of c
 there_of c set (p ∷ ps) [] = none_of c
 there_of c set (p ∷ ps) (r ∷ records) = one_of c _ _ refl (there_of c set ps records)
 
-told_of : (c set : ℕ) (place : ℤ) (diags : List DiagRec) → AreOf c (told_at c set place diags)
-told_of c set place [] = none_of c
-told_of c set place (d ∷ diags) = one_of c _ _ refl (told_of c set place diags)
+answer_to_reply : (c set : ℕ) (place : ℤ) (diags : List DiagRec) → AreOf c (told_at c set place diags)
+answer_to_reply c set place [] = none_of c
+answer_to_reply c set place (d ∷ diags) = one_of c _ _ refl (answer_to_reply c set place diags)
 
 counted_of : (c set : ℕ) (status : Bool) (count : ℤ) → target_of (count_or_failed c set status count) ≡ c
 counted_of c set true count = refl
@@ -71,7 +71,7 @@ by_of c set what.Search (apdus.InitResponse v) = none_of c
 by_of c set what.Search (apdus.SearchRequest v) = none_of c
 by_of c set what.Search (apdus.SearchResponse v) =
     one_of c _ _ (counted_of c set v.search_status v.result_count)
-    (both_of c _ _ (seen_of c set (pos 1) 0 (records_in v.records)) (told_of c set (pos 0) (diagnostics_in v.records)))
+    (both_of c _ _ (seen_of c set (pos 1) 0 (records_in v.records)) (answer_to_reply c set (pos 0) (diagnostics_in v.records)))
 by_of c set what.Search (apdus.PresentRequest v) = none_of c
 by_of c set what.Search (apdus.PresentResponse v) = none_of c
 by_of c set what.Search (apdus.Close v) = none_of c
@@ -81,38 +81,38 @@ by_of c set (what.Present ranges) (apdus.SearchRequest v) = none_of c
 by_of c set (what.Present ranges) (apdus.SearchResponse v) = none_of c
 by_of c set (what.Present ranges) (apdus.PresentRequest v) = none_of c
 by_of c set (what.Present ranges) (apdus.PresentResponse v) =
-    both_of c _ _ (there_of c set (positions ranges) (records_in v.records)) (told_of c set (pos (first_of (positions ranges))) (diagnostics_in v.records))
+    both_of c _ _ (there_of c set (positions ranges) (records_in v.records)) (answer_to_reply c set (pos (first_of (positions ranges))) (diagnostics_in v.records))
 by_of c set (what.Present ranges) (apdus.Close v) = none_of c
 
 -- a record that is known is shown by an accepted reply of its connection
-shown : (heard : ℕ → Heard) (c set : ℕ) (position : ℤ) (r : Record)
-    → IsKnown heard (Seen c set position r) → IsShownBy heard c set position r
-shown heard c set position r known =
+shown : (transcript : ℕ → Transcript) (c set : ℕ) (position : ℤ) (r : Record)
+    → IsKnown transcript (Seen c set position r) → IsShownBy transcript c set position r
+shown transcript c set position r known =
     let d = known.0 in
-    let from = from_answer d (accepted (heard d)) (Seen c set position r) known.1 in
+    let from = from_answer d (accepted (transcript d)) (Seen c set position r) known.1 in
     let same : c ≡ d = by_of d from.0.asked.set from.0.asked.what from.0.reply (Seen c set position r) from.2 in
     record {
       answer = from.0;
-      among = subst (λ k. Contains (accepted (heard k)) from.0) (sym same) from.1;
+      among = subst (λ k. Contains (accepted (transcript k)) from.0) (sym same) from.1;
       shows = subst (λ k. Contains (facts_of k from.0) (Seen c set position r)) (sym same) from.2;
     }
 
-known : (heard : ℕ → Heard) (c set : ℕ) (position : ℤ) (r : Record)
-    → IsShownBy heard c set position r → IsKnown heard (Seen c set position r)
-known heard c set position r s =
-    (c, of_answer c (accepted (heard c)) s.answer (Seen c set position r) s.among s.shows)
+known : (transcript : ℕ → Transcript) (c set : ℕ) (position : ℤ) (r : Record)
+    → IsShownBy transcript c set position r → IsKnown transcript (Seen c set position r)
+known transcript c set position r s =
+    (c, of_answer c (accepted (transcript c)) s.answer (Seen c set position r) s.among s.shows)
 
 pub conflicts : PlaceLaws → ListLaws → ConflictLaw
 conflicts places lists settings h pool a c set position =
     let facts = pool.knowledge in
     let laws = places.records c set position facts in
-    let seen : (r : Record) → Contains facts (Seen c set position r) ↔ IsShownBy a.heard c set position r =
+    let seen : (r : Record) → Contains facts (Seen c set position r) ↔ IsShownBy a.transcript c set position r =
     λ r. (
-      λ has. shown a.heard c set position r ((a.known (Seen c set position r)).0 has),
-      λ s. (a.known (Seen c set position r)).1 (known a.heard c set position r s),
+      λ has. shown a.transcript c set position r ((a.known (Seen c set position r)).0 has),
+      λ s. (a.known (Seen c set position r)).1 (known a.transcript c set position r s),
     ) in
     let two = laws.conflict a.lawful in
-    let back : Differ a.heard c set position → _ =
+    let back : DifferingRecords a.transcript c set position → _ =
     λ d. two.1 (record {
       one = d.one;
       other = d.other;

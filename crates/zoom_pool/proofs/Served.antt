@@ -13,9 +13,9 @@ use Rattle.ztarget.specs.declared.settings.TargetSettings.{TargetSettings}
 use Rattle.ztarget.specs.Receiving.{TargetState, new_target, is_close, without, Releases, After as TargetAfter}
 use Rattle.ztarget.proofs.Histories.{at_first}
 use Rattle.zber.specs.declared.framer.TheConstants.{MESSAGE_LIMIT}
-use Rattle.zoom_pool.specs.Hosts.{HostState, Holdings, holdings_of, Event, Fed, FedPart, Released, Lost, Served, unserved, nothing, EndsAt, IsDue, IsShort, IsAt, Waits, HostAfter, Underwent, ReleasesAs, handed_out}
-use Rattle.zoom_pool.specs.Heard.{joined}
-use Rattle.zoom_pool.specs.HostSteps.{Reaches, Leads, FollowsPiece, Rests, Anywhere, KeepsPut, PutsReply, is_unput}
+use Rattle.zoom_pool.specs.Hosts.{HostState, Holdings, holdings_of, HostEvent, HostFed, HostFedPart, Released, Lost, HostTranscript, empty_host_transcript, nothing, IsHostRest, IsReleasable, IsShort, IsFramerAt, IsHostWaiting, HostAfter, HostRecorded, ReleaseResult, handed_out}
+use Rattle.zoom_pool.specs.Transcripts.{joined}
+use Rattle.zoom_pool.specs.HostSteps.{Receipt, ReceiptStep, IsFollowingPiece, IsReceiptEnd, AnyRest, SameOutput, PutReplyResult, is_unput}
 use Rattle.zoom_pool.proofs.Hosts.{messages_longer}
 
 -- a target that has received nothing
@@ -29,7 +29,7 @@ pub at_start : (target : TargetState) (framer : Stream) (waiting : List ℕ) →
       closed = false;
     })
 at_start target framer waiting fresh none limited sound empty = record {
-  served = unserved;
+  served = empty_host_transcript;
   happened = refl;
   target = subst (TargetAfter target.databases target.settings [] []) (sym fresh) (at_first target.databases target.settings);
   pending = ap (λ t. t.pending) fresh;
@@ -39,18 +39,18 @@ at_start target framer waiting fresh none limited sound empty = record {
   framer = λ g. ([], nothing, record { rest_is = sym none; limited = limited; sound = sound });
 }
 
-behind_of : (framer : Stream) (b : Bool) (holdings : Holdings) (received : List Apdu) (rest : List ℕ) → Rests framer b holdings received rest → EndsAt holdings received rest b
+behind_of : (framer : Stream) (b : Bool) (holdings : Holdings) (received : List Apdu) (rest : List ℕ) → IsReceiptEnd framer b holdings received rest → IsHostRest holdings received rest b
 behind_of framer false holdings received rest r = r.1
 behind_of framer true holdings received rest r = r
 
-at_of : (framer : Stream) (b : Bool) (holdings : Holdings) (received : List Apdu) (rest : List ℕ) → Rests framer b holdings received rest → b ≡ false → IsAt framer rest
+at_of : (framer : Stream) (b : Bool) (holdings : Holdings) (received : List Apdu) (rest : List ℕ) → IsReceiptEnd framer b holdings received rest → b ≡ false → IsFramerAt framer rest
 at_of framer false holdings received rest r g = r.0
 at_of framer true holdings received rest r g = absurd (true≢false g)
 
-module _ (holdings : Holdings) (events : List Event) (old new : HostState) (a : HostAfter holdings events old) where
+module _ (holdings : Holdings) (events : List HostEvent) (old new : HostState) (a : HostAfter holdings events old) where
   -- what is reached before a piece is received
   pub before_piece : (piece : List ℕ) → old.stopped ≡ false
-      → Reaches holdings (a.served.stream ++ piece) a.served.released a.served.received a.served.pending old.target (FollowsPiece old.framer piece)
+      → Receipt holdings (a.served.stream ++ piece) a.served.released a.served.received a.served.pending old.target (IsFollowingPiece old.framer piece)
   before_piece piece going =
       let w = a.framer (sym a.stopped ∙ going) in
       record {
@@ -73,11 +73,11 @@ module _ (holdings : Holdings) (events : List Event) (old new : HostState) (a : 
       ∙ sym (list_any-append is_close a.served.sent (reply ∷ []))
 
   -- a piece was received
-  pub piece_received : (piece : List ℕ) (b : Bool) → old.stopped ≡ false → new.stopped ≡ b → KeepsPut old new
-      → Reaches holdings (a.served.stream ++ piece) a.served.released a.served.received a.served.pending new.target (Rests new.framer b)
-      → HostAfter holdings (Fed piece ∷ events) new
+  pub piece_received : (piece : List ℕ) (b : Bool) → old.stopped ≡ false → new.stopped ≡ b → SameOutput old new
+      → Receipt holdings (a.served.stream ++ piece) a.served.released a.served.received a.served.pending new.target (IsReceiptEnd new.framer b)
+      → HostAfter holdings (HostFed piece ∷ events) new
   piece_received piece b going stopped same r =
-      let q : Served = record a.served { stream = a.served.stream ++ piece; received = r.now; pending = new.target.pending; stopped = b } in
+      let q : HostTranscript = record a.served { stream = a.served.stream ++ piece; received = r.now; pending = new.target.pending; stopped = b } in
       record {
         served = q;
         happened = (
@@ -99,11 +99,11 @@ module _ (holdings : Holdings) (events : List Event) (old new : HostState) (a : 
       }
 
   -- memory was wanting
-  pub piece_part : (piece : List ℕ) → old.stopped ≡ false → new.stopped ≡ true → KeepsPut old new
-      → Reaches holdings (a.served.stream ++ piece) a.served.released a.served.received a.served.pending new.target Anywhere
-      → HostAfter holdings (FedPart piece ∷ events) new
+  pub piece_part : (piece : List ℕ) → old.stopped ≡ false → new.stopped ≡ true → SameOutput old new
+      → Receipt holdings (a.served.stream ++ piece) a.served.released a.served.received a.served.pending new.target AnyRest
+      → HostAfter holdings (HostFedPart piece ∷ events) new
   piece_part piece going stopped same r =
-      let q : Served = record a.served { stream = a.served.stream ++ piece; received = r.now; pending = new.target.pending; stopped = true } in
+      let q : HostTranscript = record a.served { stream = a.served.stream ++ piece; received = r.now; pending = new.target.pending; stopped = true } in
       record {
         served = q;
         happened = (a.served, a.happened, record { going = sym a.stopped ∙ going; rest = r.rest; messages = r.messages; replies = r.replies; is = refl });
@@ -115,21 +115,21 @@ module _ (holdings : Holdings) (events : List Event) (old new : HostState) (a : 
         framer = λ g. absurd (true≢false g);
       }
 
-  due_served : (k : ℕ) (reply : Apdu) → IsDue old.target.pending k reply → IsDue a.served.pending k reply
-  due_served k reply d = subst (λ z. IsDue z k reply) a.pending d
+  due_served : (k : ℕ) (reply : Apdu) → IsReleasable old.target.pending k reply → IsReleasable a.served.pending k reply
+  due_served k reply d = subst (λ z. IsReleasable z k reply) a.pending d
 
   left_served : (k : ℕ) → new.target ≡ without old.target k → new.target.pending ≡ remove a.served.pending k
   left_served k is = ap (λ t. t.pending) is ∙ ap (λ z. remove z k) a.pending
 
   -- a reply was put
-  pub reply_put : (k : ℕ) (reply : Apdu) → old.stopped ≡ false → IsDue old.target.pending k reply → IsShort reply → IsReadBack (sent_of reply) → new.target ≡ without old.target k
+  pub reply_put : (k : ℕ) (reply : Apdu) → old.stopped ≡ false → IsReleasable old.target.pending k reply → IsShort reply → IsReadBack (sent_of reply) → new.target ≡ without old.target k
       → ((databases : List Database) (settings : TargetSettings) (received released : List Apdu) → TargetAfter databases settings received released old.target → TargetAfter databases settings received (released ++ reply ∷ []) new.target)
       → new.waiting ≡ old.waiting ++ encoding_of reply → new.framer ≡ old.framer → new.stopped ≡ false
       → new.closed ≡ (old.closed || is_close reply)
       → HostAfter holdings (Released k ∷ events) new
   reply_put k reply going due short reads is t waiting framer goes closed =
       let p = a.served in
-      let q : Served = record p { pending = remove p.pending k; released = p.released ++ reply ∷ []; sent = p.sent ++ reply ∷ [] } in
+      let q : HostTranscript = record p { pending = remove p.pending k; released = p.released ++ reply ∷ []; sent = p.sent ++ reply ∷ [] } in
       record {
         served = q;
         happened = (p, a.happened, record { going = sym a.stopped ∙ going; reply = reply; due = due_served k reply due; short = short; reads = reads; is = refl });
@@ -142,17 +142,17 @@ module _ (holdings : Holdings) (events : List Event) (old new : HostState) (a : 
             ∙ sym (flat_map-append encoding_of p.sent (reply ∷ []) ∙ ap (λ z. flat_map encoding_of p.sent ++ z) (append-nil (encoding_of reply)));
         stopped = goes ∙ sym going ∙ a.stopped;
         closed = closed_more reply closed;
-        framer = λ g. subst (Waits holdings q) (sym framer) (a.framer g);
+        framer = λ g. subst (IsHostWaiting holdings q) (sym framer) (a.framer g);
       }
 
   -- a reply was lost
-  pub reply_lost : (k : ℕ) (reply : Apdu) → old.stopped ≡ false → IsDue old.target.pending k reply → new.target ≡ without old.target k
+  pub reply_lost : (k : ℕ) (reply : Apdu) → old.stopped ≡ false → IsReleasable old.target.pending k reply → new.target ≡ without old.target k
       → ((databases : List Database) (settings : TargetSettings) (received released : List Apdu) → TargetAfter databases settings received released old.target → TargetAfter databases settings received (released ++ reply ∷ []) new.target)
       → new.waiting ≡ old.waiting → new.stopped ≡ true → new.closed ≡ old.closed
       → HostAfter holdings (Lost k ∷ events) new
   reply_lost k reply going due is t waiting stopped closed =
       let p = a.served in
-      let q : Served = record p { pending = remove p.pending k; released = p.released ++ reply ∷ []; stopped = true } in
+      let q : HostTranscript = record p { pending = remove p.pending k; released = p.released ++ reply ∷ []; stopped = true } in
       record {
         served = q;
         happened = (p, a.happened, record { going = sym a.stopped ∙ going; reply = reply; due = due_served k reply due; is = refl });
@@ -170,7 +170,7 @@ pub released_as : {E : Type 0} (k : ℕ) (reply : Apdu) (answer : Result Bool E)
     → new.closed ≡ (old.closed || (not (is_unput answer) && is_close reply))
     → Releases old.target k (Some reply) new.target
     → ((databases : List Database) (settings : TargetSettings) (received released : List Apdu) → TargetAfter databases settings received released old.target → TargetAfter databases settings received (released ++ reply ∷ []) new.target)
-    → PutsReply reply answer ws now → ReleasesAs k answer old new
+    → PutReplyResult reply answer ws now → ReleaseResult k answer old new
 released_as k reply (Ok true) old new ws now going waited waits framer stopped closed r t p = (
   going,
   λ holdings events a. reply_put holdings events old new a k reply going
@@ -192,15 +192,15 @@ released_as k reply (Err e) old new ws now going waited waits framer stopped clo
 
 -- all whole messages of a piece were received
 pub fed_by : (piece : List ℕ) (b : Bool) (old new : HostState) → old.stopped ≡ false → new.stopped ≡ b
-    → KeepsPut old new
-    → Leads (FollowsPiece old.framer piece) (Rests new.framer b) old.target new.target → Underwent (Fed piece) old new
+    → SameOutput old new
+    → ReceiptStep (IsFollowingPiece old.framer piece) (IsReceiptEnd new.framer b) old.target new.target → HostRecorded (HostFed piece) old new
 fed_by piece b old new going stopped same l holdings events a =
     piece_received holdings events old new a piece b going stopped same
     (l holdings (a.served.stream ++ piece) a.served.released a.served.received a.served.pending (before_piece holdings events old new a piece going))
 
 -- memory was wanting
-pub part_by : (piece : List ℕ) (old new : HostState) → old.stopped ≡ false → new.stopped ≡ true → KeepsPut old new
-    → Leads (FollowsPiece old.framer piece) Anywhere old.target new.target → Underwent (FedPart piece) old new
+pub part_by : (piece : List ℕ) (old new : HostState) → old.stopped ≡ false → new.stopped ≡ true → SameOutput old new
+    → ReceiptStep (IsFollowingPiece old.framer piece) AnyRest old.target new.target → HostRecorded (HostFedPart piece) old new
 part_by piece old new going stopped same l holdings events a =
     piece_part holdings events old new a piece going stopped same
     (l holdings (a.served.stream ++ piece) a.served.released a.served.received a.served.pending (before_piece holdings events old new a piece going))

@@ -13,13 +13,13 @@ use Rattle.zoom_pool.specs.declared.answer.Step.TheVariants as steps
 use Rattle.zoom_pool.specs.declared.answer.TakeError.{TakeError}
 use Rattle.zoom_pool.specs.declared.answer.TakeError.TheVariants as errors
 use Rattle.zoom_pool.specs.States.{is_stopped}
-use Rattle.zoom_pool.specs.Coming.{Met, Stopped, Message, Foreign, Fault, Rest, Nothing, IsBehind}
+use Rattle.zoom_pool.specs.Inputs.{Input, AlreadyStopped, Message, Foreign, Fault, Rest, Nothing, IsBehind}
 use Rattle.zber.specs.declared.framer.TheConstants.{MESSAGE_LIMIT}
-use Rattle.zoom_pool.specs.Heard.{Heard, Meets, state_at, past_of, told_of, took_as}
-use Rattle.zoom_pool.specs.Laws.{OneMeeting, Waits, TakeLaws}
-use Rattle.zoom_pool.proofs.Meetings.{none_begins}
+use Rattle.zoom_pool.specs.Transcripts.{Transcript, NextInput, state_at, past_of, answer_to_reply, answer_to}
+use Rattle.zoom_pool.specs.Laws.{OneInput, IsWaiting, TakeLaws}
+use Rattle.zoom_pool.proofs.Uniqueness.{none_begins}
 
-told_step : (v : Result Taken Refused) (s : Step) → (s ≡ steps.Nothing) ⊎ (s ≡ steps.Stopped) → told_of v ≡ Ok s → ⊥
+told_step : (v : Result Taken Refused) (s : Step) → (s ≡ steps.Nothing) ⊎ (s ≡ steps.Stopped) → answer_to_reply v ≡ Ok s → ⊥
 told_step (Ok (taken.Opened a)) s (inl q) e = absurd (cc)
 told_step (Ok (taken.Rejected a)) s (inl q) e = absurd (cc)
 told_step (Ok (taken.Answered a)) s (inl q) e = absurd (cc)
@@ -47,8 +47,8 @@ end_answer : (b : Bool) → ◌≡◌ {A = Result Step TakeError} (Ok (cond b st
 end_answer true e = absurd (cc)
 end_answer false e = refl
 
-waits : (p : Heard) (met : Met) → Meets p met → took_as p met ≡ Ok steps.Nothing → Waits p
-waits p Stopped m e = absurd (cc)
+waits : (p : Transcript) (input : Input) → NextInput p input → answer_to p input ≡ Ok steps.Nothing → IsWaiting p
+waits p AlreadyStopped m e = absurd (cc)
 waits p (Message v) m e = absurd (told_step (verdict (standing (past_of p)) v) steps.Nothing (inl refl) e)
 waits p (Foreign error) m e = absurd (cc)
 waits p (Fault k at) m e = absurd (cc)
@@ -69,9 +69,9 @@ waits p Nothing m e = record {
       empty_unfinished m.1 m.3;
 }
 
-met_waiting : (p : Heard) (rest : List ℕ) → is_stopped (state_at p) ≡ false → p.ended ≡ false
+met_waiting : (p : Transcript) (rest : List ℕ) → is_stopped (state_at p) ≡ false → p.ended ≡ false
     → IsBehind p.stream p.taken rest → IsUnfinished MESSAGE_LIMIT rest
-    → (met : Met) × Meets p met × (took_as p met ≡ Ok steps.Nothing)
+    → (input : Input) × NextInput p input × (answer_to p input ≡ Ok steps.Nothing)
 met_waiting p [] s e b u = (Nothing, (s, [], b, refl), rw e refl)
 met_waiting p (x ∷ xs) s e b u = (
   Rest (length (x ∷ xs)),
@@ -84,8 +84,8 @@ met_waiting p (x ∷ xs) s e b u = (
   rw e refl,
 )
 
-stopped_so : (p : Heard) (met : Met) → Meets p met → took_as p met ≡ Ok steps.Stopped → is_stopped (state_at p) ≡ true
-stopped_so p Stopped m e = m
+stopped_so : (p : Transcript) (input : Input) → NextInput p input → answer_to p input ≡ Ok steps.Stopped → is_stopped (state_at p) ≡ true
+stopped_so p AlreadyStopped m e = m
 stopped_so p (Message v) m e = absurd (told_step (verdict (standing (past_of p)) v) steps.Stopped (inr refl) e)
 stopped_so p (Foreign error) m e = absurd (cc)
 stopped_so p (Fault k at) m e = absurd (cc)
@@ -100,17 +100,17 @@ stopped_so p Nothing m e = absurd (by p.ended e)
     by true e = absurd (cc)
     by false e = absurd (cc)
 
-pub take_laws : OneMeeting → TakeLaws
+pub take_laws : OneInput → TakeLaws
 take_laws meeting = record {
-  nothing = λ p met m. (
-    waits p met m,
+  nothing = λ p input m. (
+    waits p input m,
     λ w. (
         let other = met_waiting p w.rest w.goes_on w.more w.behind w.unfinished in
-        subst (λ z. took_as p z ≡ Ok steps.Nothing) (meeting p other.0 met other.1 m) other.2),
+        subst (λ z. answer_to p z ≡ Ok steps.Nothing) (meeting p other.0 input other.1 m) other.2),
   );
-  stopped = λ p met m. (
-    stopped_so p met m,
-    λ s. (let is : Stopped ≡ met = meeting p Stopped met s m in
-        subst (λ z. took_as p z ≡ Ok steps.Stopped) is refl),
+  stopped = λ p input m. (
+    stopped_so p input m,
+    λ s. (let is : AlreadyStopped ≡ input = meeting p AlreadyStopped input s m in
+        subst (λ z. answer_to p z ≡ Ok steps.Stopped) is refl),
   );
 }

@@ -7,12 +7,12 @@ use Rattle.zber.specs.Laws.{StreamLaws}
 use Rattle.zorigin.specs.declared.settings.Settings.{Settings}
 use Rattle.zoom_pool.specs.Links.{Link}
 use Rattle.zoom_pool.specs.declared.state.State.{State}
-use Rattle.zoom_pool.specs.States.{or_else, is_stopped, goes_on}
+use Rattle.zoom_pool.specs.States.{or_else, is_stopped, is_going}
 use Rattle.zber.specs.declared.framer.TheConstants.{MESSAGE_LIMIT}
-use Rattle.zoom_pool.specs.Heard.{Heard, Deed, Feeds, state_at, hears_piece}
-use Rattle.zoom_pool.specs.Leaving.{IsKept, Frames, Matches, Leaves}
+use Rattle.zoom_pool.specs.Transcripts.{Transcript, Event, Fed, state_at, after_feed}
+use Rattle.zoom_pool.specs.Connections.{IsKept, FramerAfter, AreConsistent, ConnectionAfter}
 
-pub going : (other : State) (stop : Option State) → is_stopped (or_else other stop) ≡ false → goes_on stop ≡ true
+pub going : (other : State) (stop : Option State) → is_stopped (or_else other stop) ≡ false → is_going stop ≡ true
 going other None h = refl
 going other (Some s) h = ap not h
 
@@ -30,9 +30,9 @@ kept_longer : (rest octets piece : List ℕ) (held : Option Element) → IsKept 
 kept_longer rest octets piece None k = ap (λ z. z ++ piece) k
 kept_longer rest octets piece (Some e) k = begins_longer rest octets piece e k
 
-pub frames_longer : (laws : StreamLaws) (p : Heard) (held : Option Element) (s t : Stream) (piece : List ℕ) (b : Bool)
-    → Frames p held s → t ≡ record s { octets = s.octets ++ piece; asked = b }
-    → Frames (record p { stream = p.stream ++ piece }) held t
+pub frames_longer : (laws : StreamLaws) (p : Transcript) (held : Option Element) (s t : Stream) (piece : List ℕ) (b : Bool)
+    → FramerAfter p held s → t ≡ record s { octets = s.octets ++ piece; asked = b }
+    → FramerAfter (record p { stream = p.stream ++ piece }) held t
 frames_longer laws p held s t piece b f e = record {
   rest = f.rest ++ piece;
   behind = record {
@@ -47,21 +47,21 @@ frames_longer laws p held s t piece b f e = record {
   sound = λ g. ap (λ z. z.fault) e ∙ f.sound g;
 }
 
-pub heard_piece : (p : Heard) (piece : List ℕ) → is_stopped (state_at p) ≡ false → p.ended ≡ false
-    → hears_piece p piece ≡ record p { stream = p.stream ++ piece }
+pub heard_piece : (p : Transcript) (piece : List ℕ) → is_stopped (state_at p) ≡ false → p.ended ≡ false
+    → after_feed p piece ≡ record p { stream = p.stream ++ piece }
 heard_piece p piece s e = rw (s, e) refl
 
 -- a piece was fed to a connection that goes on
-pub fed : (laws : StreamLaws) (settings : Settings) (deeds : List Deed) (p : Heard) (c : Link) (t : Stream)
-    (piece : List ℕ) (b : Bool) → Leaves settings deeds p c
+pub fed : (laws : StreamLaws) (settings : Settings) (events : List Event) (p : Transcript) (c : Link) (t : Stream)
+    (piece : List ℕ) (b : Bool) → ConnectionAfter settings events p c
     → is_stopped (state_at p) ≡ false → c.ended ≡ false → (c.framer.fault ≡ None
     → t ≡ record c.framer { octets = c.framer.octets ++ piece; asked = b })
-    → Leaves settings (Feeds piece ∷ deeds) (hears_piece p piece) (record c { framer = t })
-fed laws settings deeds p c t piece b l s e w =
+    → ConnectionAfter settings (Fed piece ∷ events) (after_feed p piece) (record c { framer = t })
+fed laws settings events p c t piece b l s e w =
     let m = l.matches in
     let is = heard_piece p piece s (sym m.ended ∙ e) in
     let sound : c.framer.fault ≡ None = m.frames.sound (going _ p.stop s) in
-    let matches : Matches (record p { stream = p.stream ++ piece }) (record c { framer = t }) =
+    let matches : AreConsistent (record p { stream = p.stream ++ piece }) (record c { framer = t }) =
     record {
       origin = m.origin;
       frames = frames_longer laws p c.held c.framer t piece b m.frames (w sound);
@@ -69,5 +69,5 @@ fed laws settings deeds p c t piece b l s e w =
           m.ended;
       stop = m.stop;
     } in
-    subst (λ q. Leaves settings (Feeds piece ∷ deeds) q (record c { framer = t })) (sym is)
-    (record { heard = (p, l.heard, sym is); matches = matches; waiting = l.waiting; reads = l.reads })
+    subst (λ q. ConnectionAfter settings (Fed piece ∷ events) q (record c { framer = t })) (sym is)
+    (record { transcript = (p, l.transcript, sym is); matches = matches; waiting = l.waiting; reads = l.reads })

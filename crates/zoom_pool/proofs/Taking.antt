@@ -25,47 +25,47 @@ use Rattle.zoom_pool.specs.Links.{Link}
 use Rattle.zoom_pool.specs.declared.state.State.TheVariants as states
 use Rattle.zoom_pool.specs.declared.state.Reason.{Reason}
 use Rattle.zoom_pool.specs.declared.state.Reason.TheVariants as reasons
-use Rattle.zoom_pool.specs.declared.answer.Told.{Told}
-use Rattle.zoom_pool.specs.declared.answer.Told.TheVariants as told
+use Rattle.zoom_pool.specs.declared.answer.Outcome.{Outcome}
+use Rattle.zoom_pool.specs.declared.answer.Outcome.TheVariants as outcome
 use Rattle.zoom_pool.specs.declared.answer.TakeError.{TakeError}
 use Rattle.zoom_pool.specs.declared.answer.TakeError.TheVariants as errors
 use Rattle.zoom_pool.specs.States.{is_stopped}
-use Rattle.zoom_pool.specs.Coming.{Met, Stopped, Message, Foreign, Fault, Rest, Nothing, IsForeign, IsReadAs, IsBehind}
+use Rattle.zoom_pool.specs.Inputs.{Input, AlreadyStopped, Message, Foreign, Fault, Rest, Nothing, IsForeign, IsReadAs, IsBehind}
 use Rattle.zber.specs.declared.framer.TheConstants.{MESSAGE_LIMIT}
-use Rattle.zoom_pool.specs.Heard.{Heard, past_of, state_at, stop_by, end_by, truncated, Meets, heed, take_at, told_by, news_at, facts_told, IsNews, IsDone}
-use Rattle.zoom_pool.specs.Leaving.{IsKept, Frames, Matches}
-use Rattle.zoom_pool.specs.Steps.{HeedsAs, Heeds, IsTold, TakesTo, LacksTo, stop_after, held_after}
+use Rattle.zoom_pool.specs.Transcripts.{Transcript, past_of, state_at, after_stop, end_by, truncated, NextInput, after_reply, after_take, outcome_of_reply, news_at, facts_of_verdict, IsNews, IsDone}
+use Rattle.zoom_pool.specs.Connections.{IsKept, FramerAfter, AreConsistent}
+use Rattle.zoom_pool.specs.Steps.{InputStep, MessageStep, IsNewsIn, TakeResult, EmptyTake, stop_after, held_after}
 use Rattle.zoom_pool.proofs.Unions.{union_none, part_wider}
 use Rattle.zoom_pool.proofs.Streams.{going}
 
 -- ---- a message that the origin took
 
-pub heeded : (target : ℕ) (p : Heard) (v : Apdu) (peeked : Result Taken Refused) (answer : Result Told TakeError)
+pub heeded : (target : ℕ) (p : Transcript) (v : Apdu) (peeked : Result Taken Refused) (answer : Result Outcome TakeError)
     (o : Standing) (old new : List Fact)
     → Tells (verdict (standing (past_of p)) v) peeked → IsTaken peeked
-    → answer ≡ told_by (verdict (standing (past_of p)) v) → OriginAfter p.settings (Got v ∷ p.log) o
-    → IsUnion (Contains old) (Contains (facts_told target peeked)) (Contains new)
-    → HeedsAs target p (Message v) answer o old new
-heeded target p v peeked answer o old new tells taken t after u = record {
+    → answer ≡ outcome_of_reply (verdict (standing (past_of p)) v) → OriginAfter p.settings (Got v ∷ p.log) o
+    → IsUnion (Contains old) (Contains (facts_of_verdict target peeked)) (Contains new)
+    → InputStep target p (Message v) answer o old new
+heeded target p v peeked answer o old new value taken t after u = record {
   answers = t;
   stands = after;
-  union = subst (λ r. IsUnion (Contains old) (Contains (facts_told target r)) (Contains new)) (tells taken) u;
+  union = subst (λ r. IsUnion (Contains old) (Contains (facts_of_verdict target r)) (Contains new)) (value taken) u;
 }
 
-pub news_part : (target : ℕ) (p : Heard) (v : Apdu) (peeked : Result Taken Refused) (old new : List Fact)
+pub news_part : (target : ℕ) (p : Transcript) (v : Apdu) (peeked : Result Taken Refused) (old new : List Fact)
     → Tells (verdict (standing (past_of p)) v) peeked
-    → IsPartOfUnion (Contains old) (Contains (facts_told target peeked)) (Contains new)
+    → IsPartOfUnion (Contains old) (Contains (facts_of_verdict target peeked)) (Contains new)
     → IsPartOfUnion (Contains old) (Contains (news_at target p (Message v))) (Contains new)
-news_part target p v (Ok x) old new tells part = subst (λ r. IsPartOfUnion (Contains old)
-    (Contains (facts_told target r)) (Contains new)) (tells tt) part
-news_part target p v (Err e) old new tells part = part_wider old new (Contains [])
+news_part target p v (Ok x) old new value part = subst (λ r. IsPartOfUnion (Contains old)
+    (Contains (facts_of_verdict target r)) (Contains new)) (value tt) part
+news_part target p v (Err e) old new value part = part_wider old new (Contains [])
     (Contains (news_at target p (Message v))) (λ x h. absurd (none_in_nil x h)) part
 
-pub told_part : (target : ℕ) (p : Heard) (e : Element) (met : Met) (old new : List Fact) → IsReadAs e met
-    → IsPartOfUnion (Contains old) (Contains (news_at target p met)) (Contains new)
-    → IsPartOfUnion (Contains old) (IsTold target p e) (Contains new)
-told_part target p e met old new r part = part_wider old new (Contains (news_at target p met)) (IsTold target p e)
-    (λ x h. (met, r, h)) part
+pub told_part : (target : ℕ) (p : Transcript) (e : Element) (input : Input) (old new : List Fact) → IsReadAs e input
+    → IsPartOfUnion (Contains old) (Contains (news_at target p input)) (Contains new)
+    → IsPartOfUnion (Contains old) (IsNewsIn target p e) (Contains new)
+told_part target p e input old new r part = part_wider old new (Contains (news_at target p input)) (IsNewsIn target p e)
+    (λ x h. (input, r, h)) part
 
 pub foreign : (e : Element) (error : ApduError) → error ≢ decode.Memory → Decodes e (Err error) → IsForeign e error
 foreign e decode.NotApdu other d = d
@@ -73,19 +73,19 @@ foreign e (decode.Malformed kind at) other d = d
 foreign e decode.Memory other d = absurd (other refl)
 
 -- a message that is no APDU
-pub heeds_foreign : (target : ℕ) (p : Heard) (e : Element) (error : ApduError) (o : Standing) (ks : List Fact)
+pub heeds_foreign : (target : ℕ) (p : Transcript) (e : Element) (error : ApduError) (o : Standing) (ks : List Fact)
     → error ≢ decode.Memory → Decodes e (Err error) → OriginAfter p.settings p.log o
-    → Heeds target p e (Err (errors.Decode error)) o ks ks
+    → MessageStep target p e (Err (errors.Decode error)) o ks ks
 heeds_foreign target p e error o ks other d after = record {
-  met = Foreign error;
+  input = Foreign error;
   read = foreign e error other d;
-  heeds = record { answers = refl; stands = after; union = union_none ks };
+  input_step = record { answers = refl; stands = after; union = union_none ks };
 }
 
 -- ---- the connection
 
-pub frames_stopped : (p : Heard) (reason : Reason) (held : Option Element) (t : Stream) → Frames p held t
-    → Frames (stop_by p reason) held t
+pub frames_stopped : (p : Transcript) (reason : Reason) (held : Option Element) (t : Stream) → FramerAfter p held t
+    → FramerAfter (after_stop p reason) held t
 frames_stopped p reason held t f = record {
   rest = f.rest;
   behind = f.behind;
@@ -95,7 +95,7 @@ frames_stopped p reason held t f = record {
 }
 
 -- the message is kept only where it was not taken
-pub held_done : (answer : Result Told TakeError) (e : Element) (old : Option Element) → IsDone answer
+pub held_done : (answer : Result Outcome TakeError) (e : Element) (old : Option Element) → IsDone answer
     → held_after answer e old ≡ old
 held_done (Ok x) e old d = refl
 held_done (Err (errors.Frame kind at)) e old d = refl
@@ -103,19 +103,19 @@ held_done (Err (errors.Decode error)) e old d = refl
 held_done (Err (errors.Refused reason)) e old d = refl
 held_done (Err errors.Memory) e old d = absurd (d refl)
 
-pub kept_back : (p : Heard) (e : Element) (answer : Result Told TakeError) (old : Option Element) (c : Link)
+pub kept_back : (p : Transcript) (e : Element) (answer : Result Outcome TakeError) (old : Option Element) (c : Link)
     → answer ≡ Err errors.Memory
-    → OriginAfter p.settings p.log c.origin → Frames p (Some e) c.framer → c.ended ≡ p.ended
-    → c.held ≡ held_after answer e old → c.stop ≡ stop_after p.stop answer → Matches p c
+    → OriginAfter p.settings p.log c.origin → FramerAfter p (Some e) c.framer → c.ended ≡ p.ended
+    → c.held ≡ held_after answer e old → c.stop ≡ stop_after p.stop answer → AreConsistent p c
 kept_back p e answer old c memory o f ended held stop = record {
   origin = o;
-  frames = subst (λ z. Frames p z c.framer) (sym (held ∙ ap (λ a. held_after a e old) memory)) f;
+  frames = subst (λ z. FramerAfter p z c.framer) (sym (held ∙ ap (λ a. held_after a e old) memory)) f;
   ended = ended;
   stop = stop ∙ ap (stop_after p.stop) memory;
 }
 
-heed_matches : (q : Heard) (r : Result Taken Refused) (c : Link) → OriginAfter q.settings q.log c.origin
-    → Frames q c.held c.framer → c.ended ≡ q.ended → c.stop ≡ stop_after q.stop (told_by r) → Matches (heed q r) c
+heed_matches : (q : Transcript) (r : Result Taken Refused) (c : Link) → OriginAfter q.settings q.log c.origin
+    → FramerAfter q c.held c.framer → c.ended ≡ q.ended → c.stop ≡ stop_after q.stop (outcome_of_reply r) → AreConsistent (after_reply q r) c
 heed_matches q (Ok x) c o f e s = record { origin = o; frames = f; ended = e; stop = s }
 heed_matches q (Err reason) c o f e s = record {
   origin = o;
@@ -126,8 +126,8 @@ heed_matches q (Err reason) c o f e s = record {
 }
 
 -- one message more was taken of the stream
-taken_more : (laws : StreamLaws) (p q : Heard) (e : Element) (t : Stream) → is_stopped (state_at p) ≡ false
-    → q.stream ≡ p.stream → q.taken ≡ suc p.taken → Frames p (Some e) t → Frames q None t
+taken_more : (laws : StreamLaws) (p q : Transcript) (e : Element) (t : Stream) → is_stopped (state_at p) ≡ false
+    → q.stream ≡ p.stream → q.taken ≡ suc p.taken → FramerAfter p (Some e) t → FramerAfter q None t
 taken_more laws p q e t s same more f = record {
   rest = t.octets;
   behind = record {
@@ -142,8 +142,8 @@ taken_more laws p q e t s same more f = record {
   sound = λ g. f.sound (going _ p.stop s);
 }
 
-met_message : (p : Heard) (e : Element) (t : Stream) (met : Met) → is_stopped (state_at p) ≡ false
-    → Frames p (Some e) t → IsReadAs e met → Meets p met
+met_message : (p : Transcript) (e : Element) (t : Stream) (input : Input) → is_stopped (state_at p) ≡ false
+    → FramerAfter p (Some e) t → IsReadAs e input → NextInput p input
 met_message p e t (Message v) s f r = (
   s,
   f.rest,
@@ -161,97 +161,97 @@ met_message p e t (Foreign error) s f r = (
   f.behind,
   record { element = e; rest = t.octets; begins = f.kept; read = r },
 )
-met_message p e t Stopped s f r = absurd r
+met_message p e t AlreadyStopped s f r = absurd r
 met_message p e t (Fault kind at) s f r = absurd r
 met_message p e t (Rest n) s f r = absurd r
 met_message p e t Nothing s f r = absurd r
 
-matched : (laws : StreamLaws) (target : ℕ) (p : Heard) (e : Element) (met : Met) (answer : Result Told TakeError)
-    (c : Link) (old new : List Fact) → is_stopped (state_at p) ≡ false → Frames p (Some e) c.framer
-    → c.held ≡ None → IsReadAs e met → HeedsAs target p met answer c.origin old new → c.ended ≡ p.ended
-    → c.stop ≡ stop_after p.stop answer → Matches (take_at p met) c
+matched : (laws : StreamLaws) (target : ℕ) (p : Transcript) (e : Element) (input : Input) (answer : Result Outcome TakeError)
+    (c : Link) (old new : List Fact) → is_stopped (state_at p) ≡ false → FramerAfter p (Some e) c.framer
+    → c.held ≡ None → IsReadAs e input → InputStep target p input answer c.origin old new → c.ended ≡ p.ended
+    → c.stop ≡ stop_after p.stop answer → AreConsistent (after_take p input) c
 matched laws target p e (Message v) answer c old new s f none r h ended stop =
-    let q : Heard = record p { taken = suc p.taken; log = Got v ∷ p.log } in
+    let q : Transcript = record p { taken = suc p.taken; log = Got v ∷ p.log } in
     heed_matches q (verdict (standing (past_of p)) v) c h.stands
-    (subst (λ z. Frames q z c.framer) (sym none) (taken_more laws p q e c.framer s refl refl f)) ended (stop
+    (subst (λ z. FramerAfter q z c.framer) (sym none) (taken_more laws p q e c.framer s refl refl f)) ended (stop
     ∙ ap (stop_after p.stop) h.answers)
 matched laws target p e (Foreign error) answer c old new s f none r h ended stop =
-    let q : Heard = record p { taken = suc p.taken } in
+    let q : Transcript = record p { taken = suc p.taken } in
     record {
       origin = h.stands;
       frames = frames_stopped q (reasons.Decode error) c.held c.framer
-          (subst (λ z. Frames q z c.framer) (sym none) (taken_more laws p q e c.framer s refl refl f));
+          (subst (λ z. FramerAfter q z c.framer) (sym none) (taken_more laws p q e c.framer s refl refl f));
       ended = ended;
       stop = stop ∙ ap (stop_after p.stop) h.answers;
     }
-matched laws target p e Stopped answer c old new s f none r h ended stop = absurd r
+matched laws target p e AlreadyStopped answer c old new s f none r h ended stop = absurd r
 matched laws target p e (Fault kind at) answer c old new s f none r h ended stop = absurd r
 matched laws target p e (Rest n) answer c old new s f none r h ended stop = absurd r
 matched laws target p e Nothing answer c old new s f none r h ended stop = absurd r
 
-pub took : (laws : StreamLaws) (target : ℕ) (p : Heard) (e : Element) (answer : Result Told TakeError) (c : Link)
-    (old new : List Fact) → is_stopped (state_at p) ≡ false → Frames p (Some e) c.framer → c.held ≡ None
-    → Heeds target p e answer c.origin old new → c.ended ≡ p.ended → c.stop ≡ stop_after p.stop answer
-    → TakesTo target p answer c old new
+pub took : (laws : StreamLaws) (target : ℕ) (p : Transcript) (e : Element) (answer : Result Outcome TakeError) (c : Link)
+    (old new : List Fact) → is_stopped (state_at p) ≡ false → FramerAfter p (Some e) c.framer → c.held ≡ None
+    → MessageStep target p e answer c.origin old new → c.ended ≡ p.ended → c.stop ≡ stop_after p.stop answer
+    → TakeResult target p answer c old new
 took laws target p e answer c old new s f none h ended stop = record {
-  met = h.met;
-  meets = met_message p e c.framer h.met s f h.read;
-  answers = h.heeds.answers;
-  matches = matched laws target p e h.met answer c old new s f none h.read h.heeds ended stop;
-  union = h.heeds.union;
+  input = h.input;
+  is_next = met_message p e c.framer h.input s f h.read;
+  answers = h.input_step.answers;
+  matches = matched laws target p e h.input answer c old new s f none h.read h.input_step ended stop;
+  union = h.input_step.union;
 }
 
 -- what a part of the message's facts is a part of
-pub news_told : (target : ℕ) (p : Heard) (e : Element) (t : Stream) (old new : List Fact)
-    → is_stopped (state_at p) ≡ false → Frames p (Some e) t → IsPartOfUnion (Contains old) (IsTold target p e)
+pub news_told : (target : ℕ) (p : Transcript) (e : Element) (t : Stream) (old new : List Fact)
+    → is_stopped (state_at p) ≡ false → FramerAfter p (Some e) t → IsPartOfUnion (Contains old) (IsNewsIn target p e)
     (Contains new) → IsPartOfUnion (Contains old) (IsNews target p) (Contains new)
-news_told target p e t old new s f part = part_wider old new (IsTold target p e) (IsNews target p)
+news_told target p e t old new s f part = part_wider old new (IsNewsIn target p e) (IsNews target p)
     (λ x h. (h.0, met_message p e t h.0 s f h.1, h.2)) part
 
 -- ---- no message
 
-pub faulty : (target : ℕ) (p : Heard) (kind : FaultKind) (at : ℕ) (c : Link) (ks : List Fact)
+pub faulty : (target : ℕ) (p : Transcript) (kind : FaultKind) (at : ℕ) (c : Link) (ks : List Fact)
     → is_stopped (state_at p) ≡ false → OriginAfter p.settings p.log c.origin → c.ended ≡ p.ended
-    → Frames (stop_by p (reasons.Frame kind at)) c.held c.framer → c.held ≡ None → Shows MESSAGE_LIMIT c.framer.octets kind at
+    → FramerAfter (after_stop p (reasons.Frame kind at)) c.held c.framer → c.held ≡ None → Shows MESSAGE_LIMIT c.framer.octets kind at
     → c.stop ≡ Some (states.Failed (reasons.Frame kind at))
-    → TakesTo target p (Err (errors.Frame kind at)) c ks ks
+    → TakeResult target p (Err (errors.Frame kind at)) c ks ks
 faulty target p kind at c ks s o ended f none shows stop =
     let same : f.rest ≡ c.framer.octets = subst (λ z. IsKept f.rest z c.framer.octets) none f.kept in
     record {
-      met = Fault kind at;
-      meets = (s, f.rest, f.behind, subst (λ z. Shows MESSAGE_LIMIT z kind at) (sym same) shows);
+      input = Fault kind at;
+      is_next = (s, f.rest, f.behind, subst (λ z. Shows MESSAGE_LIMIT z kind at) (sym same) shows);
       answers = refl;
       matches = record { origin = o; frames = f; ended = ended; stop = stop };
       union = union_none ks;
     }
 
-pub lacked : (target : ℕ) (p : Heard) (answer : Result Told TakeError) (c : Link) (ks : List Fact)
-    → LacksTo p answer c → TakesTo target p answer c ks ks
+pub lacked : (target : ℕ) (p : Transcript) (answer : Result Outcome TakeError) (c : Link) (ks : List Fact)
+    → EmptyTake p answer c → TakeResult target p answer c ks ks
 lacked target p answer c ks l = record {
-  met = l.met;
-  meets = l.meets;
+  input = l.input;
+  is_next = l.is_next;
   answers = l.answers;
   matches = l.matches;
   union = subst (λ z. IsUnion (Contains ks) (Contains z) (Contains ks)) (sym (l.silent target)) (union_none ks);
 }
 
-idle_at : (p : Heard) (c : Link) (rest : List ℕ) → Matches p c → is_stopped (state_at p) ≡ false
-    → IsBehind p.stream p.taken rest → IsUnfinished MESSAGE_LIMIT rest → p.ended ≡ false → LacksTo p (Ok told.Nothing) c
+idle_at : (p : Transcript) (c : Link) (rest : List ℕ) → AreConsistent p c → is_stopped (state_at p) ≡ false
+    → IsBehind p.stream p.taken rest → IsUnfinished MESSAGE_LIMIT rest → p.ended ≡ false → EmptyTake p (Ok outcome.Nothing) c
 idle_at p c [] m s b u e = record {
-  met = Nothing;
-  meets = (s, [], b, refl);
+  input = Nothing;
+  is_next = (s, [], b, refl);
   answers = rw e refl;
   matches =
-      subst (λ z. Matches (cond z (end_by p) p) c) (sym e) m;
+      subst (λ z. AreConsistent (cond z (end_by p) p) c) (sym e) m;
   silent = λ t. refl;
 }
 idle_at p c (x ∷ xs) m s b u e = record {
-  met = Rest (length (x ∷ xs));
-  meets =
+  input = Rest (length (x ∷ xs));
+  is_next =
       (s, x ∷ xs, b, ((let n : 0 < length (x ∷ xs) = omega arith in n), refl, u));
   answers = rw e refl;
   matches =
-      subst (λ z. Matches (cond z (stop_by p (truncated (length (x ∷ xs)))) p) c) (sym e) m;
+      subst (λ z. AreConsistent (cond z (after_stop p (truncated (length (x ∷ xs)))) p) c) (sym e) m;
   silent = λ t. refl;
 }
 
@@ -259,8 +259,8 @@ kept_none : (rest octets : List ℕ) (held : Option Element) → held ≡ None �
 kept_none rest octets held none k = subst (λ z. IsKept rest z octets) none k
 
 -- no octet is there, or no whole message, and more may come
-pub idle : (p : Heard) (c : Link) → Matches p c → is_stopped (state_at p) ≡ false → c.held ≡ None
-    → IsUnfinished MESSAGE_LIMIT c.framer.octets → c.ended ≡ false → LacksTo p (Ok told.Nothing) c
+pub idle : (p : Transcript) (c : Link) → AreConsistent p c → is_stopped (state_at p) ≡ false → c.held ≡ None
+    → IsUnfinished MESSAGE_LIMIT c.framer.octets → c.ended ≡ false → EmptyTake p (Ok outcome.Nothing) c
 idle p c m s none u e = idle_at p c m.frames.rest m s m.frames.behind
     (subst (IsUnfinished MESSAGE_LIMIT) (sym (kept_none m.frames.rest c.framer.octets c.held none m.frames.kept)) u)
     (sym m.ended ∙ e)
@@ -274,13 +274,13 @@ left_over : (size : ℕ) (octets : List ℕ) (kind : FaultKind) (at : ℕ)
 left_over size [] kind at q = absurd (cc)
 left_over size (x ∷ xs) kind at q = ((let n : 0 < length (x ∷ xs) = omega arith in n), (cc), (cc))
 
-truncated_so : (p : Heard) (c : Link) (n : ℕ) → Matches p c → is_stopped (state_at p) ≡ false
+truncated_so : (p : Transcript) (c : Link) (n : ℕ) → AreConsistent p c → is_stopped (state_at p) ≡ false
     → IsBehind p.stream p.taken c.framer.octets → 0 < length c.framer.octets → n ≡ length c.framer.octets
     → IsUnfinished MESSAGE_LIMIT c.framer.octets
-    → p.ended ≡ true → LacksTo p (Err (errors.Frame kinds.Truncated n))
+    → p.ended ≡ true → EmptyTake p (Err (errors.Frame kinds.Truncated n))
     (record c { stop = Some (states.Failed (truncated n)) })
 truncated_so p c n m s b some is u e =
-    let matches : Matches (stop_by p (truncated n)) (record c { stop = Some (states.Failed (truncated n)) }) =
+    let matches : AreConsistent (after_stop p (truncated n)) (record c { stop = Some (states.Failed (truncated n)) }) =
     record {
       origin = m.origin;
       frames = frames_stopped p (truncated n) c.held c.framer m.frames;
@@ -288,19 +288,19 @@ truncated_so p c n m s b some is u e =
       stop = refl;
     } in
     record {
-      met = Rest n;
-      meets = (s, c.framer.octets, b, (some, is, u));
+      input = Rest n;
+      is_next = (s, c.framer.octets, b, (some, is, u));
       answers = rw e refl;
-      matches = subst (λ z. Matches (cond z (stop_by p (truncated n)) p)
+      matches = subst (λ z. AreConsistent (cond z (after_stop p (truncated n)) p)
           (record c { stop = Some (states.Failed (truncated n)) })) (sym e) matches;
       silent = λ t. refl;
     }
 
 -- the input ended within a message
-pub truncated_at : (p : Heard) (c : Link) (kind : FaultKind) (at : ℕ) → Matches p c → is_stopped (state_at p) ≡ false
+pub truncated_at : (p : Transcript) (c : Link) (kind : FaultKind) (at : ℕ) → AreConsistent p c → is_stopped (state_at p) ≡ false
     → c.held ≡ None → c.framer.asked ≡ true → c.framer.fault ≡ None → IsUnfinished MESSAGE_LIMIT c.framer.octets
     → c.ended ≡ true
-    → Err (frames.Fault kind at) ≡ finished c.framer → LacksTo p (Err (errors.Frame kind at))
+    → Err (frames.Fault kind at) ≡ finished c.framer → EmptyTake p (Err (errors.Frame kind at))
     (record c { stop = Some (states.Failed (reasons.Frame kind at)) })
 truncated_at p c kind at m s none asked sound u e q =
     let size = c.framer.limit in
@@ -314,6 +314,6 @@ truncated_at p c kind at m s none asked sound u e q =
     let left = left_over size octets kind at (q ∙ ap finished stream) in
     let same = kept_none m.frames.rest octets c.held none m.frames.kept in
     let behind : IsBehind p.stream p.taken octets = subst (IsBehind p.stream p.taken) same m.frames.behind in
-    subst (λ z. LacksTo p (Err (errors.Frame z at)) (record c { stop = Some (states.Failed (reasons.Frame z at)) }))
+    subst (λ z. EmptyTake p (Err (errors.Frame z at)) (record c { stop = Some (states.Failed (reasons.Frame z at)) }))
     (sym left.1)
     (truncated_so p c at m s behind left.0 left.2 u (sym m.ended ∙ e))

@@ -9,23 +9,23 @@ use Rattle.zknow.specs.List.ListLaws.{StandsIn, conflict_text}
 use Rattle.zorigin.specs.declared.settings.Settings.{Settings}
 use Rattle.zorigin.specs.declared.answer.Answer.{Answer}
 use Rattle.zorigin.specs.Facts.{facts_of}
-use Rattle.zoom_pool.specs.Heard.{Heard}
+use Rattle.zoom_pool.specs.Transcripts.{Transcript}
 use Rattle.zoom_pool.specs.Links.{Links}
 use Rattle.zoom_pool.specs.History.{History, accepted, After}
 
 -- an accepted reply of the connection shows the record at the position of the set
-pub record IsShownBy (heard : ℕ → Heard) (c set : ℕ) (position : ℤ) (rec : Record) : Type 0 where
+pub record IsShownBy (transcript : ℕ → Transcript) (c set : ℕ) (position : ℤ) (rec : Record) : Type 0 where
   pub answer : Answer
-  pub among : Contains (accepted (heard c)) answer
+  pub among : Contains (accepted (transcript c)) answer
   pub shows : Contains (facts_of c answer) (Seen c set position rec)
 
 -- two accepted replies show different records there
-pub record Differ (heard : ℕ → Heard) (c set : ℕ) (position : ℤ) : Type 0 where
+pub record DifferingRecords (transcript : ℕ → Transcript) (c set : ℕ) (position : ℤ) : Type 0 where
   pub one : Record
   pub other : Record
   pub differ : one ≢ other
-  pub shows_one : IsShownBy heard c set position one
-  pub shows_other : IsShownBy heard c set position other
+  pub shows_one : IsShownBy transcript c set position one
+  pub shows_other : IsShownBy transcript c set position other
 
 -- the row there, of two records or more, stands in the printed list as a conflict, with all its records
 abbrev pub IsPrinted : Links → ℕ → ℕ → ℤ → Type 0
@@ -37,15 +37,15 @@ IsPrinted pool c set position =
     (listing names mode pool.knowledge)
 
 -- what is known of one row
-pub record RowLaws (heard : ℕ → Heard) (pool : Links) (c set : ℕ) (position : ℤ) : Type 0 where
+pub record RowLaws (transcript : ℕ → Transcript) (pool : Links) (c set : ℕ) (position : ℤ) : Type 0 where
   -- its records are those that accepted replies show
   pub records : (rec : Record) → Contains (records_at c set position pool.knowledge) rec
-      ↔ IsShownBy heard c set position rec
+      ↔ IsShownBy transcript c set position rec
   -- it is a conflict exactly where two of them differ, and is printed as one
-  pub conflict : (2 ≤ length (records_at c set position pool.knowledge)) ↔ Differ heard c set position
-  pub printed : Differ heard c set position → IsPrinted pool c set position
+  pub conflict : (2 ≤ length (records_at c set position pool.knowledge)) ↔ DifferingRecords transcript c set position
+  pub printed : DifferingRecords transcript c set position → IsPrinted pool c set position
 
 abbrev pub ConflictLaw : Type 0
 ConflictLaw =
     (settings : Settings) (h : History) (pool : Links) (a : After settings h pool) (c set : ℕ) (position : ℤ)
-    → RowLaws a.heard pool c set position
+    → RowLaws a.transcript pool c set position

@@ -71,12 +71,12 @@ abbrev pub HasOpening : Past → Type 0
 HasOpening p = (answer : Answer) × (opening p ≡ Some answer)
 
 -- no two of the lists begin at one position
-abbrev pub NoneBegins : ℕ → List (List ℕ) → Type 0
-NoneBegins first ls = (l : List ℕ) → IsIn l ls → first_of l ≡ first → ⊥
+abbrev pub IsFreeStart : ℕ → List (List ℕ) → Type 0
+IsFreeStart first ls = (l : List ℕ) → IsIn l ls → first_of l ≡ first → ⊥
 
-abbrev pub BeginApart : List (List ℕ) → Type 0
-BeginApart [] = Unit {0}
-BeginApart (l ∷ ls) = NoneBegins (first_of l) ls × BeginApart ls
+abbrev pub HaveApartStarts : List (List ℕ) → Type 0
+HaveApartStarts [] = Unit {0}
+HaveApartStarts (l ∷ ls) = IsFreeStart (first_of l) ls × HaveApartStarts ls
 
 -- all that was sent was answered
 abbrev pub AllAnswered : List Event → Type 0
@@ -144,7 +144,7 @@ module _ (e : Errand) (settings : Settings) (log : Log) where
     pub found : replies_in events_at plan.Search ≡ Some (Finds (Some count))
     pub set : HasFound e.ask (past settings log) a.three count
     pub outstanding : outstanding_in events_at ≡ length a.waiting
-    pub apart : BeginApart a.waiting
+    pub apart : HaveApartStarts a.waiting
     pub opening : HasOpening (past settings log)
 
   pub record AtDone : Type 0 where
@@ -160,15 +160,15 @@ module _ (e : Errand) (settings : Settings) (log : Log) where
     pub tried : is_rejected (opening (past settings log)) ≡ false → IsTried settings log
     pub opening : HasOpening (past settings log)
 
-  abbrev pub IsAt : Phase → Type 0
-  IsAt phases.Fresh = AtFresh
-  IsAt phases.Opening = AtOpening
-  IsAt (phases.Opened present three) = AtOpened present three
-  IsAt (phases.Searching present three) = AtSearching present three
-  IsAt (phases.Counted three count) = AtCounted three count
-  IsAt (phases.Asking agenda) = AtAsking agenda
-  IsAt phases.Done = AtDone
-  IsAt phases.Closed = AtClosed
+  abbrev pub IsAtPhase : Phase → Type 0
+  IsAtPhase phases.Fresh = AtFresh
+  IsAtPhase phases.Opening = AtOpening
+  IsAtPhase (phases.Opened present three) = AtOpened present three
+  IsAtPhase (phases.Searching present three) = AtSearching present three
+  IsAtPhase (phases.Counted three count) = AtCounted three count
+  IsAtPhase (phases.Asking agenda) = AtAsking agenda
+  IsAtPhase phases.Done = AtDone
+  IsAtPhase phases.Closed = AtClosed
 
 -- Each call of the log was the next one at its moment, and the driver knows what it amounts to.
 pub record IsDriver (e : Errand) (settings : Settings) (log : Log) (d : DriverState) : Type 0 where
@@ -183,12 +183,12 @@ pub record IsDriver (e : Errand) (settings : Settings) (log : Log) (d : DriverSt
   pub complete : d.complete ≡ complete_in (past settings log)
   pub left : d.left ≡ left_in e.window d.phase
   pub few : d.left ≤ 3 + e.window
-  pub at : IsAt e settings log d.phase
+  pub at : IsAtPhase e settings log d.phase
 
 -- ---- clauses, for each log that the driver can know
 
-abbrev pub Stays : DriverState → DriverState → Type 0
-Stays old new =
+abbrev pub SameDriver : DriverState → DriverState → Type 0
+SameDriver old new =
     ((e : Errand) (settings : Settings) (log : Log) → IsDriver e settings log old → IsDriver e settings log new)
     × (new.left ≡ old.left)
 
@@ -205,43 +205,43 @@ IsOffered e settings log phase origin.Close =
     ((phase ≡ phases.Done) ⊎ ((a : Agenda) × (phase ≡ phases.Asking a))) × IsNextCall e settings log origin.Close
 
 -- The driver gave the call: the origin admits it, and it is the next one; or it is the search, which is skipped.
-pub record Offers (e : Errand) (settings : Settings) (log : Log) (d : DriverState) (call : origin.Call) : Type 0 where
+pub record IsOffer (e : Errand) (settings : Settings) (log : Log) (d : DriverState) (call : origin.Call) : Type 0 where
   pub knows : IsDriver e settings log d
   pub steers : IsSteeredCall e settings log (refusal (standing (past settings log)) call) call
   pub offered : IsOffered e settings log d.phase call
 
 -- None is next; and the search was tried, once the association was accepted.
-pub record Rests (e : Errand) (settings : Settings) (log : Log) : Type 0 where
+pub record HasNoNextCall (e : Errand) (settings : Settings) (log : Log) : Type 0 where
   pub none : (call : origin.Call) → IsNextCall e settings log call → ⊥
   pub tried : is_stopped (state_as (state_of (past settings log))) ≡ false → HasOpening (past settings log)
       → IsTried settings log
 
 -- what it gives in this state: a call; or none, where it rests
-abbrev pub GivesNext : State → Option Call → DriverState → Type 0
-GivesNext state None d =
+abbrev pub NextCallResult : State → Option Call → DriverState → Type 0
+NextCallResult state None d =
     (e : Errand) (settings : Settings) (log : Log) → IsDriver e settings log d
-    → state ≡ state_as (state_of (past settings log)) → Rests e settings log
-GivesNext state (Some call) d =
+    → state ≡ state_as (state_of (past settings log)) → HasNoNextCall e settings log
+NextCallResult state (Some call) d =
     (e : Errand) (settings : Settings) (log : Log) → IsDriver e settings log d
-    → state ≡ state_as (state_of (past settings log)) → Offers e settings log d (call_of call)
+    → state ≡ state_as (state_of (past settings log)) → IsOffer e settings log d (call_of call)
 
 -- the origin admitted the call
-abbrev pub KnowsSent : origin.Call → DriverState → DriverState → Type 0
-KnowsSent call old new =
-    (e : Errand) (settings : Settings) (log : Log) → Offers e settings log old call
+abbrev pub NoteSentStep : origin.Call → DriverState → DriverState → Type 0
+NoteSentStep call old new =
+    (e : Errand) (settings : Settings) (log : Log) → IsOffer e settings log old call
     → refusal (standing (past settings log)) call ≡ None
     → IsDriver e settings (Made call ∷ log) new × (new.left < old.left)
 
 -- the origin refused the call: another may be next
-abbrev pub KnowsRefused : DriverState → DriverState → Type 0
-KnowsRefused old new =
+abbrev pub NoteRefusedStep : DriverState → DriverState → Type 0
+NoteRefusedStep old new =
     (e : Errand) (settings : Settings) (log : Log) (call : origin.Call) (reason : CallRefused)
-    → Offers e settings log old call → refusal (standing (past settings log)) call ≡ Some reason
+    → IsOffer e settings log old call → refusal (standing (past settings log)) call ≡ Some reason
     → IsDriver e settings (Made call ∷ log) new × (new.left < old.left)
 
 -- the origin took a reply
-abbrev pub KnowsTold : Taken → DriverState → DriverState → Type 0
-KnowsTold taken old new =
+abbrev pub NoteReplyStep : Taken → DriverState → DriverState → Type 0
+NoteReplyStep taken old new =
     (e : Errand) (settings : Settings) (log : Log) (reply : Apdu) → IsDriver e settings log old
     → verdict (standing (past settings log)) reply ≡ Ok taken → IsDriver e settings (Got reply ∷ log) new
 
@@ -264,9 +264,9 @@ IsRangesCall list call =
     (call ≡ origin.Present (first_of (positions list) + 1) 1 list) × (are_ranges list ≡ true)
 
 -- no schedule is to be made
-abbrev pub IsMade : Phase → Type 0
-IsMade (phases.Counted three count) = ⊥
-IsMade _ = Unit {0}
+abbrev pub IsScheduled : Phase → Type 0
+IsScheduled (phases.Counted three count) = ⊥
+IsScheduled _ = Unit {0}
 
 -- so many Presents may wait, where calls can be made
 abbrev pub room_for : ℕ → State → Option ℕ
@@ -278,7 +278,7 @@ is_fresh_state states.Fresh = true
 is_fresh_state _ = false
 
 -- the Present of what stands first, where there is room
-pub record AsksFirst (room : ℕ) (a : Agenda) (call : origin.Call) : Type 0 where
+pub record IsFirstPresent (room : ℕ) (a : Agenda) (call : origin.Call) : Type 0 where
   pub ranges : List Range
   pub others : List (List ℕ)
   pub is : call ≡ origin.Present (first_of (positions ranges) + 1) 1 ranges
@@ -290,40 +290,40 @@ pub record AsksFirst (room : ℕ) (a : Agenda) (call : origin.Call) : Type 0 whe
   pub fits : length a.waiting < room
 
 -- with nothing due and nothing waiting
-pub record ClosesIdle (a : Agenda) (call : origin.Call) : Type 0 where
+pub record IsIdleClose (a : Agenda) (call : origin.Call) : Type 0 where
   pub is : call ≡ origin.Close
   pub none : a.due ≡ []
   pub idle : length a.waiting ≡ 0
 
-abbrev pub GivesAsked : ℕ → Agenda → Option Call → Type 0
-GivesAsked room a None = (room ≤ length a.waiting) ⊎ ((a.due ≡ []) × (0 < length a.waiting))
-GivesAsked room a (Some call) = AsksFirst room a (call_of call) ⊎ ClosesIdle a (call_of call)
+abbrev pub NextAskedResult : ℕ → Agenda → Option Call → Type 0
+NextAskedResult room a None = (room ≤ length a.waiting) ⊎ ((a.due ≡ []) × (0 < length a.waiting))
+NextAskedResult room a (Some call) = IsFirstPresent room a (call_of call) ⊎ IsIdleClose a (call_of call)
 
-abbrev pub GivesIf : Bool → origin.Call → Option Call → Type 0
-GivesIf true call None = ⊥
-GivesIf true call (Some given) = call_of given ≡ call
-GivesIf false call None = Unit {0}
-GivesIf false call (Some given) = ⊥
+abbrev pub IsGivenIf : Bool → origin.Call → Option Call → Type 0
+IsGivenIf true call None = ⊥
+IsGivenIf true call (Some given) = call_of given ≡ call
+IsGivenIf false call None = Unit {0}
+IsGivenIf false call (Some given) = ⊥
 
 abbrev pub has_room : Option ℕ → Bool
 has_room None = false
 has_room (Some room) = true
 
-abbrev pub GivesInRoom : Option ℕ → Agenda → Option Call → Type 0
-GivesInRoom None a given = given ≡ None
-GivesInRoom (Some room) a given = GivesAsked room a given
+abbrev pub IsGivenInRoom : Option ℕ → Agenda → Option Call → Type 0
+IsGivenInRoom None a given = given ≡ None
+IsGivenInRoom (Some room) a given = NextAskedResult room a given
 
 -- what is given at a phase
-abbrev pub GivesAt : Ask → ℕ → State → Phase → Option Call → Type 0
-GivesAt ask window state phases.Fresh given = GivesIf (is_fresh_state state) origin.Init given
-GivesAt ask window state phases.Opening given = given ≡ None
-GivesAt ask window state (phases.Opened present three) given =
-    GivesIf (has_room (room_for window state)) (origin.Search 1 1 ask) given
-GivesAt ask window state (phases.Searching present three) given = given ≡ None
-GivesAt ask window state (phases.Counted three count) given = ⊥
-GivesAt ask window state (phases.Asking a) given = GivesInRoom (room_for window state) a given
-GivesAt ask window state phases.Done given = GivesIf (has_room (room_for window state)) origin.Close given
-GivesAt ask window state phases.Closed given = given ≡ None
+abbrev pub GiveResult : Ask → ℕ → State → Phase → Option Call → Type 0
+GiveResult ask window state phases.Fresh given = IsGivenIf (is_fresh_state state) origin.Init given
+GiveResult ask window state phases.Opening given = given ≡ None
+GiveResult ask window state (phases.Opened present three) given =
+    IsGivenIf (has_room (room_for window state)) (origin.Search 1 1 ask) given
+GiveResult ask window state (phases.Searching present three) given = given ≡ None
+GiveResult ask window state (phases.Counted three count) given = ⊥
+GiveResult ask window state (phases.Asking a) given = IsGivenInRoom (room_for window state) a given
+GiveResult ask window state phases.Done given = IsGivenIf (has_room (room_for window state)) origin.Close given
+GiveResult ask window state phases.Closed given = given ≡ None
 
 -- the same phase, up to what is cut off of a schedule
 abbrev pub IsSamePhase : Phase → Phase → Type 0
@@ -337,7 +337,7 @@ IsPrepared wanted step (phases.Counted three count) new =
     new ≡ phases.Asking (whole_agenda three step (up_to count wanted))
 IsPrepared wanted step old new = new ≡ old
 
-pub record Prepares (old new : DriverState) : Type 0 where
+pub record PrepareStep (old new : DriverState) : Type 0 where
   pub phase : IsPrepared old.errand.wanted old.errand.step old.phase new.phase
   pub errand : new.errand ≡ old.errand
   pub left : new.left ≡ old.left
@@ -351,12 +351,12 @@ IsSentAgenda true a _ = ⊥
 IsSentAgenda false a new = Unit {0}
 
 -- the phase after an admitted call that was given at the phase before
-abbrev pub SendsAt : origin.Call → Phase → Phase → Type 0
-SendsAt origin.Init old new = new ≡ phases.Opening
-SendsAt (origin.Search op set ask) (phases.Opened present three) new = new ≡ phases.Searching present three
-SendsAt (origin.Present op set ranges) (phases.Asking a) new = IsSentAgenda a.ready a new
-SendsAt origin.Close old new = new ≡ phases.Closed
-SendsAt _ old new = Unit {0}
+abbrev pub SendStep : origin.Call → Phase → Phase → Type 0
+SendStep origin.Init old new = new ≡ phases.Opening
+SendStep (origin.Search op set ask) (phases.Opened present three) new = new ≡ phases.Searching present three
+SendStep (origin.Present op set ranges) (phases.Asking a) new = IsSentAgenda a.ready a new
+SendStep origin.Close old new = new ≡ phases.Closed
+SendStep _ old new = Unit {0}
 
 -- ---- replies
 
@@ -374,15 +374,15 @@ IsAnsweredAgenda first records a (phases.Asking b) = HasWaiting first a → IsAn
 IsAnsweredAgenda first records a _ = ⊥
 
 -- the number of an operation is that of its first position, and 1 more
-abbrev pub AnswersAt : ℕ → Apdu → Phase → Phase → Type 0
-AnswersAt op (apdus.SearchResponse v) (phases.Searching present three) new =
+abbrev pub AnswerStep : ℕ → Apdu → Phase → Phase → Type 0
+AnswerStep op (apdus.SearchResponse v) (phases.Searching present three) new =
     new ≡ counted_phase three (counted (v.search_status && present) v.result_count)
-AnswersAt op (apdus.PresentResponse v) (phases.Asking a) new =
+AnswerStep op (apdus.PresentResponse v) (phases.Asking a) new =
     IsAnsweredAgenda (op - 1) (length (records_in v.records)) a new
-AnswersAt op _ old new = Unit {0}
+AnswerStep op _ old new = Unit {0}
 
-abbrev pub TellsAt : Taken → Phase → Phase → Type 0
-TellsAt (taken.Opened answer) old new = new ≡ opened_phase answer.reply
-TellsAt (taken.Rejected answer) old new = new ≡ phases.Closed
-TellsAt (taken.Answered answer) old new = AnswersAt answer.asked.op answer.reply old new
-TellsAt taken.Closed old new = new ≡ old
+abbrev pub TakenStep : Taken → Phase → Phase → Type 0
+TakenStep (taken.Opened answer) old new = new ≡ opened_phase answer.reply
+TakenStep (taken.Rejected answer) old new = new ≡ phases.Closed
+TakenStep (taken.Answered answer) old new = AnswerStep answer.asked.op answer.reply old new
+TakenStep taken.Closed old new = new ≡ old

@@ -20,7 +20,7 @@ use Rattle.zorigin.specs.Changes.{force_in}
 use Rattle.zorigin.specs.Fitting.{records_in}
 use Rattle.zorigin.specs.Replies.{verdict}
 use Rattle.zorigin.specs.Log.{Log, Made, Got, Past, past, standing, opening, force_after, asked}
-use Rattle.zoom_pool.specs.Heard.{answer_in}
+use Rattle.zoom_pool.specs.Transcripts.{answer_in}
 
 -- ---- what the log says of the plan
 

@@ -13,7 +13,7 @@ use Rattle.ztarget.specs.declared.settings.TargetSettings.{TargetSettings}
 use Rattle.ztarget.specs.declared.error.TargetError.{TargetError}
 use Rattle.ztarget.specs.Replies.{Answer, owed, replies}
 use Rattle.ztarget.specs.Receiving.{TargetState, is_close, may_release, After as TargetAfter}
-use Rattle.zoom_pool.specs.Coming.{Met, Message, Foreign, Fault, AreMetAs}
+use Rattle.zoom_pool.specs.Inputs.{Input, Message, Foreign, Fault, AreInput}
 use Rattle.zber.specs.declared.framer.TheConstants.{MESSAGE_LIMIT}
 
 -- A host, for every contract: its target; the octets that came and were not yet given out in a message; the octets that
@@ -41,44 +41,44 @@ owed_by holdings received v = owed holdings.databases holdings.settings received
 
 -- The octets begin with the messages of these APDUs, the newest first, of which a target takes each after those before
 -- it, and then comes the rest.
-pub data Received (holdings : Holdings) (stream : List ℕ) : List Apdu → List ℕ → Type 0 where
-  nothing : Received holdings stream [] stream
+pub data AreReceived (holdings : Holdings) (stream : List ℕ) : List Apdu → List ℕ → Type 0 where
+  nothing : AreReceived holdings stream [] stream
   message : {received : List Apdu} {rest last : List ℕ} {e : Element} {by : Answer} {v : Apdu}
-      → Received holdings stream received rest → Begins MESSAGE_LIMIT rest e last → Writes v e
-      → owed_by holdings received v ≡ Ok by → Received holdings stream (v ∷ received) last
+      → AreReceived holdings stream received rest → Begins MESSAGE_LIMIT rest e last → Writes v e
+      → owed_by holdings received v ≡ Ok by → AreReceived holdings stream (v ∷ received) last
 
 -- what stops a host that received these: a fault of the framing, a message that is no APDU, an APDU that is not taken
-abbrev pub IsStopping : Holdings → List Apdu → Met → Type 0
+abbrev pub IsStopping : Holdings → List Apdu → Input → Type 0
 IsStopping holdings received (Message v) = (error : TargetError) × (owed_by holdings received v ≡ Err error)
 IsStopping holdings received (Foreign error) = Unit {0}
 IsStopping holdings received (Fault kind at) = Unit {0}
 IsStopping holdings received _ = ⊥
 
 -- what is behind the messages received: no whole message and no fault, or what stops the host
-abbrev pub EndsAt : Holdings → List Apdu → List ℕ → Bool → Type 0
-EndsAt holdings received rest false = IsUnfinished MESSAGE_LIMIT rest
-EndsAt holdings received rest true = (met : Met) × AreMetAs rest met × IsStopping holdings received met
+abbrev pub IsHostRest : Holdings → List Apdu → List ℕ → Bool → Type 0
+IsHostRest holdings received rest false = IsUnfinished MESSAGE_LIMIT rest
+IsHostRest holdings received rest true = (input : Input) × AreInput rest input × IsStopping holdings received input
 
 -- All whole messages of the octets were received, up to what stops the host.
 pub record HasReceived (holdings : Holdings) (stream : List ℕ) (received : List Apdu) (stopped : Bool) : Type 0 where
   pub rest : List ℕ
-  pub messages : Received holdings stream received rest
-  pub behind : EndsAt holdings received rest stopped
+  pub messages : AreReceived holdings stream received rest
+  pub behind : IsHostRest holdings received rest stopped
 
 -- ---- what befalls a host
 
 -- A piece was fed; one was fed, and memory was wanting; pending reply k was released, and its encoding put behind what
 -- waits; it was released and lost, since it was too long or memory was wanting; octets were handed out.
-pub data Event : Type 0 where
-  Fed : List ℕ → Event
-  FedPart : List ℕ → Event
-  Released : ℕ → Event
-  Lost : ℕ → Event
-  HandedOut : List ℕ → Event
+pub data HostEvent : Type 0 where
+  HostFed : List ℕ → HostEvent
+  HostFedPart : List ℕ → HostEvent
+  Released : ℕ → HostEvent
+  Lost : ℕ → HostEvent
+  HostHandedOut : List ℕ → HostEvent
 
 -- What the events amount to: the octets fed, joined; what the target received of them, newest first; its pending
 -- replies; those that it released, in order; those of them whose encodings were put to go out; whether it stopped.
-pub record Served : Type 0 where
+pub record HostTranscript : Type 0 where
   pub stream : List ℕ
   pub received : List Apdu
   pub pending : List Apdu
@@ -86,8 +86,8 @@ pub record Served : Type 0 where
   pub sent : List Apdu
   pub stopped : Bool
 
-abbrev pub unserved : Served
-unserved = record { stream = []; received = []; pending = []; released = []; sent = []; stopped = false }
+abbrev pub empty_host_transcript : HostTranscript
+empty_host_transcript = record { stream = []; received = []; pending = []; released = []; sent = []; stopped = false }
 
 abbrev pub replies_to : Holdings → List Apdu → List Apdu
 replies_to holdings received = replies holdings.databases holdings.settings received
@@ -99,7 +99,7 @@ pub record ArePutLast (holdings : Holdings) (received pending now then : List Ap
   pub last : then ≡ pending ++ more
 
 -- a piece more, of which all whole messages are received
-pub record Hears (holdings : Holdings) (piece : List ℕ) (p q : Served) : Type 0 where
+pub record FeedStep (holdings : Holdings) (piece : List ℕ) (p q : HostTranscript) : Type 0 where
   pub going : p.stopped ≡ false
   pub received : HasReceived holdings (p.stream ++ piece) q.received q.stopped
   pub replies : ArePutLast holdings p.received p.pending q.received q.pending
@@ -111,10 +111,10 @@ pub record Hears (holdings : Holdings) (piece : List ℕ) (p q : Served) : Type 
   }
 
 -- a piece more, of which some messages are received, and the host stopped
-pub record HearsPart (holdings : Holdings) (piece : List ℕ) (p q : Served) : Type 0 where
+pub record PartialFeedStep (holdings : Holdings) (piece : List ℕ) (p q : HostTranscript) : Type 0 where
   pub going : p.stopped ≡ false
   pub rest : List ℕ
-  pub messages : Received holdings (p.stream ++ piece) q.received rest
+  pub messages : AreReceived holdings (p.stream ++ piece) q.received rest
   pub replies : ArePutLast holdings p.received p.pending q.received q.pending
   pub is : q ≡ record p { stream = p.stream ++ piece; received = q.received; pending = q.pending; stopped = true }
 
@@ -126,15 +126,15 @@ abbrev pub IsShort : Apdu → Type 0
 IsShort reply = IsLong reply → ⊥
 
 -- pending reply k may be released, and is this
-pub record IsDue (pending : List Apdu) (k : ℕ) (reply : Apdu) : Type 0 where
+pub record IsReleasable (pending : List Apdu) (k : ℕ) (reply : Apdu) : Type 0 where
   pub may : may_release pending k ≡ true
   pub there : slice_get pending k ≡ Some reply
 
 -- pending reply k is put, and is read back
-pub record Sends (k : ℕ) (p q : Served) : Type 0 where
+pub record ReleaseStep (k : ℕ) (p q : HostTranscript) : Type 0 where
   pub going : p.stopped ≡ false
   pub reply : Apdu
-  pub due : IsDue p.pending k reply
+  pub due : IsReleasable p.pending k reply
   pub short : IsShort reply
   pub reads : IsReadBack (sent_of reply)
   pub is : q ≡ record p {
@@ -144,64 +144,65 @@ pub record Sends (k : ℕ) (p q : Served) : Type 0 where
   }
 
 -- pending reply k is lost, and the host stopped
-pub record Loses (k : ℕ) (p q : Served) : Type 0 where
+pub record LossStep (k : ℕ) (p q : HostTranscript) : Type 0 where
   pub going : p.stopped ≡ false
   pub reply : Apdu
-  pub due : IsDue p.pending k reply
+  pub due : IsReleasable p.pending k reply
   pub is : q ≡ record p { pending = remove p.pending k; released = p.released ++ reply ∷ []; stopped = true }
 
 -- a stopped host ignores what is fed
-abbrev pub Ignores : Served → Served → Type 0
-Ignores p q = (p.stopped ≡ true) × (q ≡ p)
+abbrev pub IsIgnored : HostTranscript → HostTranscript → Type 0
+IsIgnored p q = (p.stopped ≡ true) × (q ≡ p)
 
 -- what one event more makes of it
-abbrev pub Serves : Holdings → Event → Served → Served → Type 0
-Serves holdings (Fed piece) p q = Ignores p q ⊎ Hears holdings piece p q
-Serves holdings (FedPart piece) p q = HearsPart holdings piece p q
-Serves holdings (Released k) p q = Sends k p q
-Serves holdings (Lost k) p q = Loses k p q
-Serves holdings (HandedOut octets) p q = q ≡ p
+abbrev pub HostEventStep : Holdings → HostEvent → HostTranscript → HostTranscript → Type 0
+HostEventStep holdings (HostFed piece) p q = IsIgnored p q ⊎ FeedStep holdings piece p q
+HostEventStep holdings (HostFedPart piece) p q = PartialFeedStep holdings piece p q
+HostEventStep holdings (Released k) p q = ReleaseStep k p q
+HostEventStep holdings (Lost k) p q = LossStep k p q
+HostEventStep holdings (HostHandedOut octets) p q = q ≡ p
 
 -- what the events amount to, the newest first
-abbrev pub HasServed : Holdings → List Event → Served → Type 0
-HasServed holdings [] q = q ≡ unserved
-HasServed holdings (event ∷ events) q =
-    (p : Served) × HasServed holdings events p × Serves holdings event p q
+abbrev pub IsHostTranscript : Holdings → List HostEvent → HostTranscript → Type 0
+IsHostTranscript holdings [] q = q ≡ empty_host_transcript
+IsHostTranscript holdings (event ∷ events) q =
+    (p : HostTranscript) × IsHostTranscript holdings events p × HostEventStep holdings event p q
 
 -- the octets handed out
-abbrev pub handed_out : List Event → List ℕ
+abbrev pub handed_out : List HostEvent → List ℕ
 handed_out [] = []
-handed_out (HandedOut octets ∷ events) = handed_out events ++ octets
+handed_out (HostHandedOut octets ∷ events) = handed_out events ++ octets
 handed_out (_ ∷ events) = handed_out events
 
 -- the framer has what follows the messages received
-pub record IsAt (framer : Stream) (rest : List ℕ) : Type 0 where
+pub record IsFramerAt (framer : Stream) (rest : List ℕ) : Type 0 where
   pub rest_is : rest ≡ framer.octets
   pub limited : framer.limit ≡ MESSAGE_LIMIT
   pub sound : framer.fault ≡ None
 
 -- a host that goes on waits for what follows
-abbrev pub Waits : Holdings → Served → Stream → Type 0
-Waits holdings p framer = (rest : List ℕ) × Received holdings p.stream p.received rest × IsAt framer rest
+abbrev pub IsHostWaiting : Holdings → HostTranscript → Stream → Type 0
+IsHostWaiting holdings p framer =
+    (rest : List ℕ) × AreReceived holdings p.stream p.received rest × IsFramerAt framer rest
 
 -- The events can have left this host: its target received the messages of the octets fed, up to what stopped it, and
 -- released these replies; what was handed out and what waits are the encodings of those that were put, in order.
-pub record HostAfter (holdings : Holdings) (events : List Event) (host : HostState) : Type 0 where
-  pub served : Served
-  pub happened : HasServed holdings events served
+pub record HostAfter (holdings : Holdings) (events : List HostEvent) (host : HostState) : Type 0 where
+  pub served : HostTranscript
+  pub happened : IsHostTranscript holdings events served
   pub target : TargetAfter holdings.databases holdings.settings served.received served.released host.target
   pub pending : host.target.pending ≡ served.pending
   pub waiting : handed_out events ++ host.waiting ≡ flat_map encoding_of served.sent
   pub stopped : host.stopped ≡ served.stopped
   pub closed : host.closed ≡ list_any is_close served.sent
-  pub framer : served.stopped ≡ false → Waits holdings served host.framer
+  pub framer : served.stopped ≡ false → IsHostWaiting holdings served host.framer
 
 -- ---- what the calls say, each for every history that can have left the host
 
 -- the event befell the host, and made this one of that one
-abbrev pub Underwent : Event → HostState → HostState → Type 0
-Underwent event old new =
-    (holdings : Holdings) (events : List Event)
+abbrev pub HostRecorded : HostEvent → HostState → HostState → Type 0
+HostRecorded event old new =
+    (holdings : Holdings) (events : List HostEvent)
     → HostAfter holdings events old → HostAfter holdings (event ∷ events) new
 
 -- there is no such reply to release, or the host is stopped; nothing changed
@@ -211,13 +212,13 @@ HasNone old k new = ((old.stopped ≡ true) ⊎ (may_release old.target.pending 
 -- the reply was too long
 pub record IsTooLong (old : HostState) (k : ℕ) (new : HostState) : Type 0 where
   pub reply : Apdu
-  pub due : IsDue old.target.pending k reply
+  pub due : IsReleasable old.target.pending k reply
   pub long : IsLong reply
   pub stopped : new.stopped ≡ true
 
 -- What releasing pending reply k did: it was put; or there is none, or it was too long and is lost; or memory was
 -- wanting, and it is lost.
-abbrev pub ReleasesAs : {E : Type 0} → ℕ → Result Bool E → HostState → HostState → Type 0
-ReleasesAs k (Ok true) old new = (old.stopped ≡ false) × Underwent (Released k) old new
-ReleasesAs k (Ok false) old new = HasNone old k new ⊎ (IsTooLong old k new × Underwent (Lost k) old new)
-ReleasesAs k (Err e) old new = (new.stopped ≡ true) × Underwent (Lost k) old new
+abbrev pub ReleaseResult : {E : Type 0} → ℕ → Result Bool E → HostState → HostState → Type 0
+ReleaseResult k (Ok true) old new = (old.stopped ≡ false) × HostRecorded (Released k) old new
+ReleaseResult k (Ok false) old new = HasNone old k new ⊎ (IsTooLong old k new × HostRecorded (Lost k) old new)
+ReleaseResult k (Err e) old new = (new.stopped ≡ true) × HostRecorded (Lost k) old new

@@ -10,25 +10,25 @@ use Rattle.zorigin.specs.declared.settings.Settings.{Settings}
 use Rattle.zorigin.specs.declared.answer.Answer.{Answer}
 use Rattle.zoom_pool.specs.declared.answer.Step.TheVariants as steps
 use Rattle.zoom_pool.specs.States.{is_stopped}
-use Rattle.zoom_pool.specs.Coming.{Met, IsBehind}
+use Rattle.zoom_pool.specs.Inputs.{Input, IsBehind}
 use Rattle.zber.specs.declared.framer.TheConstants.{MESSAGE_LIMIT}
-use Rattle.zoom_pool.specs.Heard.{Deed, Heard, HasHeard, Meets, state_at, took_as}
+use Rattle.zoom_pool.specs.Transcripts.{Event, Transcript, IsTranscript, NextInput, state_at, answer_to}
 use Rattle.zoom_pool.specs.Links.{Links}
 use Rattle.zoom_pool.specs.History.{History, accepted, After, AfterUpTo}
 
 -- a connection's deeds amount to one thing
-abbrev pub OneHearing : Type 0
-OneHearing =
-    (settings : Settings) (deeds : List Deed) (p q : Heard)
-    → HasHeard settings deeds p → HasHeard settings deeds q → p ≡ q
+abbrev pub OneTranscript : Type 0
+OneTranscript =
+    (settings : Settings) (events : List Event) (p q : Transcript)
+    → IsTranscript settings events p → IsTranscript settings events q → p ≡ q
 
 -- and a Take meets one thing
-abbrev pub OneMeeting : Type 0
-OneMeeting = (p : Heard) (m n : Met) → Meets p m → Meets p n → m ≡ n
+abbrev pub OneInput : Type 0
+OneInput = (p : Transcript) (m n : Input) → NextInput p m → NextInput p n → m ≡ n
 
 -- a connection is neither stopped nor ended, and what was not taken of its stream holds no message and shows no fault
-pub record Waits (p : Heard) : Type 0 where
-  pub goes_on : is_stopped (state_at p) ≡ false
+pub record IsWaiting (p : Transcript) : Type 0 where
+  pub is_going : is_stopped (state_at p) ≡ false
   pub more : p.ended ≡ false
   pub rest : List ℕ
   pub behind : IsBehind p.stream p.taken rest
@@ -36,9 +36,10 @@ pub record Waits (p : Heard) : Type 0 where
 
 -- when a Take answers Nothing, and when Stopped
 pub record TakeLaws : Type 0 where
-  pub nothing : (p : Heard) (met : Met) → Meets p met → (took_as p met ≡ Ok steps.Nothing) ↔ Waits p
-  pub stopped : (p : Heard) (met : Met)
-      → Meets p met → (took_as p met ≡ Ok steps.Stopped) ↔ (is_stopped (state_at p) ≡ true)
+  pub nothing : (p : Transcript) (input : Input) → NextInput p input → (answer_to p input ≡ Ok steps.Nothing)
+      ↔ IsWaiting p
+  pub stopped : (p : Transcript) (input : Input)
+      → NextInput p input → (answer_to p input ≡ Ok steps.Stopped) ↔ (is_stopped (state_at p) ≡ true)
 
 -- what a history can have left, it can have left up to any connection's next Take
 abbrev pub UpToLaw : Type 0
@@ -63,11 +64,11 @@ abbrev pub AreAmong : List Answer → List Answer → Type 0
 AreAmong xs ys = (x : Answer) → Contains xs x → (y : Answer) × Contains ys y × (plain_answer x ≡ plain_answer y)
 
 -- the accepted replies are the same
-abbrev pub AreSameAccepted : (ℕ → Heard) → (ℕ → Heard) → Type 0
+abbrev pub AreSameAccepted : (ℕ → Transcript) → (ℕ → Transcript) → Type 0
 AreSameAccepted a b = (c : ℕ) → AreAmong (accepted (a c)) (accepted (b c)) × AreAmong (accepted (b c)) (accepted (a c))
 
 -- the same is known, and the printed list is the same
-pub record KnowSame (one other : Links) : Type 0 where
+pub record SameKnowledge (one other : Links) : Type 0 where
   pub known : one.knowledge ≡ other.knowledge
   pub printed : (names : List (List ℕ)) (mode : Mode)
       → listing names mode one.knowledge ≡ listing names mode other.knowledge
@@ -77,4 +78,5 @@ pub record KnowSame (one other : Links) : Type 0 where
 abbrev pub OrderLaw : Type 0
 OrderLaw =
     (settings others : Settings) (g h : History) (one other : Links)
-    (a : After settings g one) (b : After others h other) → AreSameAccepted a.heard b.heard → KnowSame one other
+    (a : After settings g one) (b : After others h other) → AreSameAccepted a.transcript b.transcript
+    → SameKnowledge one other

@@ -10,12 +10,12 @@ use Rattle.zorigin.specs.declared.answer.Taken.{Taken}
 use Rattle.zorigin.specs.Facts.{IsShowable, HasShowable}
 
 -- the reply was read from an element, and its facts can be told
-pub record IsTellable (answer : Answer) : Type 0 where
+pub record IsLearnable (answer : Answer) : Type 0 where
   pub element : Element
   pub written : Writes answer.reply element
   pub showable : IsShowable answer
 
-pub record HasTellable (taken : Taken) : Type 0 where
+pub record HasLearnable (taken : Taken) : Type 0 where
   pub element : Element
   pub reply : Apdu
   pub written : Writes reply element
@@ -26,12 +26,12 @@ abbrev pub IsRead : Apdu → Type 0
 IsRead reply = (e : Element) × Writes reply e
 
 -- facts that were known stay known
-abbrev pub Grows : List Fact → List Fact → Type 0
-Grows old new = (q : Fact) → Contains old q → Contains new q
+abbrev pub AreStillKnown : List Fact → List Fact → Type 0
+AreStillKnown old new = (q : Fact) → Contains old q → Contains new q
 
 -- all these facts were added to what was known; or a part of them
-abbrev pub AddsAll : List Fact → List Fact → List Fact → Type 0
-AddsAll old facts new = IsUnion (Contains old) (Contains facts) (Contains new)
+abbrev pub AreAdded : List Fact → List Fact → List Fact → Type 0
+AreAdded old facts new = IsUnion (Contains old) (Contains facts) (Contains new)
 
-abbrev pub AddsPart : List Fact → List Fact → List Fact → Type 0
-AddsPart old facts new = IsPartOfUnion (Contains old) (Contains facts) (Contains new)
+abbrev pub ArePartlyAdded : List Fact → List Fact → List Fact → Type 0
+ArePartlyAdded old facts new = IsPartOfUnion (Contains old) (Contains facts) (Contains new)

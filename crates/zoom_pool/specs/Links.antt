@@ -39,5 +39,5 @@ abbrev pub stop_at : Links → ℕ → Option State
 stop_at pool c = stop_in (slice_get pool.connections c)
 
 -- the other connections are as they were
-abbrev pub OthersStay : ℕ → Links → Links → Type 0
-OthersStay c old new = (i : ℕ) → (c == i) ≡ false → slice_get new.connections i ≡ slice_get old.connections i
+abbrev pub SameOthers : ℕ → Links → Links → Type 0
+SameOthers c old new = (i : ℕ) → (c == i) ≡ false → slice_get new.connections i ≡ slice_get old.connections i

@@ -5,19 +5,19 @@ use Rattle.zorigin.specs.declared.settings.Settings.{Settings}
 use Rattle.zorigin.specs.Standings.{Call}
 use Rattle.zoom_questions.specs.declared.question.Question.{Question}
 use Rattle.zoom_questions.specs.declared.question.MetaSettings.{MetaSettings}
-use Rattle.zoom_pool.specs.declared.meta.Turn.{Turn}
-use Rattle.zoom_pool.specs.declared.meta.Turn.TheVariants as turns
-use Rattle.zoom_pool.specs.declared.answer.Told.{Told}
-use Rattle.zoom_pool.specs.declared.answer.Told.TheVariants as told
+use Rattle.zoom_pool.specs.declared.meta.Turn.{Advance}
+use Rattle.zoom_pool.specs.declared.meta.Turn.TheVariants as stages
+use Rattle.zoom_pool.specs.declared.answer.Outcome.{Outcome}
+use Rattle.zoom_pool.specs.declared.answer.Outcome.TheVariants as outcome
 use Rattle.zoom_pool.specs.declared.answer.TakeError.{TakeError}
 use Rattle.zoom_pool.specs.States.{is_stopped}
-use Rattle.zoom_pool.specs.Coming.{Met}
-use Rattle.zoom_pool.specs.Heard.{Heard, HasHeard, Deed, Calls, Takes, take_at, told_as, past_of, state_at}
+use Rattle.zoom_pool.specs.Inputs.{Input}
+use Rattle.zoom_pool.specs.Transcripts.{Transcript, IsTranscript, Event, Called, Took, after_take, outcome_of, past_of, state_at}
 use Rattle.zoom_pool.specs.Links.{Links}
-use Rattle.zoom_pool.specs.History.{History, only, After, AfterUpTo}
+use Rattle.zoom_pool.specs.History.{History, events_on, After, AfterUpTo}
 use Rattle.zoom_questions.specs.Askable.{AreAskable, AreFit}
 use Rattle.zoom_pool.specs.Steering.{Errand, errand_with, errand_of, IsNextCall, IsTried, skipped_in, complete_in}
-use Rattle.zoom_pool.specs.Drivers.{DriverState, IsDriver, HasOpening, Offers, KnowsTold}
+use Rattle.zoom_pool.specs.Drivers.{DriverState, IsDriver, HasOpening, IsOffer, NoteReplyStep}
 
 -- A pool, and what drives each of its connections, by number.
 pub record MetaLinks : Type 0 where
@@ -31,8 +31,8 @@ settings_of s = record { name = s.name }
 pub record AreDriven (questions : List Question) (s : MetaSettings) (h : History) (drivers : List DriverState)
     : Type 0 where
   pub size : length drivers ≡ length questions
-  pub each : (c : ℕ) (q : Question) (d : DriverState) (p : Heard)
-      → slice_get questions c ≡ Some q → slice_get drivers c ≡ Some d → HasHeard (settings_of s) (only c h) p
+  pub each : (c : ℕ) (q : Question) (d : DriverState) (p : Transcript)
+      → slice_get questions c ≡ Some q → slice_get drivers c ≡ Some d → IsTranscript (settings_of s) (events_on c h) p
       → IsDriver (errand_of s q) p.settings p.log d
 
 -- The history can have left these: it can have left the pool, and each call was next.
@@ -53,54 +53,54 @@ pub record MetaAfterUpTo (questions : List Question) (s : MetaSettings) (c : ℕ
   pub size : length meta.pool.connections ≡ length questions
 
 -- each driver stands for a question that nothing was asked of yet
-abbrev pub StandFor : List Question → ℕ → ℕ → List DriverState → Type 0
-StandFor [] step window [] = Unit {0}
-StandFor (q ∷ qs) step window (d ∷ ds) =
+abbrev pub AreNewDrivers : List Question → ℕ → ℕ → List DriverState → Type 0
+AreNewDrivers [] step window [] = Unit {0}
+AreNewDrivers (q ∷ qs) step window (d ∷ ds) =
     ((settings : Settings) → length settings.name ≤ 2000000 → IsDriver (errand_with q step window) settings [] d)
-    × StandFor qs step window ds
-StandFor _ step window _ = ⊥
+    × AreNewDrivers qs step window ds
+AreNewDrivers _ step window _ = ⊥
 
 -- the deed befell the connection, and made these of those
-abbrev pub MetaBefell : ℕ → Deed → MetaLinks → MetaLinks → Type 0
-MetaBefell c deed old new =
+abbrev pub MetaRecorded : ℕ → Event → MetaLinks → MetaLinks → Type 0
+MetaRecorded c event old new =
     (questions : List Question) (s : MetaSettings) (h : History)
-    → MetaAfter questions s h old → MetaAfter questions s ((c, deed) ∷ h) new
+    → MetaAfter questions s h old → MetaAfter questions s ((c, event) ∷ h) new
 
 -- a Take did
-abbrev pub MetaTook : ℕ → MetaLinks → MetaLinks → Type 0
-MetaTook c old new =
+abbrev pub MetaTakeStep : ℕ → MetaLinks → MetaLinks → Type 0
+MetaTakeStep c old new =
     (questions : List Question) (s : MetaSettings) (h : History)
-    → MetaAfterUpTo questions s c h old → MetaAfter questions s ((c, Takes) ∷ h) new
+    → MetaAfterUpTo questions s c h old → MetaAfter questions s ((c, Took) ∷ h) new
 
 -- a Take was not done
-abbrev pub MetaKeeps : ℕ → MetaLinks → MetaLinks → Type 0
-MetaKeeps c old new =
+abbrev pub MetaIncompleteTake : ℕ → MetaLinks → MetaLinks → Type 0
+MetaIncompleteTake c old new =
     (questions : List Question) (s : MetaSettings) (h : History)
     → MetaAfterUpTo questions s c h old → MetaAfterUpTo questions s c h new
 
 -- what drives a connection knows a Take that was answered so
-abbrev pub KnowsTake : Result Told TakeError → DriverState → DriverState → Type 0
-KnowsTake answer old new =
-    (e : Errand) (p : Heard) (met : Met) → IsDriver e p.settings p.log old → answer ≡ told_as p met
-    → IsDriver e (take_at p met).settings (take_at p met).log new
+abbrev pub DriverTakeStep : Result Outcome TakeError → DriverState → DriverState → Type 0
+DriverTakeStep answer old new =
+    (e : Errand) (p : Transcript) (input : Input) → IsDriver e p.settings p.log old → answer ≡ outcome_of p input
+    → IsDriver e (after_take p input).settings (after_take p input).log new
 
 -- it is told what the origin took
-abbrev pub LearnsTold : Told → DriverState → DriverState → Type 0
-LearnsTold (told.Took taken) old new = KnowsTold taken old new
-LearnsTold _ old new = new ≡ old
+abbrev pub NoteTakeStep : Outcome → DriverState → DriverState → Type 0
+NoteTakeStep (outcome.Took taken) old new = NoteReplyStep taken old new
+NoteTakeStep _ old new = new ≡ old
 
 -- ---- calls that are due
 
 -- the calls, the newest first, as deeds of the connection
-abbrev pub made : ℕ → List Call → History
-made c calls = map (λ call. (c, Calls call)) calls
+abbrev pub call_events : ℕ → List Call → History
+call_events c calls = map (λ call. (c, Called call)) calls
 
 -- no call is next on a connection that goes on
-abbrev pub NoneIsNext : Errand → Heard → Type 0
+abbrev pub NoneIsNext : Errand → Transcript → Type 0
 NoneIsNext e p = is_stopped (state_at p) ≡ false → (call : Call) → IsNextCall e p.settings p.log call → ⊥
 
 -- the search of a connection that goes on was admitted, or it was skipped, once the association was accepted
-abbrev pub WasTried : Heard → Type 0
+abbrev pub WasTried : Transcript → Type 0
 WasTried p = is_stopped (state_at p) ≡ false → HasOpening (past_of p) → IsTried p.settings p.log
 
 -- These calls of a connection were made, each the next one or the search that is skipped, and so many of them were
@@ -108,29 +108,30 @@ WasTried p = is_stopped (state_at p) ≡ false → HasOpening (past_of p) → Is
 pub record Progress (questions : List Question) (s : MetaSettings) (c : ℕ) (h : History) (n : ℕ) (new : MetaLinks)
     : Type 0 where
   pub calls : List Call
-  pub after : MetaAfter questions s (made c calls ++ h) new
-  pub count : (p q : Heard) → HasHeard (settings_of s) (only c h) p
-      → HasHeard (settings_of s) (only c (made c calls ++ h)) q
+  pub after : MetaAfter questions s (call_events c calls ++ h) new
+  pub count : (p q : Transcript) → IsTranscript (settings_of s) (events_on c h) p
+      → IsTranscript (settings_of s) (events_on c (call_events c calls ++ h)) q
       → length (past_of q).admitted ≡ length (past_of p).admitted + n
 
 -- What driving a connection did: calls were made, and then none is next; no search was passed over.
-pub record Drives (questions : List Question) (s : MetaSettings) (c : ℕ) (h : History) (n : ℕ) (new : MetaLinks)
+pub record CompleteDrive (questions : List Question) (s : MetaSettings) (c : ℕ) (h : History) (n : ℕ) (new : MetaLinks)
     : Type 0 where
   pub progress : Progress questions s c h n new
-  pub rests : (question : Question) (q : Heard) → slice_get questions c ≡ Some question
-      → HasHeard (settings_of s) (only c (made c progress.calls ++ h)) q
+  pub rests : (question : Question) (q : Transcript) → slice_get questions c ≡ Some question
+      → IsTranscript (settings_of s) (events_on c (call_events c progress.calls ++ h)) q
       → NoneIsNext (errand_of s question) q
-  pub tried : (q : Heard) → HasHeard (settings_of s) (only c (made c progress.calls ++ h)) q → WasTried q
+  pub tried : (q : Transcript) → IsTranscript (settings_of s) (events_on c (call_events c progress.calls ++ h)) q
+      → WasTried q
 
 -- where memory was wanting: calls were made
-abbrev pub DrivesBy : {E : Type 0} → List Question → MetaSettings → ℕ → History → Result ℕ E → MetaLinks → Type 0
-DrivesBy questions s c h (Ok n) new = Drives questions s c h n new
-DrivesBy questions s c h (Err e) new = (n : ℕ) × Progress questions s c h n new
+abbrev pub DriveResultAt : {E : Type 0} → List Question → MetaSettings → ℕ → History → Result ℕ E → MetaLinks → Type 0
+DriveResultAt questions s c h (Ok n) new = CompleteDrive questions s c h n new
+DriveResultAt questions s c h (Err e) new = (n : ℕ) × Progress questions s c h n new
 
-abbrev pub DrivesTo : {E : Type 0} → ℕ → Result ℕ E → MetaLinks → MetaLinks → Type 0
-DrivesTo c answer old new =
+abbrev pub DriveResult : {E : Type 0} → ℕ → Result ℕ E → MetaLinks → MetaLinks → Type 0
+DriveResult c answer old new =
     (questions : List Question) (s : MetaSettings) (h : History)
-    → MetaAfter questions s h old → DrivesBy questions s c h answer new
+    → MetaAfter questions s h old → DriveResultAt questions s c h answer new
 
 -- ---- one call
 
@@ -143,62 +144,66 @@ abbrev pub left_at : MetaLinks → ℕ → ℕ
 left_at meta c = left_of (slice_get meta.drivers c)
 
 -- what looking for the next call did
-abbrev pub AdvancesBy
-    : {E : Type 0} → List Question → MetaSettings → ℕ → History → Result Turn E → MetaLinks → MetaLinks → Type 0
-AdvancesBy questions s c h (Ok turns.Admitted) old new =
+abbrev pub AdvanceResultAt
+    : {E : Type 0} → List Question → MetaSettings → ℕ → History → Result Advance E → MetaLinks → MetaLinks → Type 0
+AdvanceResultAt questions s c h (Ok stages.Admitted) old new =
     Progress questions s c h 1 new × (left_at new c < left_at old c)
-AdvancesBy questions s c h (Ok turns.Skipped) old new =
+AdvanceResultAt questions s c h (Ok stages.Skipped) old new =
     Progress questions s c h 0 new × (left_at new c < left_at old c)
-AdvancesBy questions s c h (Ok turns.Rests) old new = Drives questions s c h 0 new
-AdvancesBy questions s c h (Err e) old new = Progress questions s c h 0 new
+AdvanceResultAt questions s c h (Ok stages.Rests) old new = CompleteDrive questions s c h 0 new
+AdvanceResultAt questions s c h (Err e) old new = Progress questions s c h 0 new
 
-abbrev pub AdvancesTo : {E : Type 0} → ℕ → Result Turn E → MetaLinks → MetaLinks → Type 0
-AdvancesTo c answer old new =
+abbrev pub AdvanceResult : {E : Type 0} → ℕ → Result Advance E → MetaLinks → MetaLinks → Type 0
+AdvanceResult c answer old new =
     (questions : List Question) (s : MetaSettings) (h : History)
-    → MetaAfter questions s h old → AdvancesBy questions s c h answer old new
+    → MetaAfter questions s h old → AdvanceResultAt questions s c h answer old new
 
 -- what drives the connection gave this call, and nothing stopped the connection
-abbrev pub Gave : List Question → MetaSettings → ℕ → History → Call → MetaLinks → Type 0
-Gave questions s c h call meta =
-    (q : Question) (d : DriverState) (p : Heard)
-    → slice_get questions c ≡ Some q → slice_get meta.drivers c ≡ Some d → HasHeard (settings_of s) (only c h) p
-    → (p.stop ≡ None) × Offers (errand_of s q) p.settings p.log d call
+abbrev pub IsGivenCall : List Question → MetaSettings → ℕ → History → Call → MetaLinks → Type 0
+IsGivenCall questions s c h call meta =
+    (q : Question) (d : DriverState) (p : Transcript)
+    → slice_get questions c ≡ Some q → slice_get meta.drivers c ≡ Some d
+    → IsTranscript (settings_of s) (events_on c h) p
+    → (p.stop ≡ None) × IsOffer (errand_of s q) p.settings p.log d call
 
-abbrev pub IssuesTo : {E : Type 0} → ℕ → Call → Result Turn E → MetaLinks → MetaLinks → Type 0
-IssuesTo c call answer old new =
+abbrev pub IssueResult : {E : Type 0} → ℕ → Call → Result Advance E → MetaLinks → MetaLinks → Type 0
+IssueResult c call answer old new =
     (questions : List Question) (s : MetaSettings) (h : History)
-    → MetaAfter questions s h old → Gave questions s c h call old → AdvancesBy questions s c h answer old new
+    → MetaAfter questions s h old → IsGivenCall questions s c h call old
+    → AdvanceResultAt questions s c h answer old new
 
 -- ---- what is told of a connection
 
 -- what is told of each history that can have left these, of the connection and its question
-abbrev pub Tells : ℕ → MetaLinks → (Heard → Bool) → Bool → Type 0
-Tells c meta tells answer =
-    (questions : List Question) (s : MetaSettings) (h : History) (p : Heard)
-    → MetaAfter questions s h meta → HasHeard (settings_of s) (only c h) p → answer ≡ tells p
+abbrev pub IsTranscriptValue : ℕ → MetaLinks → (Transcript → Bool) → Bool → Type 0
+IsTranscriptValue c meta value answer =
+    (questions : List Question) (s : MetaSettings) (h : History) (p : Transcript)
+    → MetaAfter questions s h meta → IsTranscript (settings_of s) (events_on c h) p → answer ≡ value p
 
 -- the same, also after a Take of d that found no memory
-abbrev pub TellsUpTo : ℕ → MetaLinks → (Heard → Bool) → Bool → Type 0
-TellsUpTo c meta tells answer =
-    (questions : List Question) (s : MetaSettings) (d : ℕ) (h : History) (p : Heard)
-    → MetaAfterUpTo questions s d h meta → HasHeard (settings_of s) (only c h) p → answer ≡ tells p
+abbrev pub IsTranscriptValueUpTo : ℕ → MetaLinks → (Transcript → Bool) → Bool → Type 0
+IsTranscriptValueUpTo c meta value answer =
+    (questions : List Question) (s : MetaSettings) (d : ℕ) (h : History) (p : Transcript)
+    → MetaAfterUpTo questions s d h meta → IsTranscript (settings_of s) (events_on c h) p → answer ≡ value p
 
-abbrev pub is_skipped : Heard → Bool
+abbrev pub is_skipped : Transcript → Bool
 is_skipped p = skipped_in p.settings p.log
 
-abbrev pub is_complete : Heard → Bool
+abbrev pub is_complete : Transcript → Bool
 is_complete p = complete_in (past_of p)
 
 -- each connection is Closed or Failed
 abbrev pub IsFinished : MetaLinks → Bool → Type 0
 IsFinished meta answer =
     (questions : List Question) (s : MetaSettings) (h : History) → MetaAfter questions s h meta
-    → (answer ≡ true) ↔ ((c : ℕ) (p : Heard) → c < length questions → HasHeard (settings_of s) (only c h) p
+    → (answer ≡ true) ↔ ((c : ℕ) (p : Transcript) → c < length questions
+    → IsTranscript (settings_of s) (events_on c h) p
     → is_stopped (state_at p) ≡ true)
 
 -- the same, also after a Take of d that found no memory
 abbrev pub IsFinishedUpTo : MetaLinks → Bool → Type 0
 IsFinishedUpTo meta answer =
     (questions : List Question) (s : MetaSettings) (d : ℕ) (h : History) → MetaAfterUpTo questions s d h meta
-    → (answer ≡ true) ↔ ((c : ℕ) (p : Heard) → c < length questions → HasHeard (settings_of s) (only c h) p
+    → (answer ≡ true) ↔ ((c : ℕ) (p : Transcript) → c < length questions
+    → IsTranscript (settings_of s) (events_on c h) p
     → is_stopped (state_at p) ≡ true)

@@ -9,20 +9,20 @@ use Rattle.zoom_pool.specs.declared.answer.TakeError.{TakeError}
 use Rattle.zoom_pool.specs.declared.answer.TakeError.TheVariants as errors
 
 -- of what a connection failed for
-abbrev pub reason_word : Reason → List ℕ
-reason_word (reasons.Frame kind at) = kind_word kind
-reason_word (reasons.Decode error) = apdu_word error
-reason_word (reasons.Refused reason) = reply_word reason
-reason_word reasons.Ended = codes "Ended"
-reason_word reasons.Connect = codes "Connect"
-reason_word reasons.Read = codes "Read"
-reason_word reasons.Write = codes "Write"
-reason_word reasons.Turns = codes "Turns"
-reason_word reasons.Memory = codes "Memory"
+abbrev pub reason_name : Reason → List ℕ
+reason_name (reasons.Frame kind at) = kind_word kind
+reason_name (reasons.Decode error) = apdu_word error
+reason_name (reasons.Refused reason) = reply_word reason
+reason_name reasons.Ended = codes "Ended"
+reason_name reasons.Connect = codes "Connect"
+reason_name reasons.Read = codes "Read"
+reason_name reasons.Write = codes "Write"
+reason_name reasons.Turns = codes "Turns"
+reason_name reasons.Memory = codes "Memory"
 
 -- of why a message was not taken
-abbrev pub error_word : TakeError → List ℕ
-error_word (errors.Frame kind at) = kind_word kind
-error_word (errors.Decode error) = apdu_word error
-error_word (errors.Refused reason) = reply_word reason
-error_word errors.Memory = codes "Memory"
+abbrev pub error_name : TakeError → List ℕ
+error_name (errors.Frame kind at) = kind_word kind
+error_name (errors.Decode error) = apdu_word error
+error_name (errors.Refused reason) = reply_word reason
+error_name errors.Memory = codes "Memory"

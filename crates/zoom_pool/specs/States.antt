@@ -30,6 +30,6 @@ is_closing states.Closing = true
 is_closing _ = false
 
 -- nothing stopped it
-abbrev pub goes_on : Option State → Bool
-goes_on None = true
-goes_on (Some state) = not (is_stopped state)
+abbrev pub is_going : Option State → Bool
+is_going None = true
+is_going (Some state) = not (is_stopped state)

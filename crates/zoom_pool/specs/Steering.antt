@@ -69,16 +69,16 @@ abbrev pub may_call : State → Bool
 may_call state = is_fresh state || is_ready state
 
 -- a call of the errand: its set is 1, its search is the question's
-abbrev pub IsOf : Errand → Call → Type 0
-IsOf e Init = Unit {0}
-IsOf e (Search op set ask) = (set ≡ 1) × (ask ≡ e.ask)
-IsOf e (Present op set ranges) = set ≡ 1
-IsOf e Close = Unit {0}
+abbrev pub IsCallOf : Errand → Call → Type 0
+IsCallOf e Init = Unit {0}
+IsCallOf e (Search op set ask) = (set ≡ 1) × (ask ≡ e.ask)
+IsCallOf e (Present op set ranges) = set ≡ 1
+IsCallOf e Close = Unit {0}
 
 -- The call is next, in a connection that was not closed.
 pub record IsNextCall (e : Errand) (settings : Settings) (log : Log) (call : Call) : Type 0 where
   pub stands : may_call (state_of (past settings log)) ≡ true
-  pub of : IsOf e call
+  pub of : IsCallOf e call
   pub numbered : IsNumbered call
   pub next : IsNext e.wanted e.step (room_in e.window (past settings log)) (events_of e.ask settings log) (plan_of call)
 
@@ -92,7 +92,7 @@ is_skip _ _ = false
 abbrev pub IsSteeredCall : Errand → Settings → Log → Option CallRefused → Call → Type 0
 IsSteeredCall e settings log None call = IsNextCall e settings log call
 IsSteeredCall e settings log (Some reason) call =
-    (is_skip (Some reason) call ≡ true) × IsOf e call × IsNumbered call
+    (is_skip (Some reason) call ≡ true) × IsCallOf e call × IsNumbered call
 
 -- each call was the next one at its moment, or the search that is skipped
 abbrev pub IsSteered : Errand → Settings → Log → Type 0

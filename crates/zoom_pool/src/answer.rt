@@ -1,7 +1,7 @@
 //! What a take answers.
 ghost use Rattle.std.specs.Prelude.{◌≡◌};
-ghost use Rattle.zoom_pool.specs.Heard.{reason_of, step_told};
-ghost use Rattle.zoom_pool.specs.Reasons.{error_word};
+ghost use Rattle.zoom_pool.specs.Transcripts.{reason_of, step_of};
+ghost use Rattle.zoom_pool.specs.Reasons.{error_name};
 
 use crate::state::Reason;
 use thiserror::Error;
@@ -30,7 +30,7 @@ pub enum Step {
 
 /// What taking a message came to, with what the origin took.
 #[derive(Drop)]
-pub(crate) enum Told {
+pub(crate) enum Outcome {
     /// No whole message is there yet.
     Nothing,
     /// The origin took a message.
@@ -42,19 +42,19 @@ pub(crate) enum Told {
 }
 
 /// What a caller is told of it.
-pub(crate) fn step_told(told: &Told) -> Step
-    ensures { result ≡ step_told told.now }
+pub(crate) fn step_of(outcome: &Outcome) -> Step
+    ensures { result ≡ step_of outcome.now }
 {
-    match told {
-        Told::Nothing => Step::Nothing,
-        Told::Took(taken) => match taken {
+    match outcome {
+        Outcome::Nothing => Step::Nothing,
+        Outcome::Took(taken) => match taken {
             Taken::Opened(_) => Step::Opened,
             Taken::Rejected(_) => Step::Rejected,
             Taken::Answered(_) => Step::Answered,
             Taken::Closed => Step::Closed,
         },
-        Told::Ended => Step::Ended,
-        Told::Stopped => Step::Stopped,
+        Outcome::Ended => Step::Ended,
+        Outcome::Stopped => Step::Stopped,
     }
 }
 
@@ -81,7 +81,7 @@ impl TakeError {
     /// The name of the fault, of what the message is not, of the origin's reason, or `Memory`, in ASCII letters. It
     /// takes no memory.
     pub fn word(&self) -> &'static str
-        ensures { result.now ≡ error_word self.now }
+        ensures { result.now ≡ error_name self.now }
     {
         match self {
             TakeError::Frame { kind, .. } => kind.word(),

@@ -3,9 +3,9 @@ ghost use Rattle.std.specs.Prelude.{◌≡◌, true, [], ◌++◌, Some, OnOk, O
 ghost use Rattle.zorigin.specs.Log.{IsCalled};
 ghost use Rattle.zoom_pool.specs.declared.state.State.TheVariants as states;
 ghost use Rattle.zoom_pool.specs.CallsOf.{call_of};
-ghost use Rattle.zoom_pool.specs.Heard.{Heard, Calls, Feeds, Ends, Gives, Stops, silence, hears_call, hears_piece, stop_by, state_at};
-ghost use Rattle.zoom_pool.specs.Leaving.{Matches, Leaves};
-ghost use Rattle.zoom_pool.specs.Steps.{IsAnswerOn, Gains};
+ghost use Rattle.zoom_pool.specs.Transcripts.{Transcript, Called, Fed, InputEnded, HandedOut, Stopped, empty_transcript, after_call, after_feed, after_stop, state_at};
+ghost use Rattle.zoom_pool.specs.Connections.{AreConsistent, ConnectionAfter};
+ghost use Rattle.zoom_pool.specs.Steps.{IsLinkCallResult, LinkRecorded};
 
 use crate::call::{Call, sent_for};
 use crate::state::{Reason, State, is_stopped, state_as};
@@ -41,7 +41,7 @@ impl Model for Connection {
 
     ghost coded = { Prim.hlevel (codes, coded_element) };
 
-    ghost use Rattle.zoom_pool.specs.Heard.{joined};
+    ghost use Rattle.zoom_pool.specs.Transcripts.{joined};
 
     ghost view = { λ c. record {
       origin = c.origin;
@@ -56,7 +56,7 @@ impl Model for Connection {
 impl Connection {
     /// A connection in state Fresh. It takes no memory.
     pub(crate) fn new(alloc: Global, settings: Settings) -> Self
-        ensures { Leaves settings [] (silence settings) result }
+        ensures { ConnectionAfter settings [] (empty_transcript settings) result }
     {
         Connection {
             alloc,
@@ -71,7 +71,7 @@ impl Connection {
 
     /// Its state. It takes no memory.
     pub(crate) fn state(&self) -> State
-        ensures { (p : Heard) → Matches p self.now → result ≡ state_at p }
+        ensures { (p : Transcript) → AreConsistent p self.now → result ≡ state_at p }
     {
         match self.stop {
             Some(state) => state,
@@ -82,9 +82,9 @@ impl Connection {
     /// Makes a call, and puts its request behind what waits. Room is found first: so a call that the origin admitted is
     /// not refused.
     pub(crate) fn call(&mut self, call: &Call) -> Result<(), CallRefused>
-        ensures answer { IsAnswerOn (call_of call.now) result self.old }
+        ensures answer { IsLinkCallResult (call_of call.now) result self.old }
         ensures after { IsCalled result
-            → Gains (Calls (call_of call.now)) (λ p. hears_call p (call_of call.now)) self.old self.new }
+            → LinkRecorded (Called (call_of call.now)) (λ p. after_call p (call_of call.now)) self.old self.new }
         ensures err { OnErr result (self.new ≡ self.old) }
     {
         if self.stop.is_some() {
@@ -100,7 +100,7 @@ impl Connection {
 
     /// Takes the next piece of octets; where it is stopped or its input ended, it does nothing.
     pub(crate) fn feed(&mut self, piece: &[u8]) -> Result<(), AllocError>
-        ensures after { OnOk result (Gains (Feeds piece.now) (λ p. hears_piece p piece.now) self.old self.new) }
+        ensures after { OnOk result (LinkRecorded (Fed piece.now) (λ p. after_feed p piece.now) self.old self.new) }
         ensures err { OnErr result (self.new ≡ self.old) }
     {
         if is_stopped(self.state()) || self.ended {
@@ -112,14 +112,14 @@ impl Connection {
 
     /// No more octets come. It takes no memory.
     pub(crate) fn end(&mut self)
-        ensures { Gains Ends (λ p. record p { ended = true }) self.old self.new }
+        ensures { LinkRecorded InputEnded (λ p. record p { ended = true }) self.old self.new }
     {
         self.ended = true;
     }
 
     /// It has failed for the reason. It takes no memory.
     pub(crate) fn stop(&mut self, reason: Reason)
-        ensures after { Gains (Stops reason) (λ p. stop_by p reason) self.old self.new }
+        ensures after { LinkRecorded (Stopped reason) (λ p. after_stop p reason) self.old self.new }
         ensures stop { self.new.stop ≡ Some (states.Failed reason) }
     {
         self.stop = Some(State::Failed(reason));
@@ -128,7 +128,7 @@ impl Connection {
     /// Appends the octets that wait, and forgets them.
     pub(crate) fn outgoing(&mut self, out: &mut Vec<u8>) -> Result<(), AllocError>
         ensures gives { OnOk result (out.new.items ≡ out.old.items ++ self.old.waiting) }
-        ensures after { OnOk result (Gains (Gives self.old.waiting) (λ p. p) self.old self.new) }
+        ensures after { OnOk result (LinkRecorded (HandedOut self.old.waiting) (λ p. p) self.old self.new) }
         ensures all { OnOk result (self.new.waiting ≡ []) }
         ensures err { OnErr result (self.new ≡ self.old) }
         ensures out { OnErr result (out.new.items ≡ out.old.items) }

@@ -6,11 +6,11 @@ ghost use Rattle.zorigin.specs.Log.{is_close_call};
 ghost use Rattle.zoom_pool.specs.CallsOf.{call_of};
 ghost use Rattle.zoom_questions.specs.Askable.{HasArcs};
 ghost use Rattle.zoom_pool.specs.Steering.{errand_with};
-ghost use Rattle.zoom_pool.specs.Drivers.{IsDriver, Stays, GivesNext, KnowsSent, KnowsRefused, KnowsTold, Prepares, RefusedLaw, is_rejection_of};
+ghost use Rattle.zoom_pool.specs.Drivers.{IsDriver, SameDriver, NextCallResult, NoteSentStep, NoteRefusedStep, NoteReplyStep, PrepareStep, RefusedLaw, is_rejection_of};
 
 use crate::call::Call;
 use crate::driving::{driven_laws, due_laws};
-use crate::phase::{Phase, give, send, tell};
+use crate::phase::{Phase, give, note_taken, send};
 use crate::state::State;
 use std::alloc::{AllocError, Global};
 use std::marker::Model;
@@ -103,7 +103,7 @@ impl Driver {
 
     /// Makes a schedule, once the count is known.
     fn prepare(&mut self) -> Result<(), AllocError>
-        ensures ok { IfOk result (λ _. Prepares self.old self.new) }
+        ensures ok { IfOk result (λ _. PrepareStep self.old self.new) }
         ensures err { OnErr result (self.new ≡ self.old) }
     {
         let (three, count) = match &self.phase {
@@ -119,8 +119,8 @@ impl Driver {
     /// is given too, and is then skipped. It is not made yet: `sent` or `refused` says what came of it. Refused only
     /// for want of memory.
     pub(crate) fn next_call(&mut self, state: State) -> Result<Option<Call>, AllocError>
-        ensures stays { Stays self.old self.new }
-        ensures ok { IfOk result (λ given. GivesNext state given self.new) }
+        ensures stays { SameDriver self.old self.new }
+        ensures ok { IfOk result (λ given. NextCallResult state given self.new) }
     {
         self.prepare()?;
         agenda_laws();
@@ -133,7 +133,7 @@ impl Driver {
 
     /// The origin admitted the call that was given. It takes no memory.
     pub(crate) fn note_sent(&mut self, call: &Call)
-        ensures { KnowsSent (call_of call.now) self.old self.new }
+        ensures { NoteSentStep (call_of call.now) self.old self.new }
     {
         agenda_laws();
         driven_laws();
@@ -146,7 +146,7 @@ impl Driver {
     /// The origin refused the call that was given, though memory was there: it was the search, which is skipped. It
     /// takes no memory.
     pub(crate) fn note_refused(&mut self)
-        ensures { KnowsRefused self.old self.new }
+        ensures { NoteRefusedStep self.old self.new }
     {
         self.phase = Phase::Done;
         self.skipped = true;
@@ -154,13 +154,13 @@ impl Driver {
 
     /// The origin took a reply. It takes no memory.
     pub(crate) fn note_reply(&mut self, taken: &Taken)
-        ensures { KnowsTold taken.now self.old self.new }
+        ensures { NoteReplyStep taken.now self.old self.new }
     {
         agenda_laws();
         driven_laws();
         number_law();
         orderly_logs();
-        tell(&mut self.phase, taken);
+        note_taken(&mut self.phase, taken);
         let rejects = is_rejection(taken);
         self.complete = rejects || self.complete;
     }

@@ -3,8 +3,8 @@ ghost use Rattle.std.specs.Prelude.{◌≡◌, ◌++◌, ◌&&◌, ◌||◌, not
 ghost use Rattle.ztarget.specs.Receiving.{is_close};
 ghost use Rattle.ztarget.specs.Levels.{HasElement};
 ghost use Rattle.zoom_questions.specs.NewTargets.{IsNew};
-ghost use Rattle.zoom_pool.specs.Hosts.{Fed, FedPart, HandedOut, holdings_of, HostAfter, Underwent, ReleasesAs};
-ghost use Rattle.zoom_pool.specs.HostSteps.{EncodesReply, PutsReply, ReceivesPiece, is_unput};
+ghost use Rattle.zoom_pool.specs.Hosts.{HostFed, HostFedPart, HostHandedOut, holdings_of, HostAfter, HostRecorded, ReleaseResult};
+ghost use Rattle.zoom_pool.specs.HostSteps.{EncodeReplyResult, PutReplyResult, ReceivePieceResult, is_unput};
 
 use crate::receiving::receive_all;
 use crate::waiting::{append_all, put};
@@ -18,7 +18,7 @@ use ztarget::Target;
 /// The octets of a reply; `None` where they are more than a message may have.
 fn encode_reply(alloc: Global, reply: &Apdu) -> Result<Option<Bytes>, AllocError>
     requires { HasElement reply.now }
-    ensures { EncodesReply reply.now result }
+    ensures { EncodeReplyResult reply.now result }
 {
     let node = match to_node(alloc, reply) {
         Ok(node) => node,
@@ -41,7 +41,7 @@ fn encode_reply(alloc: Global, reply: &Apdu) -> Result<Option<Bytes>, AllocError
 /// Puts the octets of a reply last; `false` where they are too many.
 fn put_reply(alloc: Global, waiting: &mut Vec<Bytes>, reply: &Apdu) -> Result<bool, AllocError>
     requires { HasElement reply.now }
-    ensures { PutsReply reply.now result waiting.old.items waiting.new.items }
+    ensures { PutReplyResult reply.now result waiting.old.items waiting.new.items }
 {
     waiting.reserve(1)?;
     match encode_reply(alloc, reply)? {
@@ -104,7 +104,7 @@ impl Model for Host {
 
     ghost coded = { Prim.hlevel (codes, coded_element, coded_query) };
 
-    ghost use Rattle.zoom_pool.specs.Heard.{joined};
+    ghost use Rattle.zoom_pool.specs.Transcripts.{joined};
 
     ghost view = { λ h. record {
       target = h.target;
@@ -150,8 +150,8 @@ impl Host {
     ///
     /// An error only where no memory was found: the host has then stopped, and received some of the messages.
     pub fn feed(&mut self, piece: &[u8]) -> Result<(), AllocError>
-        ensures fed { OnOk result (Underwent (Fed piece.now) self.old self.new) }
-        ensures part { OnErr result (Underwent (FedPart piece.now) self.old self.new) }
+        ensures fed { OnOk result (HostRecorded (HostFed piece.now) self.old self.new) }
+        ensures part { OnErr result (HostRecorded (HostFedPart piece.now) self.old self.new) }
         ensures err { OnErr result (self.new.stopped ≡ true) }
         ensures waiting { self.new.waiting ≡ self.old.waiting }
     {
@@ -172,7 +172,7 @@ impl Host {
 
     /// Feeds the framer, and receives what is whole; whether something stops the host.
     fn receive(&mut self, piece: &[u8]) -> Result<bool, AllocError>
-        ensures { ReceivesPiece piece.now result self.old self.new }
+        ensures { ReceivePieceResult piece.now result self.old self.new }
     {
         self.framer.feed(piece)?;
         receive_all(self.alloc, &mut self.framer, &mut self.target)
@@ -184,7 +184,7 @@ impl Host {
     ///
     /// An error only where no memory was found: the host has then stopped, and the reply is lost.
     pub fn release(&mut self, k: usize) -> Result<bool, AllocError>
-        ensures releases { ReleasesAs k result self.old self.new }
+        ensures releases { ReleaseResult k result self.old self.new }
     {
         if self.stopped {
             return Ok(false);
@@ -203,7 +203,7 @@ impl Host {
     /// they were.
     pub fn outgoing(&mut self, out: &mut Vec<u8>) -> Result<(), AllocError>
         ensures gives { OnOk result (out.new.items ≡ out.old.items ++ self.old.waiting) }
-        ensures after { OnOk result (Underwent (HandedOut self.old.waiting) self.old self.new) }
+        ensures after { OnOk result (HostRecorded (HostHandedOut self.old.waiting) self.old self.new) }
         ensures all { OnOk result (self.new.waiting ≡ []) }
         ensures err { OnErr result (self.new ≡ self.old) }
         ensures out { OnErr result (out.new.items ≡ out.old.items) }

@@ -1,5 +1,5 @@
 //! Laws of the definitions, each the contract of a function that does nothing.
-ghost use Rattle.zoom_pool.specs.Laws.{OneMeeting, OneHearing, TakeLaws, UpToLaw, OrderLaw};
+ghost use Rattle.zoom_pool.specs.Laws.{OneInput, OneTranscript, TakeLaws, UpToLaw, OrderLaw};
 ghost use Rattle.zoom_pool.specs.Conflicts.{ConflictLaw};
 ghost use Rattle.zoom_pool.specs.MetaLaws.{MetaLaws};
 
@@ -9,8 +9,8 @@ use zber::laws::one_answer;
 use zknow::laws::{list_laws, place_laws};
 
 /// A take meets one thing.
-pub fn one_meeting()
-    ensures { OneMeeting }
+pub fn one_input()
+    ensures { OneInput }
 {
     one_answer();
     one_value();
@@ -18,10 +18,10 @@ pub fn one_meeting()
 }
 
 /// A connection's deeds amount to one thing.
-pub fn one_hearing()
-    ensures { OneHearing }
+pub fn one_transcript()
+    ensures { OneTranscript }
 {
-    one_meeting();
+    one_input();
 }
 
 /// A take answers `Nothing` exactly where the connection is neither stopped nor ended and holds no message and no shown
@@ -29,7 +29,7 @@ pub fn one_hearing()
 pub fn take_laws()
     ensures { TakeLaws }
 {
-    one_meeting();
+    one_input();
 }
 
 /// A pool that a history can have left is one that it can have left up to any connection's next take.

@@ -4,8 +4,8 @@ ghost use Rattle.std.specs.List.{AllByRecursion};
 ghost use Rattle.zknow.specs.Facts.{IsFact};
 ghost use Rattle.zorigin.specs.Facts.{facts_of};
 ghost use Rattle.zorigin.specs.Log.{IsTaken};
-ghost use Rattle.zoom_pool.specs.Learned.{IsTellable, HasTellable, AddsAll, AddsPart};
-ghost use Rattle.zoom_pool.specs.Heard.{facts_in, facts_told, answer_in};
+ghost use Rattle.zoom_pool.specs.Learned.{IsLearnable, HasLearnable, AreAdded, ArePartlyAdded};
+ghost use Rattle.zoom_pool.specs.Transcripts.{facts_in, facts_of_verdict, answer_in};
 
 use std::alloc::{AllocError, Global};
 use zknow::{Fact, Knowledge};
@@ -15,8 +15,8 @@ use zorigin::{Answer, Refused, Taken, facts_of};
 /// Adds facts, one by one.
 fn add_all(knowledge: &mut Knowledge, facts: &[Fact]) -> Result<(), AllocError>
     requires { AllByRecursion IsFact facts.now }
-    ensures ok { OnOk result (AddsAll knowledge.old facts.now knowledge.new) }
-    ensures part { AddsPart knowledge.old facts.now knowledge.new }
+    ensures ok { OnOk result (AreAdded knowledge.old facts.now knowledge.new) }
+    ensures part { ArePartlyAdded knowledge.old facts.now knowledge.new }
 {
     for fact in facts {
         knowledge.add(fact)?;
@@ -31,9 +31,9 @@ fn add_answer(
     knowledge: &mut Knowledge,
     answer: &Answer,
 ) -> Result<(), AllocError>
-    requires { IsTellable answer.now }
-    ensures ok { OnOk result (AddsAll knowledge.old (facts_of target answer.now) knowledge.new) }
-    ensures part { AddsPart knowledge.old (facts_of target answer.now) knowledge.new }
+    requires { IsLearnable answer.now }
+    ensures ok { OnOk result (AreAdded knowledge.old (facts_of target answer.now) knowledge.new) }
+    ensures part { ArePartlyAdded knowledge.old (facts_of target answer.now) knowledge.new }
 {
     known_facts();
     let facts = facts_of(alloc, target, answer)?;
@@ -47,9 +47,9 @@ fn learn(
     knowledge: &mut Knowledge,
     taken: &Taken,
 ) -> Result<(), AllocError>
-    requires { HasTellable taken.now }
-    ensures ok { OnOk result (AddsAll knowledge.old (facts_in target (answer_in taken.now)) knowledge.new) }
-    ensures part { AddsPart knowledge.old (facts_in target (answer_in taken.now)) knowledge.new }
+    requires { HasLearnable taken.now }
+    ensures ok { OnOk result (AreAdded knowledge.old (facts_in target (answer_in taken.now)) knowledge.new) }
+    ensures part { ArePartlyAdded knowledge.old (facts_in target (answer_in taken.now)) knowledge.new }
 {
     match taken {
         Taken::Opened(answer) => add_answer(alloc, target, knowledge, answer),
@@ -66,10 +66,10 @@ pub(crate) fn learn_verdict(
     knowledge: &mut Knowledge,
     peeked: &Result<Taken, Refused>,
 ) -> Result<(), AllocError>
-    requires { IfOk peeked.now HasTellable }
+    requires { IfOk peeked.now HasLearnable }
     ensures taken { OnOk result (IsTaken peeked.now) }
-    ensures ok { OnOk result (AddsAll knowledge.old (facts_told target peeked.now) knowledge.new) }
-    ensures part { AddsPart knowledge.old (facts_told target peeked.now) knowledge.new }
+    ensures ok { OnOk result (AreAdded knowledge.old (facts_of_verdict target peeked.now) knowledge.new) }
+    ensures part { ArePartlyAdded knowledge.old (facts_of_verdict target peeked.now) knowledge.new }
 {
     match peeked {
         Ok(taken) => learn(alloc, target, knowledge, taken),

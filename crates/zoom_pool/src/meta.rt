@@ -2,17 +2,17 @@
 ghost use Rattle.std.specs.Prelude.{◌≡◌, ◌<◌, ◌≤◌, ◌^◌, [], ◌++◌, length, OnOk, OnErr, IfOk, Some, Err};
 ghost use Rattle.zoom_pool.specs.declared.state.State.TheVariants as states;
 ghost use Rattle.zoom_pool.specs.CallsOf.{call_of};
-ghost use Rattle.zoom_pool.specs.Heard.{Feeds, Ends, Gives, Stops, IsDone};
-ghost use Rattle.zoom_pool.specs.Learned.{Grows};
-ghost use Rattle.zoom_pool.specs.Links.{waiting_at, stop_at, OthersStay};
-ghost use Rattle.zoom_pool.specs.Befalling.{IsStateAt, IsTakeAnswer, HasGivenAll};
+ghost use Rattle.zoom_pool.specs.Transcripts.{Fed, InputEnded, HandedOut, Stopped, IsDone};
+ghost use Rattle.zoom_pool.specs.Learned.{AreStillKnown};
+ghost use Rattle.zoom_pool.specs.Links.{waiting_at, stop_at, SameOthers};
+ghost use Rattle.zoom_pool.specs.PoolSteps.{IsStateAt, IsTakeResult, HasHandedOutAll};
 ghost use Rattle.zoom_questions.specs.Askable.{AreFit, AreAskable};
-ghost use Rattle.zoom_pool.specs.Metas.{MetaAfter, MetaBefell, MetaTook, MetaKeeps, DrivesTo, AdvancesTo, IssuesTo, LearnsTold, TellsUpTo, StandFor, is_skipped, is_complete, IsFinishedUpTo};
+ghost use Rattle.zoom_pool.specs.Metas.{MetaAfter, MetaRecorded, MetaTakeStep, MetaIncompleteTake, DriveResult, AdvanceResult, IssueResult, NoteTakeStep, IsTranscriptValueUpTo, AreNewDrivers, is_skipped, is_complete, IsFinishedUpTo};
 
-use crate::answer::{Step, TakeError, Told, step_told};
+use crate::answer::{Outcome, Step, TakeError, step_told};
 use crate::call::Call;
 use crate::driver::{Driver, refused_law};
-use crate::laws::{one_hearing, one_meeting};
+use crate::laws::{one_input, one_transcript};
 use crate::pool::Pool;
 use crate::state::{Reason, State, is_stopped};
 use std::alloc::{AllocError, Global};
@@ -24,7 +24,7 @@ use zorigin::CallRefused;
 use zorigin::laws::sent_requests;
 
 /// More than the calls of one drive: an Init, a search, a Close, the 64 Presents that may wait, and one look more.
-const MOST_TURNS: u32 = 70;
+const MOST_LOOKS: u32 = 70;
 
 /// What looking for the next call came to.
 #[derive(Clone, Copy, Debug, PartialEq, Eq)]
@@ -103,13 +103,13 @@ impl Meta {
     /// search was admitted or it counts as skipped. Where no memory is found, the calls that were made stand.
     pub fn drive(&mut self, c: u32) -> Result<u32, AllocError>
         requires { c < length self.old.pool.connections }
-        ensures after { DrivesTo c result self.old self.new }
+        ensures after { DriveResult c result self.old self.new }
         ensures known { self.new.pool.knowledge ≡ self.old.pool.knowledge }
         ensures size { length self.new.pool.connections ≡ length self.old.pool.connections }
     {
-        one_hearing();
+        one_transcript();
         let mut admitted: u32 = 0;
-        for _ in 0..MOST_TURNS {
+        for _ in 0..MOST_LOOKS {
             match self.advance(c)? {
                 Turn::Admitted => admitted += 1,
                 Turn::Skipped => {}
@@ -122,20 +122,20 @@ impl Meta {
     /// Makes the call of a connection that is next, where one is.
     fn advance(&mut self, c: u32) -> Result<Turn, AllocError>
         requires { c < length self.old.pool.connections }
-        ensures after { AdvancesTo c result self.old self.new }
+        ensures after { AdvanceResult c result self.old self.new }
         ensures known { self.new.pool.knowledge ≡ self.old.pool.knowledge }
         ensures size { length self.new.pool.connections ≡ length self.old.pool.connections }
     {
-        one_hearing();
+        one_transcript();
         let state = self.pool.state(c);
         if is_stopped(state) {
             return Ok(Turn::Rests);
         }
         match self.drivers[c as usize].next_call(state)? {
             Some(call) => {
-                let turn = self.issue(c, &call);
+                let stage = self.issue(c, &call);
                 drop(call);
-                turn
+                stage
             }
             None => Ok(Turn::Rests),
         }
@@ -144,11 +144,11 @@ impl Meta {
     /// Makes the call that what drives the connection gave.
     fn issue(&mut self, c: u32, call: &Call) -> Result<Turn, AllocError>
         requires { c < length self.old.pool.connections }
-        ensures after { IssuesTo c (call_of call.now) result self.old self.new }
+        ensures after { IssueResult c (call_of call.now) result self.old self.new }
         ensures known { self.new.pool.knowledge ≡ self.old.pool.knowledge }
         ensures size { length self.new.pool.connections ≡ length self.old.pool.connections }
     {
-        one_hearing();
+        one_transcript();
         sent_requests();
         match self.pool.call(c, call) {
             Ok(()) => {
@@ -168,7 +168,7 @@ impl Meta {
     /// Takes the next piece of octets that came on a connection, as `Pool::feed` does.
     pub fn feed(&mut self, c: u32, piece: &[u8]) -> Result<(), AllocError>
         requires { c < length self.old.pool.connections }
-        ensures after { OnOk result (MetaBefell c (Feeds piece.now) self.old self.new) }
+        ensures after { OnOk result (MetaRecorded c (Fed piece.now) self.old self.new) }
         ensures err { OnErr result (self.new ≡ self.old) }
         ensures known { self.new.pool.knowledge ≡ self.old.pool.knowledge }
         ensures size { length self.new.pool.connections ≡ length self.old.pool.connections }
@@ -181,20 +181,20 @@ impl Meta {
     /// connection answer what the history says.
     pub fn take(&mut self, c: u32) -> Result<Step, TakeError>
         requires { c < length self.old.pool.connections }
-        ensures answer { IsTakeAnswer c self.old.pool result }
-        ensures after { IsDone result → MetaTook c self.old self.new }
-        ensures memory { result ≡ Err TakeError.Memory → MetaKeeps c self.old self.new }
-        ensures grows { Grows self.old.pool.knowledge self.new.pool.knowledge }
+        ensures answer { IsTakeResult c self.old.pool result }
+        ensures after { IsDone result → MetaTakeStep c self.old self.new }
+        ensures memory { result ≡ Err TakeError.Memory → MetaIncompleteTake c self.old self.new }
+        ensures grows { AreStillKnown self.old.pool.knowledge self.new.pool.knowledge }
         ensures waiting { waiting_at self.new.pool c ≡ waiting_at self.old.pool c }
         ensures size { length self.new.pool.connections ≡ length self.old.pool.connections }
     {
-        one_meeting();
-        one_hearing();
+        one_input();
+        one_transcript();
         refused_law();
-        match self.pool.take_told(c) {
-            Ok(told) => {
-                know_take(&mut self.drivers[c as usize], &told);
-                Ok(step_told(&told))
+        match self.pool.take_outcome(c) {
+            Ok(outcome) => {
+                note_take(&mut self.drivers[c as usize], &outcome);
+                Ok(step_told(&outcome))
             }
             Err(error) => Err(error),
         }
@@ -203,7 +203,7 @@ impl Meta {
     /// No more octets come to a connection, as for `Pool::end`. It takes no memory.
     pub fn end(&mut self, c: u32)
         requires { c < length self.old.pool.connections }
-        ensures after { MetaBefell c Ends self.old self.new }
+        ensures after { MetaRecorded c InputEnded self.old self.new }
         ensures known { self.new.pool.knowledge ≡ self.old.pool.knowledge }
         ensures size { length self.new.pool.connections ≡ length self.old.pool.connections }
     {
@@ -213,9 +213,9 @@ impl Meta {
     /// A connection has failed for a reason of its host, whatever its state was. It takes no memory.
     pub fn stop(&mut self, c: u32, reason: Reason)
         requires { c < length self.old.pool.connections }
-        ensures after { MetaBefell c (Stops reason) self.old self.new }
+        ensures after { MetaRecorded c (Stopped reason) self.old self.new }
         ensures stopped { stop_at self.new.pool c ≡ Some (states.Failed reason) }
-        ensures others { OthersStay c self.old.pool self.new.pool }
+        ensures others { SameOthers c self.old.pool self.new.pool }
         ensures drivers { self.new.drivers ≡ self.old.drivers }
         ensures known { self.new.pool.knowledge ≡ self.old.pool.knowledge }
         ensures size { length self.new.pool.connections ≡ length self.old.pool.connections }
@@ -227,8 +227,8 @@ impl Meta {
     pub fn outgoing(&mut self, c: u32, out: &mut Vec<u8>) -> Result<(), AllocError>
         requires { c < length self.old.pool.connections }
         ensures gives { OnOk result (out.new.items ≡ out.old.items ++ waiting_at self.old.pool c) }
-        ensures after { OnOk result (MetaBefell c (Gives (waiting_at self.old.pool c)) self.old self.new) }
-        ensures all { OnOk result (HasGivenAll c self.new.pool) }
+        ensures after { OnOk result (MetaRecorded c (HandedOut (waiting_at self.old.pool c)) self.old self.new) }
+        ensures all { OnOk result (HasHandedOutAll c self.new.pool) }
         ensures none { OnOk result (waiting_at self.new.pool c ≡ []) }
         ensures err { OnErr result (self.new ≡ self.old) }
         ensures out { OnErr result (out.new.items ≡ out.old.items) }
@@ -249,7 +249,7 @@ impl Meta {
     pub fn finished(&self) -> bool
         ensures { IsFinishedUpTo self.now result }
     {
-        one_hearing();
+        one_transcript();
         self.pool.is_finished()
     }
 
@@ -257,7 +257,7 @@ impl Meta {
     /// takes no memory.
     pub fn skipped(&self, c: u32) -> bool
         requires { c < length self.now.pool.connections }
-        ensures { TellsUpTo c self.now is_skipped result }
+        ensures { IsTranscriptValueUpTo c self.now is_skipped result }
     {
         self.drivers[c as usize].is_skipped()
     }
@@ -265,17 +265,17 @@ impl Meta {
     /// Whether the target rejected the association or the connection's own Close was sent. It takes no memory.
     pub fn complete(&self, c: u32) -> bool
         requires { c < length self.now.pool.connections }
-        ensures { TellsUpTo c self.now is_complete result }
+        ensures { IsTranscriptValueUpTo c self.now is_complete result }
     {
         self.drivers[c as usize].is_complete()
     }
 }
 
 /// Tells what drives a connection what a take came to.
-fn know_take(driver: &mut Driver, told: &Told)
-    ensures { LearnsTold told.now driver.old driver.new }
+fn note_take(driver: &mut Driver, outcome: &Outcome)
+    ensures { NoteTakeStep outcome.now driver.old driver.new }
 {
-    if let Told::Took(taken) = told {
+    if let Outcome::Took(taken) = outcome {
         driver.note_reply(taken);
     }
 }
@@ -291,7 +291,7 @@ fn drivers_for(
     requires steps { 0 < step }
     requires most { step ≤ 1000 }
     requires room { 0 < window }
-    ensures { IfOk result (λ drivers. StandFor questions step window drivers.items) }
+    ensures { IfOk result (λ drivers. AreNewDrivers questions step window drivers.items) }
 {
     let mut drivers = Vec::new(alloc);
     for question in questions.into_vec() {

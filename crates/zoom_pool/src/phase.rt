@@ -7,7 +7,7 @@ ghost use Rattle.zorigin.specs.Standings.{Search};
 ghost use Rattle.zorigin.specs.Fitting.{records_in};
 ghost use Rattle.zoom_pool.specs.CallsOf.{call_of};
 ghost use Rattle.zoom_pool.specs.Driving.{counted};
-ghost use Rattle.zoom_pool.specs.Drivers.{room_for, is_fresh_state, GivesAsked, GivesAt, IsSamePhase, SendsAt, opened_phase, counted_phase, TellsAt, AnswersAt, IsRangesCall, IsMade};
+ghost use Rattle.zoom_pool.specs.Drivers.{room_for, is_fresh_state, NextAskedResult, GiveResult, IsSamePhase, SendStep, opened_phase, counted_phase, TakenStep, AnswerStep, IsRangesCall, IsScheduled};
 
 use crate::call::Call;
 use crate::state::State;
@@ -126,7 +126,7 @@ fn present_call(list: Vec<Range>) -> Call
 /// due and nothing waits.
 fn next_asked(schedule: &mut Schedule, alloc: Global, room: u32) -> Result<Option<Call>, AllocError>
     ensures same { SameAgenda schedule.old schedule.new }
-    ensures ok { IfOk result (λ given. GivesAsked room schedule.new given) }
+    ensures ok { IfOk result (λ given. NextAskedResult room schedule.new given) }
 {
     if schedule.waiting() >= room as usize {
         return Ok(None);
@@ -151,9 +151,9 @@ pub(crate) fn give(
     state: State,
     window: u32,
 ) -> Result<Option<Call>, AllocError>
-    requires { IsMade phase.old }
+    requires { IsScheduled phase.old }
     ensures same { IsSamePhase phase.old phase.new }
-    ensures ok { IfOk result (λ given. GivesAt ask.now window state phase.new given) }
+    ensures ok { IfOk result (λ given. GiveResult ask.now window state phase.new given) }
 {
     match phase {
         Phase::Fresh => Ok(if is_fresh(state) {
@@ -188,7 +188,7 @@ fn send_first(schedule: &mut Schedule)
 
 /// The origin admitted the call, which was given at the phase. It takes no memory.
 pub(crate) fn send(phase: &mut Phase, call: &Call)
-    ensures { SendsAt (call_of call.now) phase.old phase.new }
+    ensures { SendStep (call_of call.now) phase.old phase.new }
 {
     match call {
         Call::Init => *phase = Phase::Opening,
@@ -249,7 +249,7 @@ fn answer_list(schedule: &mut Schedule, first: u32, records: usize)
 
 /// The answer to an operation came.
 fn answer(phase: &mut Phase, op: u32, reply: &Apdu)
-    ensures { AnswersAt op reply.now phase.old phase.new }
+    ensures { AnswerStep op reply.now phase.old phase.new }
 {
     match reply {
         Apdu::SearchResponse(response) => {
@@ -269,8 +269,8 @@ fn answer(phase: &mut Phase, op: u32, reply: &Apdu)
 }
 
 /// The origin took a reply. It takes no memory.
-pub(crate) fn tell(phase: &mut Phase, taken: &Taken)
-    ensures { TellsAt taken.now phase.old phase.new }
+pub(crate) fn note_taken(phase: &mut Phase, taken: &Taken)
+    ensures { TakenStep taken.now phase.old phase.new }
 {
     match taken {
         Taken::Opened(answer) => *phase = opened_phase(&answer.reply),

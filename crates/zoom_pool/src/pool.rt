@@ -3,16 +3,16 @@ ghost use Rattle.std.specs.Prelude.{◌≡◌, ◌<◌, [], ◌++◌, length, On
 ghost use Rattle.zorigin.specs.Log.{IsCalled};
 ghost use Rattle.zoom_pool.specs.declared.state.State.TheVariants as states;
 ghost use Rattle.zoom_pool.specs.CallsOf.{call_of};
-ghost use Rattle.zoom_pool.specs.Heard.{Calls, Feeds, Ends, Gives, Stops, IsDone};
-ghost use Rattle.zoom_pool.specs.Learned.{Grows};
-ghost use Rattle.zoom_pool.specs.Links.{waiting_at, stop_at, OthersStay};
+ghost use Rattle.zoom_pool.specs.Transcripts.{Called, Fed, InputEnded, HandedOut, Stopped, IsDone};
+ghost use Rattle.zoom_pool.specs.Learned.{AreStillKnown};
+ghost use Rattle.zoom_pool.specs.Links.{waiting_at, stop_at, SameOthers};
 ghost use Rattle.zoom_pool.specs.History.{After};
-ghost use Rattle.zoom_pool.specs.Befalling.{Befell, IsStateAt, IsCallAnswer, IsTakeAnswer, IsToldAnswer, Took, Keeps, HasGivenAll, IsPoolFinished};
+ghost use Rattle.zoom_pool.specs.PoolSteps.{Recorded, IsStateAt, IsCallResult, IsTakeResult, IsTakeOutcome, TakeStep, IncompleteTake, HasHandedOutAll, IsPoolFinished};
 
-use crate::answer::{Step, TakeError, Told, step_told};
+use crate::answer::{Outcome, Step, TakeError, step_told};
 use crate::call::Call;
 use crate::connection::Connection;
-use crate::laws::one_meeting;
+use crate::laws::one_input;
 use crate::state::{Reason, State, is_stopped};
 use bytes::Bytes;
 use std::alloc::{AllocError, Global};
@@ -87,8 +87,8 @@ impl Pool {
     /// in its order, and as `WrongState` where the connection is Closed or Failed; the pool is then as it was.
     pub fn call(&mut self, c: u32, call: &Call) -> Result<(), CallRefused>
         requires { c < length self.old.connections }
-        ensures answer { IsCallAnswer c (call_of call.now) self.old result }
-        ensures after { IsCalled result → Befell c (Calls (call_of call.now)) self.old self.new }
+        ensures answer { IsCallResult c (call_of call.now) self.old result }
+        ensures after { IsCalled result → Recorded c (Called (call_of call.now)) self.old self.new }
         ensures err { OnErr result (self.new ≡ self.old) }
         ensures known { self.new.knowledge ≡ self.old.knowledge }
         ensures size { length self.new.connections ≡ length self.old.connections }
@@ -100,7 +100,7 @@ impl Pool {
     /// whose input ended, it does nothing. Where no memory is found, the pool is as it was.
     pub fn feed(&mut self, c: u32, piece: &[u8]) -> Result<(), AllocError>
         requires { c < length self.old.connections }
-        ensures after { OnOk result (Befell c (Feeds piece.now) self.old self.new) }
+        ensures after { OnOk result (Recorded c (Fed piece.now) self.old self.new) }
         ensures err { OnErr result (self.new ≡ self.old) }
         ensures known { self.new.knowledge ≡ self.old.knowledge }
         ensures size { length self.new.connections ≡ length self.old.connections }
@@ -116,30 +116,30 @@ impl Pool {
     /// message says a part may be.
     pub fn take(&mut self, c: u32) -> Result<Step, TakeError>
         requires { c < length self.old.connections }
-        ensures answer { IsTakeAnswer c self.old result }
-        ensures after { IsDone result → Took c self.old self.new }
-        ensures memory { result ≡ Err TakeError.Memory → Keeps c self.old self.new }
-        ensures grows { Grows self.old.knowledge self.new.knowledge }
+        ensures answer { IsTakeResult c self.old result }
+        ensures after { IsDone result → TakeStep c self.old self.new }
+        ensures memory { result ≡ Err TakeError.Memory → IncompleteTake c self.old self.new }
+        ensures grows { AreStillKnown self.old.knowledge self.new.knowledge }
         ensures waiting { waiting_at self.new c ≡ waiting_at self.old c }
         ensures size { length self.new.connections ≡ length self.old.connections }
     {
-        match self.take_told(c) {
-            Ok(told) => Ok(step_told(&told)),
+        match self.take_outcome(c) {
+            Ok(outcome) => Ok(step_told(&outcome)),
             Err(error) => Err(error),
         }
     }
 
     /// Takes one message of a connection, as `take` does, and tells what the origin took.
-    pub(crate) fn take_told(&mut self, c: u32) -> Result<Told, TakeError>
+    pub(crate) fn take_outcome(&mut self, c: u32) -> Result<Outcome, TakeError>
         requires { c < length self.old.connections }
-        ensures answer { IsToldAnswer c self.old result }
-        ensures after { IsDone result → Took c self.old self.new }
-        ensures memory { result ≡ Err TakeError.Memory → Keeps c self.old self.new }
-        ensures grows { Grows self.old.knowledge self.new.knowledge }
+        ensures answer { IsTakeOutcome c self.old result }
+        ensures after { IsDone result → TakeStep c self.old self.new }
+        ensures memory { result ≡ Err TakeError.Memory → IncompleteTake c self.old self.new }
+        ensures grows { AreStillKnown self.old.knowledge self.new.knowledge }
         ensures waiting { waiting_at self.new c ≡ waiting_at self.old c }
         ensures size { length self.new.connections ≡ length self.old.connections }
     {
-        one_meeting();
+        one_input();
         let taken = self.connections[c as usize].take(c, &mut self.knowledge);
         self.knowledge.lawful();
         taken
@@ -149,7 +149,7 @@ impl Pool {
     /// `Truncated` where a rest is left, else `Ended`. It takes no memory.
     pub fn end(&mut self, c: u32)
         requires { c < length self.old.connections }
-        ensures after { Befell c Ends self.old self.new }
+        ensures after { Recorded c InputEnded self.old self.new }
         ensures known { self.new.knowledge ≡ self.old.knowledge }
         ensures size { length self.new.connections ≡ length self.old.connections }
     {
@@ -159,9 +159,9 @@ impl Pool {
     /// A connection has failed for a reason of its host, whatever its state was. It takes no memory.
     pub fn stop(&mut self, c: u32, reason: Reason)
         requires { c < length self.old.connections }
-        ensures after { Befell c (Stops reason) self.old self.new }
+        ensures after { Recorded c (Stopped reason) self.old self.new }
         ensures stopped { stop_at self.new c ≡ Some (states.Failed reason) }
-        ensures others { OthersStay c self.old self.new }
+        ensures others { SameOthers c self.old self.new }
         ensures known { self.new.knowledge ≡ self.old.knowledge }
         ensures size { length self.new.connections ≡ length self.old.connections }
     {
@@ -173,8 +173,8 @@ impl Pool {
     pub fn outgoing(&mut self, c: u32, out: &mut Vec<u8>) -> Result<(), AllocError>
         requires { c < length self.old.connections }
         ensures gives { OnOk result (out.new.items ≡ out.old.items ++ waiting_at self.old c) }
-        ensures after { OnOk result (Befell c (Gives (waiting_at self.old c)) self.old self.new) }
-        ensures all { OnOk result (HasGivenAll c self.new) }
+        ensures after { OnOk result (Recorded c (HandedOut (waiting_at self.old c)) self.old self.new) }
+        ensures all { OnOk result (HasHandedOutAll c self.new) }
         ensures none { OnOk result (waiting_at self.new c ≡ []) }
         ensures err { OnErr result (self.new ≡ self.old) }
         ensures out { OnErr result (out.new.items ≡ out.old.items) }

@@ -1,5 +1,5 @@
 //! The messages of a host's octets, received one by one.
-ghost use Rattle.zoom_pool.specs.HostSteps.{TurnsTo, IsTurnAt, ReceivesAll, ReceivesApdu, ReceivesMessage};
+ghost use Rattle.zoom_pool.specs.HostSteps.{ReceiveNextResult, IsReceptionOf, ReceiveAllResult, ReceiveApduResult, ReceiveMessageResult};
 
 use std::alloc::{AllocError, Global};
 use zapdu::{Apdu, ApduError, from_node};
@@ -14,12 +14,12 @@ pub(crate) enum Turn {
     /// No whole message is there yet.
     Waits,
     /// It stops the host, or the octets show a fault.
-    Stops,
+    Stopped,
 }
 
 /// Receives an APDU; whether the target takes it.
 fn receive_apdu(target: &mut Target, apdu: &Apdu) -> Result<bool, AllocError>
-    ensures { ReceivesApdu apdu.now result target.old target.new }
+    ensures { ReceiveApduResult apdu.now result target.old target.new }
 {
     match target.receive(apdu) {
         Ok(()) => Ok(true),
@@ -32,7 +32,7 @@ fn receive_apdu(target: &mut Target, apdu: &Apdu) -> Result<bool, AllocError>
 
 /// Receives a message; whether it is an APDU that the target takes.
 fn receive_message(alloc: Global, target: &mut Target, node: &Node) -> Result<bool, AllocError>
-    ensures { ReceivesMessage node.now result target.old target.new }
+    ensures { ReceiveMessageResult node.now result target.old target.new }
 {
     match from_node(alloc, node) {
         Ok(apdu) => {
@@ -48,29 +48,29 @@ fn receive_message(alloc: Global, target: &mut Target, node: &Node) -> Result<bo
 }
 
 /// What an error of the framer comes to: a fault stops the host.
-fn turn_at(error: FrameError) -> Result<Turn, AllocError>
-    ensures { IsTurnAt error result }
+fn reception_of(error: FrameError) -> Result<Turn, AllocError>
+    ensures { IsReceptionOf error result }
 {
     match error {
-        FrameError::Fault { .. } => Ok(Turn::Stops),
+        FrameError::Fault { .. } => Ok(Turn::Stopped),
         FrameError::Memory => Err(AllocError),
     }
 }
 
 /// Receives the next message, where one is whole.
 fn receive_next(alloc: Global, framer: &mut Framer, target: &mut Target) -> Result<Turn, AllocError>
-    ensures { TurnsTo result framer.old.stream framer.new.stream target.old target.new }
+    ensures { ReceiveNextResult result framer.old.stream framer.new.stream target.old target.new }
 {
     match framer.next() {
         Ok(Some(node)) => {
             if receive_message(alloc, target, &node)? {
                 Ok(Turn::More)
             } else {
-                Ok(Turn::Stops)
+                Ok(Turn::Stopped)
             }
         }
         Ok(None) => Ok(Turn::Waits),
-        Err(error) => turn_at(error),
+        Err(error) => reception_of(error),
     }
 }
 
@@ -80,13 +80,13 @@ pub(crate) fn receive_all(
     framer: &mut Framer,
     target: &mut Target,
 ) -> Result<bool, AllocError>
-    ensures { ReceivesAll result framer.old.stream framer.new.stream target.old target.new }
+    ensures { ReceiveAllResult result framer.old.stream framer.new.stream target.old target.new }
 {
     'messages: loop {
         match receive_next(alloc, framer, target)? {
             Turn::More => {}
             Turn::Waits => return Ok(false),
-            Turn::Stops => return Ok(true),
+            Turn::Stopped => return Ok(true),
         }
     }
 }

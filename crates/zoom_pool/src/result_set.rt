@@ -5,8 +5,8 @@ ghost use Rattle.zorigin.specs.Standings.{Present};
 ghost use Rattle.zorigin.specs.Ranges.{one_range};
 ghost use Rattle.zorigin.specs.Log.{IsCalled};
 ghost use Rattle.zoom_pool.specs.CallsOf.{call_of};
-ghost use Rattle.zoom_pool.specs.Heard.{Calls};
-ghost use Rattle.zoom_pool.specs.Befalling.{Befell, IsCallAnswer};
+ghost use Rattle.zoom_pool.specs.Transcripts.{Called};
+ghost use Rattle.zoom_pool.specs.PoolSteps.{Recorded, IsCallResult};
 
 use crate::call::Call;
 use crate::pool::Pool;
@@ -56,9 +56,9 @@ impl ResultSet {
     /// refused as that call is, and the pool is then as it was.
     pub fn present(self, pool: &mut Pool, op: u32, start: i64, n: i64) -> Result<(), CallRefused>
         requires { self.c < length pool.old.connections }
-        ensures answer { IsCallAnswer self.c (Present op self.set (one_range start n)) pool.old result }
+        ensures answer { IsCallResult self.c (Present op self.set (one_range start n)) pool.old result }
         ensures after { IsCalled result
-            → Befell self.c (Calls (Present op self.set (one_range start n))) pool.old pool.new }
+            → Recorded self.c (Called (Present op self.set (one_range start n))) pool.old pool.new }
         ensures err { OnErr result (pool.new ≡ pool.old) }
         ensures known { pool.new.knowledge ≡ pool.old.knowledge }
         ensures size { length pool.new.connections ≡ length pool.old.connections }
@@ -78,8 +78,8 @@ impl ResultSet {
         ranges: Seq<Range>,
     ) -> Result<(), CallRefused>
         requires { self.c < length pool.old.connections }
-        ensures answer { IsCallAnswer self.c (Present op self.set ranges) pool.old result }
-        ensures after { IsCalled result → Befell self.c (Calls (Present op self.set ranges)) pool.old pool.new }
+        ensures answer { IsCallResult self.c (Present op self.set ranges) pool.old result }
+        ensures after { IsCalled result → Recorded self.c (Called (Present op self.set ranges)) pool.old pool.new }
         ensures err { OnErr result (pool.new ≡ pool.old) }
         ensures known { pool.new.knowledge ≡ pool.old.knowledge }
         ensures size { length pool.new.connections ≡ length pool.old.connections }

@@ -1,7 +1,7 @@
 //! Where a connection stands.
 ghost use Rattle.std.specs.Prelude.{◌≡◌};
 ghost use Rattle.zoom_pool.specs.States.{state_as, is_stopped, is_closing};
-ghost use Rattle.zoom_pool.specs.Reasons.{reason_word};
+ghost use Rattle.zoom_pool.specs.Reasons.{reason_name};
 
 use zapdu::ApduError;
 use zber::FaultKind;
@@ -35,7 +35,7 @@ impl Reason {
     /// The name of the fault, of what a message was not, of the origin's reason, or its own, in ASCII letters. It takes
     /// no memory.
     pub fn word(&self) -> &'static str
-        ensures { result.now ≡ reason_word self.now }
+        ensures { result.now ≡ reason_name self.now }
     {
         match self {
             Reason::Frame { kind, .. } => kind.word(),

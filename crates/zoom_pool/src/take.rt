@@ -3,16 +3,16 @@ ghost use Rattle.std.specs.Prelude.{◌≡◌, IfOk, IfNone, true, false, None, 
 ghost use Rattle.zber.specs.Unfinished.{IsUnfinished};
 ghost use Rattle.zoom_pool.specs.declared.state.State.TheVariants as states;
 ghost use Rattle.zoom_pool.specs.declared.state.Reason.TheVariants as reasons;
-ghost use Rattle.zoom_pool.specs.States.{is_stopped, goes_on};
+ghost use Rattle.zoom_pool.specs.States.{is_stopped, is_going};
 ghost use Rattle.zber.specs.declared.framer.TheConstants.{MESSAGE_LIMIT};
-ghost use Rattle.zoom_pool.specs.Heard.{Heard, state_at, IsDone};
-ghost use Rattle.zoom_pool.specs.Learned.{Grows};
-ghost use Rattle.zoom_pool.specs.Leaving.{Frames, Matches};
-ghost use Rattle.zoom_pool.specs.Steps.{Draws, LacksTo, TakesOn, TakesPart, KeepsOn, stop_after, held_after};
+ghost use Rattle.zoom_pool.specs.Transcripts.{Transcript, state_at, IsDone};
+ghost use Rattle.zoom_pool.specs.Learned.{AreStillKnown};
+ghost use Rattle.zoom_pool.specs.Connections.{FramerAfter, AreConsistent};
+ghost use Rattle.zoom_pool.specs.Steps.{NextMessage, EmptyTake, LinkTakeStep, PartialTake, LinkIncompleteTake, stop_after, held_after};
 
-use crate::answer::{TakeError, Told, reason_of};
+use crate::answer::{Outcome, TakeError, reason_of};
 use crate::connection::Connection;
-use crate::heeding::heed;
+use crate::processing::process;
 use crate::state::{Reason, State, is_closing, is_stopped};
 use zber::laws::stream_laws;
 use zber::{FrameError, Framer, Node};
@@ -20,20 +20,24 @@ use zknow::Knowledge;
 
 impl Connection {
     /// Takes one message, and adds to the knowledge what it says of this target.
-    pub(crate) fn take(&mut self, target: u32, knowledge: &mut Knowledge) -> Result<Told, TakeError>
-        ensures done { TakesOn target result self.old self.new knowledge.old knowledge.new }
-        ensures memory { KeepsOn result self.old self.new }
-        ensures part { TakesPart target result self.old knowledge.old knowledge.new }
-        ensures grows { Grows knowledge.old knowledge.new }
+    pub(crate) fn take(
+        &mut self,
+        target: u32,
+        knowledge: &mut Knowledge,
+    ) -> Result<Outcome, TakeError>
+        ensures done { LinkTakeStep target result self.old self.new knowledge.old knowledge.new }
+        ensures memory { LinkIncompleteTake result self.old self.new }
+        ensures part { PartialTake target result self.old knowledge.old knowledge.new }
+        ensures grows { AreStillKnown knowledge.old knowledge.new }
         ensures waiting { self.new.waiting ≡ self.old.waiting }
     {
         if is_stopped(self.state()) {
-            return Ok(Told::Stopped);
+            return Ok(Outcome::Stopped);
         }
         stream_laws();
         match next_message(&mut self.held, &mut self.framer) {
             Ok(Some(node)) => {
-                let answer = heed(self.alloc, &mut self.origin, target, knowledge, &node);
+                let answer = process(self.alloc, &mut self.origin, target, knowledge, &node);
                 settle(&mut self.stop, &mut self.held, node, &answer);
                 answer
             }
@@ -49,23 +53,23 @@ impl Connection {
     }
 
     /// No message is there.
-    fn lack(&mut self) -> Result<Told, TakeError>
+    fn lack(&mut self) -> Result<Outcome, TakeError>
         requires asked { self.old.framer.asked ≡ true }
         requires sound { self.old.framer.fault ≡ None }
         requires none { self.old.held ≡ None }
-        ensures answer { (p : Heard) → Matches p self.old → is_stopped (state_at p) ≡ false
-            → IsUnfinished MESSAGE_LIMIT self.old.framer.octets → LacksTo p result self.new }
+        ensures answer { (p : Transcript) → AreConsistent p self.old → is_stopped (state_at p) ≡ false
+            → IsUnfinished MESSAGE_LIMIT self.old.framer.octets → EmptyTake p result self.new }
         ensures done { IsDone result }
         ensures waiting { self.new.waiting ≡ self.old.waiting }
     {
         if !self.ended {
-            return Ok(Told::Nothing);
+            return Ok(Outcome::Nothing);
         }
         match self.framer.finish() {
             Ok(_) => {
                 let closing = is_closing(self.state());
                 self.stop = Some(ended_state(closing));
-                Ok(Told::Ended)
+                Ok(Outcome::Ended)
             }
             Err(error) => match error {
                 FrameError::Fault { kind, at } => {
@@ -83,7 +87,7 @@ fn settle(
     stop: &mut Option<State>,
     held: &mut Option<Node>,
     node: Node,
-    answer: &Result<Told, TakeError>,
+    answer: &Result<Outcome, TakeError>,
 )
     ensures stopped { stop.new ≡ stop_after stop.old answer.now }
     ensures kept { held.new ≡ held_after answer.now node held.old }
@@ -109,8 +113,8 @@ fn ended_state(closing: bool) -> State
 
 /// The message that is kept, or the next one of the framer.
 fn next_message(held: &mut Option<Node>, framer: &mut Framer) -> Result<Option<Node>, FrameError>
-    ensures answer { (p : Heard) → goes_on p.stop ≡ true → Frames p held.old framer.old.stream
-        → Draws p result held.new framer.new.stream }
+    ensures answer { (p : Transcript) → is_going p.stop ≡ true → FramerAfter p held.old framer.old.stream
+        → NextMessage p result held.new framer.new.stream }
     ensures none { held.new ≡ None }
     ensures idle { IfOk result
         (λ o. IfNone o ((framer.new.stream.asked ≡ true) × (framer.new.stream.fault ≡ None))) }

@@ -1,6 +1,6 @@
 //! The octets that wait to go out.
 ghost use Rattle.std.specs.Prelude.{◌≡◌, ◌+◌, ◌≤◌, ◌++◌, ◌∷◌, [], vec_len, vec_capacity, OnOk, OnErr};
-ghost use Rattle.zoom_pool.specs.Heard.{joined};
+ghost use Rattle.zoom_pool.specs.Transcripts.{joined};
 
 use bytes::Bytes;
 use std::alloc::AllocError;

@@ -7,58 +7,58 @@ use Rattle.zknow.specs.declared.fact.Fact.{Fact}
 use Rattle.ztarget.specs.Receiving.{TargetState}
 use Rattle.zoom_questions.specs.declared.question.Question.{Question}
 use Rattle.zoom_questions.specs.declared.question.MetaSettings.{MetaSettings}
-use Rattle.zoom_pool.specs.Heard.{Heard, silence}
-use Rattle.zoom_pool.specs.History.{only, facts_at}
+use Rattle.zoom_pool.specs.Transcripts.{Transcript, empty_transcript}
+use Rattle.zoom_pool.specs.History.{events_on, facts_at}
 use Rattle.zoom_pool.specs.Hosts.{holdings_of}
-use Rattle.zoom_pool.specs.Laws.{OneHearing}
+use Rattle.zoom_pool.specs.Laws.{OneTranscript}
 use Rattle.zoom_pool.specs.Metas.{MetaLinks, settings_of}
 use Rattle.zoom_pool.proofs.Metas.{heard_at, slice_some}
-use Rattle.zoom_laws.specs.Exchange.{ConversesLaw}
-use Rattle.zoom_sim.specs.RunSound.{IsLost}
-use Rattle.zoom_sim.specs.RunRounds.{IsWhole, RanWhole}
+use Rattle.zoom_laws.specs.Exchange.{ConversationLaw}
+use Rattle.zoom_sim.specs.RunSound.{HasLongReplyDue}
+use Rattle.zoom_sim.specs.RunRounds.{IsCompleteExchange, IsCompleteRun}
 use Rattle.zoom_laws.specs.Catalogue.{catalogue, CatalogueLaw}
 use Rattle.zoom_sim.specs.RunCatalogue.{IsBrought, CanBring, NoneIsLong, RunLaw}
 
 none_in : {X : Type 0} (x : X) → Contains [] x → ⊥
 none_in x h = omega (arith, h.1)
 
-module _ (answers : CatalogueLaw) (converses : ConversesLaw) (hearing : OneHearing) (questions : List Question)
-    (s : MetaSettings) (targets : List TargetState) (meta : MetaLinks) (r : RanWhole questions s targets meta)
+module _ (answers : CatalogueLaw) (conversation : ConversationLaw) (uniqueness : OneTranscript) (questions : List Question)
+    (s : MetaSettings) (targets : List TargetState) (meta : MetaLinks) (r : IsCompleteRun questions s targets meta)
     (equal : length targets ≡ length questions) (can : CanBring questions targets)
     (short : NoneIsLong s targets r.history) where
-  abbrev heard : ℕ → Heard
-  heard = r.after.pool.heard
+  abbrev transcript : ℕ → Transcript
+  transcript = r.after.pool.transcript
 
   not_lost : (c : ℕ) (t : TargetState) → slice_get targets c ≡ Some t
-      → IsWhole s t (only c r.history) ⊎ IsLost s t (only c r.history) → IsWhole s t (only c r.history)
+      → IsCompleteExchange s t (events_on c r.history) ⊎ HasLongReplyDue s t (events_on c r.history) → IsCompleteExchange s t (events_on c r.history)
   not_lost c t at (inl w) = w
   not_lost c t at (inr lost) = absurd (short c t at lost)
 
   -- what one connection knows
   answered : (c : ℕ) (q : Question) (t : TargetState) → slice_get questions c ≡ Some q → slice_get targets c ≡ Some t
-      → (f : Fact) → Contains (facts_at c (heard c)) f ↔ Contains (catalogue c q t.databases t.settings) f
+      → (f : Fact) → Contains (facts_at c (transcript c)) f ↔ Contains (catalogue c q t.databases t.settings) f
   answered c q t at by =
       let w = not_lost c t by (r.whole c t by) in
       let lt : c < length meta.pool.connections =
       subst (λ n. c < n) (sym r.after.size) (slice_get_within questions c q at) in
-      let here = heard_at (settings_of s) r.history heard meta.pool.connections c r.after.pool.stands lt in
-      let same : w.heard ≡ heard c =
-      hearing (settings_of s) (only c r.history) w.heard (heard c) w.sound.heard here in
+      let here = heard_at (settings_of s) r.history transcript meta.pool.connections c r.after.pool.stands lt in
+      let same : w.transcript ≡ transcript c =
+      uniqueness (settings_of s) (events_on c r.history) w.transcript (transcript c) w.sound.transcript here in
       let ends = can c q t at by in
-      let owed = (converses (holdings_of t) (settings_of s) (only c r.history) w.heard w.events w.host w.sound).owed in
-      let all = answers questions s r.history meta c q w.heard t.databases t.settings r.after at w.sound.heard w.complete
+      let owed = (conversation (holdings_of t) (settings_of s) (events_on c r.history) w.transcript w.host_events w.host w.sound).owed in
+      let all = answers questions s r.history meta c q w.transcript t.databases t.settings r.after at w.sound.transcript w.complete
       owed ends.0 ends.1 in
       subst (λ p. (f : Fact) → Contains (facts_at c p) f ↔ Contains (catalogue c q t.databases t.settings) f) same all
 
   -- nothing is known of a connection that there is not
-  within : (c : ℕ) (f : Fact) → Contains (facts_at c (heard c)) f → c < length questions
+  within : (c : ℕ) (f : Fact) → Contains (facts_at c (transcript c)) f → c < length questions
   within c f h = by (nat_lt c (length questions)) refl
     where
       by : (b : Bool) → nat_lt c (length questions) ≡ b → c < length questions
       by true e = grind (arith, nat_tests)
       by false e =
           let past : length questions ≤ c = grind (arith, nat_tests) in
-          let none : heard c ≡ silence (settings_of s) =
+          let none : transcript c ≡ empty_transcript (settings_of s) =
           (r.after.pool.stands.others c (subst (λ n. n ≤ c) (sym r.after.size) past)).1 in
           absurd (none_in f (subst (λ p. Contains (facts_at c p) f) none h))
 
@@ -73,8 +73,8 @@ module _ (answers : CatalogueLaw) (converses : ConversesLaw) (hearing : OneHeari
   known : (f : Fact) → IsBrought questions targets f → Contains meta.pool.knowledge f
   known f b = (r.after.pool.known f).1 (b.0, (answered b.0 b.1 b.2 b.3 b.4 f).1 b.5)
 
-pub run_law : CatalogueLaw → ConversesLaw → OneHearing → RunLaw
-run_law answers converses hearing questions s targets meta r equal can short f = (
-  brought answers converses hearing questions s targets meta r equal can short f,
-  known answers converses hearing questions s targets meta r equal can short f,
+pub run_law : CatalogueLaw → ConversationLaw → OneTranscript → RunLaw
+run_law answers conversation uniqueness questions s targets meta r equal can short f = (
+  brought answers conversation uniqueness questions s targets meta r equal can short f,
+  known answers conversation uniqueness questions s targets meta r equal can short f,
 )

@@ -7,74 +7,74 @@ use Rattle.ztarget.specs.Receiving.{TargetState}
 use Rattle.zoom_questions.specs.declared.question.Question.{Question}
 use Rattle.zoom_questions.specs.declared.question.MetaSettings.{MetaSettings}
 use Rattle.zoom_pool.specs.States.{is_stopped}
-use Rattle.zoom_pool.specs.Heard.{Deed, Heard, HasHeard, fed, state_at, past_of, sent}
-use Rattle.zoom_pool.specs.History.{History, only}
-use Rattle.zoom_pool.specs.Hosts.{HostAfter, Event, HandedOut, holdings_of}
-use Rattle.zoom_pool.specs.Laws.{OneHearing}
+use Rattle.zoom_pool.specs.Transcripts.{Event, Transcript, IsTranscript, fed, state_at, past_of, sent}
+use Rattle.zoom_pool.specs.History.{History, events_on}
+use Rattle.zoom_pool.specs.Hosts.{HostAfter, HostEvent, HostHandedOut, holdings_of}
+use Rattle.zoom_pool.specs.Laws.{OneTranscript}
 use Rattle.zoom_pool.specs.Links.{waiting_at}
 use Rattle.zoom_pool.specs.Metas.{MetaLinks, MetaAfter, settings_of}
-use Rattle.zoom_laws.specs.Exchange.{IsSettled, OneServedLaw, LongerLaw, RestsLaw, EndedLaw, fed_to}
+use Rattle.zoom_laws.specs.Exchange.{IsSettled, OneServedLaw, LongerLaw, SettledLaw, EndedLaw, fed_to}
 use Rattle.zoom_sim.specs.declared.peers.Peer.{Peer}
 use Rattle.zoom_sim.specs.Run.{is_over}
-use Rattle.zoom_sim.specs.RunSound.{of, IsFine, HasLong, Stepped, Loses, Adds, Steps, Rounded, Rounds}
-use Rattle.zoom_sim.specs.RunPeers.{BringsAll, Emptied, Empties}
+use Rattle.zoom_sim.specs.RunSound.{at_connection, IsSoundPeer, HasLongReply, SoundStep, LongReplyStep, MoreEvents, PeerStep, SoundRound, PeerRound}
+use Rattle.zoom_sim.specs.RunPeers.{CarryAllStep, IsEmptied, ReleaseAllStep}
 use Rattle.zoom_sim.proofs.RunSound.{only_more, of_append, lost_then, adds_more, loses_more}
 use Rattle.zoom_sim.proofs.RunCarries.{fed_to_append}
-use Rattle.zoom_sim.proofs.RunHeard.{heard_all}
+use Rattle.zoom_sim.proofs.RunTranscripts.{whole_stream}
 use Rattle.zoom_sim.proofs.RunPeers.{nothing_behind, to_of, from_of, sent_so}
 
 -- ---- a round that leaves nothing on its way
 
-module _ (hearing : OneHearing) (one_served : OneServedLaw) (rests : RestsLaw) (ended : EndedLaw)
+module _ (uniqueness : OneTranscript) (one_served : OneServedLaw) (rests : SettledLaw) (ended : EndedLaw)
     (questions : List Question) (s : MetaSettings) (c : ℕ) (q : Question) (target : TargetState)
     (at : slice_get questions c ≡ Some q)
     (mid new : MetaLinks) (a b now : Peer) (to : a.to ≡ []) (waits : waiting_at mid.pool c ≡ []) (kept : b.to ≡ a.to)
-    (brings : BringsAll b now)
+    (brings : CarryAllStep b now)
     -- the connection and its target, once all was carried to the target
-    (h : History) (p : Heard) (events : List Event) (after : MetaAfter questions s h mid)
-    (fine : IsFine s q target true (only c h) p events a)
+    (h : History) (p : Transcript) (host_events : List HostEvent) (after : MetaAfter questions s h mid)
+    (fine : IsSoundPeer s q target true (events_on c h) p host_events a)
     -- once all was released
-    (emptied : Emptied s q target (only c h) p events b)
+    (emptied : IsEmptied s q target (events_on c h) p host_events b)
     -- and once all was carried to the connection
-    (deeds : List Deed) (acts : List Event) (later : Heard) (last : MetaAfter questions s (of c deeds ++ h) new)
-    (done : IsFine s q target true (deeds ++ only c h) later (acts ++ (emptied.acts ++ events)) now) where
-  abbrev all : List Event
-  all = acts ++ (emptied.acts ++ events)
+    (events : List Event) (host_more : List HostEvent) (later : Transcript) (last : MetaAfter questions s (at_connection c events ++ h) new)
+    (done : IsSoundPeer s q target true (events ++ events_on c h) later (host_more ++ (emptied.host_more ++ host_events)) now) where
+  abbrev all : List HostEvent
+  all = host_more ++ (emptied.host_more ++ host_events)
 
   -- the target was fed all that was sent
-  fed_all : sent (past_of p) ≡ fed_to events
+  fed_all : sent (past_of p) ≡ fed_to host_events
   fed_all =
-      sent_so s q target true (only c h) p events a fine hearing questions c h mid after at refl
-      ∙ ap (λ z. fed_to events ++ (z ++ waiting_at mid.pool c)) to ∙ ap (λ z. fed_to events ++ z) waits
-      ∙ append-nil (fed_to events)
+      sent_so s q target true (events_on c h) p host_events a fine uniqueness questions c h mid after at refl
+      ∙ ap (λ z. fed_to host_events ++ (z ++ waiting_at mid.pool c)) to ∙ ap (λ z. fed_to host_events ++ z) waits
+      ∙ append-nil (fed_to host_events)
 
-  fed_before : length (fed_to events) ≤ length (fed_to all)
+  fed_before : length (fed_to host_events) ≤ length (fed_to all)
   fed_before =
-      let one = ap length (fed_to_append acts (emptied.acts ++ events)) in
-      let two = ap length (fed_to_append emptied.acts events) in
+      let one = ap length (fed_to_append host_more (emptied.host_more ++ host_events)) in
+      let two = ap length (fed_to_append emptied.host_more host_events) in
       omega (
         arith,
         one,
         two,
-        length-append (fed_to (emptied.acts ++ events)) (fed_to acts),
-        length-append (fed_to events) (fed_to emptied.acts),
+        length-append (fed_to (emptied.host_more ++ host_events)) (fed_to host_more),
+        length-append (fed_to host_events) (fed_to emptied.host_more),
       )
 
   sent_then : sent (past_of later) ≡ fed_to all ++ waiting_at new.pool c
   sent_then =
-      sent_so s q target true (deeds ++ only c h) later all now done hearing questions c (of c deeds ++ h) new last at
-      (sym (only_more c deeds h))
+      sent_so s q target true (events ++ events_on c h) later all now done uniqueness questions c (at_connection c events ++ h) new last at
+      (sym (only_more c events h))
       ∙ ap (λ z. fed_to all ++ (z ++ waiting_at new.pool c)) (brings.to ∙ kept ∙ to)
 
   -- no reply is pending
   none_pending : now.host.target.pending ≡ []
   none_pending =
       let sound = emptied.fine.sound in
-      let x : HostAfter (holdings_of target) (HandedOut b.host.waiting ∷ (emptied.acts ++ events)) now.host =
-      brings.host (holdings_of target) (emptied.acts ++ events) sound.served in
+      let x : HostAfter (holdings_of target) (HostHandedOut b.host.waiting ∷ (emptied.host_more ++ host_events)) now.host =
+      brings.host (holdings_of target) (emptied.host_more ++ host_events) sound.served in
       let had = x.happened in
       let same : had.0 ≡ sound.served.served =
-      one_served (holdings_of target) (emptied.acts ++ events) had.0 sound.served.served sound.plain had.1
+      one_served (holdings_of target) (emptied.host_more ++ host_events) had.0 sound.served.served sound.plain had.1
       sound.served.happened in
       x.pending ∙ ap (λ z. z.pending) had.2 ∙ ap (λ z. z.pending) same ∙ sym sound.served.pending ∙ emptied.none
 
@@ -85,18 +85,18 @@ module _ (hearing : OneHearing) (one_served : OneServedLaw) (rests : RestsLaw) (
       nothing_behind (fed_to all) (waiting_at new.pool c) (sent (past_of later)) sent_then
       (omega (arith, few, ap length fed_all, fed_before)) in
       let none_to : done.sound.to ≡ [] = to_of done.sound [] (sent_then ∙ ap (λ z. fed_to all ++ z) none) in
-      let heard : later.stream ≡ fed (deeds ++ only c h) =
-      heard_all (settings_of s) (deeds ++ only c h) later done.sound.heard goes done.sound.goes_on in
+      let transcript : later.stream ≡ fed (events ++ events_on c h) =
+      whole_stream (settings_of s) (events ++ events_on c h) later done.sound.transcript goes done.sound.goes_on in
       let none_from : done.sound.from ≡ [] =
-      from_of done.sound [] (done.from ∙ ap (λ z. fed (deeds ++ only c h) ++ z) brings.from
-      ∙ ap (λ z. z ++ []) (sym heard)) in
+      from_of done.sound [] (done.from ∙ ap (λ z. fed (events ++ events_on c h) ++ z) brings.from
+      ∙ ap (λ z. z ++ []) (sym transcript)) in
       let settled : IsSettled (holdings_of target) later done.sound.served.served.sent =
-      rests (holdings_of target) (settings_of s) (deeds ++ only c h) later all now.host done.sound none_to none_from
+      rests (holdings_of target) (settings_of s) (events ++ events_on c h) later all now.host done.sound none_to none_from
       brings.waiting none_pending (done.took refl goes) in
-      let heard_so : HasHeard (settings_of s) (only c (of c deeds ++ h)) later =
-      subst (λ z. HasHeard (settings_of s) z later) (sym (only_more c deeds h)) done.sound.heard in
+      let heard_so : IsTranscript (settings_of s) (events_on c (at_connection c events ++ h)) later =
+      subst (λ z. IsTranscript (settings_of s) z later) (sym (only_more c events h)) done.sound.transcript in
       let over : is_stopped (state_at later) ≡ true =
-      ended questions s (of c deeds ++ h) new c q later last at heard_so done.idle done.sound.goes settled.waits
+      ended questions s (at_connection c events ++ h) new c q later last at heard_so done.idle done.sound.goes settled.waits
       settled.begun settled.closed in
       true≢false (sym over ∙ goes)
 
@@ -124,82 +124,82 @@ none_moved true b c e = absurd cc
 none_moved false true c e = absurd cc
 none_moved false false c e = (refl, refl, e)
 
-module _ (hearing : OneHearing) (longer : LongerLaw) (one_served : OneServedLaw) (rests : RestsLaw) (ended : EndedLaw)
+module _ (uniqueness : OneTranscript) (longer : LongerLaw) (one_served : OneServedLaw) (rests : SettledLaw) (ended : EndedLaw)
     (c : ℕ) (old mid new : MetaLinks) (was a b now : Peer) (came moved : Bool) (none : moved ≡ false → came ≡ false)
-    (carries : Steps c true true true old mid was a) (to : a.to ≡ []) (waits : waiting_at mid.pool c ≡ [])
-    (releases : Empties a b) (brings : BringsAll b now) (takes : Steps c true true (not came) mid new b now) where
+    (carries : PeerStep c true true true old mid was a) (to : a.to ≡ []) (waits : waiting_at mid.pool c ≡ [])
+    (releases : ReleaseAllStep a b) (brings : CarryAllStep b now) (takes : PeerStep c true true (not came) mid new b now) where
   module _ (questions : List Question) (s : MetaSettings) (h : History) (q : Question) (target : TargetState)
-      (p : Heard) (events : List Event) (at : slice_get questions c ≡ Some q) where
+      (p : Transcript) (host_events : List HostEvent) (at : slice_get questions c ≡ Some q) where
     -- a reply that is too long stays so
-    long_then : (l : Loses questions s c h target mid) → Loses questions s c h target new
+    long_then : (l : LongReplyStep questions s c h target mid) → LongReplyStep questions s c h target new
     long_then l =
-        lost_then hearing longer questions s c h q target mid new at l
-        (takes.adds questions s (of c l.deeds ++ h) l.after)
+        lost_then uniqueness longer questions s c h q target mid new at l
+        (takes.adds questions s (at_connection c l.events ++ h) l.after)
 
-    module _ (one : Stepped questions s c h q target true true p events mid a) where
+    module _ (one : SoundStep questions s c h q target true true p host_events mid a) where
       abbrev past : History
-      past = of c one.deeds ++ h
+      past = at_connection c one.events ++ h
 
-      abbrev acted : List Event
-      acted = one.acts ++ events
+      abbrev acted : List HostEvent
+      acted = one.host_more ++ host_events
 
-      fine_mid : IsFine s q target true (only c past) one.later acted a
-      fine_mid = subst (λ z. IsFine s q target true z one.later acted a) (sym (only_more c one.deeds h)) one.fine
+      fine_mid : IsSoundPeer s q target true (events_on c past) one.later acted a
+      fine_mid = subst (λ z. IsSoundPeer s q target true z one.later acted a) (sym (only_more c one.events h)) one.fine
 
       -- all went well
-      well : (two : Emptied s q target (only c past) one.later acted b)
-          → Stepped questions s c past q target true (not came) one.later (two.acts ++ acted) new now
-          → Rounded questions s c h q target moved p events new now
+      well : (two : IsEmptied s q target (events_on c past) one.later acted b)
+          → SoundStep questions s c past q target true (not came) one.later (two.host_more ++ acted) new now
+          → SoundRound questions s c h q target moved p host_events new now
       well two three = record {
         stepped = record {
-          deeds = three.deeds ++ one.deeds;
-          acts = three.acts ++ (two.acts ++ one.acts);
-          after = subst (λ z. MetaAfter questions s z new) (of_append c one.deeds three.deeds h) three.after;
+          events = three.events ++ one.events;
+          host_more = three.host_more ++ (two.host_more ++ one.host_more);
+          after = subst (λ z. MetaAfter questions s z new) (of_append c one.events three.events h) three.after;
           later = three.later;
           fine = subst
-              (λ z. IsFine s q target true z three.later ((three.acts ++ (two.acts ++ one.acts)) ++ events) now)
-              (ap (λ z. three.deeds ++ z) (only_more c one.deeds h)
-              ∙ sym (append_assoc three.deeds one.deeds (only c h)))
-              (subst (λ z. IsFine s q target true (three.deeds ++ only c past) three.later z now)
-              (ap (λ z. three.acts ++ z) (sym (append_assoc two.acts one.acts events))
-              ∙ sym (append_assoc three.acts (two.acts ++ one.acts) events)) three.fine);
+              (λ z. IsSoundPeer s q target true z three.later ((three.host_more ++ (two.host_more ++ one.host_more)) ++ host_events) now)
+              (ap (λ z. three.events ++ z) (only_more c one.events h)
+              ∙ sym (append_assoc three.events one.events (events_on c h)))
+              (subst (λ z. IsSoundPeer s q target true (three.events ++ events_on c past) three.later z now)
+              (ap (λ z. three.host_more ++ z) (sym (append_assoc two.host_more one.host_more host_events))
+              ∙ sym (append_assoc three.host_more (two.host_more ++ one.host_more) host_events)) three.fine);
           still = λ e. absurd (true≢false (sym e));
         };
         grows = λ goes. subst (λ z. length (sent (past_of z)) < length (sent (past_of three.later))) (one.still refl)
-            (grows hearing one_served rests ended questions s c q target at mid new a b now to waits releases.to brings
-            past one.later acted one.after fine_mid two three.deeds three.acts three.later three.after three.fine goes);
+            (grows uniqueness one_served rests ended questions s c q target at mid new a b now to waits releases.to brings
+            past one.later acted one.after fine_mid two three.events three.host_more three.later three.after three.fine goes);
         still = λ e. three.still (ap not (none e)) ∙ one.still refl;
       }
 
-      took : (two : Emptied s q target (only c past) one.later acted b)
-          → Stepped questions s c past q target true (not came) one.later (two.acts ++ acted) new now
-          ⊎ Loses questions s c past target new
-          → Rounded questions s c h q target moved p events new now ⊎ Loses questions s c h target new
+      took : (two : IsEmptied s q target (events_on c past) one.later acted b)
+          → SoundStep questions s c past q target true (not came) one.later (two.host_more ++ acted) new now
+          ⊎ LongReplyStep questions s c past target new
+          → SoundRound questions s c h q target moved p host_events new now ⊎ LongReplyStep questions s c h target new
       took two (inl three) = inl (well two three)
-      took two (inr l) = inr (loses_more questions s c h new target one.deeds l)
+      took two (inr l) = inr (loses_more questions s c h new target one.events l)
 
-      emptied : Emptied s q target (only c past) one.later acted b ⊎ HasLong (holdings_of target) one.later
-          → Rounded questions s c h q target moved p events new now ⊎ Loses questions s c h target new
+      emptied : IsEmptied s q target (events_on c past) one.later acted b ⊎ HasLongReply (holdings_of target) one.later
+          → SoundRound questions s c h q target moved p host_events new now ⊎ LongReplyStep questions s c h target new
       emptied (inl two) =
-          took two (takes.fine questions s past q target one.later (two.acts ++ acted) one.after at two.fine)
+          took two (takes.fine questions s past q target one.later (two.host_more ++ acted) one.after at two.fine)
       emptied (inr long) = inr (long_then (record {
-        deeds = one.deeds;
+        events = one.events;
         after = one.after;
-        lost = (one.later, one.fine.sound.heard, long);
+        lost = (one.later, one.fine.sound.transcript, long);
       }))
 
-    carried : Stepped questions s c h q target true true p events mid a ⊎ Loses questions s c h target mid
-        → Rounded questions s c h q target moved p events new now ⊎ Loses questions s c h target new
+    carried : SoundStep questions s c h q target true true p host_events mid a ⊎ LongReplyStep questions s c h target mid
+        → SoundRound questions s c h q target moved p host_events new now ⊎ LongReplyStep questions s c h target new
     carried (inl one) =
         emptied one
         (releases.on questions s c (past one) q target one.later (acted one) mid one.after at (fine_mid one))
     carried (inr l) = inr (long_then l)
 
-  pub rounds : Rounds c moved old new was now
+  pub rounds : PeerRound c moved old new was now
   rounds = record {
-    fine = λ questions s h q target p events after at f.
-        carried questions s h q target p events at (carries.fine questions s h q target p events after at f);
+    fine = λ questions s h q target p host_events after at f.
+        carried questions s h q target p host_events at (carries.fine questions s h q target p host_events after at f);
     adds = λ questions s h after.
-        let one : Adds questions s c h mid = carries.adds questions s h after in
-        adds_more questions s c h new one.deeds (takes.adds questions s (of c one.deeds ++ h) one.after);
+        let one : MoreEvents questions s c h mid = carries.adds questions s h after in
+        adds_more questions s c h new one.events (takes.adds questions s (at_connection c one.events ++ h) one.after);
   }

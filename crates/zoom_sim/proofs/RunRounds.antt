@@ -7,53 +7,53 @@ use Rattle.std.proofs.Math.ListN.{length-set}
 use Rattle.ztarget.specs.Receiving.{TargetState}
 use Rattle.zoom_questions.specs.declared.question.Question.{Question}
 use Rattle.zoom_questions.specs.declared.question.MetaSettings.{MetaSettings}
-use Rattle.zoom_pool.specs.Heard.{Deed, Heard, HasHeard, past_of, sent}
-use Rattle.zoom_pool.specs.History.{History, only}
-use Rattle.zoom_pool.specs.Hosts.{Event, holdings_of}
-use Rattle.zoom_pool.specs.Laws.{OneHearing}
+use Rattle.zoom_pool.specs.Transcripts.{Event, Transcript, IsTranscript, past_of, sent}
+use Rattle.zoom_pool.specs.History.{History, events_on}
+use Rattle.zoom_pool.specs.Hosts.{HostEvent, holdings_of}
+use Rattle.zoom_pool.specs.Laws.{OneTranscript}
 use Rattle.zoom_pool.specs.Metas.{MetaLinks, MetaAfter, IsFinished, settings_of}
 use Rattle.zoom_pool.proofs.Pools.{only_append, got, get_same}
 use Rattle.zoom_pool.proofs.Metas.{get_other, slice_some}
 use Rattle.zoom_laws.specs.Exchange.{ExchangeLaws, LongerLaw, FewLaw}
 use Rattle.zoom_sim.specs.declared.peers.Peer.{Peer}
 use Rattle.zoom_sim.specs.Run.{is_over}
-use Rattle.zoom_sim.specs.RunSound.{of, IsFine, IsLost, Stepped, Loses, Adds, Steps, Rounded, Rounds, Spared, Spares, Started}
-use Rattle.zoom_sim.specs.RunRounds.{IsKept, WorldFine, WorldStays, WorldRounds, WorldGrows, IsWhole, RanWhole, WorldWhole}
+use Rattle.zoom_sim.specs.RunSound.{at_connection, IsSoundPeer, HasLongReplyDue, SoundStep, LongReplyStep, MoreEvents, PeerStep, SoundRound, PeerRound, MoreEventsOfUnfinished, UnfinishedOnlyStep, AreStarted}
+use Rattle.zoom_sim.specs.RunRounds.{IsAdvancedTo, IsSoundWorld, AfterSoundMoves, AfterSoundRound, AfterRoundOrEnd, IsCompleteExchange, IsCompleteRun, AfterAllSoundRounds}
 use Rattle.zoom_sim.proofs.RunWorlds.{some_is}
 use Rattle.zoom_sim.proofs.RunSound.{only_more, none_of, lost_more, lost_by}
 use Rattle.zoom_sim.proofs.RunOver.{over_stays}
 
 -- ---- one connection of the world
 
-other_more : (c i : ℕ) (deeds : List Deed) (h : History) → (c == i) ≡ false → only i (of c deeds ++ h) ≡ only i h
-other_more c i deeds h far = only_append i (of c deeds) h ∙ ap (λ z. z ++ only i h) (none_of c i deeds far)
+other_more : (c i : ℕ) (events : List Event) (h : History) → (c == i) ≡ false → events_on i (at_connection c events ++ h) ≡ events_on i h
+other_more c i events h far = only_append i (at_connection c events) h ∙ ap (λ z. z ++ events_on i h) (none_of c i events far)
 
 at_peer : (peers : List Peer) (c : ℕ) (p : Peer) → c < length peers → slice_get peers c ≡ Some (get_or peers c p)
 at_peer peers c p lt = got peers c p (get_or peers c p) lt refl
 
 -- what the numbers say is said of fewer octets too, and of numbers of connections only
 pub world_as : (one two : ℕ → ℕ) (qs : List Question) (s : MetaSettings) (ts : List TargetState) (meta : MetaLinks)
-    (peers : List Peer) → ((c : ℕ) → c < length peers → one c ≡ two c) → WorldFine one qs s ts meta peers
-    → WorldFine two qs s ts meta peers
+    (peers : List Peer) → ((c : ℕ) → c < length peers → one c ≡ two c) → IsSoundWorld one qs s ts meta peers
+    → IsSoundWorld two qs s ts meta peers
 world_as one two qs s ts meta peers same w = record {
   history = w.history;
   after = w.after;
   size = w.size;
   equal = w.equal;
   kept = λ c q t p a b d.
-      subst (λ n. IsKept n s q t (only c w.history) p) (same c (slice_get_within peers c p d)) (w.kept c q t p a b d);
+      subst (λ n. IsAdvancedTo n s q t (events_on c w.history) p) (same c (slice_get_within peers c p d)) (w.kept c q t p a b d);
 }
 
 module _ (qs : List Question) (s : MetaSettings) (ts : List TargetState) (old new : MetaLinks) (peers : List Peer)
     (c : ℕ) (r : Peer) (lt : c < length peers) where
   -- deeds of one connection more
-  world_put : (one two : ℕ → ℕ) (w : WorldFine one qs s ts old peers) (deeds : List Deed)
-      → MetaAfter qs s (of c deeds ++ w.history) new
+  world_put : (one two : ℕ → ℕ) (w : IsSoundWorld one qs s ts old peers) (events : List Event)
+      → MetaAfter qs s (at_connection c events ++ w.history) new
       → ((q : Question) (t : TargetState) → slice_get qs c ≡ Some q → slice_get ts c ≡ Some t
-      → IsKept (two c) s q t (deeds ++ only c w.history) r)
-      → ((i : ℕ) → (c == i) ≡ false → one i ≡ two i) → WorldFine two qs s ts new (slice_set peers c r)
-  world_put one two w deeds after mine others = record {
-    history = of c deeds ++ w.history;
+      → IsAdvancedTo (two c) s q t (events ++ events_on c w.history) r)
+      → ((i : ℕ) → (c == i) ≡ false → one i ≡ two i) → IsSoundWorld two qs s ts new (slice_set peers c r)
+  world_put one two w events after mine others = record {
+    history = at_connection c events ++ w.history;
     after = after;
     size = length-set peers c r ∙ w.size;
     equal = w.equal;
@@ -62,26 +62,26 @@ module _ (qs : List Question) (s : MetaSettings) (ts : List TargetState) (old ne
     where
       each : (i : ℕ) (q : Question) (t : TargetState) (p : Peer) → slice_get qs i ≡ Some q → slice_get ts i ≡ Some t
           → slice_get (slice_set peers c r) i ≡ Some p → (b : Bool) → (c == i) ≡ b
-          → IsKept (two i) s q t (only i (of c deeds ++ w.history)) p
+          → IsAdvancedTo (two i) s q t (events_on i (at_connection c events ++ w.history)) p
       each i q t p a b d true e =
           let same : c ≡ i = grind (arith, nat_tests) in
           let which : r ≡ p = some_is (sym (get_same peers c r lt)
           ∙ subst (λ n. slice_get (slice_set peers c r) n ≡ Some p) (sym same) d) in
-          subst (λ n. IsKept (two n) s q t (only n (of c deeds ++ w.history)) p) same
-          (subst (λ z. IsKept (two c) s q t z p) (sym (only_more c deeds w.history))
-          (subst (λ z. IsKept (two c) s q t (deeds ++ only c w.history) z) which
+          subst (λ n. IsAdvancedTo (two n) s q t (events_on n (at_connection c events ++ w.history)) p) same
+          (subst (λ z. IsAdvancedTo (two c) s q t z p) (sym (only_more c events w.history))
+          (subst (λ z. IsAdvancedTo (two c) s q t (events ++ events_on c w.history) z) which
           (mine q t (subst (λ n. slice_get qs n ≡ Some q) (sym same) a)
           (subst (λ n. slice_get ts n ≡ Some t) (sym same) b))))
       each i q t p a b d false e =
-          subst (λ n. IsKept n s q t (only i (of c deeds ++ w.history)) p) (others i e)
-          (subst (λ z. IsKept (one i) s q t z p) (sym (other_more c i deeds w.history e))
+          subst (λ n. IsAdvancedTo n s q t (events_on i (at_connection c events ++ w.history)) p) (others i e)
+          (subst (λ z. IsAdvancedTo (one i) s q t z p) (sym (other_more c i events w.history e))
           (w.kept i q t p a b (sym (get_other peers c i r e) ∙ d)))
 
   -- the question and the target of the connection
-  asked_at : (one : ℕ → ℕ) (w : WorldFine one qs s ts old peers) → (q : Question) × (slice_get qs c ≡ Some q)
+  asked_at : (one : ℕ → ℕ) (w : IsSoundWorld one qs s ts old peers) → (q : Question) × (slice_get qs c ≡ Some q)
   asked_at one w = slice_some qs c (let g : c < length qs = omega (arith, w.size, w.equal, lt) in g)
 
-  target_at : (one : ℕ → ℕ) (w : WorldFine one qs s ts old peers) → (t : TargetState) × (slice_get ts c ≡ Some t)
+  target_at : (one : ℕ → ℕ) (w : IsSoundWorld one qs s ts old peers) → (t : TargetState) × (slice_get ts c ≡ Some t)
   target_at one w = slice_some ts c (let g : c < length ts = omega (arith, w.size, lt) in g)
 
   -- both are those
@@ -91,39 +91,39 @@ module _ (qs : List Question) (s : MetaSettings) (ts : List TargetState) (old ne
       subst (λ z. X z u) (some_is (sym a ∙ b)) (subst (λ z. X q z) (some_is (sym d ∙ e)) x)
 
   -- a connection of which some reply is too long
-  world_lost : OneHearing → LongerLaw → (one two : ℕ → ℕ) (w : WorldFine one qs s ts old peers)
+  world_lost : OneTranscript → LongerLaw → (one two : ℕ → ℕ) (w : IsSoundWorld one qs s ts old peers)
       (q : Question) (t : TargetState) → slice_get qs c ≡ Some q → slice_get ts c ≡ Some t
-      → Adds qs s c w.history new → IsLost s t (only c w.history)
-      → ((i : ℕ) → (c == i) ≡ false → one i ≡ two i) → WorldFine two qs s ts new (slice_set peers c r)
-  world_lost hearing longer one two w q t a b adds lost others =
-      world_put one two w adds.deeds adds.after
-      (λ p u d e. at_both (λ x y. IsKept (two c) s x y (adds.deeds ++ only c w.history) r) q p t u a d b e
-      (inr (lost_more hearing longer qs s c w.history q t adds.deeds new adds.after a lost))) others
+      → MoreEvents qs s c w.history new → HasLongReplyDue s t (events_on c w.history)
+      → ((i : ℕ) → (c == i) ≡ false → one i ≡ two i) → IsSoundWorld two qs s ts new (slice_set peers c r)
+  world_lost uniqueness longer one two w q t a b adds lost others =
+      world_put one two w adds.events adds.after
+      (λ p u d e. at_both (λ x y. IsAdvancedTo (two c) s x y (adds.events ++ events_on c w.history) r) q p t u a d b e
+      (inr (lost_more uniqueness longer qs s c w.history q t adds.events new adds.after a lost))) others
 
 -- ---- a step
 
-module _ (hearing : OneHearing) (longer : LongerLaw) (old new : MetaLinks) (peers : List Peer) (c : ℕ) (p r : Peer)
+module _ (uniqueness : OneTranscript) (longer : LongerLaw) (old new : MetaLinks) (peers : List Peer) (c : ℕ) (p r : Peer)
     (lt : c < length peers) where
-  module _ (same : Bool) (f : Steps c true true same old new (get_or peers c p) r) (qs : List Question)
-      (s : MetaSettings) (ts : List TargetState) (w : WorldFine (λ i. 0) qs s ts old peers) where
+  module _ (same : Bool) (f : PeerStep c true true same old new (get_or peers c p) r) (qs : List Question)
+      (s : MetaSettings) (ts : List TargetState) (w : IsSoundWorld (λ i. 0) qs s ts old peers) where
     put_step : (q : Question) (t : TargetState) → slice_get qs c ≡ Some q → slice_get ts c ≡ Some t
-        → IsKept 0 s q t (only c w.history) (get_or peers c p) → WorldFine (λ i. 0) qs s ts new (slice_set peers c r)
+        → IsAdvancedTo 0 s q t (events_on c w.history) (get_or peers c p) → IsSoundWorld (λ i. 0) qs s ts new (slice_set peers c r)
     put_step q t a b (inl k) = by (f.fine qs s w.history q t k.0 k.1 w.after a k.2)
       where
-        by : Stepped qs s c w.history q t true same k.0 k.1 new r ⊎ Loses qs s c w.history t new
-            → WorldFine (λ i. 0) qs s ts new (slice_set peers c r)
-        by (inl x) = world_put qs s ts old new peers c r lt (λ i. 0) (λ i. 0) w x.deeds x.after
-            (λ o u d e. at_both qs s ts old new peers c r lt (λ y z. IsKept 0 s y z (x.deeds ++ only c w.history) r)
-            q o t u a d b e (inl (x.later, x.acts ++ k.1, x.fine, λ on. omega arith))) (λ i far. refl)
-        by (inr x) = world_put qs s ts old new peers c r lt (λ i. 0) (λ i. 0) w x.deeds x.after
-            (λ o u d e. at_both qs s ts old new peers c r lt (λ y z. IsKept 0 s y z (x.deeds ++ only c w.history) r)
+        by : SoundStep qs s c w.history q t true same k.0 k.1 new r ⊎ LongReplyStep qs s c w.history t new
+            → IsSoundWorld (λ i. 0) qs s ts new (slice_set peers c r)
+        by (inl x) = world_put qs s ts old new peers c r lt (λ i. 0) (λ i. 0) w x.events x.after
+            (λ o u d e. at_both qs s ts old new peers c r lt (λ y z. IsAdvancedTo 0 s y z (x.events ++ events_on c w.history) r)
+            q o t u a d b e (inl (x.later, x.host_more ++ k.1, x.fine, λ on. omega arith))) (λ i far. refl)
+        by (inr x) = world_put qs s ts old new peers c r lt (λ i. 0) (λ i. 0) w x.events x.after
+            (λ o u d e. at_both qs s ts old new peers c r lt (λ y z. IsAdvancedTo 0 s y z (x.events ++ events_on c w.history) r)
             q o t u a d b e (inr x.lost)) (λ i far. refl)
     put_step q t a b (inr lost) =
-        world_lost qs s ts old new peers c r lt hearing longer (λ i. 0) (λ i. 0) w q t a b
+        world_lost qs s ts old new peers c r lt uniqueness longer (λ i. 0) (λ i. 0) w q t a b
         (f.adds qs s w.history w.after) lost (λ i far. refl)
 
-  pub step_stays : (same : Bool) → Steps c true true same old new (get_or peers c p) r
-      → WorldStays old new peers (slice_set peers c r)
+  pub step_stays : (same : Bool) → PeerStep c true true same old new (get_or peers c p) r
+      → AfterSoundMoves old new peers (slice_set peers c r)
   step_stays same f = record {
     on = λ qs s ts w.
         let q = asked_at qs s ts old new peers c r lt (λ i. 0) w in
@@ -138,14 +138,14 @@ abbrev pub half : ℕ → ℕ → ℕ → ℕ → ℕ
 half c m n i = if nat_lt i c then m else n
 
 -- the connections before this one went round; whether anything was carried or released
-abbrev pub WentRound : ℕ → Bool → MetaLinks → MetaLinks → List Peer → List Peer → Type 0
-WentRound c any old new was now =
+abbrev pub SoundRoundSoFar : ℕ → Bool → MetaLinks → MetaLinks → List Peer → List Peer → Type 0
+SoundRoundSoFar c any old new was now =
     (n m : ℕ) (qs : List Question) (s : MetaSettings) (ts : List TargetState) → (any ≡ true → m ≡ suc n)
-    → WorldFine (λ i. n) qs s ts old was → WorldFine (half c m n) qs s ts new now
+    → IsSoundWorld (λ i. n) qs s ts old was → IsSoundWorld (half c m n) qs s ts new now
 
-pub turned_all : (c : ℕ) (any : Bool) (old new : MetaLinks) (was now : List Peer) → length now ≤ c
-    → WentRound c any old new was now → WorldRounds any old new was now
-turned_all c any old new was now le f = record {
+pub round_all : (c : ℕ) (any : Bool) (old new : MetaLinks) (was now : List Peer) → length now ≤ c
+    → SoundRoundSoFar c any old new was now → AfterSoundRound any old new was now
+round_all c any old new was now le f = record {
   on = λ n m qs s ts is w.
       world_as (half c m n) (λ i. m) qs s ts new now (λ i lt. all m n i lt (nat_lt i c) refl) (f n m qs s ts is w);
 }
@@ -190,7 +190,7 @@ or_right true b e = refl
 or_right false b e = e
 
 -- what a round of the connection says of how much was sent
-grown : (moved : Bool) (n m : ℕ) (p later : Heard) → (moved ≡ true → m ≡ suc n)
+grown : (moved : Bool) (n m : ℕ) (p later : Transcript) → (moved ≡ true → m ≡ suc n)
     → (is_over p ≡ false → n ≤ length (sent (past_of p)))
     → (is_over later ≡ false → length (sent (past_of p)) < length (sent (past_of later)))
     → (moved ≡ false → later ≡ p) → (is_over later ≡ false → is_over p ≡ false)
@@ -204,44 +204,44 @@ grown false n m p later is least grows still on e =
     absurd (let b : length (sent (past_of p)) < length (sent (past_of p)) =
     subst (λ z. length (sent (past_of p)) < length (sent (past_of z))) (still refl) (grows e) in omega (arith, b))
 
-module _ (hearing : OneHearing) (longer : LongerLaw) (any moved now : Bool) (old mid new : MetaLinks)
+module _ (uniqueness : OneTranscript) (longer : LongerLaw) (any moved now : Bool) (old mid new : MetaLinks)
     (was peers : List Peer) (c : ℕ) (p r : Peer) (lt : c < length peers) (so : moved ≡ true → now ≡ true)
     (kept : any ≡ true → now ≡ true) where
-  module _ (f : Rounds c moved mid new (get_or peers c p) r) (n m : ℕ) (qs : List Question)
+  module _ (f : PeerRound c moved mid new (get_or peers c p) r) (n m : ℕ) (qs : List Question)
       (s : MetaSettings) (ts : List TargetState) (is : now ≡ true → m ≡ suc n)
-      (w : WorldFine (half c m n) qs s ts mid peers) where
+      (w : IsSoundWorld (half c m n) qs s ts mid peers) where
     put_round : (q : Question) (t : TargetState) → slice_get qs c ≡ Some q → slice_get ts c ≡ Some t
-        → IsKept n s q t (only c w.history) (get_or peers c p)
-        → WorldFine (half (c + 1) m n) qs s ts new (slice_set peers c r)
+        → IsAdvancedTo n s q t (events_on c w.history) (get_or peers c p)
+        → IsSoundWorld (half (c + 1) m n) qs s ts new (slice_set peers c r)
     put_round q t a b (inl k) = by (f.fine qs s w.history q t k.0 k.1 w.after a k.2)
       where
-        by : Rounded qs s c w.history q t moved k.0 k.1 new r ⊎ Loses qs s c w.history t new
-            → WorldFine (half (c + 1) m n) qs s ts new (slice_set peers c r)
+        by : SoundRound qs s c w.history q t moved k.0 k.1 new r ⊎ LongReplyStep qs s c w.history t new
+            → IsSoundWorld (half (c + 1) m n) qs s ts new (slice_set peers c r)
         by (inl y) =
             let x = y.stepped in
             let sent_on : is_over x.later ≡ false → m ≤ length (sent (past_of x.later)) =
             grown moved n m k.0 x.later (λ e. is (so e)) k.3 y.grows y.still
-            (over_stays hearing (settings_of s) x.deeds (only c w.history) k.0 x.later k.2.sound.heard x.fine.sound.heard) in
-            world_put qs s ts mid new peers c r lt (half c m n) (half (c + 1) m n) w x.deeds x.after
-            (λ o u d e. subst (λ z. IsKept z s o u (x.deeds ++ only c w.history) r) (sym (half_here c m n))
-            (at_both qs s ts mid new peers c r lt (λ y z. IsKept m s y z (x.deeds ++ only c w.history) r)
-            q o t u a d b e (inl (x.later, x.acts ++ k.1, x.fine, sent_on)))) (λ i far. half_other c m n i far)
-        by (inr x) = world_put qs s ts mid new peers c r lt (half c m n) (half (c + 1) m n) w x.deeds x.after
+            (over_stays uniqueness (settings_of s) x.events (events_on c w.history) k.0 x.later k.2.sound.transcript x.fine.sound.transcript) in
+            world_put qs s ts mid new peers c r lt (half c m n) (half (c + 1) m n) w x.events x.after
+            (λ o u d e. subst (λ z. IsAdvancedTo z s o u (x.events ++ events_on c w.history) r) (sym (half_here c m n))
+            (at_both qs s ts mid new peers c r lt (λ y z. IsAdvancedTo m s y z (x.events ++ events_on c w.history) r)
+            q o t u a d b e (inl (x.later, x.host_more ++ k.1, x.fine, sent_on)))) (λ i far. half_other c m n i far)
+        by (inr x) = world_put qs s ts mid new peers c r lt (half c m n) (half (c + 1) m n) w x.events x.after
             (λ o u d e. at_both qs s ts mid new peers c r lt
-            (λ y z. IsKept (half (c + 1) m n c) s y z (x.deeds ++ only c w.history) r)
+            (λ y z. IsAdvancedTo (half (c + 1) m n c) s y z (x.events ++ events_on c w.history) r)
             q o t u a d b e (inr x.lost)) (λ i far. half_other c m n i far)
     put_round q t a b (inr lost) =
-        world_lost qs s ts mid new peers c r lt hearing longer (half c m n) (half (c + 1) m n) w q t a b
+        world_lost qs s ts mid new peers c r lt uniqueness longer (half c m n) (half (c + 1) m n) w q t a b
         (f.adds qs s w.history w.after) lost (λ i far. half_other c m n i far)
 
-  pub turned_more : WentRound c any old mid was peers → Rounds c moved mid new (get_or peers c p) r
-      → WentRound (c + 1) now old new was (slice_set peers c r)
-  turned_more g f n m qs s ts is v =
+  pub round_more : SoundRoundSoFar c any old mid was peers → PeerRound c moved mid new (get_or peers c p) r
+      → SoundRoundSoFar (c + 1) now old new was (slice_set peers c r)
+  round_more g f n m qs s ts is v =
       let w = g n m qs s ts (λ e. is (kept e)) v in
       let q = asked_at qs s ts mid new peers c r lt (half c m n) w in
       let t = target_at qs s ts mid new peers c r lt (half c m n) w in
       put_round f n m qs s ts is w q.0 t.0 q.1 t.1
-      (subst (λ z. IsKept z s q.0 t.0 (only c w.history) (get_or peers c p)) (half_before c m n)
+      (subst (λ z. IsAdvancedTo z s q.0 t.0 (events_on c w.history) (get_or peers c p)) (half_before c m n)
       (w.kept c q.0 t.0 (get_or peers c p) q.1 t.1 (at_peer peers c p lt)))
 
 -- ---- finished connections are spared
@@ -250,33 +250,33 @@ module _ (hearing : OneHearing) (longer : LongerLaw) (any moved now : Bool) (old
 abbrev pub most : ℕ
 most = 2 ^ 64 - 1
 
-module _ (hearing : OneHearing) (longer : LongerLaw) (few : FewLaw) (qs : List Question) (s : MetaSettings)
+module _ (uniqueness : OneTranscript) (longer : LongerLaw) (few : FewLaw) (qs : List Question) (s : MetaSettings)
     (ts : List TargetState) (old : MetaLinks) (peers : List Peer)
-    (w : WorldFine (λ i. most) qs s ts old peers) where
+    (w : IsSoundWorld (λ i. most) qs s ts old peers) where
   -- a connection that is fine is finished
-  over_by : (c : ℕ) (q : Question) (p : Heard) → slice_get qs c ≡ Some q → HasHeard (settings_of s) (only c w.history) p
+  over_by : (c : ℕ) (q : Question) (p : Transcript) → slice_get qs c ≡ Some q → IsTranscript (settings_of s) (events_on c w.history) p
       → (is_over p ≡ false → most ≤ length (sent (past_of p))) → is_over p ≡ true
-  over_by c q p at heard least = by (is_over p) refl
+  over_by c q p at transcript least = by (is_over p) refl
     where
       by : (b : Bool) → is_over p ≡ b → is_over p ≡ true
       by true e = e
       by false e = absurd (let a = least e in
-          let b = (few qs s w.history old c q p w.after at heard).1 in omega (arith, a, b))
+          let b = (few qs s w.history old c q p w.after at transcript).1 in omega (arith, a, b))
 
-  spared_kept : (n : ℕ) (new : MetaLinks) (x : Spared qs s w.history new) (c : ℕ) (q : Question) (t : TargetState)
-      (peer : Peer) → slice_get qs c ≡ Some q → IsKept most s q t (only c w.history) peer
-      → IsKept n s q t (only c (x.more ++ w.history)) peer
+  spared_kept : (n : ℕ) (new : MetaLinks) (x : MoreEventsOfUnfinished qs s w.history new) (c : ℕ) (q : Question) (t : TargetState)
+      (peer : Peer) → slice_get qs c ≡ Some q → IsAdvancedTo most s q t (events_on c w.history) peer
+      → IsAdvancedTo n s q t (events_on c (x.more ++ w.history)) peer
   spared_kept n new x c q t peer at (inl k) =
-      let over = over_by c q k.0 at k.2.sound.heard k.3 in
-      let none : only c x.more ≡ [] = x.none c k.0 k.2.sound.heard over in
-      let same : only c (x.more ++ w.history) ≡ only c w.history =
-      only_append c x.more w.history ∙ ap (λ z. z ++ only c w.history) none in
-      subst (λ z. IsKept n s q t z peer) (sym same)
+      let over = over_by c q k.0 at k.2.sound.transcript k.3 in
+      let none : events_on c x.more ≡ [] = x.none c k.0 k.2.sound.transcript over in
+      let same : events_on c (x.more ++ w.history) ≡ events_on c w.history =
+      only_append c x.more w.history ∙ ap (λ z. z ++ events_on c w.history) none in
+      subst (λ z. IsAdvancedTo n s q t z peer) (sym same)
       (inl (k.0, k.1, k.2, λ on. absurd (true≢false (sym over ∙ on))))
   spared_kept n new x c q t peer at (inr lost) =
-      inr (lost_by hearing longer qs s c w.history x.more q t new x.after at lost)
+      inr (lost_by uniqueness longer qs s c w.history x.more q t new x.after at lost)
 
-  pub spared_world : (n : ℕ) (new : MetaLinks) → Spares old new → WorldFine (λ i. n) qs s ts new peers
+  pub spared_world : (n : ℕ) (new : MetaLinks) → UnfinishedOnlyStep old new → IsSoundWorld (λ i. n) qs s ts new peers
   spared_world n new f =
       let x = f.on qs s w.history w.after in
       record {
@@ -291,39 +291,39 @@ module _ (hearing : OneHearing) (longer : LongerLaw) (few : FewLaw) (qs : List Q
 
 -- the connections are finished
 abbrev pub AreOver : List Question → MetaSettings → History → Type 0
-AreOver qs s h = (c : ℕ) (p : Heard) → c < length qs → HasHeard (settings_of s) (only c h) p → is_over p ≡ true
+AreOver qs s h = (c : ℕ) (p : Transcript) → c < length qs → IsTranscript (settings_of s) (events_on c h) p → is_over p ≡ true
 
 module _ (laws : ExchangeLaws) (qs : List Question) (s : MetaSettings) (h : History) (meta : MetaLinks)
     (after : MetaAfter qs s h meta) (c : ℕ) (q : Question) (at : slice_get qs c ≡ Some q) (t : TargetState) where
-  whole_by : (taken : Bool) (p : Heard) (events : List Event) (peer : Peer)
-      → IsFine s q t taken (only c h) p events peer → is_over p ≡ true → IsWhole s t (only c h)
-  whole_by taken p events peer f over =
-      let o = laws.over (holdings_of t) (settings_of s) (only c h) p events peer.host f.sound over in
-      let complete = laws.ends (holdings_of t) (settings_of s) (only c h) p events peer.host f.sound over in
+  whole_by : (taken : Bool) (p : Transcript) (host_events : List HostEvent) (peer : Peer)
+      → IsSoundPeer s q t taken (events_on c h) p host_events peer → is_over p ≡ true → IsCompleteExchange s t (events_on c h)
+  whole_by taken p host_events peer f over =
+      let o = laws.over (holdings_of t) (settings_of s) (events_on c h) p host_events peer.host f.sound over in
+      let complete = laws.ends (holdings_of t) (settings_of s) (events_on c h) p host_events peer.host f.sound over in
       record {
-        heard = p;
-        events = events;
+        transcript = p;
+        host_events = host_events;
         host = peer.host;
         sound = f.sound;
         over = over;
         complete = complete;
-        tried = laws.tried qs s h meta c q p after at f.sound.heard complete;
+        tried = laws.tried qs s h meta c q p after at f.sound.transcript complete;
         replies = f.sound.served.served.sent;
         owed = o.0;
         stream = o.1;
       }
 
-  kept_whole : (n : ℕ) (peer : Peer) → IsKept n s q t (only c h) peer
-      → ((p : Heard) → HasHeard (settings_of s) (only c h) p → is_over p ≡ true)
-      → IsWhole s t (only c h) ⊎ IsLost s t (only c h)
-  kept_whole n peer (inl k) over = inl (whole_by true k.0 k.1 peer k.2 (over k.0 k.2.sound.heard))
+  kept_whole : (n : ℕ) (peer : Peer) → IsAdvancedTo n s q t (events_on c h) peer
+      → ((p : Transcript) → IsTranscript (settings_of s) (events_on c h) p → is_over p ≡ true)
+      → IsCompleteExchange s t (events_on c h) ⊎ HasLongReplyDue s t (events_on c h)
+  kept_whole n peer (inl k) over = inl (whole_by true k.0 k.1 peer k.2 (over k.0 k.2.sound.transcript))
   kept_whole n peer (inr lost) over = inr lost
 
 ran_by : (least : ℕ → ℕ) (qs : List Question) (s : MetaSettings) (ts : List TargetState) (meta : MetaLinks)
-    (peers : List Peer) (w : WorldFine least qs s ts meta peers)
+    (peers : List Peer) (w : IsSoundWorld least qs s ts meta peers)
     → ((c : ℕ) (q : Question) (t : TargetState) (p : Peer) → slice_get qs c ≡ Some q
-    → IsKept (least c) s q t (only c w.history) p → IsWhole s t (only c w.history) ⊎ IsLost s t (only c w.history))
-    → RanWhole qs s ts meta
+    → IsAdvancedTo (least c) s q t (events_on c w.history) p → IsCompleteExchange s t (events_on c w.history) ⊎ HasLongReplyDue s t (events_on c w.history))
+    → IsCompleteRun qs s ts meta
 ran_by least qs s ts meta peers w each = record {
   history = w.history;
   after = w.after;
@@ -335,31 +335,31 @@ ran_by least qs s ts meta peers w each = record {
 }
 
 pub ran_whole : ExchangeLaws → (least : ℕ → ℕ) (qs : List Question) (s : MetaSettings) (ts : List TargetState)
-    (meta : MetaLinks) (peers : List Peer) (w : WorldFine least qs s ts meta peers) → AreOver qs s w.history
-    → RanWhole qs s ts meta
+    (meta : MetaLinks) (peers : List Peer) (w : IsSoundWorld least qs s ts meta peers) → AreOver qs s w.history
+    → IsCompleteRun qs s ts meta
 ran_whole laws least qs s ts meta peers w over =
     ran_by least qs s ts meta peers w (λ c q t p at kept.
     kept_whole laws qs s w.history meta w.after c q at t (least c) p kept
-    (λ x heard. over c x (slice_get_within qs c q at) heard))
+    (λ x transcript. over c x (slice_get_within qs c q at) transcript))
 
 -- where so much was said of each, each is finished, unless some reply is too long
-pub ran_kept : ExchangeLaws → OneHearing → (qs : List Question) (s : MetaSettings) (ts : List TargetState)
-    (meta : MetaLinks) (peers : List Peer) → WorldFine (λ i. most) qs s ts meta peers → RanWhole qs s ts meta
-ran_kept laws hearing qs s ts meta peers w = ran_by (λ i. most) qs s ts meta peers w by
+pub ran_kept : ExchangeLaws → OneTranscript → (qs : List Question) (s : MetaSettings) (ts : List TargetState)
+    (meta : MetaLinks) (peers : List Peer) → IsSoundWorld (λ i. most) qs s ts meta peers → IsCompleteRun qs s ts meta
+ran_kept laws uniqueness qs s ts meta peers w = ran_by (λ i. most) qs s ts meta peers w by
   where
     by : (c : ℕ) (q : Question) (t : TargetState) (p : Peer) → slice_get qs c ≡ Some q
-        → IsKept most s q t (only c w.history) p
-        → IsWhole s t (only c w.history) ⊎ IsLost s t (only c w.history)
+        → IsAdvancedTo most s q t (events_on c w.history) p
+        → IsCompleteExchange s t (events_on c w.history) ⊎ HasLongReplyDue s t (events_on c w.history)
     by c q t p at (inl k) =
         inl (whole_by laws qs s w.history meta w.after c q at t true k.0 k.1 p k.2
-        (over_by hearing laws.longer laws.few qs s ts meta peers w c q k.0 at k.2.sound.heard k.3))
+        (over_by uniqueness laws.longer laws.few qs s ts meta peers w c q k.0 at k.2.sound.transcript k.3))
     by c q t p at (inr lost) = inr lost
 
 -- ---- at first
 
 pub started_fine : (qs : List Question) (s : MetaSettings) (ts : List TargetState) (meta : MetaLinks) (peers : List Peer)
-    → Started (length qs) qs s ts meta peers → length peers ≡ length ts → length ts ≡ length qs
-    → WorldFine (λ i. 0) qs s ts meta peers
+    → AreStarted (length qs) qs s ts meta peers → length peers ≡ length ts → length ts ≡ length qs
+    → IsSoundWorld (λ i. 0) qs s ts meta peers
 started_fine qs s ts meta peers w size equal = record {
   history = w.history;
   after = w.after;
@@ -372,59 +372,59 @@ started_fine qs s ts meta peers w size equal = record {
 
 -- ---- so many rounds
 
-abbrev pub Grown : ℕ → MetaLinks → MetaLinks → List Peer → List Peer → Type 0
-Grown n old new was now =
+abbrev pub SoundRounds : ℕ → MetaLinks → MetaLinks → List Peer → List Peer → Type 0
+SoundRounds n old new was now =
     (qs : List Question) (s : MetaSettings) (ts : List TargetState)
-    → WorldFine (λ i. 0) qs s ts old was → WorldFine (λ i. n) qs s ts new now
+    → IsSoundWorld (λ i. 0) qs s ts old was → IsSoundWorld (λ i. n) qs s ts new now
 
-pub grown_more : (n : ℕ) (old mid new : MetaLinks) (was now later : List Peer) → Grown n old mid was now
-    → WorldGrows mid new now later → Grown (n + 1) old new was later
+pub grown_more : (n : ℕ) (old mid new : MetaLinks) (was now later : List Peer) → SoundRounds n old mid was now
+    → AfterRoundOrEnd mid new now later → SoundRounds (n + 1) old new was later
 grown_more n old mid new was now later g f qs s ts w =
-    subst (λ k. WorldFine (λ i. k) qs s ts new later) (let e : suc n ≡ n + 1 = omega arith in e)
+    subst (λ k. IsSoundWorld (λ i. k) qs s ts new later) (let e : suc n ≡ n + 1 = omega arith in e)
     (f.on n qs s ts (g qs s ts w))
 
 -- a round in which something was carried or released
-pub grows_moved : (old new : MetaLinks) (was now : List Peer) → WorldRounds true old new was now
-    → WorldGrows old new was now
+pub grows_moved : (old new : MetaLinks) (was now : List Peer) → AfterSoundRound true old new was now
+    → AfterRoundOrEnd old new was now
 grows_moved old new was now f = record { on = λ n qs s ts w. f.on n (suc n) qs s ts (λ e. refl) w }
 
 -- one in which nothing was, and the inputs that ended then
-pub grows_ended : OneHearing → LongerLaw → FewLaw → (old mid new : MetaLinks) (was now : List Peer)
-    → WorldRounds false old mid was now → Spares mid new → WorldGrows old new was now
-grows_ended hearing longer few old mid new was now f x = record {
+pub grows_ended : OneTranscript → LongerLaw → FewLaw → (old mid new : MetaLinks) (was now : List Peer)
+    → AfterSoundRound false old mid was now → UnfinishedOnlyStep mid new → AfterRoundOrEnd old new was now
+grows_ended uniqueness longer few old mid new was now f x = record {
   on = λ n qs s ts w.
-      spared_world hearing longer few qs s ts mid now
+      spared_world uniqueness longer few qs s ts mid now
       (f.on n most qs s ts (λ e. absurd (true≢false (sym e))) w) (suc n) new x;
 }
 
 -- all are finished
-pub finished_whole : ExchangeLaws → (n : ℕ) (old new : MetaLinks) (was now : List Peer) → Grown n old new was now
-    → IsFinished new true → WorldWhole old new was
+pub finished_whole : ExchangeLaws → (n : ℕ) (old new : MetaLinks) (was now : List Peer) → SoundRounds n old new was now
+    → IsFinished new true → AfterAllSoundRounds old new was
 finished_whole laws n old new was now g f = record {
   on = λ qs s ts w.
       let x = g qs s ts w in
-      ran_whole laws (λ i. n) qs s ts new now x (λ c p lt heard. (f qs s x.history x.after).0 refl c p lt heard);
+      ran_whole laws (λ i. n) qs s ts new now x (λ c p lt transcript. (f qs s x.history x.after).0 refl c p lt transcript);
 }
 
 -- all are finished, after so many rounds
-pub most_whole : ExchangeLaws → OneHearing → (n : ℕ) (old mid new : MetaLinks) (was now : List Peer)
-    → Grown n old mid was now → most ≤ n → Spares mid new → WorldWhole old new was
-most_whole laws hearing n old mid new was now g le x = record {
+pub most_whole : ExchangeLaws → OneTranscript → (n : ℕ) (old mid new : MetaLinks) (was now : List Peer)
+    → SoundRounds n old mid was now → most ≤ n → UnfinishedOnlyStep mid new → AfterAllSoundRounds old new was
+most_whole laws uniqueness n old mid new was now g le x = record {
   on = λ qs s ts w.
       let y = at_most qs s ts (g qs s ts w) in
-      let z = spared_world hearing laws.longer laws.few qs s ts mid now y most new x in
-      ran_kept laws hearing qs s ts new now z;
+      let z = spared_world uniqueness laws.longer laws.few qs s ts mid now y most new x in
+      ran_kept laws uniqueness qs s ts new now z;
 }
   where
-    lower : (qs : List Question) (s : MetaSettings) (ts : List TargetState) (w : WorldFine (λ i. n) qs s ts mid now)
-        (c : ℕ) (q : Question) (t : TargetState) (p : Peer) → IsKept n s q t (only c w.history) p
-        → IsKept most s q t (only c w.history) p
+    lower : (qs : List Question) (s : MetaSettings) (ts : List TargetState) (w : IsSoundWorld (λ i. n) qs s ts mid now)
+        (c : ℕ) (q : Question) (t : TargetState) (p : Peer) → IsAdvancedTo n s q t (events_on c w.history) p
+        → IsAdvancedTo most s q t (events_on c w.history) p
     lower qs s ts w c q t p (inl k) =
         inl (k.0, k.1, k.2, λ on. let a : n ≤ length (sent (past_of k.0)) = k.3 on in omega (arith, a, le))
     lower qs s ts w c q t p (inr lost) = inr lost
 
-    at_most : (qs : List Question) (s : MetaSettings) (ts : List TargetState) → WorldFine (λ i. n) qs s ts mid now
-        → WorldFine (λ i. most) qs s ts mid now
+    at_most : (qs : List Question) (s : MetaSettings) (ts : List TargetState) → IsSoundWorld (λ i. n) qs s ts mid now
+        → IsSoundWorld (λ i. most) qs s ts mid now
     at_most qs s ts w = record {
       history = w.history;
       after = w.after;

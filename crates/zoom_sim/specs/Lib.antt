@@ -1,7 +1,7 @@
 pub mod Run
 pub mod RunSteps
 pub mod RunSound
-pub mod RunTurns
+pub mod RunTakeAll
 pub mod RunPeers
 pub mod RunRounds
 pub mod RunCatalogue

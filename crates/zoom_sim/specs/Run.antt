@@ -5,33 +5,34 @@ use Rattle.ztarget.specs.Receiving.{TargetState}
 use Rattle.zoom_questions.specs.declared.question.Question.{Question}
 use Rattle.zoom_questions.specs.declared.question.MetaSettings.{MetaSettings}
 use Rattle.zoom_pool.specs.States.{is_stopped}
-use Rattle.zoom_pool.specs.Heard.{Deed, Heard, HasHeard, given, fed, state_at}
-use Rattle.zoom_pool.specs.History.{History, only}
-use Rattle.zoom_pool.specs.Hosts.{HostState, HostAfter, Event, holdings_of, handed_out}
+use Rattle.zoom_pool.specs.Transcripts.{Event, Transcript, IsTranscript, given, fed, state_at}
+use Rattle.zoom_pool.specs.History.{History, events_on}
+use Rattle.zoom_pool.specs.Hosts.{HostState, HostAfter, HostEvent, holdings_of, handed_out}
 use Rattle.zoom_pool.specs.Metas.{MetaLinks, MetaAfter, settings_of}
 use Rattle.zoom_laws.specs.Exchange.{fed_to}
 
 -- What went between a connection, of which these are the deeds, and a target: a host of the target was fed what the
 -- connection handed out, and the connection what the host handed out, each octet once and in order. Some may be left on
 -- either way.
-pub record Talked (target : TargetState) (deeds : List Deed) : Type 0 where
+pub record IsExchange (target : TargetState) (events : List Event) : Type 0 where
   pub host : HostState
-  pub events : List Event
-  pub served : HostAfter (holdings_of target) events host
+  pub host_events : List HostEvent
+  pub served : HostAfter (holdings_of target) host_events host
   pub to_go : List ℕ
-  pub sent : given deeds ≡ fed_to events ++ to_go
+  pub sent : given events ≡ fed_to host_events ++ to_go
   pub to_come : List ℕ
-  pub came : handed_out events ≡ fed deeds ++ to_come
+  pub came : handed_out host_events ≡ fed events ++ to_come
 
 -- a connection is Closed or Failed
-abbrev pub is_over : Heard → Bool
+abbrev pub is_over : Transcript → Bool
 is_over p = is_stopped (state_at p)
 
 -- Some history left the connections: each talked with the target of its number, and each is Closed or Failed.
-pub record Ran (questions : List Question) (s : MetaSettings) (targets : List TargetState) (meta : MetaLinks)
+pub record IsRun (questions : List Question) (s : MetaSettings) (targets : List TargetState) (meta : MetaLinks)
     : Type 0 where
   pub history : History
   pub after : MetaAfter questions s history meta
-  pub talked : (c : ℕ) (target : TargetState) → slice_get targets c ≡ Some target → Talked target (only c history)
-  pub over : (c : ℕ) (p : Heard) → c < length questions → HasHeard (settings_of s) (only c history) p
+  pub talked : (c : ℕ) (target : TargetState) → slice_get targets c ≡ Some target
+      → IsExchange target (events_on c history)
+  pub over : (c : ℕ) (p : Transcript) → c < length questions → IsTranscript (settings_of s) (events_on c history) p
       → is_over p ≡ true

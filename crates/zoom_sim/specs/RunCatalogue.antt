@@ -4,11 +4,11 @@ use Rattle.zknow.specs.declared.fact.Fact.{Fact}
 use Rattle.ztarget.specs.Receiving.{TargetState}
 use Rattle.zoom_questions.specs.declared.question.Question.{Question}
 use Rattle.zoom_questions.specs.declared.question.MetaSettings.{MetaSettings}
-use Rattle.zoom_pool.specs.History.{History, only}
+use Rattle.zoom_pool.specs.History.{History, events_on}
 use Rattle.zoom_pool.specs.Metas.{MetaLinks}
-use Rattle.zoom_sim.specs.RunSound.{IsLost}
-use Rattle.zoom_sim.specs.RunRounds.{RanWhole}
-use Rattle.zoom_laws.specs.Catalogue.{catalogue, CanAsk, RecordsFit}
+use Rattle.zoom_sim.specs.RunSound.{HasLongReplyDue}
+use Rattle.zoom_sim.specs.RunRounds.{IsCompleteRun}
+use Rattle.zoom_laws.specs.Catalogue.{catalogue, CanAsk, HasFittingRecords}
 
 -- some question brings it from the target of its number
 abbrev pub IsBrought : List Question → List TargetState → Fact → Type 0
@@ -20,15 +20,16 @@ IsBrought questions targets f =
 abbrev pub CanBring : List Question → List TargetState → Type 0
 CanBring questions targets =
     (c : ℕ) (q : Question) (t : TargetState) → slice_get questions c ≡ Some q → slice_get targets c ≡ Some t
-    → CanAsk q t.settings × RecordsFit q t.databases t.settings
+    → CanAsk q t.settings × HasFittingRecords q t.databases t.settings
 
 -- no reply that is owed is longer than a message may be
 abbrev pub NoneIsLong : MetaSettings → List TargetState → History → Type 0
-NoneIsLong s targets h = (c : ℕ) (t : TargetState) → slice_get targets c ≡ Some t → IsLost s t (only c h) → ⊥
+NoneIsLong s targets h =
+    (c : ℕ) (t : TargetState) → slice_get targets c ≡ Some t → HasLongReplyDue s t (events_on c h) → ⊥
 
 -- after a run in memory exactly that is known which the questions bring from the databases
 abbrev pub RunLaw : Type 0
 RunLaw =
     (questions : List Question) (s : MetaSettings) (targets : List TargetState) (meta : MetaLinks)
-    (r : RanWhole questions s targets meta) → length targets ≡ length questions → CanBring questions targets
+    (r : IsCompleteRun questions s targets meta) → length targets ≡ length questions → CanBring questions targets
     → NoneIsLong s targets r.history → (f : Fact) → Contains meta.pool.knowledge f ↔ IsBrought questions targets f

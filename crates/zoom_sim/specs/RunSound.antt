@@ -8,148 +8,155 @@ use Rattle.zoom_questions.specs.declared.question.MetaSettings.{MetaSettings}
 use Rattle.zoom_pool.specs.declared.answer.Step.{Step}
 use Rattle.zoom_pool.specs.declared.answer.TakeError.{TakeError}
 use Rattle.zoom_pool.specs.States.{is_stopped}
-use Rattle.zoom_pool.specs.Coming.{Met}
-use Rattle.zoom_pool.specs.Heard.{Deed, Takes, Heard, HasHeard, Meets, given, fed, state_at, past_of, is_message, sent, took_as}
-use Rattle.zoom_pool.specs.History.{History, only}
-use Rattle.zoom_pool.specs.Hosts.{Holdings, Event, IsLong, holdings_of, handed_out, replies_to}
-use Rattle.zoom_pool.specs.Metas.{MetaLinks, MetaAfter, Drives, NoneIsNext, settings_of}
+use Rattle.zoom_pool.specs.Inputs.{Input}
+use Rattle.zoom_pool.specs.Transcripts.{Event, Took, Transcript, IsTranscript, NextInput, given, fed, state_at, past_of, is_message, sent, answer_to}
+use Rattle.zoom_pool.specs.History.{History, events_on}
+use Rattle.zoom_pool.specs.Hosts.{Holdings, HostEvent, IsLong, holdings_of, handed_out, replies_to}
+use Rattle.zoom_pool.specs.Metas.{MetaLinks, MetaAfter, CompleteDrive, NoneIsNext, settings_of}
 use Rattle.zoom_pool.specs.Steering.{errand_of}
 use Rattle.zoom_laws.specs.Accord.{requests}
-use Rattle.zoom_laws.specs.Exchange.{IsSound, TookAll, fed_to}
+use Rattle.zoom_laws.specs.Exchange.{IsSoundExchange, HasTakenAll, fed_to}
 use Rattle.zoom_sim.specs.declared.peers.Peer.{Peer}
 use Rattle.zoom_sim.specs.Run.{is_over}
 use Rattle.zoom_sim.specs.RunSteps.{ArePeersOf}
 
 -- deeds of one connection
-abbrev pub of : ℕ → List Deed → History
-of c deeds = map (λ deed. (c, deed)) deeds
+abbrev pub at_connection : ℕ → List Event → History
+at_connection c events = map (λ event. (c, event)) events
 
 -- ---- a call of a connection
 
 -- driving it made the calls that are due
-abbrev pub DrivesAt : ℕ → MetaLinks → MetaLinks → Type 0
-DrivesAt c old new =
+abbrev pub DriveOneStep : ℕ → MetaLinks → MetaLinks → Type 0
+DriveOneStep c old new =
     (questions : List Question) (s : MetaSettings) (h : History)
-    → MetaAfter questions s h old → (n : ℕ) × Drives questions s c h n new
+    → MetaAfter questions s h old → (n : ℕ) × CompleteDrive questions s c h n new
 
 abbrev pub is_taken : Result Step TakeError → Bool
 is_taken (Ok step) = is_message step
 is_taken (Err error) = false
 
 -- a Take, and whether it met a message that was accepted
-abbrev pub TakesAt : ℕ → Bool → MetaLinks → MetaLinks → Type 0
-TakesAt c taken old new =
-    (questions : List Question) (s : MetaSettings) (h : History) (p : Heard)
-    → MetaAfter questions s h old → HasHeard (settings_of s) (only c h) p
-    → MetaAfter questions s (of c (Takes ∷ []) ++ h) new
-    × ((met : Met) × Meets p met × (is_taken (took_as p met) ≡ taken))
+abbrev pub TakeOneStep : ℕ → Bool → MetaLinks → MetaLinks → Type 0
+TakeOneStep c taken old new =
+    (questions : List Question) (s : MetaSettings) (h : History) (p : Transcript)
+    → MetaAfter questions s h old → IsTranscript (settings_of s) (events_on c h) p
+    → MetaAfter questions s (at_connection c (Took ∷ []) ++ h) new
+    × ((input : Input) × NextInput p input × (is_taken (answer_to p input) ≡ taken))
 
 -- ---- a connection and its target
 
 -- what drives the connection has no call to make
-abbrev pub IsIdle : MetaSettings → Question → Heard → Type 0
-IsIdle s q p = NoneIsNext (errand_of s q) p
+abbrev pub HasNoCallDue : MetaSettings → Question → Transcript → Type 0
+HasNoCallDue s q p = NoneIsNext (errand_of s q) p
 
 -- Connection and target are sound, with what is on its way; no call is to be made; and where so it is told, each
 -- message that came was taken.
-pub record IsFine (s : MetaSettings) (q : Question) (target : TargetState) (taken : Bool) (deeds : List Deed)
-    (p : Heard) (events : List Event) (peer : Peer) : Type 0 where
-  pub sound : IsSound (holdings_of target) (settings_of s) deeds p events peer.host
-  pub to : given deeds ≡ fed_to events ++ peer.to
-  pub from : handed_out events ≡ fed deeds ++ peer.from
-  pub idle : IsIdle s q p
-  pub took : taken ≡ true → is_stopped (state_at p) ≡ false → TookAll p
+pub record IsSoundPeer (s : MetaSettings) (q : Question) (target : TargetState) (taken : Bool) (events : List Event)
+    (p : Transcript) (host_events : List HostEvent) (peer : Peer) : Type 0 where
+  pub sound : IsSoundExchange (holdings_of target) (settings_of s) events p host_events peer.host
+  pub to : given events ≡ fed_to host_events ++ peer.to
+  pub from : handed_out host_events ≡ fed events ++ peer.from
+  pub idle : HasNoCallDue s q p
+  pub took : taken ≡ true → is_stopped (state_at p) ≡ false → HasTakenAll p
 
 -- some reply that the target owes to what was sent is longer than a message may be
-abbrev pub HasLong : Holdings → Heard → Type 0
-HasLong holdings p =
+abbrev pub HasLongReply : Holdings → Transcript → Type 0
+HasLongReply holdings p =
     (reply : Apdu) × Contains (replies_to holdings (requests p.settings p.log)) reply × IsLong reply
 
-abbrev pub IsLost : MetaSettings → TargetState → List Deed → Type 0
-IsLost s target deeds = (p : Heard) × HasHeard (settings_of s) deeds p × HasLong (holdings_of target) p
+abbrev pub HasLongReplyDue : MetaSettings → TargetState → List Event → Type 0
+HasLongReplyDue s target events =
+    (p : Transcript) × IsTranscript (settings_of s) events p × HasLongReply (holdings_of target) p
 
 -- deeds and events more, and what was fine is fine; where so it is told, the connection is as it was
-pub record Stepped (questions : List Question) (s : MetaSettings) (c : ℕ) (h : History) (q : Question)
-    (target : TargetState) (taken same : Bool) (p : Heard) (events : List Event) (new : MetaLinks) (now : Peer)
+pub record SoundStep (questions : List Question) (s : MetaSettings) (c : ℕ) (h : History) (q : Question)
+    (target : TargetState) (taken same : Bool) (p : Transcript) (host_events : List HostEvent) (new : MetaLinks)
+    (now : Peer)
     : Type 0 where
-  pub deeds : List Deed
-  pub acts : List Event
-  pub after : MetaAfter questions s (of c deeds ++ h) new
-  pub later : Heard
-  pub fine : IsFine s q target taken (deeds ++ only c h) later (acts ++ events) now
+  pub events : List Event
+  pub host_more : List HostEvent
+  pub after : MetaAfter questions s (at_connection c events ++ h) new
+  pub later : Transcript
+  pub fine : IsSoundPeer s q target taken (events ++ events_on c h) later (host_more ++ host_events) now
   pub still : same ≡ true → later ≡ p
 
 -- deeds more, and some reply is too long
-pub record Loses (questions : List Question) (s : MetaSettings) (c : ℕ) (h : History) (target : TargetState)
+pub record LongReplyStep (questions : List Question) (s : MetaSettings) (c : ℕ) (h : History) (target : TargetState)
     (new : MetaLinks) : Type 0 where
-  pub deeds : List Deed
-  pub after : MetaAfter questions s (of c deeds ++ h) new
-  pub lost : IsLost s target (deeds ++ only c h)
+  pub events : List Event
+  pub after : MetaAfter questions s (at_connection c events ++ h) new
+  pub lost : HasLongReplyDue s target (events ++ events_on c h)
 
 -- deeds more of the connection, whatever they are
-pub record Adds (questions : List Question) (s : MetaSettings) (c : ℕ) (h : History) (new : MetaLinks) : Type 0 where
-  pub deeds : List Deed
-  pub after : MetaAfter questions s (of c deeds ++ h) new
+pub record MoreEvents (questions : List Question) (s : MetaSettings) (c : ℕ) (h : History)
+    (new : MetaLinks) : Type 0 where
+  pub events : List Event
+  pub after : MetaAfter questions s (at_connection c events ++ h) new
 
 -- A step on a connection: what was fine is fine, or some reply is too long; and no other connection is touched.
-pub record Steps (c : ℕ) (before behind same : Bool) (old new : MetaLinks) (was now : Peer) : Type 0 where
+pub record PeerStep (c : ℕ) (before behind same : Bool) (old new : MetaLinks) (was now : Peer) : Type 0 where
   pub fine : (questions : List Question) (s : MetaSettings) (h : History) (q : Question) (target : TargetState)
-      (p : Heard) (events : List Event)
-      → MetaAfter questions s h old → slice_get questions c ≡ Some q → IsFine s q target before (only c h) p events was
-      → Stepped questions s c h q target behind same p events new now ⊎ Loses questions s c h target new
+      (p : Transcript) (host_events : List HostEvent)
+      → MetaAfter questions s h old → slice_get questions c ≡ Some q
+      → IsSoundPeer s q target before (events_on c h) p host_events was
+      → SoundStep questions s c h q target behind same p host_events new now ⊎ LongReplyStep questions s c h target new
   pub adds : (questions : List Question) (s : MetaSettings) (h : History)
-      → MetaAfter questions s h old → Adds questions s c h new
+      → MetaAfter questions s h old → MoreEvents questions s c h new
 
 -- what taking all messages does: where all were taken before, the connection is as it was
-abbrev pub TakesAll : ℕ → MetaLinks → MetaLinks → Type 0
-TakesAll c old new = (taken : Bool) (peer : Peer) → Steps c taken true taken old new peer peer
+abbrev pub TakeAllStep : ℕ → MetaLinks → MetaLinks → Type 0
+TakeAllStep c old new = (taken : Bool) (peer : Peer) → PeerStep c taken true taken old new peer peer
 
 -- releasing replies touches no connection
-abbrev pub ReleasesFine : Peer → Peer → Type 0
-ReleasesFine was now = (c : ℕ) (meta : MetaLinks) → Steps c true true true meta meta was now
+abbrev pub SoundReleaseStep : Peer → Peer → Type 0
+SoundReleaseStep was now = (c : ℕ) (meta : MetaLinks) → PeerStep c true true true meta meta was now
 
 -- ---- a round
 
 -- What a round did of a connection that was fine: it is fine; more was sent than was sent before the round, where it is
 -- not finished; and where nothing was carried or released, it is as it was.
-pub record Rounded (questions : List Question) (s : MetaSettings) (c : ℕ) (h : History) (q : Question)
-    (target : TargetState) (moved : Bool) (p : Heard) (events : List Event) (new : MetaLinks) (now : Peer)
+pub record SoundRound (questions : List Question) (s : MetaSettings) (c : ℕ) (h : History) (q : Question)
+    (target : TargetState) (moved : Bool) (p : Transcript) (host_events : List HostEvent) (new : MetaLinks) (now : Peer)
     : Type 0 where
-  pub stepped : Stepped questions s c h q target true false p events new now
+  pub stepped : SoundStep questions s c h q target true false p host_events new now
   pub grows : is_over stepped.later ≡ false → length (sent (past_of p)) < length (sent (past_of stepped.later))
   pub still : moved ≡ false → stepped.later ≡ p
 
-pub record Rounds (c : ℕ) (moved : Bool) (old new : MetaLinks) (was now : Peer) : Type 0 where
+pub record PeerRound (c : ℕ) (moved : Bool) (old new : MetaLinks) (was now : Peer) : Type 0 where
   pub fine : (questions : List Question) (s : MetaSettings) (h : History) (q : Question) (target : TargetState)
-      (p : Heard) (events : List Event)
-      → MetaAfter questions s h old → slice_get questions c ≡ Some q → IsFine s q target true (only c h) p events was
-      → Rounded questions s c h q target moved p events new now ⊎ Loses questions s c h target new
+      (p : Transcript) (host_events : List HostEvent)
+      → MetaAfter questions s h old → slice_get questions c ≡ Some q
+      → IsSoundPeer s q target true (events_on c h) p host_events was
+      → SoundRound questions s c h q target moved p host_events new now ⊎ LongReplyStep questions s c h target new
   pub adds : (questions : List Question) (s : MetaSettings) (h : History)
-      → MetaAfter questions s h old → Adds questions s c h new
+      → MetaAfter questions s h old → MoreEvents questions s c h new
 
 -- ---- all connections
 
 -- deeds more, none of them of a connection that is finished
-pub record Spared (questions : List Question) (s : MetaSettings) (h : History) (new : MetaLinks) : Type 0 where
+pub record MoreEventsOfUnfinished (questions : List Question) (s : MetaSettings) (h : History)
+    (new : MetaLinks) : Type 0 where
   pub more : History
   pub after : MetaAfter questions s (more ++ h) new
-  pub none : (i : ℕ) (p : Heard) → HasHeard (settings_of s) (only i h) p → is_over p ≡ true → only i more ≡ []
+  pub none : (i : ℕ) (p : Transcript) → IsTranscript (settings_of s) (events_on i h) p → is_over p ≡ true
+      → events_on i more ≡ []
 
-pub record Spares (old new : MetaLinks) : Type 0 where
+pub record UnfinishedOnlyStep (old new : MetaLinks) : Type 0 where
   pub on : (questions : List Question) (s : MetaSettings) (h : History)
-      → MetaAfter questions s h old → Spared questions s h new
+      → MetaAfter questions s h old → MoreEventsOfUnfinished questions s h new
 
 -- the first so many connections are fine, and nothing was done to the others
-pub record Started (n : ℕ) (questions : List Question) (s : MetaSettings) (targets : List TargetState)
+pub record AreStarted (n : ℕ) (questions : List Question) (s : MetaSettings) (targets : List TargetState)
     (new : MetaLinks) (peers : List Peer) : Type 0 where
   pub history : History
   pub after : MetaAfter questions s history new
   pub fine : (i : ℕ) (q : Question) (target : TargetState) (peer : Peer) → i < n → slice_get questions i ≡ Some q
       → slice_get targets i ≡ Some target → slice_get peers i ≡ Some peer
-      → (p : Heard) × IsFine s q target true (only i history) p [] peer
-  pub others : (i : ℕ) → (i < n → ⊥) → only i history ≡ []
+      → (p : Transcript) × IsSoundPeer s q target true (events_on i history) p [] peer
+  pub others : (i : ℕ) → (i < n → ⊥) → events_on i history ≡ []
 
 -- connections to which nothing was done are driven
-pub record Starts (n : ℕ) (old new : MetaLinks) : Type 0 where
+pub record DriveAllStep (n : ℕ) (old new : MetaLinks) : Type 0 where
   pub on : (questions : List Question) (s : MetaSettings) (targets : List TargetState) (peers : List Peer)
-      → MetaAfter questions s [] old → ArePeersOf targets peers → Started n questions s targets new peers
+      → MetaAfter questions s [] old → ArePeersOf targets peers → AreStarted n questions s targets new peers

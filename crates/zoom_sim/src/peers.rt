@@ -2,16 +2,16 @@
 ghost use Rattle.std.specs.Prelude.{◌≡◌, ◌<◌, ◌^◌, ◌-◌, Bool, true, false, not, [], length, OnOk, IfOk};
 ghost use Rattle.zoom_pool.specs.Links.{waiting_at};
 ghost use Rattle.zoom_questions.specs.NewTargets.{IsNew, AreNew};
-ghost use Rattle.zoom_sim.specs.RunSteps.{GoesOn, Carries, ReleasesReplies, IsPeerOf, ArePeersOf};
-ghost use Rattle.zoom_sim.specs.RunSound.{Steps, Rounds, ReleasesFine};
-ghost use Rattle.zoom_sim.specs.RunPeers.{BringsAll, Empties};
+ghost use Rattle.zoom_sim.specs.RunSteps.{SilentStep, CarryStep, PeerReleaseStep, IsPeerOf, ArePeersOf};
+ghost use Rattle.zoom_sim.specs.RunSound.{PeerStep, PeerRound, SoundReleaseStep};
+ghost use Rattle.zoom_sim.specs.RunPeers.{CarryAllStep, ReleaseAllStep};
 
+use crate::channels::Channel;
+use crate::drives::{stop_for, take_all};
 use crate::pipes::Pipe;
-use crate::turns::{stop_for, take_all};
-use crate::ways::Way;
 use std::alloc::{AllocError, Global};
 use zoom_laws::laws::exchange_laws;
-use zoom_pool::laws::one_hearing;
+use zoom_pool::laws::one_transcript;
 use zoom_pool::{Host, Meta, Move};
 use ztarget::Target;
 
@@ -57,25 +57,25 @@ impl Peer {
     }
 
     /// Carries up to `k` octets of what waits on the connection to the target; whether any came.
-    fn carry_to<W: Way>(
+    fn carry_to<W: Channel>(
         &mut self,
         meta: &mut Meta,
         c: u32,
-        way: &mut W,
+        channel: &mut W,
         k: usize,
     ) -> Result<bool, AllocError>
         requires { c < length meta.old.pool.connections }
-        ensures carries { OnOk result (Carries c meta.old meta.new self.old self.new) }
+        ensures carries { OnOk result (CarryStep c meta.old meta.new self.old self.new) }
         ensures steps { W.sure ≡ true
-            → OnOk result (Steps c true true true meta.old meta.new self.old self.new) }
+            → OnOk result (PeerStep c true true true meta.old meta.new self.old self.new) }
         ensures all { W.sure ≡ true → k ≡ 2 ^ 64 - 1
             → OnOk result ((self.new.to ≡ []) × (waiting_at meta.new.pool c ≡ [])) }
         ensures size { length meta.new.pool.connections ≡ length meta.old.pool.connections }
     {
         exchange_laws();
-        one_hearing();
+        one_transcript();
         self.to.take_in_sent(meta, c)?;
-        let came = way.carry_to(c, self.to.next(k));
+        let came = channel.carry_to(c, self.to.next(k));
         let piece = self.to.next(count_of(came, k));
         let n = piece.len();
         self.host.feed(piece)?;
@@ -84,23 +84,23 @@ impl Peer {
     }
 
     /// Carries up to `k` octets of what waits at the target to the connection; whether any came.
-    fn feed_from<W: Way>(
+    fn feed_from<W: Channel>(
         &mut self,
         meta: &mut Meta,
         c: u32,
-        way: &mut W,
+        channel: &mut W,
         k: usize,
     ) -> Result<bool, AllocError>
         requires { c < length meta.old.pool.connections }
-        ensures carries { OnOk result (Carries c meta.old meta.new self.old self.new) }
+        ensures carries { OnOk result (CarryStep c meta.old meta.new self.old self.new) }
         ensures steps { W.sure ≡ true → IfOk result
-            (λ carried. Steps c true (not carried) (not carried) meta.old meta.new self.old self.new) }
-        ensures all { W.sure ≡ true → k ≡ 2 ^ 64 - 1 → OnOk result (BringsAll self.old self.new) }
+            (λ carried. PeerStep c true (not carried) (not carried) meta.old meta.new self.old self.new) }
+        ensures all { W.sure ≡ true → k ≡ 2 ^ 64 - 1 → OnOk result (CarryAllStep self.old self.new) }
         ensures size { length meta.new.pool.connections ≡ length meta.old.pool.connections }
     {
         exchange_laws();
         self.from.take_in_replies(&mut self.host)?;
-        let came = way.carry_from(c, self.from.next(k));
+        let came = channel.carry_from(c, self.from.next(k));
         let piece = self.from.next(count_of(came, k));
         let n = piece.len();
         meta.feed(c, piece)?;
@@ -111,9 +111,9 @@ impl Peer {
     /// Ends the input of the connection, where its target stopped and nothing more comes of it.
     fn end_where_stopped(&self, meta: &mut Meta, c: u32)
         requires { c < length meta.old.pool.connections }
-        ensures on { GoesOn meta.old meta.new }
+        ensures on { SilentStep meta.old meta.new }
         ensures same { self.now.host.stopped ≡ false → meta.new ≡ meta.old }
-        ensures steps { (taken : Bool) → Steps c taken taken true meta.old meta.new self.now self.now }
+        ensures steps { (taken : Bool) → PeerStep c taken taken true meta.old meta.new self.now self.now }
         ensures size { length meta.new.pool.connections ≡ length meta.old.pool.connections }
     {
         if self.host.stopped() && self.from.is_empty() {
@@ -123,24 +123,24 @@ impl Peer {
 
     /// Carries up to `k` octets of what waits at the target to the connection, which takes each whole message; whether
     /// any came. A way that failed stops the connection.
-    fn carry_from<W: Way>(
+    fn carry_from<W: Channel>(
         &mut self,
         meta: &mut Meta,
         c: u32,
-        way: &mut W,
+        channel: &mut W,
         k: usize,
     ) -> Result<bool, AllocError>
         requires { c < length meta.old.pool.connections }
-        ensures carries { OnOk result (Carries c meta.old meta.new self.old self.new) }
+        ensures carries { OnOk result (CarryStep c meta.old meta.new self.old self.new) }
         ensures steps { W.sure ≡ true → IfOk result
-            (λ carried. Steps c true true (not carried) meta.old meta.new self.old self.new) }
-        ensures all { W.sure ≡ true → k ≡ 2 ^ 64 - 1 → OnOk result (BringsAll self.old self.new) }
+            (λ carried. PeerStep c true true (not carried) meta.old meta.new self.old self.new) }
+        ensures all { W.sure ≡ true → k ≡ 2 ^ 64 - 1 → OnOk result (CarryAllStep self.old self.new) }
         ensures size { length meta.new.pool.connections ≡ length meta.old.pool.connections }
     {
         exchange_laws();
-        one_hearing();
-        let carried = self.feed_from(meta, c, way, k)?;
-        stop_for(meta, c, way.failure(c));
+        one_transcript();
+        let carried = self.feed_from(meta, c, channel, k)?;
+        stop_for(meta, c, channel.failure(c));
         self.end_where_stopped(meta, c);
         take_all(meta, c)?;
         Ok(carried)
@@ -148,8 +148,8 @@ impl Peer {
 
     /// Releases pending reply `k`; whether there was one.
     fn release(&mut self, k: usize) -> Result<bool, AllocError>
-        ensures releases { OnOk result (ReleasesReplies self.old self.new) }
-        ensures fine { OnOk result (ReleasesFine self.old self.new) }
+        ensures releases { OnOk result (PeerReleaseStep self.old self.new) }
+        ensures fine { OnOk result (SoundReleaseStep self.old self.new) }
     {
         exchange_laws();
         self.host.release(k)
@@ -157,13 +157,13 @@ impl Peer {
 
     /// Releases the first pending reply until none can be released; whether there was one.
     fn release_all(&mut self) -> Result<bool, AllocError>
-        ensures releases { OnOk result (ReleasesReplies self.old self.new) }
-        ensures fine { OnOk result (ReleasesFine self.old self.new) }
-        ensures empties { OnOk result (Empties self.old self.new) }
+        ensures releases { OnOk result (PeerReleaseStep self.old self.new) }
+        ensures fine { OnOk result (SoundReleaseStep self.old self.new) }
+        ensures empties { OnOk result (ReleaseAllStep self.old self.new) }
     {
         exchange_laws();
         let mut released = false;
-        for _turn in 0..u64::MAX {
+        for _count in 0..u64::MAX {
             if !self.host.release(0)? {
                 return Ok(released);
             }
@@ -173,45 +173,45 @@ impl Peer {
     }
 
     /// Makes a move on this connection.
-    pub(crate) fn make<W: Way>(
+    pub(crate) fn make<W: Channel>(
         &mut self,
         meta: &mut Meta,
         c: u32,
-        way: &mut W,
+        channel: &mut W,
         step: Move,
     ) -> Result<bool, AllocError>
         requires { c < length meta.old.pool.connections }
-        ensures carries { OnOk result (Carries c meta.old meta.new self.old self.new) }
+        ensures carries { OnOk result (CarryStep c meta.old meta.new self.old self.new) }
         ensures steps { W.sure ≡ true
-            → OnOk result (Steps c true true false meta.old meta.new self.old self.new) }
+            → OnOk result (PeerStep c true true false meta.old meta.new self.old self.new) }
         ensures size { length meta.new.pool.connections ≡ length meta.old.pool.connections }
     {
         match step {
-            Move::To { k, .. } => self.carry_to(meta, c, way, k as usize),
+            Move::To { k, .. } => self.carry_to(meta, c, channel, k as usize),
             Move::Release { k, .. } => self.release(k as usize),
-            Move::From { k, .. } => self.carry_from(meta, c, way, k as usize),
+            Move::From { k, .. } => self.carry_from(meta, c, channel, k as usize),
         }
     }
 
     /// Carries everything to the target, releases all replies in order, and carries everything to the connection;
     /// whether there was anything.
-    pub fn go_round<W: Way>(
+    pub fn go_round<W: Channel>(
         &mut self,
         meta: &mut Meta,
         c: u32,
-        way: &mut W,
+        channel: &mut W,
     ) -> Result<bool, AllocError>
         requires { c < length meta.old.pool.connections }
-        ensures carries { OnOk result (Carries c meta.old meta.new self.old self.new) }
+        ensures carries { OnOk result (CarryStep c meta.old meta.new self.old self.new) }
         ensures rounds { W.sure ≡ true
-            → IfOk result (λ moved. Rounds c moved meta.old meta.new self.old self.new) }
+            → IfOk result (λ moved. PeerRound c moved meta.old meta.new self.old self.new) }
         ensures size { length meta.new.pool.connections ≡ length meta.old.pool.connections }
     {
         exchange_laws();
-        one_hearing();
-        let sent = self.carry_to(meta, c, way, usize::MAX)?;
+        one_transcript();
+        let sent = self.carry_to(meta, c, channel, usize::MAX)?;
         let released = self.release_all()?;
-        let came = self.carry_from(meta, c, way, usize::MAX)?;
+        let came = self.carry_from(meta, c, channel, usize::MAX)?;
         Ok(sent | released | came)
     }
 }

@@ -1,9 +1,9 @@
 //! Octets on their way from one end to the other.
 ghost use Rattle.std.specs.Prelude.{◌≡◌, ◌≤◌, ◌<◌, ◌^◌, ◌-◌, ◌++◌, ◌==◌, [], length, take, drop, OnOk};
-ghost use Rattle.zoom_pool.specs.Heard.{Gives};
-ghost use Rattle.zoom_pool.specs.Hosts.{HandedOut, Underwent};
+ghost use Rattle.zoom_pool.specs.Transcripts.{HandedOut};
+ghost use Rattle.zoom_pool.specs.Hosts.{HostHandedOut, HostRecorded};
 ghost use Rattle.zoom_pool.specs.Links.{waiting_at};
-ghost use Rattle.zoom_pool.specs.Metas.{MetaBefell};
+ghost use Rattle.zoom_pool.specs.Metas.{MetaRecorded};
 
 use std::alloc::{AllocError, Global};
 use std::marker::Model;
@@ -82,7 +82,7 @@ impl Pipe {
     pub(crate) fn take_in_sent(&mut self, meta: &mut Meta, c: u32) -> Result<(), AllocError>
         requires { c < length meta.old.pool.connections }
         ensures pipe { OnOk result (self.new ≡ self.old ++ waiting_at meta.old.pool c) }
-        ensures after { OnOk result (MetaBefell c (Gives (waiting_at meta.old.pool c)) meta.old meta.new) }
+        ensures after { OnOk result (MetaRecorded c (HandedOut (waiting_at meta.old.pool c)) meta.old meta.new) }
         ensures none { OnOk result (waiting_at meta.new.pool c ≡ []) }
         ensures size { length meta.new.pool.connections ≡ length meta.old.pool.connections }
     {
@@ -93,7 +93,7 @@ impl Pipe {
     /// Takes in what waits to go out at a host.
     pub(crate) fn take_in_replies(&mut self, host: &mut Host) -> Result<(), AllocError>
         ensures pipe { OnOk result (self.new ≡ self.old ++ host.old.waiting) }
-        ensures after { OnOk result (Underwent (HandedOut host.old.waiting) host.old host.new) }
+        ensures after { OnOk result (HostRecorded (HostHandedOut host.old.waiting) host.old host.new) }
         ensures none { OnOk result (host.new.waiting ≡ []) }
     {
         self.tidy();

@@ -4,92 +4,96 @@ ghost use Rattle.ztarget.specs.Receiving.{TargetState};
 ghost use Rattle.zoom_questions.specs.declared.question.Question.{Question};
 ghost use Rattle.zoom_questions.specs.declared.question.MetaSettings.{MetaSettings};
 ghost use Rattle.zoom_pool.specs.Metas.{MetaAfter};
-ghost use Rattle.zoom_sim.specs.RunSteps.{WorldGoes, WorldEnds, ArePeersOf};
-ghost use Rattle.zoom_sim.specs.RunRounds.{WorldStays, WorldRounds, WorldGrows, WorldWhole, RanWhole};
+ghost use Rattle.zoom_sim.specs.RunSteps.{AfterMoves, AfterAllRounds, ArePeersOf};
+ghost use Rattle.zoom_sim.specs.RunRounds.{AfterSoundMoves, AfterSoundRound, AfterRoundOrEnd, AfterAllSoundRounds, IsCompleteRun};
 
+use crate::channels::Channel;
+use crate::drives::{drive_all, end_inputs, stop_all};
 use crate::peers::{Peer, connection_of};
-use crate::turns::{drive_all, end_inputs, stop_all};
-use crate::ways::Way;
 use std::alloc::AllocError;
 use zoom_laws::laws::exchange_laws;
-use zoom_pool::laws::one_hearing;
+use zoom_pool::laws::one_transcript;
 use zoom_pool::{Meta, Move};
 
 /// The most rounds: where nothing fails, each connection sends an octet more in each, until it is finished.
 const MOST_ROUNDS: u64 = u64::MAX;
 
 /// Makes a move; one on no connection does nothing.
-fn make_move<W: Way>(
+fn make_move<W: Channel>(
     peers: &mut [Peer],
     meta: &mut Meta,
-    way: &mut W,
+    channel: &mut W,
     step: Move,
 ) -> Result<(), AllocError>
     requires few { length meta.old.pool.connections < 2 ^ 32 }
     requires equal { length peers.old ≡ length meta.old.pool.connections }
-    ensures goes { OnOk result (WorldGoes meta.old meta.new peers.old peers.new) }
-    ensures stays { W.sure ≡ true → OnOk result (WorldStays meta.old meta.new peers.old peers.new) }
+    ensures goes { OnOk result (AfterMoves meta.old meta.new peers.old peers.new) }
+    ensures stays { W.sure ≡ true → OnOk result (AfterSoundMoves meta.old meta.new peers.old peers.new) }
     ensures size { length meta.new.pool.connections ≡ length meta.old.pool.connections }
 {
     let c = connection_of(step);
     if c as usize >= peers.len() {
         return Ok(());
     }
-    one_hearing();
+    one_transcript();
     exchange_laws();
-    peers[c as usize].make(meta, c, way, step)?;
+    peers[c as usize].make(meta, c, channel, step)?;
     Ok(())
 }
 
 /// Makes the moves, in order.
-pub fn make_moves<W: Way>(
+pub fn make_moves<W: Channel>(
     peers: &mut [Peer],
     meta: &mut Meta,
-    way: &mut W,
+    channel: &mut W,
     moves: &[Move],
 ) -> Result<(), AllocError>
     requires few { length meta.old.pool.connections < 2 ^ 32 }
     requires equal { length peers.old ≡ length meta.old.pool.connections }
-    ensures goes { OnOk result (WorldGoes meta.old meta.new peers.old peers.new) }
-    ensures stays { W.sure ≡ true → OnOk result (WorldStays meta.old meta.new peers.old peers.new) }
+    ensures goes { OnOk result (AfterMoves meta.old meta.new peers.old peers.new) }
+    ensures stays { W.sure ≡ true → OnOk result (AfterSoundMoves meta.old meta.new peers.old peers.new) }
     ensures size { length meta.new.pool.connections ≡ length meta.old.pool.connections }
 {
     for step in moves {
-        make_move(peers, meta, way, *step)?;
+        make_move(peers, meta, channel, *step)?;
     }
     Ok(())
 }
 
 /// A round over all connections; whether anything was carried or released.
-fn go_round<W: Way>(peers: &mut [Peer], meta: &mut Meta, way: &mut W) -> Result<bool, AllocError>
+fn go_round<W: Channel>(
+    peers: &mut [Peer],
+    meta: &mut Meta,
+    channel: &mut W,
+) -> Result<bool, AllocError>
     requires few { length meta.old.pool.connections < 2 ^ 32 }
     requires equal { length peers.old ≡ length meta.old.pool.connections }
-    ensures goes { OnOk result (WorldGoes meta.old meta.new peers.old peers.new) }
+    ensures goes { OnOk result (AfterMoves meta.old meta.new peers.old peers.new) }
     ensures rounds { W.sure ≡ true
-        → IfOk result (λ moved. WorldRounds moved meta.old meta.new peers.old peers.new) }
+        → IfOk result (λ moved. AfterSoundRound moved meta.old meta.new peers.old peers.new) }
     ensures size { length meta.new.pool.connections ≡ length meta.old.pool.connections }
 {
-    one_hearing();
+    one_transcript();
     exchange_laws();
     let mut any = false;
     for c in 0..peers.len() {
-        let moved = peers[c].go_round(meta, c as u32, way)?;
+        let moved = peers[c].go_round(meta, c as u32, channel)?;
         any = any | moved;
     }
     Ok(any)
 }
 
 /// A round; where nothing was carried or released, the input ends of each connection that is not finished.
-fn go_on<W: Way>(peers: &mut [Peer], meta: &mut Meta, way: &mut W) -> Result<(), AllocError>
+fn go_on<W: Channel>(peers: &mut [Peer], meta: &mut Meta, channel: &mut W) -> Result<(), AllocError>
     requires few { length meta.old.pool.connections < 2 ^ 32 }
     requires equal { length peers.old ≡ length meta.old.pool.connections }
-    ensures goes { OnOk result (WorldGoes meta.old meta.new peers.old peers.new) }
-    ensures grows { W.sure ≡ true → OnOk result (WorldGrows meta.old meta.new peers.old peers.new) }
+    ensures goes { OnOk result (AfterMoves meta.old meta.new peers.old peers.new) }
+    ensures grows { W.sure ≡ true → OnOk result (AfterRoundOrEnd meta.old meta.new peers.old peers.new) }
     ensures size { length meta.new.pool.connections ≡ length meta.old.pool.connections }
 {
-    one_hearing();
+    one_transcript();
     exchange_laws();
-    if go_round(peers, meta, way)? {
+    if go_round(peers, meta, channel)? {
         Ok(())
     } else {
         end_inputs(meta)
@@ -97,20 +101,24 @@ fn go_on<W: Way>(peers: &mut [Peer], meta: &mut Meta, way: &mut W) -> Result<(),
 }
 
 /// Rounds until each connection is finished.
-fn finish<W: Way>(peers: &mut [Peer], meta: &mut Meta, way: &mut W) -> Result<(), AllocError>
+fn finish<W: Channel>(
+    peers: &mut [Peer],
+    meta: &mut Meta,
+    channel: &mut W,
+) -> Result<(), AllocError>
     requires few { length meta.old.pool.connections < 2 ^ 32 }
     requires equal { length peers.old ≡ length meta.old.pool.connections }
-    ensures ends { OnOk result (WorldEnds meta.old meta.new peers.old) }
-    ensures whole { W.sure ≡ true → OnOk result (WorldWhole meta.old meta.new peers.old) }
+    ensures ends { OnOk result (AfterAllRounds meta.old meta.new peers.old) }
+    ensures whole { W.sure ≡ true → OnOk result (AfterAllSoundRounds meta.old meta.new peers.old) }
     ensures size { length meta.new.pool.connections ≡ length meta.old.pool.connections }
 {
-    one_hearing();
+    one_transcript();
     exchange_laws();
     for _ in 0..MOST_ROUNDS {
         if meta.finished() {
             return Ok(());
         }
-        go_on(peers, meta, way)?;
+        go_on(peers, meta, channel)?;
     }
     end_inputs(meta)?;
     stop_all(meta);
@@ -118,21 +126,21 @@ fn finish<W: Way>(peers: &mut [Peer], meta: &mut Meta, way: &mut W) -> Result<()
 }
 
 /// Drives each connection once, makes the moves, and goes on until each connection is finished.
-pub(crate) fn carry_out<W: Way>(
+pub(crate) fn carry_out<W: Channel>(
     peers: &mut [Peer],
     meta: &mut Meta,
-    way: &mut W,
+    channel: &mut W,
     moves: &[Move],
 ) -> Result<(), AllocError>
     requires few { length meta.old.pool.connections < 2 ^ 32 }
     requires equal { length peers.old ≡ length meta.old.pool.connections }
-    ensures ends { OnOk result (WorldEnds meta.old meta.new peers.old) }
+    ensures ends { OnOk result (AfterAllRounds meta.old meta.new peers.old) }
     ensures whole { W.sure ≡ true → OnOk result ((questions : List Question) (s : MetaSettings)
         (targets : List TargetState) → MetaAfter questions s [] meta.old → ArePeersOf targets peers.old
-        → length targets ≡ length questions → RanWhole questions s targets meta.new) }
+        → length targets ≡ length questions → IsCompleteRun questions s targets meta.new) }
     ensures size { length meta.new.pool.connections ≡ length meta.old.pool.connections }
 {
     drive_all(meta)?;
-    make_moves(peers, meta, way, moves)?;
-    finish(peers, meta, way)
+    make_moves(peers, meta, channel, moves)?;
+    finish(peers, meta, channel)
 }

@@ -3,12 +3,12 @@ ghost use Rattle.std.specs.Prelude.{◌≡◌, ◌<◌, ◌^◌, ◌++◌, true,
 ghost use Rattle.zknow.specs.List.Listing.{listing};
 ghost use Rattle.zoom_questions.specs.Askable.{AreFit, AreAskable};
 ghost use Rattle.zoom_questions.specs.NewTargets.{AreNew};
-ghost use Rattle.zoom_sim.specs.Run.{Ran};
-ghost use Rattle.zoom_sim.specs.RunRounds.{RanWhole};
+ghost use Rattle.zoom_sim.specs.Run.{IsRun};
+ghost use Rattle.zoom_sim.specs.RunRounds.{IsCompleteRun};
 
+use crate::channels::{Channel, InMemory};
 use crate::peers::peers_of;
 use crate::rounds::carry_out;
-use crate::ways::{Way, Within};
 use std::alloc::{AllocError, Global};
 use zber::Seq;
 use zknow::{Mode, Names, print_list};
@@ -30,12 +30,12 @@ use ztarget::Target;
 /// to which a reply is owed of more octets than a message may have.
 ///
 /// An error only where no memory was found.
-pub fn run_over<W: Way>(
+pub fn run_over<W: Channel>(
     alloc: Global,
     questions: Vec<Question>,
     settings: MetaSettings,
     targets: Vec<Target>,
-    way: &mut W,
+    channel: &mut W,
     moves: &[Move],
 ) -> Result<Meta, AllocError>
     requires some { length questions.items < 2 ^ 32 }
@@ -43,14 +43,14 @@ pub fn run_over<W: Way>(
     requires fit { AreFit settings }
     requires new { AreNew targets.items }
     requires equal { length targets.items ≡ length questions.items }
-    ensures ran { IfOk result (λ meta. Ran questions.items settings targets.items meta) }
+    ensures ran { IfOk result (λ meta. IsRun questions.items settings targets.items meta) }
     ensures whole { W.sure ≡ true
-        → IfOk result (λ meta. RanWhole questions.items settings targets.items meta) }
+        → IfOk result (λ meta. IsCompleteRun questions.items settings targets.items meta) }
     ensures size { IfOk result (λ meta. length meta.pool.connections ≡ length questions.items) }
 {
     let mut meta = Meta::new(alloc, Seq::from_vec(questions), settings)?;
     let mut peers = peers_of(alloc, targets)?;
-    carry_out(&mut peers, &mut meta, way, moves)?;
+    carry_out(&mut peers, &mut meta, channel, moves)?;
     Ok(meta)
 }
 
@@ -72,14 +72,14 @@ pub fn run_world(
     requires fit { AreFit settings }
     requires new { AreNew targets.items }
     requires equal { length targets.items ≡ length questions.items }
-    ensures ran { IfOk result (λ meta. Ran questions.items settings targets.items meta) }
-    ensures whole { IfOk result (λ meta. RanWhole questions.items settings targets.items meta) }
+    ensures ran { IfOk result (λ meta. IsRun questions.items settings targets.items meta) }
+    ensures whole { IfOk result (λ meta. IsCompleteRun questions.items settings targets.items meta) }
     ensures size { IfOk result (λ meta. length meta.pool.connections ≡ length questions.items) }
     ensures list { IfOk result
         (λ meta. out.new.items ≡ out.old.items ++ listing names.now mode meta.pool.knowledge) }
     ensures err { OnErr result (out.new.items ≡ out.old.items) }
 {
-    let meta = run_over(alloc, questions, settings, targets, &mut Within, moves)?;
+    let meta = run_over(alloc, questions, settings, targets, &mut InMemory, moves)?;
     print_list(alloc, meta.knowledge(), names, mode, out)?;
     Ok(meta)
 }

@@ -1,4 +1,4 @@
 pub mod Alike
 pub mod Openings
-pub mod InTurn
+pub mod InOrder
 pub mod AtOnce

@@ -2,14 +2,14 @@
 use Rattle.std.specs.Prelude.{◌≡◌, ℕ, ◌<◌, ◌≤◌, Bool, true, false, List, [], ◌++◌, length, Option}
 use Rattle.zoom_questions.specs.declared.question.Question.{Question}
 use Rattle.zoom_questions.specs.declared.question.MetaSettings.{MetaSettings}
-use Rattle.zoom_pool.specs.History.{History, only}
+use Rattle.zoom_pool.specs.History.{History, events_on}
 use Rattle.zoom_pool.specs.Metas.{MetaLinks, MetaAfter}
-use Rattle.zoom_io.specs.Talks.{IsStoppedAt}
-use Rattle.zoom_tcp.specs.Asking.{has, Opening, TalksIf, IsTalkedOutIf}
+use Rattle.zoom_io.specs.TalkTraces.{IsStoppedAt}
+use Rattle.zoom_tcp.specs.Asking.{is_present, Opening, WholeTalkIf, IsConnectionAskedIf}
 
 -- ---- one connection
 
-pub record Opened
+pub record OpenedWay
     (questions : List Question) (s : MetaSettings) (c : ℕ) (h : History) (reached : Bool) (new : MetaLinks)
     : Type 0 where
   pub more : History
@@ -17,27 +17,27 @@ pub record Opened
   pub after : MetaAfter questions s (more ++ h) new
 
 -- the way to the host of the connection was opened
-pub record Opens (c : ℕ) (reached : Bool) (old new : MetaLinks) : Type 0 where
+pub record AfterOpen (c : ℕ) (reached : Bool) (old new : MetaLinks) : Type 0 where
   pub on : (questions : List Question) (s : MetaSettings) (h : History)
-      → MetaAfter questions s h old → Opened questions s c h reached new
+      → MetaAfter questions s h old → OpenedWay questions s c h reached new
 
 -- where it is chosen
-abbrev pub OpensIf : Bool → ℕ → Bool → MetaLinks → MetaLinks → Type 0
-OpensIf true c reached old new = Opens c reached old new
-OpensIf false c reached old new = (reached ≡ false) × (new ≡ old)
+abbrev pub AfterOpenIf : Bool → ℕ → Bool → MetaLinks → MetaLinks → Type 0
+AfterOpenIf true c reached old new = AfterOpen c reached old new
+AfterOpenIf false c reached old new = (reached ≡ false) × (new ≡ old)
 
-pub record TalkedOut
+pub record FinishedTalk
     (questions : List Question) (s : MetaSettings) (c : ℕ) (h : History) (reached : Bool) (new : MetaLinks)
     : Type 0 where
   pub more : History
-  pub talked : TalksIf questions s false c h reached more
+  pub talked : WholeTalkIf questions s false c h reached more
   pub after : MetaAfter questions s (more ++ h) new
   pub over : reached ≡ true → IsStoppedAt s c (more ++ h)
 
 -- its host was talked with, where it can be
-pub record TalksOut (c : ℕ) (reached : Bool) (old new : MetaLinks) : Type 0 where
+pub record AfterTalkOn (c : ℕ) (reached : Bool) (old new : MetaLinks) : Type 0 where
   pub on : (questions : List Question) (s : MetaSettings) (h : History)
-      → MetaAfter questions s h old → TalkedOut questions s c h reached new
+      → MetaAfter questions s h old → FinishedTalk questions s c h reached new
 
 -- ---- among the deeds of the others
 
@@ -46,39 +46,39 @@ pub record IsOpened (questions : List Question) (s : MetaSettings) (c : ℕ) (re
     : Type 0 where
   pub more : History
   pub opening : Opening questions s c [] more reached
-  pub mine : only c h ≡ only c more
+  pub mine : events_on c h ≡ events_on c more
 
 -- where it was chosen
 abbrev pub IsOpenedIf : Bool → List Question → MetaSettings → ℕ → Bool → History → Type 0
 IsOpenedIf true questions s c reached h = IsOpened questions s c reached h
-IsOpenedIf false questions s c reached h = (reached ≡ false) × (only c h ≡ [])
+IsOpenedIf false questions s c reached h = (reached ≡ false) × (events_on c h ≡ [])
 
 -- The ways to the first hosts, of those that are chosen, were opened; those are reached for which there is a line; and
 -- nothing befell the other connections.
-pub record AllOpened {A : Type 0}
-    (questions : List Question) (s : MetaSettings) (chosen : ℕ → Bool) (lines : List (Option A)) (new : MetaLinks)
+pub record AreOpened {A : Type 0}
+    (questions : List Question) (s : MetaSettings) (chosen : ℕ → Bool) (links : List (Option A)) (new : MetaLinks)
     : Type 0 where
   pub history : History
   pub after : MetaAfter questions s history new
-  pub opened : (c : ℕ) → c < length lines → IsOpenedIf (chosen c) questions s c (has lines c) history
-  pub others : (c : ℕ) → length lines ≤ c → only c history ≡ []
+  pub opened : (c : ℕ) → c < length links → IsOpenedIf (chosen c) questions s c (is_present links c) history
+  pub others : (c : ℕ) → length links ≤ c → events_on c history ≡ []
 
 -- after no deed
-pub record OpensAll {A : Type 0} (chosen : ℕ → Bool) (lines : List (Option A)) (old new : MetaLinks) : Type 0 where
+pub record AfterOpenAll {A : Type 0} (chosen : ℕ → Bool) (links : List (Option A)) (old new : MetaLinks) : Type 0 where
   pub on : (questions : List Question) (s : MetaSettings)
-      → MetaAfter questions s [] old → AllOpened questions s chosen lines new
+      → MetaAfter questions s [] old → AreOpened questions s chosen links new
 
 -- the first so many hosts were talked with, and the ways to the others were opened, of those that are chosen
-pub record AllTalkedOut {A : Type 0}
-    (questions : List Question) (s : MetaSettings) (chosen : ℕ → Bool) (lines : List (Option A)) (n : ℕ)
+pub record AreFirstAsked {A : Type 0}
+    (questions : List Question) (s : MetaSettings) (chosen : ℕ → Bool) (links : List (Option A)) (n : ℕ)
     (new : MetaLinks)
     : Type 0 where
   pub history : History
   pub after : MetaAfter questions s history new
-  pub talked : (c : ℕ) → c < n → IsTalkedOutIf (chosen c) questions s false c history
-  pub opened : (c : ℕ) → n ≤ c → c < length lines → IsOpenedIf (chosen c) questions s c (has lines c) history
+  pub talked : (c : ℕ) → c < n → IsConnectionAskedIf (chosen c) questions s false c history
+  pub opened : (c : ℕ) → n ≤ c → c < length links → IsOpenedIf (chosen c) questions s c (is_present links c) history
 
 -- after their ways were opened
-pub record TalksAllOut {A : Type 0} (lines : List (Option A)) (n : ℕ) (old new : MetaLinks) : Type 0 where
+pub record AfterTalkAll {A : Type 0} (links : List (Option A)) (n : ℕ) (old new : MetaLinks) : Type 0 where
   pub on : (questions : List Question) (s : MetaSettings) (chosen : ℕ → Bool)
-      → AllOpened questions s chosen lines old → AllTalkedOut questions s chosen lines n new
+      → AreOpened questions s chosen links old → AreFirstAsked questions s chosen links n new

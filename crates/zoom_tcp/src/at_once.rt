@@ -1,11 +1,11 @@
 //! Hosts are asked at once, without threads.
 ghost use Rattle.std.specs.Prelude.{◌≡◌, ◌<◌, ◌^◌, ℕ, true, length, is_some, IfOk};
 ghost use Rattle.zoom_questions.specs.Askable.{AreFit, AreAskable};
-ghost use Rattle.zoom_io.specs.declared.among.Phase.TheVariants as phases;
-ghost use Rattle.zoom_io.specs.Among.{IsAt, AreAt};
-ghost use Rattle.zoom_tcp.specs.Asking.{has, IsAsked};
+ghost use Rattle.zoom_io.specs.declared.among.TalkPhase.TheVariants as phases;
+ghost use Rattle.zoom_io.specs.TalksAmong.{IsAtPhase, AreAtPhase};
+ghost use Rattle.zoom_tcp.specs.Asking.{is_present, IsAsked};
 
-use crate::line::{Line, Timed};
+use crate::link::{TcpLink, Timed};
 use crate::opening::open_all;
 use crate::polling::Polling;
 use bytes::Bytes;
@@ -14,7 +14,7 @@ use std::io::{Read, Write};
 use std::net::{Net, OpenStream};
 use std::time::Clock;
 use zber::Seq;
-use zoom_io::{Device, Ends, Watch, talk_at_once};
+use zoom_io::{Counting, Halves, Watch, talk_at_once};
 use zoom_pool::{Meta, MetaSettings, Question};
 
 /// The most rounds, in each of which every host is polled once.
@@ -39,40 +39,40 @@ pub fn ask_at_once<N: Net + Clock, V: Watch>(
     requires askable { AreAskable questions.items }
     requires fit { AreFit settings }
     requires equal { length addresses.now ≡ length questions.items }
-    ensures asked { IfOk result (λ meta. IsAsked questions.items settings true (has addresses.now) meta) }
+    ensures asked { IfOk result (λ meta. IsAsked questions.items settings true (is_present addresses.now) meta) }
 {
     let mut meta = Meta::new(alloc, Seq::from_vec(questions), settings)?;
-    let lines = open_all(alloc, net, &mut meta, addresses)?;
-    let mut ends = ends_of(alloc, lines)?;
-    let talked = talk_at_once(alloc, &mut meta, &mut ends, ROUNDS, watch);
-    drop(ends);
+    let links = open_all(alloc, net, &mut meta, addresses)?;
+    let mut halves = halves_of(alloc, links)?;
+    let talked = talk_at_once(alloc, &mut meta, &mut halves, ROUNDS, watch);
+    drop(halves);
     talked?;
     Ok(meta)
 }
 
 /// The two ends of each line.
-fn ends_of<'a, C: Clock, S: Read + Write + OpenStream + Drop>(
+fn halves_of<'a, C: Clock, S: Read + Write + OpenStream + Drop>(
     alloc: Global,
-    lines: Vec<Option<Line<'a, C, S>>>,
-) -> Result<Vec<Option<Ends<Polling<'a, C, S>, Device<Timed<'a, C, S>>>>>, AllocError>
-    ensures has { IfOk result (λ ends. (c : ℕ) → has ends.items c ≡ has lines.entry.items c) }
-    ensures due { IfOk result (λ ends. AreAt phases.Due ends.items) }
-    ensures size { IfOk result (λ ends. length ends.items ≡ length lines.entry.items) }
+    links: Vec<Option<TcpLink<'a, C, S>>>,
+) -> Result<Vec<Option<Halves<Polling<'a, C, S>, Counting<Timed<'a, C, S>>>>>, AllocError>
+    ensures is_present { IfOk result (λ halves. (c : ℕ) → is_present halves.items c ≡ is_present links.entry.items c) }
+    ensures due { IfOk result (λ halves. AreAtPhase phases.Due halves.items) }
+    ensures size { IfOk result (λ halves. length halves.items ≡ length links.entry.items) }
 {
     let mut all = Vec::new(alloc);
-    for line in lines {
-        all.push(ends_if(line))?;
+    for link in links {
+        all.push(halves_if(link))?;
     }
     Ok(all)
 }
 
 /// The two ends of a line, where there is one.
-fn ends_if<'a, C: Clock, S: Read + Write + OpenStream + Drop>(
-    line: Option<Line<'a, C, S>>,
-) -> Option<Ends<Polling<'a, C, S>, Device<Timed<'a, C, S>>>>
-    ensures has { is_some result ≡ is_some line.entry }
-    ensures due { IsAt phases.Due result }
+fn halves_if<'a, C: Clock, S: Read + Write + OpenStream + Drop>(
+    link: Option<TcpLink<'a, C, S>>,
+) -> Option<Halves<Polling<'a, C, S>, Counting<Timed<'a, C, S>>>>
+    ensures is_present { is_some result ≡ is_some link.entry }
+    ensures due { IsAtPhase phases.Due result }
 {
-    let Line { source, sink } = line?;
-    Some(Ends::new(Polling::new(source.into_inner()), sink))
+    let TcpLink { source, sink } = link?;
+    Some(Halves::new(Polling::new(source.into_inner()), sink))
 }

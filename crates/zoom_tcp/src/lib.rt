@@ -2,15 +2,15 @@
 #![tactic(auto)]
 
 mod at_once;
-mod in_turn;
-mod line;
+mod in_order;
+mod link;
 mod loopback;
 mod opening;
 mod polling;
 mod service;
 
 pub use at_once::ask_at_once;
-pub use in_turn::ask;
-pub use line::Line;
+pub use in_order::ask;
+pub use link::TcpLink;
 pub use loopback::run_loopback;
 pub use service::{ServeError, serve};

@@ -2,19 +2,19 @@
 ghost use Rattle.std.specs.Prelude.{◌≡◌, ◌≤◌, ◌<◌, ◌^◌, length, IfOk};
 ghost use Rattle.zoom_questions.specs.Askable.{AreFit, AreAskable};
 ghost use Rattle.zoom_questions.specs.NewTargets.{AreNew};
-ghost use Rattle.zoom_sim.specs.Run.{Ran};
+ghost use Rattle.zoom_sim.specs.Run.{IsRun};
 
-use crate::line::{PATIENCE, set_limits};
+use crate::link::{PATIENCE, set_limits};
 use crate::service::ServeError;
 use std::alloc::{AllocError, Global};
 use std::io;
 use std::io::{Read, Write};
 use std::net::{Net, OpenListener, SocketAddr, TcpListener, TcpStream};
 use std::time::Duration;
-use zoom_io::{Device, Sink, Source};
+use zoom_io::{Counting, Sink, Source};
 use zoom_pool::{Meta, MetaSettings, Question, Reason};
+use zoom_sim::channels::Way;
 use zoom_sim::run_over;
-use zoom_sim::ways::Way;
 use ztarget::Target;
 
 /// The most octets of one write.
@@ -23,8 +23,8 @@ const PIECE: usize = 4096;
 /// The two ends of a connection, and why it failed, if it did.
 #[derive(Drop)]
 struct Pair<S> {
-    client: Device<S>,
-    server: Device<S>,
+    client: Counting<S>,
+    server: Counting<S>,
     failure: Option<Reason>,
 }
 
@@ -141,7 +141,7 @@ fn run_on<S: Read + Write>(
     requires fit { AreFit settings }
     requires new { AreNew targets.items }
     requires equal { length targets.items ≡ length questions.items }
-    ensures { IfOk result (λ meta. Ran questions.items settings targets.items meta) }
+    ensures { IfOk result (λ meta. IsRun questions.items settings targets.items meta) }
 {
     run_over(alloc, questions, settings, targets, way, &[])
 }
@@ -157,8 +157,8 @@ fn pair_of<N: Net>(
     set_limits(&client)?;
     set_limits(&server)?;
     Ok(Pair {
-        client: Device::new(client),
-        server: Device::new(server),
+        client: Counting::new(client),
+        server: Counting::new(server),
         failure: None,
     })
 }
@@ -205,7 +205,7 @@ pub fn run_loopback<N: Net>(
     requires fit { AreFit settings }
     requires new { AreNew targets.items }
     requires equal { length targets.items ≡ length questions.items }
-    ensures { IfOk result (λ meta. Ran questions.items settings targets.items meta) }
+    ensures { IfOk result (λ meta. IsRun questions.items settings targets.items meta) }
 {
     let mut way = open_loopback(alloc, net, questions.len())?;
     Ok(run_on(alloc, questions, settings, targets, &mut way)?)

@@ -1,15 +1,15 @@
 //! The ways to hosts are opened: a line to each, on which the Init was sent.
 ghost use Rattle.std.specs.Prelude.{◌≡◌, ◌<◌, ◌^◌, length, is_some, IfOk};
-ghost use Rattle.zoom_tcp.specs.Asking.{has};
-ghost use Rattle.zoom_tcp.specs.AskingSteps.{Opens, OpensIf, OpensAll};
+ghost use Rattle.zoom_tcp.specs.Asking.{is_present};
+ghost use Rattle.zoom_tcp.specs.AskingSteps.{AfterOpen, AfterOpenIf, AfterOpenAll};
 
-use crate::line::{Line, line_to};
+use crate::link::{TcpLink, link_to};
 use bytes::Bytes;
 use std::alloc::{AllocError, Global};
 use std::net::Net;
 use std::time::Clock;
 use zoom_io::{PushError, Sink, push};
-use zoom_pool::laws::one_hearing;
+use zoom_pool::laws::one_transcript;
 use zoom_pool::{Meta, Reason};
 
 /// A line to each host that has an address, on which the Init was sent; `None` where there is no way to it, or no
@@ -19,18 +19,18 @@ pub(crate) fn open_all<'a, N: Net + Clock>(
     net: &'a N,
     meta: &mut Meta,
     addresses: &[Option<Bytes>],
-) -> Result<Vec<Option<Line<'a, N, N::Stream>>>, AllocError>
+) -> Result<Vec<Option<TcpLink<'a, N, N::Stream>>>, AllocError>
     requires few { length meta.old.pool.connections < 2 ^ 32 }
     requires equal { length addresses.now ≡ length meta.old.pool.connections }
-    ensures opens { IfOk result (λ lines. OpensAll (has addresses.now) lines.items meta.old meta.new) }
+    ensures opens { IfOk result (λ links. AfterOpenAll (is_present addresses.now) links.items meta.old meta.new) }
     ensures size { length meta.new.pool.connections ≡ length meta.old.pool.connections }
-    ensures lines { IfOk result (λ lines. length lines.items ≡ length addresses.now) }
+    ensures links { IfOk result (λ links. length links.items ≡ length addresses.now) }
 {
-    let mut lines = Vec::new(alloc);
+    let mut links = Vec::new(alloc);
     for c in 0..addresses.len() {
-        lines.push(open_if(alloc, net, meta, c as u32, &addresses[c])?)?;
+        links.push(open_if(alloc, net, meta, c as u32, &addresses[c])?)?;
     }
-    Ok(lines)
+    Ok(links)
 }
 
 /// A line to a host, where it has an address.
@@ -40,9 +40,9 @@ fn open_if<'a, N: Net + Clock>(
     meta: &mut Meta,
     c: u32,
     address: &Option<Bytes>,
-) -> Result<Option<Line<'a, N, N::Stream>>, AllocError>
+) -> Result<Option<TcpLink<'a, N, N::Stream>>, AllocError>
     requires { c < length meta.old.pool.connections }
-    ensures opens { IfOk result (λ line. OpensIf (is_some address.now) c (is_some line) meta.old meta.new) }
+    ensures opens { IfOk result (λ link. AfterOpenIf (is_some address.now) c (is_some link) meta.old meta.new) }
     ensures size { length meta.new.pool.connections ≡ length meta.old.pool.connections }
 {
     match address {
@@ -58,17 +58,17 @@ fn open<'a, N: Net + Clock>(
     meta: &mut Meta,
     c: u32,
     address: &Bytes,
-) -> Result<Option<Line<'a, N, N::Stream>>, AllocError>
+) -> Result<Option<TcpLink<'a, N, N::Stream>>, AllocError>
     requires { c < length meta.old.pool.connections }
-    ensures opens { IfOk result (λ line. Opens c (is_some line) meta.old meta.new) }
+    ensures opens { IfOk result (λ link. AfterOpen c (is_some link) meta.old meta.new) }
     ensures size { length meta.new.pool.connections ≡ length meta.old.pool.connections }
 {
-    let Some(mut line) = line_to(net, address) else {
+    let Some(mut link) = link_to(net, address) else {
         meta.stop(c, Reason::Connect);
         return Ok(None);
     };
-    if begin(alloc, meta, c, &mut line.sink)? {
-        Ok(Some(line))
+    if begin(alloc, meta, c, &mut link.sink)? {
+        Ok(Some(link))
     } else {
         Ok(None)
     }
@@ -77,10 +77,10 @@ fn open<'a, N: Net + Clock>(
 /// Makes the calls that are due, and writes what waits; whether it was written.
 fn begin<W: Sink>(alloc: Global, meta: &mut Meta, c: u32, sink: &mut W) -> Result<bool, AllocError>
     requires { c < length meta.old.pool.connections }
-    ensures opens { IfOk result (λ reached. Opens c reached meta.old meta.new) }
+    ensures opens { IfOk result (λ reached. AfterOpen c reached meta.old meta.new) }
     ensures size { length meta.new.pool.connections ≡ length meta.old.pool.connections }
 {
-    one_hearing();
+    one_transcript();
     meta.drive(c)?;
     match push(alloc, meta, c, sink) {
         Ok(()) => Ok(true),

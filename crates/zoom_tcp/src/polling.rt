@@ -1,14 +1,14 @@
 //! A TCP stream that is read as its octets come, with time limits.
 ghost use Rattle.std.specs.Prelude.{◌≡◌, None};
 ghost use Rattle.std.specs.Io.{ReadsAtMost};
-ghost use Rattle.zoom_io.specs.Devices.{PollsAtMost};
+ghost use Rattle.zoom_io.specs.Devices.{IsBoundedPoll};
 
-use crate::line::{PATIENCE, Timed};
+use crate::link::{PATIENCE, Timed};
 use std::io;
 use std::io::{ErrorKind, Read};
 use std::net::OpenStream;
 use std::time::{Clock, Duration, Instant};
-use zoom_io::{Failed, Polled};
+use zoom_io::{Failed, NonBlocking};
 
 /// How long a poll that may wait waits, in milliseconds.
 const WAIT: u64 = 4;
@@ -18,7 +18,7 @@ const WAIT: u64 = 4;
 #[derive(Drop)]
 pub(crate) struct Polling<'a, C, S> {
     timed: Timed<'a, C, S>,
-    heard: Option<Instant>,
+    came_at: Option<Instant>,
     failures: u64,
     polls: u64,
 }
@@ -28,7 +28,7 @@ impl<'a, C, S> Polling<'a, C, S> {
     pub(crate) fn new(timed: Timed<'a, C, S>) -> Polling<'a, C, S> {
         Polling {
             timed,
-            heard: None,
+            came_at: None,
             failures: 0,
             polls: 0,
         }
@@ -60,31 +60,31 @@ fn read_soon<S: Read + OpenStream>(
 
 impl<'a, C: Clock, S: Read + OpenStream> Polling<'a, C, S> {
     /// Whether octets came less than 30 seconds before, or the first poll was made then.
-    fn is_heard(&mut self, now: Instant) -> bool
+    fn is_alive(&mut self, now: Instant) -> bool
         ensures failures { self.new.failures ≡ self.old.failures }
         ensures polls { self.new.polls ≡ self.old.polls }
     {
-        let Some(heard) = self.heard else {
-            self.heard = Some(now);
+        let Some(came_at) = self.came_at else {
+            self.came_at = Some(now);
             return true;
         };
-        now.duration_since(heard) < Duration::from_secs(PATIENCE)
+        now.duration_since(came_at) < Duration::from_secs(PATIENCE)
     }
 
     /// Reads what is there, or comes within the wait.
     fn look(&mut self, piece: &mut [u8], wait: bool) -> io::Result<Option<usize>>
-        ensures bound { PollsAtMost result piece.new }
+        ensures bound { IsBoundedPoll result piece.new }
         ensures failures { self.new.failures ≡ self.old.failures }
         ensures polls { self.new.polls ≡ self.old.polls }
     {
         let now = self.timed.now()?;
         match read_soon(&mut self.timed.stream, piece, wait) {
             Ok(count) => {
-                self.heard = Some(now);
+                self.came_at = Some(now);
                 Ok(Some(count))
             }
             Err(error) => {
-                if is_early(error.kind()) && self.is_heard(now) {
+                if is_early(error.kind()) && self.is_alive(now) {
                     Ok(None)
                 } else {
                     Err(error)
@@ -94,7 +94,7 @@ impl<'a, C: Clock, S: Read + OpenStream> Polling<'a, C, S> {
     }
 }
 
-impl<'a, C: Clock, S: Read + OpenStream> Polled for Polling<'a, C, S> {
+impl<'a, C: Clock, S: Read + OpenStream> NonBlocking for Polling<'a, C, S> {
     ghost state = { λ p. record { octets = None; failures = p.failures } };
 
     ghost polls = { λ p. p.polls };

@@ -4,7 +4,7 @@ ghost use Rattle.zoom_tcp.specs.declared.service.ServeError.TheVariants.{Memory}
 ghost use Rattle.ztarget.specs.Receiving.{new_target};
 ghost use Rattle.ztarget.specs.Searching.{entries_in};
 
-use crate::line::Line;
+use crate::link::TcpLink;
 use std::alloc::{AllocError, Global};
 use std::io::{Read, Write};
 use std::net::{OpenListener, OpenStream};
@@ -38,7 +38,8 @@ impl From<AllocError> for ServeError {
 }
 
 /// Serves so many connections, one after the other, each with a target of these databases that has received nothing
-/// yet (Z39.50-2003, 3.2). A client that breaks off, sends what is no Z39.50, is silent for 30 seconds or takes more than an hour costs
+/// yet (Z39.50-2003, 3.2). A client that breaks off, sends what is no Z39.50, is silent for 30 seconds or takes more than
+/// an hour costs
 /// its own connection alone. Where no connection is to be served nothing is done, and that does not fail.
 ///
 /// Refusals: `Listen`, where no connection can be taken; and `Memory`.
@@ -75,13 +76,13 @@ fn serve_one<C: Clock, S: Read + Write + OpenStream + Drop>(
 ) -> Result<(), AllocError>
     requires { target ≡ new_target target.databases target.settings }
 {
-    let Ok(line) = Line::new(clock, stream) else {
+    let Ok(link) = TcpLink::new(clock, stream) else {
         return Ok(());
     };
-    let Line {
+    let TcpLink {
         mut source,
         mut sink,
-    } = line;
+    } = link;
     let mut host = Host::new(alloc, target);
     match answer(alloc, &mut host, &mut source, &mut sink, READS) {
         Ok(()) => Ok(()),

@@ -1,6 +1,6 @@
 // Worlds that are arranged, and others that put a question to a host.
 ghost use Rattle.std.specs.Prelude.{IfOk};
-ghost use Rattle.zmeta_world.specs.Fitness.{IsArrangement};
+ghost use Rattle.zmeta_world.specs.InMemoryRuns.{CanBeRun};
 
 use bytes::Bytes;
 use std::alloc::{AllocError, Global};
@@ -8,7 +8,7 @@ use std::process::Abort;
 use std::test::Fail;
 use zber_tests::rows::{each_row, halves, unescape};
 use zber_tests::unread::Unread;
-use zmeta_world::fitness::Arrangement;
+use zmeta_world::in_memory::Arrangement;
 use zmeta_world::world::{WorldError, read_world};
 
 // A file, and the number of the line with a question to a host.
@@ -28,19 +28,19 @@ ask a d - 1 emma
 to a 7";
 
 /// The world of a file of at most 1,000,000 octets, arranged for one who asks by the name `zmeta`.
-pub(crate) fn arrange(alloc: Global, file: &[u8]) -> Result<Arrangement, WorldError>
-    ensures { IfOk result IsArrangement }
+pub(crate) fn in_memory(alloc: Global, file: &[u8]) -> Result<Arrangement, WorldError>
+    ensures { IfOk result CanBeRun }
 {
     if file.len() > 1_000_000 {
         return Err(WorldError::Memory);
     }
     let name = Bytes::copy_from_slice(alloc, b"zmeta")?;
     let world = read_world(alloc, file)?;
-    world.arrange(alloc, name)
+    world.in_memory(alloc, name)
 }
 
 fn fault(alloc: Global, file: &[u8]) -> Option<WorldError> {
-    arrange(alloc, file).err()
+    in_memory(alloc, file).err()
 }
 
 fn is_hosted(alloc: Global, row: &str) -> Result<bool, Unread> {
@@ -82,7 +82,7 @@ fn is_in_order(alloc: Global, world: &Arrangement) -> Result<bool, AllocError> {
 }
 
 fn is_arranged(alloc: Global) -> Result<bool, AllocError> {
-    match arrange(alloc, TWO) {
+    match in_memory(alloc, TWO) {
         Ok(world) => is_in_order(alloc, &world),
         Err(_) => Ok(false),
     }

@@ -1,20 +1,20 @@
 // Moves that are made, and a round with a target that stopped.
 ghost use Rattle.std.specs.Prelude.{◌≡◌, length, IfOk};
-ghost use Rattle.zmeta_world.specs.Fitness.{IsArrangement};
+ghost use Rattle.zmeta_world.specs.InMemoryRuns.{CanBeRun};
 
-use crate::arranged::arrange;
+use crate::arranged::in_memory;
 use std::alloc::{AllocError, Global};
 use std::process::Abort;
 use std::test::Fail;
 use zapdu_tests::boxes::box_value;
 use zber_tests::rows::{each_row, halves, pair};
 use zber_tests::unread::Unread;
-use zmeta_world::fitness::Arrangement;
+use zmeta_world::in_memory::Arrangement;
 use zoom::{Meta, Move, Reason, State};
+use zoom_sim::channels::Within;
+use zoom_sim::drives::drive_all;
 use zoom_sim::peers::{Peer, peers_of};
 use zoom_sim::rounds::make_moves;
-use zoom_sim::turns::drive_all;
-use zoom_sim::ways::Within;
 
 const ONE: &[u8] = b"step 10
 window 4
@@ -74,7 +74,7 @@ fn moves(alloc: Global, row: &str) -> Result<Vec<Move>, Unread> {
 }
 
 fn connection(alloc: Global, arrangement: Arrangement) -> Result<Box<Meta>, AllocError>
-    requires { IsArrangement arrangement }
+    requires { CanBeRun arrangement }
 {
     let Arrangement {
         questions,
@@ -88,7 +88,7 @@ fn connection(alloc: Global, arrangement: Arrangement) -> Result<Box<Meta>, Allo
 }
 
 fn ends(alloc: Global, arrangement: Arrangement) -> Result<Vec<Peer>, AllocError>
-    requires { IsArrangement arrangement }
+    requires { CanBeRun arrangement }
 {
     let Arrangement {
         questions: _,
@@ -117,7 +117,7 @@ fn drive(meta: &mut Meta) -> Result<(), Unread> {
 
 // A connection, driven once.
 fn driven_connection(alloc: Global) -> Result<Box<Meta>, Unread> {
-    let Ok(arrangement) = arrange(alloc, ONE) else {
+    let Ok(arrangement) = in_memory(alloc, ONE) else {
         return Err(Unread);
     };
     let mut meta = connection(alloc, arrangement)?;
@@ -127,7 +127,7 @@ fn driven_connection(alloc: Global) -> Result<Box<Meta>, Unread> {
 
 // The target at its other end.
 fn peers(alloc: Global) -> Result<Vec<Peer>, Unread> {
-    let Ok(arrangement) = arrange(alloc, ONE) else {
+    let Ok(arrangement) = in_memory(alloc, ONE) else {
         return Err(Unread);
     };
     Ok(ends(alloc, arrangement)?)

@@ -13,7 +13,7 @@ use zapdu_tests::boxes::{box_value, parse};
 use zber::Seq;
 use zber_tests::rows::{digits, each_row, octets, pair, split_row, tells};
 use zber_tests::unread::Unread;
-use zoom::{Device, Meta, MetaSettings, Question, answer, talk};
+use zoom::{Counting, Meta, MetaSettings, Question, answer, talk};
 
 // What can be read, how much a call moves, which read and which write fails (the first being 1), and how many reads
 // there may be; then the answer, the state, and what was written. The question wants no record.
@@ -122,8 +122,8 @@ fn case_of(text: &str) -> Result<Case, Unread> {
     })
 }
 
-pub(crate) fn source_of<'a>(octets: &'a [u8], case: Case) -> Device<Given<'a>> {
-    Device::new(Given {
+pub(crate) fn source_of<'a>(octets: &'a [u8], case: Case) -> Counting<Given<'a>> {
+    Counting::new(Given {
         octets,
         step: case.step,
         calls: 0,
@@ -131,8 +131,8 @@ pub(crate) fn source_of<'a>(octets: &'a [u8], case: Case) -> Device<Given<'a>> {
     })
 }
 
-pub(crate) fn sink_of(alloc: Global, case: Case) -> Device<Kept> {
-    Device::new(Kept {
+pub(crate) fn sink_of(alloc: Global, case: Case) -> Counting<Kept> {
+    Counting::new(Kept {
         octets: Vec::new(alloc),
         step: case.step,
         calls: 0,
@@ -141,8 +141,8 @@ pub(crate) fn sink_of(alloc: Global, case: Case) -> Device<Kept> {
 }
 
 // A sink that takes all that it is given.
-pub(crate) fn empty_sink(alloc: Global) -> Device<Kept> {
-    Device::new(Kept {
+pub(crate) fn empty_sink(alloc: Global) -> Counting<Kept> {
+    Counting::new(Kept {
         octets: Vec::new(alloc),
         step: usize::MAX,
         calls: 0,
@@ -151,7 +151,7 @@ pub(crate) fn empty_sink(alloc: Global) -> Device<Kept> {
 }
 
 // How often a source was read, and a sink written.
-pub(crate) fn reads_of(source: Device<Given<'_>>) -> usize {
+pub(crate) fn reads_of(source: Counting<Given<'_>>) -> usize {
     let Given {
         octets: _,
         step: _,
@@ -162,7 +162,7 @@ pub(crate) fn reads_of(source: Device<Given<'_>>) -> usize {
 }
 
 // What was written, and in how many calls.
-pub(crate) fn writes_of(sink: Device<Kept>) -> (Vec<u8>, usize) {
+pub(crate) fn writes_of(sink: Counting<Kept>) -> (Vec<u8>, usize) {
     let Kept {
         octets,
         step: _,
@@ -173,7 +173,7 @@ pub(crate) fn writes_of(sink: Device<Kept>) -> (Vec<u8>, usize) {
 }
 
 // What was written, by its digits.
-pub(crate) fn written_digits(alloc: Global, sink: Device<Kept>) -> Result<String, AllocError> {
+pub(crate) fn written_digits(alloc: Global, sink: Counting<Kept>) -> Result<String, AllocError> {
     let Kept {
         octets,
         step: _,
@@ -223,8 +223,8 @@ pub(crate) fn has(meta: &Meta) -> Result<(), Unread>
 // The answer of a talk, and the state after it.
 fn talk_text(
     alloc: Global,
-    source: &mut Device<Given<'_>>,
-    sink: &mut Device<Kept>,
+    source: &mut Counting<Given<'_>>,
+    sink: &mut Counting<Kept>,
     turns: u32,
 ) -> Result<String, Unread> {
     let mut meta = new_meta(alloc)?;
@@ -238,8 +238,8 @@ fn talk_text(
 // The answer of a target's answering.
 fn answer_text(
     alloc: Global,
-    source: &mut Device<Given<'_>>,
-    sink: &mut Device<Kept>,
+    source: &mut Counting<Given<'_>>,
+    sink: &mut Counting<Kept>,
     reads: u32,
 ) -> Result<String, Unread> {
     let mut host = host(alloc)?;

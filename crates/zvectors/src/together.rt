@@ -10,7 +10,8 @@ use zber::Seq;
 use zber_tests::rows::{is_true, octets};
 use zber_tests::unread::Unread;
 use zoom::{
-    Device, Ends, Failed, Meta, MetaSettings, Polled, Reason, State, Unwatched, talk_at_once,
+    Counting, Failed, Halves, Meta, MetaSettings, NonBlocking, Reason, State, Unwatched,
+    talk_at_once,
 };
 
 // The most octets of a poll, and how often a source may be polled.
@@ -33,7 +34,7 @@ struct Ended {
     written: String,
 }
 
-impl Polled for Late<'_> {
+impl NonBlocking for Late<'_> {
     ghost state = { λ l. record { octets = None; failures = 0 } };
 
     ghost polls = { λ l. l.polls };
@@ -84,12 +85,12 @@ fn has_two(meta: &Meta) -> Result<(), Unread>
 // What was written on a connection.
 fn sent_by(
     alloc: Global,
-    ends: Option<Option<Ends<Late<'_>, Device<Kept>>>>,
+    ends: Option<Option<Halves<Late<'_>, Counting<Kept>>>>,
 ) -> Result<String, Unread> {
     let Some(Some(ends)) = ends else {
         return Err(Unread);
     };
-    let Ends {
+    let Halves {
         source: _,
         sink,
         phase: _,
@@ -101,8 +102,8 @@ fn sent_by(
 fn talk_both(alloc: Global, all: &[u8], masks: (u32, u32)) -> Result<(Ended, Ended), Unread> {
     let mut meta = asked_twice(alloc)?;
     has_two(&meta)?;
-    let first = Ends::new(source_with(all, masks.0), empty_sink(alloc));
-    let second = Ends::new(source_with(all, masks.1), empty_sink(alloc));
+    let first = Halves::new(source_with(all, masks.0), empty_sink(alloc));
+    let second = Halves::new(source_with(all, masks.1), empty_sink(alloc));
     let mut ends = vec![in alloc; Some(first), Some(second)]?;
     talk_at_once(alloc, &mut meta, &mut ends, TURNS, &mut Unwatched)?;
     has_two(&meta)?;

@@ -1,13 +1,13 @@
 //! What a line says by itself.
 ghost use Rattle.std.specs.Prelude.{◌≡◌, ◌<◌, ◌^◌};
 ghost use Rattle.std.specs.List.{list_all};
-ghost use Rattle.zmeta_world.specs.World.{Answers};
-ghost use Rattle.zmeta_world.specs.WorldLines.{words, is_flag, are_flags, has, settings, syntax_of, step_line, window_line, target_line, host_line, database_line, record_line, field_line, ask_line, carry_line, line_by, line_of};
+ghost use Rattle.zmeta_world.specs.World.{LineResult};
+ghost use Rattle.zmeta_world.specs.WorldLines.{token_texts, is_flag, are_flags, has_flag, settings, syntax_of, step_line, window_line, target_line, host_line, database_line, record_line, field_line, ask_line, carry_line, line_by, line_of};
 
 use crate::world::fault::LineFault;
+use crate::world::keyword::{Keyword, keyword_of};
 use crate::world::number::number_in;
 use crate::world::wanted::wanted_of;
-use crate::world::word::{Keyword, keyword_of};
 use bytes::Bytes;
 use std::alloc::Global;
 use zber::{Oid, Seq};
@@ -72,7 +72,7 @@ pub(crate) enum Line {
 }
 
 fn step_line(args: &[Token]) -> Result<Line, LineFault>
-    ensures { Answers (step_line (words args.now)) result }
+    ensures { LineResult (step_line (token_texts args.now)) result }
 {
     let [n] = args else {
         return Err(LineFault::Refused);
@@ -84,7 +84,7 @@ fn step_line(args: &[Token]) -> Result<Line, LineFault>
 }
 
 fn window_line(args: &[Token]) -> Result<Line, LineFault>
-    ensures { Answers (window_line (words args.now)) result }
+    ensures { LineResult (window_line (token_texts args.now)) result }
 {
     let [n] = args else {
         return Err(LineFault::Refused);
@@ -115,8 +115,8 @@ fn are_flags(text: &[u8]) -> bool
 }
 
 /// Whether a flag is among the octets.
-fn has(flag: u8, text: &[u8]) -> bool
-    ensures { result ≡ has flag text.now }
+fn has_flag(flag: u8, text: &[u8]) -> bool
+    ensures { result ≡ has_flag flag text.now }
 {
     text.iter().any(|octet| *octet == flag)
 }
@@ -127,14 +127,14 @@ fn settings(flags: &[u8], size: u64) -> TargetSettings
 {
     TargetSettings {
         size: size as i64,
-        concurrent: has(b'c', flags),
-        named: has(b'n', flags),
-        refuse: has(b'r', flags),
+        concurrent: has_flag(b'c', flags),
+        named: has_flag(b'n', flags),
+        refuse: has_flag(b'r', flags),
     }
 }
 
 fn target_line(args: &[Token]) -> Result<Line, LineFault>
-    ensures { Answers (target_line (words args.now)) result }
+    ensures { LineResult (target_line (token_texts args.now)) result }
 {
     let [name, size, flags] = args else {
         return Err(LineFault::Refused);
@@ -152,7 +152,7 @@ fn target_line(args: &[Token]) -> Result<Line, LineFault>
 }
 
 fn host_line(args: &[Token]) -> Result<Line, LineFault>
-    ensures { Answers (host_line (words args.now)) result }
+    ensures { LineResult (host_line (token_texts args.now)) result }
 {
     let [name, address] = args else {
         return Err(LineFault::Refused);
@@ -164,7 +164,7 @@ fn host_line(args: &[Token]) -> Result<Line, LineFault>
 }
 
 fn database_line(args: &[Token]) -> Result<Line, LineFault>
-    ensures { Answers (database_line (words args.now)) result }
+    ensures { LineResult (database_line (token_texts args.now)) result }
 {
     let [name] = args else {
         return Err(LineFault::Refused);
@@ -173,7 +173,7 @@ fn database_line(args: &[Token]) -> Result<Line, LineFault>
 }
 
 fn record_line(alloc: Global, args: &[Token]) -> Result<Line, LineFault>
-    ensures { Answers (record_line (words args.now)) result }
+    ensures { LineResult (record_line (token_texts args.now)) result }
 {
     let [syntax, octets] = args else {
         return Err(LineFault::Refused);
@@ -188,7 +188,7 @@ fn record_line(alloc: Global, args: &[Token]) -> Result<Line, LineFault>
 }
 
 fn field_line(args: &[Token]) -> Result<Line, LineFault>
-    ensures { Answers (field_line (words args.now)) result }
+    ensures { LineResult (field_line (token_texts args.now)) result }
 {
     let [attr, text] = args else {
         return Err(LineFault::Refused);
@@ -205,7 +205,7 @@ fn field_line(args: &[Token]) -> Result<Line, LineFault>
 /// The syntax of a question, of at most 1,000 arcs.
 #[tactic(auto, unfolding(crate::specs::WorldLines::syntax_of))]
 fn syntax_of(alloc: Global, text: &[u8]) -> Result<Option<Oid>, LineFault>
-    ensures { Answers (syntax_of text.now) result }
+    ensures { LineResult (syntax_of text.now) result }
 {
     if text == b"-".as_slice() {
         return Ok(None);
@@ -217,7 +217,7 @@ fn syntax_of(alloc: Global, text: &[u8]) -> Result<Option<Oid>, LineFault>
 }
 
 fn ask_line(alloc: Global, args: &[Token]) -> Result<Line, LineFault>
-    ensures { Answers (ask_line (words args.now)) result }
+    ensures { LineResult (ask_line (token_texts args.now)) result }
 {
     let [name, database, syntax, want, query] = args else {
         return Err(LineFault::Refused);
@@ -234,7 +234,7 @@ fn ask_line(alloc: Global, args: &[Token]) -> Result<Line, LineFault>
 }
 
 fn carry_line(way: Way, args: &[Token]) -> Result<Line, LineFault>
-    ensures { Answers (carry_line way (words args.now)) result }
+    ensures { LineResult (carry_line way (token_texts args.now)) result }
 {
     let [name, k] = args else {
         return Err(LineFault::Refused);
@@ -251,7 +251,7 @@ fn carry_line(way: Way, args: &[Token]) -> Result<Line, LineFault>
 
 /// What stands behind a keyword.
 fn line_by(alloc: Global, key: Keyword, args: &[Token]) -> Result<Line, LineFault>
-    ensures { Answers (line_by key (words args.now)) result }
+    ensures { LineResult (line_by key (token_texts args.now)) result }
 {
     match key {
         Keyword::Step => step_line(args),
@@ -270,7 +270,7 @@ fn line_by(alloc: Global, key: Keyword, args: &[Token]) -> Result<Line, LineFaul
 
 /// What the words of a line say.
 pub(crate) fn line_of(alloc: Global, tokens: &[Token]) -> Result<Line, LineFault>
-    ensures { Answers (line_of (words tokens.now)) result }
+    ensures { LineResult (line_of (token_texts tokens.now)) result }
 {
     let [word, args @ ..] = tokens else {
         return Ok(Line::Empty);

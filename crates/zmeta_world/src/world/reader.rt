@@ -1,14 +1,14 @@
 //! What was read of a world file so far, and what a line adds to it.
 ghost use Rattle.std.specs.Prelude.{◌≡◌, ◌<◌, ◌^◌, ◌++◌, ◌∷◌, [], length, false, Some, IfOk, OnOk};
 ghost use Rattle.zmeta_world.specs.declared.world.line.Line.TheVariants as lines;
-ghost use Rattle.zmeta_world.specs.WorldParts.{listed};
-ghost use Rattle.zmeta_world.specs.Worlds.{empty, is_among, asked_names, end_of, is_defined, put_target, put_host, change_target, add_database, add_content, in_database, in_target, asked_question, move_of, put_move, IsQueryOf, Leaves};
-ghost use Rattle.zmeta_world.specs.WorldReading.{IsSound, world_of, Gives, Follows, MakesOr};
+ghost use Rattle.zmeta_world.specs.WorldParts.{list_of};
+ghost use Rattle.zmeta_world.specs.Worlds.{empty, is_among, asked_names, end_of, is_defined, put_target, put_host, change_target, add_database, add_content, in_database, in_target, asked_question, move_of, put_move, IsQueryOf, AfterLine};
+ghost use Rattle.zmeta_world.specs.WorldReading.{IsSoundReader, world_of, AddResult, AddLineResult, ReadResult};
 
 use crate::world::fault::LineFault;
 use crate::world::line::{AskLine, Content, Line, Way};
 use crate::world::names::add_name;
-use crate::world::said::{query_of, read_line};
+use crate::world::parsing::{query_of, read_line};
 use crate::world::targets::{
     OpenTarget, closed_targets, with_target, with_target_content, with_target_database,
 };
@@ -82,7 +82,7 @@ fn move_of(way: Way, c: u32, k: u32) -> Move
 impl Reader {
     /// Nothing was read yet. It takes no memory.
     pub(crate) fn new(alloc: Global) -> Reader
-        ensures sound { IsSound result }
+        ensures sound { IsSoundReader result }
         ensures world { world_of result ≡ empty }
     {
         Reader {
@@ -115,16 +115,16 @@ impl Reader {
 
     /// Whether a target or a host has the name.
     fn is_defined(&self, name: &Bytes) -> bool
-        requires { IsSound self.now }
-        ensures { result ≡ is_defined name.now (listed self.now.targets) self.now.hosts.items }
+        requires { IsSoundReader self.now }
+        ensures { result ≡ is_defined name.now (list_of self.now.targets) self.now.hosts.items }
     {
         self.target_names.contains(name) || self.host_names.contains(name)
     }
 
     /// Whom a name means.
     fn end_of(&self, name: &Bytes) -> Option<End>
-        requires { IsSound self.now }
-        ensures { result ≡ end_of name.now (listed self.now.targets) self.now.hosts.items }
+        requires { IsSoundReader self.now }
+        ensures { result ≡ end_of name.now (list_of self.now.targets) self.now.hosts.items }
     {
         match self.target_names.get_index_of(name) {
             Some(place) => Some(End::Target(place)),
@@ -136,8 +136,8 @@ impl Reader {
     }
 
     fn add_target(&mut self, name: Bytes, settings: TargetSettings) -> Result<(), LineFault>
-        requires { IsSound self.old }
-        ensures { Gives (put_target name settings (world_of self.old)) self.new result }
+        requires { IsSoundReader self.old }
+        ensures { AddResult (put_target name settings (world_of self.old)) self.new result }
     {
         if self.is_defined(&name) {
             return Err(LineFault::Refused);
@@ -149,8 +149,8 @@ impl Reader {
     }
 
     fn add_host(&mut self, name: Bytes, address: Bytes) -> Result<(), LineFault>
-        requires { IsSound self.old }
-        ensures { Gives (put_host name address (world_of self.old)) self.new result }
+        requires { IsSoundReader self.old }
+        ensures { AddResult (put_host name address (world_of self.old)) self.new result }
     {
         if self.is_defined(&name) {
             return Err(LineFault::Refused);
@@ -161,8 +161,8 @@ impl Reader {
     }
 
     fn add_database(&mut self, name: Bytes) -> Result<(), LineFault>
-        requires { IsSound self.old }
-        ensures { Gives (change_target (add_database name) (world_of self.old)) self.new result }
+        requires { IsSoundReader self.old }
+        ensures { AddResult (change_target (add_database name) (world_of self.old)) self.new result }
     {
         let targets = with_target_database(self.alloc, self.targets.take(), name)?;
         self.targets = Some(targets);
@@ -170,8 +170,8 @@ impl Reader {
     }
 
     fn add_content(&mut self, content: Content) -> Result<(), LineFault>
-        requires { IsSound self.old }
-        ensures { Gives (change_target (in_target (in_database (add_content content))) (world_of self.old))
+        requires { IsSoundReader self.old }
+        ensures { AddResult (change_target (in_target (in_database (add_content content))) (world_of self.old))
             self.new result }
     {
         let targets = with_target_content(self.alloc, self.targets.take(), content)?;
@@ -180,9 +180,9 @@ impl Reader {
     }
 
     fn push_question(&mut self, asked_question: AskedQuestion) -> Result<(), AllocError>
-        requires sound { IsSound self.old }
+        requires sound { IsSoundReader self.old }
         requires new { is_among asked_question.name (asked_names self.old.questions.items) ≡ false }
-        ensures sound { OnOk result (IsSound self.new) }
+        ensures sound { OnOk result (IsSoundReader self.new) }
         ensures world { OnOk result (world_of self.new
             ≡ record (world_of self.old) { questions = self.old.questions.items ++ asked_question ∷ [] }) }
     {
@@ -201,22 +201,22 @@ impl Reader {
         query: Query,
         end: End,
     ) -> Result<(), AllocError>
-        requires sound { IsSound self.old }
+        requires sound { IsSoundReader self.old }
         requires new { is_among line.name (asked_names self.old.questions.items) ≡ false }
-        requires defined { end_of line.name (listed self.old.targets) self.old.hosts.items ≡ Some end }
+        requires defined { end_of line.name (list_of self.old.targets) self.old.hosts.items ≡ Some end }
         requires asked { IsQueryOf line.text query }
         ensures { OnOk result
-            (IsSound self.new × Leaves number (lines.Ask line) (world_of self.old) (world_of self.new)) }
+            (IsSoundReader self.new × AfterLine number (lines.Ask line) (world_of self.old) (world_of self.new)) }
     {
         let asked_question = asked_question(self.alloc, number, line, query, end)?;
         self.push_question(asked_question)
     }
 
     fn add_end(&mut self, number: u64, line: AskLine, end: End) -> Result<(), LineFault>
-        requires sound { IsSound self.old }
+        requires sound { IsSoundReader self.old }
         requires new { is_among line.name (asked_names self.old.questions.items) ≡ false }
-        requires defined { end_of line.name (listed self.old.targets) self.old.hosts.items ≡ Some end }
-        ensures { Follows number (lines.Ask line) (world_of self.old) self.new result }
+        requires defined { end_of line.name (list_of self.old.targets) self.old.hosts.items ≡ Some end }
+        ensures { AddLineResult number (lines.Ask line) (world_of self.old) self.new result }
     {
         match query_of(self.alloc, line.text.as_slice()) {
             Ok(query) => Ok(self.add_query(number, line, query, end)?),
@@ -225,8 +225,8 @@ impl Reader {
     }
 
     fn add_question(&mut self, number: u64, line: AskLine) -> Result<(), LineFault>
-        requires { IsSound self.old }
-        ensures { Follows number (lines.Ask line) (world_of self.old) self.new result }
+        requires { IsSoundReader self.old }
+        ensures { AddLineResult number (lines.Ask line) (world_of self.old) self.new result }
     {
         if self.asked_names.contains(&line.name) {
             return Err(LineFault::Refused);
@@ -238,9 +238,9 @@ impl Reader {
     }
 
     fn add_move(&mut self, way: Way, name: Bytes, k: u32) -> Result<(), LineFault>
-        requires sound { IsSound self.old }
+        requires sound { IsSoundReader self.old }
         requires few { length self.old.questions.items < 2 ^ 32 }
-        ensures { Gives (put_move way name k (world_of self.old)) self.new result }
+        ensures { AddResult (put_move way name k (world_of self.old)) self.new result }
     {
         if !self.target_names.contains(&name) {
             return Err(LineFault::Refused);
@@ -254,9 +254,9 @@ impl Reader {
 
     /// What a line, once it is read, adds.
     fn add_line(&mut self, number: u64, line: Line) -> Result<(), LineFault>
-        requires sound { IsSound self.old }
+        requires sound { IsSoundReader self.old }
         requires few { length self.old.questions.items < 2 ^ 32 }
-        ensures { Follows number line (world_of self.old) self.new result }
+        ensures { AddLineResult number line (world_of self.old) self.new result }
     {
         match line {
             Line::Empty => Ok(()),
@@ -282,9 +282,9 @@ impl Reader {
     /// `Refused` where it is no line of a world file, or none that can stand here; what was read so far is of no use
     /// then.
     pub(crate) fn read(&mut self, number: u64, text: &[u8]) -> Result<(), LineFault>
-        requires sound { IsSound self.old }
+        requires sound { IsSoundReader self.old }
         requires few { length self.old.questions.items < 2 ^ 32 }
-        ensures { MakesOr number text.now (world_of self.old) self.new result }
+        ensures { ReadResult number text.now (world_of self.old) self.new result }
     {
         match read_line(self.alloc, text) {
             Ok(line) => self.add_line(number, line),

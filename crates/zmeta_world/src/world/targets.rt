@@ -2,8 +2,8 @@
 ghost use Rattle.std.specs.Prelude.{◌≡◌, ◌++◌, ◌∷◌, [], true, false, IfOk, IfErr, Option};
 ghost use Rattle.zmeta_world.specs.declared.world.fault.LineFault.TheVariants.{Refused};
 ghost use Rattle.ztarget.specs.declared.database.Entry.{Entry};
-ghost use Rattle.zmeta_world.specs.World.{Answers};
-ghost use Rattle.zmeta_world.specs.WorldParts.{listed};
+ghost use Rattle.zmeta_world.specs.World.{LineResult};
+ghost use Rattle.zmeta_world.specs.WorldParts.{list_of};
 ghost use Rattle.zmeta_world.specs.Worlds.{is_among, new_entry, new_database, new_target, in_last, in_target, add_field, add_content, in_database, add_database};
 
 use crate::world::NamedTarget;
@@ -38,7 +38,7 @@ impl Model for OpenEntry {
 
 /// The records, none of which may get more fields.
 fn closed_entries(alloc: Global, had: Option<OpenEntry>) -> Result<Vec<Entry>, AllocError>
-    ensures { IfOk result (λ entries. entries.items ≡ listed had) }
+    ensures { IfOk result (λ entries. entries.items ≡ list_of had) }
 {
     let Some(had) = had else {
         return Ok(Vec::new(alloc));
@@ -59,7 +59,7 @@ fn with_entry(
     syntax: Oid,
     octets: Bytes,
 ) -> Result<OpenEntry, AllocError>
-    ensures { IfOk result (λ entries. entries ≡ listed had ++ new_entry syntax octets ∷ []) }
+    ensures { IfOk result (λ entries. entries ≡ list_of had ++ new_entry syntax octets ∷ []) }
 {
     Ok(OpenEntry {
         before: closed_entries(alloc, had)?,
@@ -72,7 +72,7 @@ fn with_entry(
 /// One more field of the last record.
 #[tactic(auto, using(crate::proofs::WorldLast::in_last_end))]
 fn with_field(had: Option<OpenEntry>, field: Field) -> Result<OpenEntry, LineFault>
-    ensures { Answers (in_last (add_field field) (listed had)) result }
+    ensures { LineResult (in_last (add_field field) (list_of had)) result }
 {
     let Some(had) = had else {
         return Err(LineFault::Refused);
@@ -88,7 +88,7 @@ fn with_content(
     had: Option<OpenEntry>,
     content: Content,
 ) -> Result<OpenEntry, LineFault>
-    ensures { Answers (add_content content (listed had)) result }
+    ensures { LineResult (add_content content (list_of had)) result }
 {
     match content {
         Content::Record { syntax, octets } => Ok(with_entry(alloc, had, syntax, octets)?),
@@ -107,16 +107,16 @@ pub(crate) struct OpenDatabase {
 impl Model for OpenDatabase {
     ghost use Rattle.std.specs.Prelude.{List, [], ◌∷◌, ◌++◌};
     ghost use Rattle.ztarget.specs.declared.database.Database.{Database};
-    ghost use Rattle.zmeta_world.specs.WorldParts.{database, listed};
+    ghost use Rattle.zmeta_world.specs.WorldParts.{database, list_of};
 
     ghost Value = { List Database };
 
-    ghost view = { λ o. o.before.items ++ database o.name (listed o.entries) ∷ [] };
+    ghost view = { λ o. o.before.items ++ database o.name (list_of o.entries) ∷ [] };
 }
 
 /// The databases, none of which may get more records.
 fn closed_databases(alloc: Global, had: Option<OpenDatabase>) -> Result<Vec<Database>, AllocError>
-    ensures { IfOk result (λ databases. databases.items ≡ listed had) }
+    ensures { IfOk result (λ databases. databases.items ≡ list_of had) }
 {
     let Some(had) = had else {
         return Ok(Vec::new(alloc));
@@ -135,7 +135,7 @@ fn with_database(
     had: Option<OpenDatabase>,
     name: Bytes,
 ) -> Result<OpenDatabase, AllocError>
-    ensures { IfOk result (λ databases. databases ≡ listed had ++ new_database name ∷ []) }
+    ensures { IfOk result (λ databases. databases ≡ list_of had ++ new_database name ∷ []) }
 {
     Ok(OpenDatabase {
         before: closed_databases(alloc, had)?,
@@ -151,7 +151,7 @@ fn with_database_content(
     had: Option<OpenDatabase>,
     content: Content,
 ) -> Result<OpenDatabase, LineFault>
-    ensures { Answers (in_last (in_database (add_content content)) (listed had)) result }
+    ensures { LineResult (in_last (in_database (add_content content)) (list_of had)) result }
 {
     let Some(had) = had else {
         return Err(LineFault::Refused);
@@ -173,14 +173,14 @@ pub(crate) struct OpenTarget {
 impl Model for OpenTarget {
     ghost use Rattle.std.specs.Prelude.{◌≡◌, List, [], ◌∷◌, ◌++◌};
     ghost use Rattle.zmeta_world.specs.declared.world.NamedTarget.{NamedTarget};
-    ghost use Rattle.zmeta_world.specs.WorldParts.{target, listed};
+    ghost use Rattle.zmeta_world.specs.WorldParts.{target, list_of};
     ghost use Rattle.zmeta_world.specs.Worlds.{database_names};
 
     ghost Value = { List NamedTarget };
 
-    ghost view = { λ o. o.before.items ++ target o.name o.settings (listed o.databases) ∷ [] };
+    ghost view = { λ o. o.before.items ++ target o.name o.settings (list_of o.databases) ∷ [] };
 
-    ghost invariant = { λ o. o.names.keys ≡ database_names (listed o.databases) };
+    ghost invariant = { λ o. o.names.keys ≡ database_names (list_of o.databases) };
 }
 
 /// The targets, none of which may get more databases.
@@ -188,7 +188,7 @@ pub(crate) fn closed_targets(
     alloc: Global,
     had: Option<OpenTarget>,
 ) -> Result<Vec<NamedTarget>, AllocError>
-    ensures { IfOk result (λ targets. targets.items ≡ listed had) }
+    ensures { IfOk result (λ targets. targets.items ≡ list_of had) }
 {
     let Some(had) = had else {
         return Ok(Vec::new(alloc));
@@ -209,7 +209,7 @@ pub(crate) fn with_target(
     name: Bytes,
     settings: TargetSettings,
 ) -> Result<OpenTarget, AllocError>
-    ensures { IfOk result (λ targets. targets ≡ listed had ++ new_target name settings ∷ []) }
+    ensures { IfOk result (λ targets. targets ≡ list_of had ++ new_target name settings ∷ []) }
 {
     Ok(OpenTarget {
         before: closed_targets(alloc, had)?,
@@ -241,7 +241,7 @@ pub(crate) fn with_target_database(
     had: Option<OpenTarget>,
     name: Bytes,
 ) -> Result<OpenTarget, LineFault>
-    ensures { Answers (in_last (add_database name) (listed had)) result }
+    ensures { LineResult (in_last (add_database name) (list_of had)) result }
 {
     let Some(had) = had else {
         return Err(LineFault::Refused);
@@ -262,7 +262,7 @@ pub(crate) fn with_target_content(
     had: Option<OpenTarget>,
     content: Content,
 ) -> Result<OpenTarget, LineFault>
-    ensures { Answers (in_last (in_target (in_database (add_content content))) (listed had)) result }
+    ensures { LineResult (in_last (in_target (in_database (add_content content))) (list_of had)) result }
 {
     let Some(had) = had else {
         return Err(LineFault::Refused);

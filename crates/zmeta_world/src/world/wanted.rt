@@ -3,7 +3,7 @@ ghost use Rattle.std.specs.Prelude.{◌≡◌, ◌∷◌, ◌≤◌, ◌<◌, �
 ghost use Rattle.zmeta_world.specs.declared.world.fault.LineFault.TheVariants.{Memory};
 ghost use Rattle.std.specs.Option.{option_map};
 ghost use Rattle.std.specs.List.{slice_split};
-ghost use Rattle.zmeta_world.specs.World.{Answers};
+ghost use Rattle.zmeta_world.specs.World.{LineResult};
 ghost use Rattle.zmeta_world.specs.WorldWants.{highest, most_wanted, two, ends_of, ends_in, count, range, firsts, ranges_in, wanted_of, is_comma, is_hyphen};
 
 use crate::world::cut::first_piece;
@@ -89,7 +89,7 @@ fn range(ends: (u64, u64)) -> Range
 
 /// Ranges that ascend and neither touch nor overlap.
 fn ranges_of(alloc: Global, text: &[u8]) -> Result<Seq<Range>, LineFault>
-    ensures { Answers (ranges_in 1 most_wanted (slice_split is_comma text.now)) result }
+    ensures { LineResult (ranges_in 1 most_wanted (slice_split is_comma text.now)) result }
 {
     let mut ranges = Vec::new(alloc);
     let mut low = 1;
@@ -127,7 +127,7 @@ fn firsts(alloc: Global, n: u64) -> Result<Seq<Range>, LineFault>
 /// The positions that a text wants: so many from 1 on, or ranges.
 #[tactic(auto, unfolding(crate::specs::WorldWants::wanted_of))]
 pub(crate) fn wanted_of(alloc: Global, text: &[u8]) -> Result<Seq<Range>, LineFault>
-    ensures { Answers (wanted_of text.now) result }
+    ensures { LineResult (wanted_of text.now) result }
 {
     if let Some(n) = number_in(0, MOST, text) {
         return firsts(alloc, n);

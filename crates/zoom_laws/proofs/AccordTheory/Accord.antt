@@ -33,7 +33,7 @@ use Rattle.zorigin.proofs.Proper.{proper}
 use Rattle.ztarget.specs.declared.database.Database.{Database}
 use Rattle.ztarget.specs.declared.settings.TargetSettings.{TargetSettings}
 use Rattle.ztarget.specs.Replies.{Answer, standing_after, owed, reply_of, replies}
-use Rattle.zoom_laws.specs.Accord.{AreTaken, Converses, requests, replies_due, IsUnanswered, IsReplyTo, IsTakenAs, TakenLaw, AcceptsLaw, UnansweredLaw, ApartLaw, OwesLaw, OwesCloseLaw, FitsLaw}
+use Rattle.zoom_laws.specs.Accord.{AreTaken, IsConversation, requests, replies_due, IsUnanswered, IsReplyTo, IsTakenAs, TakenLaw, AcceptanceLaw, UnansweredLaw, ApartLaw, OwedReplyLaw, OwedCloseLaw, FittingLaw}
 use Rattle.zoom_laws.proofs.AccordTheory.Members.{in_reverse, any_of, in_flat, flat_in, apart_moved, apart_parts}
 use Rattle.zoom_laws.proofs.AccordTheory.Owing.{Replies, EndsAssociation, reply_id, reply_fits, answer_replies, replying, replies_apart, newest, refused_alone}
 use Rattle.zoom_laws.proofs.AccordTheory.Calls.{request_id, request_asks, call_id, call_kind, operation_id, same_number, one_asked, some_same}
@@ -70,10 +70,10 @@ weighed s q reply e f = by q.what reply refl e f
         absurd (subst (λ x. Fits x (apdus.PresentRequest v)) is g)
     by w (apdus.Close v) is n g = absurd (no_close q.what v g)
 
-told : (s : Standing) (reply : Apdu) (x : Result Taken Refused) → is_open s.state ≡ true → answered s reply ≡ x
+verdict_is : (s : Standing) (reply : Apdu) (x : Result Taken Refused) → is_open s.state ≡ true → answered s reply ≡ x
     → verdict s reply ≡ x
 unfolding verdict
-told s reply x o e = ap (λ b. cond b (answered s reply) (Err refused.WrongState)) o ∙ e
+verdict_is s reply x o e = ap (λ b. cond b (answered s reply) (Err refused.WrongState)) o ∙ e
 
 named_taken : (settings : Settings) (log : Log) (reply : Apdu) (q : Asked) → Fits q.what reply
     → IsReplyTo settings log reply q
@@ -130,7 +130,7 @@ module _ (databases : List Database) (target : TargetSettings) (settings : Setti
 
   -- ---- replies are taken
 
-  module _ (k : Converses databases target settings log) (reply : Apdu)
+  module _ (k : IsConversation databases target settings log) (reply : Apdu)
       (h : Contains (replies_due databases target settings log) reply)
       (u : IsUnanswered settings log reply) where
     -- an association that was rejected left nothing to be answered
@@ -205,21 +205,21 @@ module _ (databases : List Database) (target : TargetSettings) (settings : Setti
             close_replied target d.request reply
             (close_sent d.call d.request d.of_call (ap call_id close)) d.replies in (
               taken.Closed,
-              told (standing p) reply (Ok taken.Closed) (taking closed) (ap (answered (standing p)) c.1),
+              verdict_is (standing p) reply (Ok taken.Closed) (taking closed) (ap (answered (standing p)) c.1),
               subst (λ r. IsTakenAs settings log r taken.Closed) (sym c.1) refl,
             )
         by (inr m) =
             let f = fits_named reply d m.0 m.1 in
             let x = taken_as (record { asked = m.0; reply = reply }) in (
               x,
-              told (standing p) reply (Ok x) (taking closed)
+              verdict_is (standing p) reply (Ok x) (taking closed)
                   (weighed (standing p) m.0 reply (names m.0 f.1) f.0),
               named_taken settings log reply m.0 f.0 f.1,
             )
 
   -- ---- a Close is no reply to an operation
 
-  unanswered : (close : CloseApdu) → Converses databases target settings log
+  unanswered : (close : CloseApdu) → IsConversation databases target settings log
       → Contains (replies_due databases target settings log) (apdus.Close close)
       → IsUnanswered settings log (apdus.Close close)
   unanswered close k h x c same = by (call_kind d.call)
@@ -237,7 +237,7 @@ module _ (databases : List Database) (target : TargetSettings) (settings : Setti
 
   -- ---- what is owed
 
-  owes : (q : Asked) → Converses databases target settings log → Contains (asked p) q
+  owes : (q : Asked) → IsConversation databases target settings log → Contains (asked p) q
       → (reply : Apdu) × Contains (replies_due databases target settings log) reply
       × (id_of reply ≡ Some (reference_id q.op))
   owes q k h =
@@ -262,7 +262,7 @@ module _ (databases : List Database) (target : TargetSettings) (settings : Setti
             ∙ ap (λ r. replies databases target before ++ r ∷ []) c.1,
       )
 
-  owes_close : Converses databases target settings log → Contains p.admitted Close
+  owes_close : IsConversation databases target settings log → Contains p.admitted Close
       → (close : CloseApdu) × (others : List Apdu)
       × (replies_due databases target settings log ≡ others ++ apdus.Close close ∷ [])
   owes_close k h =
@@ -299,7 +299,7 @@ module _ (databases : List Database) (target : TargetSettings) (settings : Setti
 pub taken_law : TakenLaw
 taken_law databases target settings log k = are_taken databases target settings log k
 
-pub accepts_law : AcceptsLaw
+pub accepts_law : AcceptanceLaw
 accepts_law databases target settings log reply k closed h u = accepts databases target settings log k reply h u closed
 
 pub unanswered_law : UnansweredLaw
@@ -313,11 +313,11 @@ apart_law databases target settings log released pending a b moved i j =
     (replies_apart target databases received (are_sent settings log).apart))
     (among a released i) (among b pending j)
 
-pub owes_law : OwesLaw
+pub owes_law : OwedReplyLaw
 owes_law databases target settings log q k h = owes databases target settings log q k h
 
-pub owes_close_law : OwesCloseLaw
+pub owes_close_law : OwedCloseLaw
 owes_close_law databases target settings log k h = owes_close databases target settings log k h
 
-pub fits_law : FitsLaw
+pub fits_law : FittingLaw
 fits_law databases target settings log q reply h n = fits databases target settings log q reply h n

@@ -36,7 +36,7 @@ use Rattle.ztarget.specs.declared.error.TargetError.{TargetError}
 use Rattle.ztarget.specs.Standing.{Terms, Open, Ended, Standing as TargetStanding}
 use Rattle.ztarget.specs.Initialising.{bit, init_response, is_accepted, terms}
 use Rattle.ztarget.specs.Replies.{Answer, answer, answer_at, left_by, standing_after, owed, reply_of, replies}
-use Rattle.zoom_laws.specs.Accord.{AreTaken, Converses, requests, replies_due}
+use Rattle.zoom_laws.specs.Accord.{AreTaken, IsConversation, requests, replies_due}
 use Rattle.zoom_laws.proofs.AccordTheory.Members.{reverse_push, of_reverse, in_flat}
 use Rattle.zoom_laws.proofs.AccordTheory.Owing.{Replies, reply_id, search_state, answer_replies, replied}
 use Rattle.zoom_laws.proofs.AccordTheory.Calls.{IsRequestOf, request_id, call_id, operation_id, some_same}
@@ -104,7 +104,7 @@ module _ (databases : List Database) (target : TargetSettings) (settings : Setti
 
   -- ---- what was accepted
 
-  pub accepted_id : (log : Log) → Converses databases target settings log → (x : Accepted)
+  pub accepted_id : (log : Log) → IsConversation databases target settings log → (x : Accepted)
       → Contains (past settings log).accepted x
       → id_of x.reply ≡ Some (reference_id x.asked.op)
   accepted_id log k x h =
@@ -148,7 +148,7 @@ module _ (databases : List Database) (target : TargetSettings) (settings : Setti
       let p = past settings log in ap (λ l. reverse l) (same_verdict p (verdict (standing p) reply)).1
 
   -- a reply that was accepted before the call is none to it
-  module _ (log : Log) (c : Call) (k : Converses databases target settings (Made c ∷ log)) (x : Accepted)
+  module _ (log : Log) (c : Call) (k : IsConversation databases target settings (Made c ∷ log)) (x : Accepted)
       (h : Contains (past settings log).accepted x) where
     then : Contains (past settings (Made c ∷ log)).accepted x
     then = let p = past settings log in subst (λ l. Contains l x) (sym (same_call p c (refusal (standing p) c))) h
@@ -191,8 +191,8 @@ module _ (databases : List Database) (target : TargetSettings) (settings : Setti
         last v (Ok a) e (inr none) = absurd none
         last v (Err reason) e none = absurd none
 
-  pub before_call : (log : Log) (c : Call) → Converses databases target settings (Made c ∷ log)
-      → Converses databases target settings log
+  pub before_call : (log : Log) (c : Call) → IsConversation databases target settings (Made c ∷ log)
+      → IsConversation databases target settings log
   before_call log c k =
       let p = past settings log in
       record {
@@ -200,8 +200,8 @@ module _ (databases : List Database) (target : TargetSettings) (settings : Setti
         sound = sym (same_fault p c (refusal (standing p) c)) ∙ k.sound;
       }
 
-  pub before_reply : (log : Log) (reply : Apdu) → Converses databases target settings (Got reply ∷ log)
-      → Converses databases target settings log
+  pub before_reply : (log : Log) (reply : Apdu) → IsConversation databases target settings (Got reply ∷ log)
+      → IsConversation databases target settings log
   before_reply log reply k =
       let p = past settings log in
       let v = verdict (standing p) reply in
@@ -248,7 +248,7 @@ module _ (databases : List Database) (target : TargetSettings) (settings : Setti
       (m.0, between_open v (standing_after databases target vs) m.0 more.0 m.1)
 
   -- the association that the origin has for accepted the target accepted
-  pub accepted_open : (log : Log) → Converses databases target settings log → IsAccepting (opening (past settings log))
+  pub accepted_open : (log : Log) → IsConversation databases target settings log → IsAccepting (opening (past settings log))
       → target.refuse ≡ false
   accepted_open log k a =
       let p = past settings log in
@@ -258,7 +258,7 @@ module _ (databases : List Database) (target : TargetSettings) (settings : Setti
       not_refused target s.0.protocol_version (sym s.2 ∙ a.result)
 
   open_for : (log : Log) (c : Call) → is_init_call c ≡ false → refusal (standing (past settings log)) c ≡ None
-      → Converses databases target settings log
+      → IsConversation databases target settings log
       → (t : Terms) × ((standing_after databases target (requests settings log)).state ≡ Open t)
   open_for log c n h k =
       let p = past settings log in
@@ -292,7 +292,7 @@ module _ (databases : List Database) (target : TargetSettings) (settings : Setti
   first_takes : (v : Apdu) (s : Settings) → v ≡ init_request s → (a : Answer) × (owed databases target [] v ≡ Ok a)
   first_takes v s e = subst (λ w. (a : Answer) × (owed databases target [] w ≡ Ok a)) (sym e) (_, refl)
 
-  module _ (log : Log) (k : Converses databases target settings log) where
+  module _ (log : Log) (k : IsConversation databases target settings log) where
     call_taken : (c : Call) (v : Apdu) → refusal (standing (past settings log)) c ≡ None
         → request_of (standing (past settings log)) c ≡ Some v
         → (a : Answer) × (owed databases target (requests settings log) v ≡ Ok a)
@@ -322,7 +322,7 @@ module _ (databases : List Database) (target : TargetSettings) (settings : Setti
         subst (AreTaken databases target) (sym (newest_request log c s.request e s.made))
         (call_taken c s.request e s.made, t)
 
-  pub are_taken : (log : Log) → Converses databases target settings log
+  pub are_taken : (log : Log) → IsConversation databases target settings log
       → AreTaken databases target (requests settings log)
   are_taken [] k = tt
   are_taken (Made c ∷ log) k =

@@ -47,7 +47,7 @@ use Rattle.zoom_questions.specs.declared.question.MetaSettings.{MetaSettings}
 use Rattle.zoom_pool.specs.Driving.{operation_for, reply_for, can_search, can_present, counted, events_of}
 use Rattle.zoom_pool.specs.Steering.{ask_of, errand_of, complete_in}
 use Rattle.zoom_pool.specs.Drivers.{DriverState, IsDriver}
-use Rattle.zoom_pool.specs.Heard.{Heard}
+use Rattle.zoom_pool.specs.Transcripts.{Transcript}
 use Rattle.zoom_pool.specs.History.{accepted}
 use Rattle.zorigin.proofs.Members.{among, contained}
 use Rattle.zoom_pool.proofs.Drivings.{replied, driven}
@@ -61,7 +61,7 @@ use Rattle.zoom_laws.proofs.ScheduleTheory.Openings.{opened_past, at_opening, in
 use Rattle.zoom_laws.proofs.ScheduleTheory.Replies.{CameFrom, came, kept_reply}
 use Rattle.zoom_laws.proofs.ScheduleTheory.Same.{opens_for, find_there}
 use Rattle.zoom_laws.proofs.ScheduleTheory.Sets.{set_for, of_set}
-use Rattle.zoom_laws.specs.Catalogue.{entries_for, positions_due, shown_at, found_facts, fault_facts, answer_facts, catalogue, AreOwed, RecordsFit, CanAsk, CatalogueLaw, UnaskedLaw}
+use Rattle.zoom_laws.specs.Catalogue.{entries_for, positions_due, shown_at, found_facts, fault_facts, facts_for_question, catalogue, AreOwed, HasFittingRecords, CanAsk, CatalogueLaw, UnaskedLaw}
 use Rattle.zoom_laws.proofs.CatalogueTheory.Standings.{given, response, search_by, find_in, accepts, refuses, force_of}
 use Rattle.zoom_laws.proofs.CatalogueTheory.Members.{to_map, of_map, length_at, of_seen, to_seen}
 use Rattle.zoom_laws.proofs.CatalogueTheory.Presents.{records_back, none_told, kept_of}
@@ -367,7 +367,7 @@ module _ (orderly : (s : Settings) (l : Log) → IsOrderly (past s l))
   -- ---- one that does not refuse
 
   module _ (e : offers.refuse ≡ false) (can : is_unsendable (search_request offers.named 1 1 (ask_of q)) ≡ false)
-      (small : RecordsFit q databases offers) where
+      (small : HasFittingRecords q databases offers) where
     asks_search : IsAsked wanted s.step answers_in plan.Search
     asks_search = search true first (init_accepted e false can)
 
@@ -446,7 +446,7 @@ module _ (orderly : (s : Settings) (l : Log) → IsOrderly (past s l))
         )
 
     found_so : (o : Option Reason) → fault ≡ o → (f : Fact)
-        → (IsKnown f → IsIn f (answer_facts c q entries o)) × (IsIn f (answer_facts c q entries o) → IsKnown f)
+        → (IsKnown f → IsIn f (facts_for_question c q entries o)) × (IsIn f (facts_for_question c q entries o) → IsKnown f)
     found_so None is f = (λ known. there known.0 known.1 known.2 known.0.asked.what refl, back)
       where
         there : (x : Answer) → IsIn x (past settings log).accepted → IsIn f (facts_of c x) → (w : What)
@@ -477,7 +477,7 @@ module _ (orderly : (s : Settings) (l : Log) → IsOrderly (past s l))
 
   -- ---- either
 
-  pub brings : CanAsk q offers → RecordsFit q databases offers → (f : Fact)
+  pub brings : CanAsk q offers → HasFittingRecords q databases offers → (f : Fact)
       → (IsKnown f → IsIn f (catalogue c q databases offers)) × (IsIn f (catalogue c q databases offers) → IsKnown f)
   brings can small f = by offers.refuse refl can
     where
@@ -486,10 +486,10 @@ module _ (orderly : (s : Settings) (l : Log) → IsOrderly (past s l))
 
       by : (b : Bool) → offers.refuse ≡ b → CanAsk q offers → Brings (catalogue c q databases offers)
       by true e able =
-          subst Brings (sym (ap (λ (b : Bool). if b then Failed c 0 ∷ [] else answer_facts c q entries fault) e))
+          subst Brings (sym (ap (λ (b : Bool). if b then Failed c 0 ∷ [] else facts_for_question c q entries fault) e))
           (refused e f)
       by false e able =
-          subst Brings (sym (ap (λ (b : Bool). if b then Failed c 0 ∷ [] else answer_facts c q entries fault) e))
+          subst Brings (sym (ap (λ (b : Bool). if b then Failed c 0 ∷ [] else facts_for_question c q entries fault) e))
           (found_so e (can_be e able) small fault refl f)
         where
           can_be : offers.refuse ≡ false → CanAsk q offers
@@ -502,15 +502,15 @@ module _ (orderly : (s : Settings) (l : Log) → IsOrderly (past s l))
 module _ (orderly : (s : Settings) (l : Log) → IsOrderly (past s l))
     (accepting : (s : Settings) (l : Log) (x : Answer) → Contains (past s l).accepted x → IsAccepted s l x)
     (sets_kept : KeptSets) (shows_laws : ShownLaws) (fits : WhatFits) where
-  talked : (databases : List Database) (offers : TargetSettings) (p : Heard) → AreOwed databases offers p → (x : Answer)
+  talked : (databases : List Database) (offers : TargetSettings) (p : Transcript) → AreOwed databases offers p → (x : Answer)
       → IsIn x (accepted p) → IsIn x.reply (replies databases offers (requests p.settings p.log))
   talked databases offers p owed x i =
       among x.reply (replies databases offers (requests p.settings p.log)) (owed x (contained x (accepted p) i))
 
   pub catalogue_law : CatalogueLaw
-  catalogue_law questions s h meta c q p databases offers after at heard complete owed can small f =
+  catalogue_law questions s h meta c q p databases offers after at transcript complete owed can small f =
       let driver = driver_of questions meta.drivers c q after.driven.size at in
-      let k = after.driven.each c q driver.0 p at driver.1 heard in
+      let k = after.driven.each c q driver.0 p at driver.1 transcript in
       let so = brings orderly accepting sets_kept databases offers q s p.settings p.log driver.0 k
       (talked databases offers p owed) shows_laws fits complete c can small f in (
         λ i.
@@ -523,9 +523,9 @@ module _ (orderly : (s : Settings) (l : Log) → IsOrderly (past s l))
       )
 
   pub unasked_law : UnaskedLaw
-  unasked_law questions s h meta c q p databases offers after at heard complete owed accepts_it cannot f i =
+  unasked_law questions s h meta c q p databases offers after at transcript complete owed accepts_it cannot f i =
       let driver = driver_of questions meta.drivers c q after.driven.size at in
-      let k = after.driven.each c q driver.0 p at driver.1 heard in
+      let k = after.driven.each c q driver.0 p at driver.1 transcript in
       let x = from_answer c (accepted p) f i in
       unasked orderly accepting sets_kept databases offers q s p.settings p.log driver.0 k
       (talked databases offers p owed) shows_laws fits complete c accepts_it cannot f

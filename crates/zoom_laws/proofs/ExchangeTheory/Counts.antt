@@ -18,11 +18,11 @@ use Rattle.ztarget.specs.declared.settings.TargetSettings.{TargetSettings}
 use Rattle.ztarget.specs.declared.error.TargetError.{TargetError}
 use Rattle.ztarget.specs.Replies.{Answer, owed, reply_of, replies}
 use Rattle.zoom_questions.specs.declared.question.Question.{Question}
-use Rattle.zoom_pool.specs.Heard.{past_of}
+use Rattle.zoom_pool.specs.Transcripts.{past_of}
 use Rattle.zoom_pool.specs.Hosts.{replies_to}
-use Rattle.zoom_pool.specs.Laws.{OneHearing}
-use Rattle.zoom_pool.specs.Leaving.{AreReadBack}
-use Rattle.zoom_pool.specs.History.{only}
+use Rattle.zoom_pool.specs.Laws.{OneTranscript}
+use Rattle.zoom_pool.specs.Connections.{AreReadBack}
+use Rattle.zoom_pool.specs.History.{events_on}
 use Rattle.zoom_pool.specs.MetaLaws.{MetaLaws, found_for}
 use Rattle.zoom_questions.specs.Askable.{AreAskable, IsAskable}
 use Rattle.zoom_pool.specs.Metas.{settings_of}
@@ -56,14 +56,14 @@ count holdings settings deeds p events host s =
     let put = s.served.served.sent in
     let d = due holdings settings deeds p events host s in
     let few = few_replies holdings.databases holdings.settings asks in
-    let turned : length asks ≡ length (past_of p).sent = length-reverse (past_of p).sent in
+    let reversed : length asks ≡ length (past_of p).sent = length-reverse (past_of p).sent in
     let moved : length (put ++ d.0) ≡ length (replies_to holdings asks) =
     length_permutation (replies_to holdings asks) (put ++ d.0) d.1 in
     let parts = length-append put d.0 in
     let got : length put ≡ length (got_in p.log) + length s.coming =
     ap length s.got ∙ length-append (got_in p.log) s.coming in
     let taken = s.count in
-    (omega (arith, few, turned, moved, parts, got, taken), omega (arith, few, turned, moved, parts))
+    (omega (arith, few, reversed, moved, parts, got, taken), omega (arith, few, reversed, moved, parts))
 
 -- ---- requests
 
@@ -181,14 +181,14 @@ there_too (x' ∷ xs) [] c x n e = absurd (omega (arith, n))
 there_too (x' ∷ xs) (y ∷ ys) zero x n e = (y, refl)
 there_too (x' ∷ xs) (y ∷ ys) (suc c) x n e = there_too xs ys c x (omega (arith, n)) e
 
-pub few : MetaLaws → OneHearing → FewLaw
-few laws hearing questions s h meta c q p a at heard =
+pub few : MetaLaws → OneTranscript → FewLaw
+few laws uniqueness questions s h meta c q p a at transcript =
     let asks = (past_of p).sent in
     let k = there_too questions meta.pool.connections c q a.size at in
     let l = a.pool.stands.each c k.0 k.1 in
-    let same = hearing (settings_of s) (only c h) (a.pool.heard c) p l.heard heard in
+    let same = uniqueness (settings_of s) (events_on c h) (a.pool.transcript c) p l.transcript transcript in
     let octets = all_read asks (subst (λ z. AreReadBack (past_of z).sent) same l.reads) in
-    let operations = laws.few questions s h meta c q p a at heard in
+    let operations = laws.few questions s h meta c q p a at transcript in
     let up : length (up_to (found_for q p) (positions q.wanted)) ≤ length (positions q.wanted) =
     filter_few (λ n. nat_le n (found_for q p)) (positions q.wanted) in
     let most = (askable_at questions c q a.askable at).some in

@@ -17,10 +17,10 @@ use Rattle.zoom_pool.specs.declared.phase.Phase.{Phase}
 use Rattle.zoom_pool.specs.declared.phase.Phase.TheVariants as phases
 use Rattle.zoom_pool.specs.declared.state.State.TheVariants as states
 use Rattle.zoom_pool.specs.States.{state_as, is_stopped, or_else}
-use Rattle.zoom_pool.specs.Heard.{past_of, state_at}
+use Rattle.zoom_pool.specs.Transcripts.{past_of, state_at}
 use Rattle.zoom_pool.specs.Driving.{DrivenLaws}
 use Rattle.zoom_pool.specs.Steering.{Errand, errand_of, IsNextCall, may_call, room_in}
-use Rattle.zoom_pool.specs.Drivers.{DriverState, IsDriver, IsAt, AllAnswered, events_at, opened_events, searched_events, found_events}
+use Rattle.zoom_pool.specs.Drivers.{DriverState, IsDriver, IsAtPhase, AllAnswered, events_at, opened_events, searched_events, found_events}
 use Rattle.zoom_pool.proofs.MetaLaws.{driver_of}
 use Rattle.zoom_pool.proofs.Nexts.{room_some}
 use Rattle.zoom_pool.proofs.Phases.{none_due}
@@ -124,7 +124,7 @@ module _ (next : NextLaws) (agendas : AgendaLaws) (laws : DrivenLaws) (e : Erran
         absurd (all (plan.Present l) (g.asked l i) (g.unanswered l i))
 
     -- at each phase
-    never : AllAnswered events → (ph : Phase) → IsAt e settings log ph → ⊥
+    never : AllAnswered events → (ph : Phase) → IsAtPhase e settings log ph → ⊥
     never all phases.Fresh a = no_init a.events
     never all phases.Opening a = subst AllAnswered a.events all plan.Init (inl refl) refl
     never all (phases.Opened present three) a = no_opened a.search three a.events
@@ -162,7 +162,7 @@ callable origins.Closed going begun closed = absurd (true≢false going)
 callable (origins.Failed reason) going begun closed = absurd (true≢false going)
 
 pub ended : NextLaws → AgendaLaws → DrivenLaws → EndedLaw
-ended next agendas laws questions s h meta c q p a at heard none goes waits begun closed =
+ended next agendas laws questions s h meta c q p a at transcript none goes waits begun closed =
     by (is_stopped (state_at p)) refl
   where
     d : (x : DriverState) × (slice_get meta.drivers c ≡ Some x)
@@ -178,4 +178,4 @@ ended next agendas laws questions s h meta c q p a at heard none goes waits begu
         callable (state_of (past_of p)) (ap is_stopped (sym stands) ∙ e) (λ f. begun (stands ∙ f))
         (λ f. closed (stands ∙ f)) in
         absurd (some_next next agendas laws (errand_of s q) p.settings p.log d.0
-        (a.driven.each c q d.0 p at d.1 heard) may waits (none e))
+        (a.driven.each c q d.0 p at d.1 transcript) may waits (none e))

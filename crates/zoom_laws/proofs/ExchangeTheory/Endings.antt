@@ -28,16 +28,16 @@ use Rattle.zorigin.proofs.Orderly.{orderly}
 use Rattle.zoom_pool.specs.declared.state.State.TheVariants as states
 use Rattle.zoom_pool.specs.States.{state_as, is_stopped, or_else}
 use Rattle.zoom_pool.specs.Steering.{complete_in, is_rejected}
-use Rattle.zoom_pool.specs.Heard.{Deed, Heard, past_of, state_at}
-use Rattle.zoom_pool.specs.Hosts.{HostState, Holdings, Event, handed_out, replies_to}
+use Rattle.zoom_pool.specs.Transcripts.{Event, Transcript, past_of, state_at}
+use Rattle.zoom_pool.specs.Hosts.{HostState, Holdings, HostEvent, handed_out, replies_to}
 use Rattle.zoom_laws.specs.Accord.{requests, AccordLaws}
-use Rattle.zoom_laws.specs.Exchange.{IsSound, got_in, TookLaw, ConversesLaw, PendingLaw, EndsLaw, RestsLaw, TookAll}
+use Rattle.zoom_laws.specs.Exchange.{IsSoundExchange, got_in, TakenRepliesLaw, ConversationLaw, PendingLaw, CompletenessLaw, SettledLaw, HasTakenAll}
 use Rattle.zoom_laws.proofs.ExchangeTheory.Logs.{Became, got_became, closed_got, close_sent, close_admitted, close_called_in}
 use Rattle.zoom_laws.proofs.ExchangeTheory.Replies.{close_owed}
 use Rattle.zoom_laws.proofs.ExchangeTheory.States.{Rejects, stopped_so, rejected, fits_no_close, as_initialising, as_closing, initialising, closing_so, found_in, opened_by, begun_by, filter_none, answered_in}
-use Rattle.zoom_laws.proofs.ExchangeTheory.Framing.{all_taken, turned_cut}
-use Rattle.zoom_laws.proofs.ExchangeTheory.Hearings.{took_all}
-use Rattle.zoom_laws.proofs.ExchangeTheory.Sounds.{whole, received_is, permuted, pending_owed, got_owed, converses, coming_is}
+use Rattle.zoom_laws.proofs.ExchangeTheory.Framing.{all_taken, reversed_cut}
+use Rattle.zoom_laws.proofs.ExchangeTheory.Transcripts.{took_all}
+use Rattle.zoom_laws.proofs.ExchangeTheory.Sounds.{whole, received_is, permuted, pending_owed, got_owed, conversation, coming_is}
 
 no_some : {A : Type 0} {x : A} → Some x ≡ None → ⊥
 no_some e = cc
@@ -88,9 +88,9 @@ answers_it settings log a op i e =
     subst (λ z. Refers (past settings i.earlier) a.asked z) e i.refers in
     sym (same_number op a.asked.op refers)
 
-module _ (holdings : Holdings) (settings : Settings) (deeds : List Deed) (p : Heard) (events : List Event)
+module _ (holdings : Holdings) (settings : Settings) (deeds : List Event) (p : Transcript) (events : List HostEvent)
     (host : HostState)
-    (s : IsSound holdings settings deeds p events host) where
+    (s : IsSoundExchange holdings settings deeds p events host) where
   -- where the connection stands is where its origin stands
   pub stands : state_at p ≡ state_as (state_of (past_of p))
   stands = ap (λ z. or_else (state_as (state_of (past_of p))) z) s.goes
@@ -132,7 +132,7 @@ module _ (holdings : Holdings) (settings : Settings) (deeds : List Deed) (p : He
 
   module _ (laws : AccordLaws) (to : s.to ≡ []) (from : s.from ≡ []) (waiting : host.waiting ≡ [])
       (pending : host.target.pending ≡ [])
-      (took : TookAll p) where
+      (took : HasTakenAll p) where
     -- all requests were received
     others_none : (received_is holdings settings deeds p events host s).others ≡ []
     others_none =
@@ -146,7 +146,7 @@ module _ (holdings : Holdings) (settings : Settings) (deeds : List Deed) (p : He
     all_received =
         let w = whole holdings settings deeds p events host s in
         let c = received_is holdings settings deeds p events host s in
-        turned_cut (past_of p).sent s.served.served.received (w.received.rest ++ s.to) c
+        reversed_cut (past_of p).sent s.served.served.received (w.received.rest ++ s.to) c
         ∙ ap (λ z. reverse z ++ s.served.served.received) others_none
 
     all_put : IsPermutation (replies_to holdings (requests p.settings p.log)) s.served.served.sent
@@ -174,7 +174,7 @@ module _ (holdings : Holdings) (settings : Settings) (deeds : List Deed) (p : He
     -- each reply that is owed was taken
     became : (v : Apdu) → Contains (replies_to holdings (requests p.settings p.log)) v → Became (past_of p) v
     became v i =
-        got_became p.settings p.log v (took_all settings deeds p s.heard s.goes)
+        got_became p.settings p.log v (took_all settings deeds p s.transcript s.goes)
         (subst (λ z. Contains z v) all_got
         (Contains-permutation (replies_to holdings (requests p.settings p.log)) s.served.served.sent v all_put i))
 
@@ -183,7 +183,7 @@ module _ (holdings : Holdings) (settings : Settings) (deeds : List Deed) (p : He
         (a.asked.op ≡ q.op)
     replied q i =
         let o = laws.owes holdings.databases holdings.settings p.settings p.log q
-        (converses holdings settings deeds p events host s) i in
+        (conversation holdings settings deeds p events host s) i in
         by o.0 o.1 o.2 (became o.0 o.1)
       where
         by : (v : Apdu) → Contains (replies_to holdings (requests p.settings p.log)) v → id_of v ≡ Some
@@ -220,7 +220,7 @@ module _ (holdings : Holdings) (settings : Settings) (deeds : List Deed) (p : He
         (opening r)
         (as_closing (state_of r) (sym stands ∙ e)) in
         let o = laws.owes_close holdings.databases holdings.settings p.settings p.log
-        (converses holdings settings deeds p events host s)
+        (conversation holdings settings deeds p events host s)
         (close_called_in r.admitted n.1) in
         by o.0 n.0 (became (apdus.Close o.0)
         (subst (λ z. Contains z (apdus.Close o.0)) (sym o.2) (Contains-push o.1 (apdus.Close o.0))))
@@ -229,10 +229,10 @@ module _ (holdings : Holdings) (settings : Settings) (deeds : List Deed) (p : He
         by c n (inl x) = fits_no_close x.0.asked.what x.0.reply (accepted_so p.settings p.log x.0 x.1).fits c x.2
         by c n (inr x) = true≢false (sym x.2 ∙ n)
 
-pub ends : EndsLaw
+pub ends : CompletenessLaw
 ends holdings settings deeds p events host s e = ended holdings settings deeds p events host s e
 
-pub rests : AccordLaws → RestsLaw
+pub rests : AccordLaws → SettledLaw
 rests laws holdings settings deeds p events host s to from waiting pending took = record {
   answered = all_put holdings settings deeds p events host s laws to from waiting pending took;
   stream = all_came holdings settings deeds p events host s laws to from waiting pending took;
@@ -241,13 +241,13 @@ rests laws holdings settings deeds p events host s to from waiting pending took 
   closed = is_closed holdings settings deeds p events host s laws to from waiting pending took;
 }
 
-pub took : TookLaw
+pub took : TakenRepliesLaw
 took holdings settings deeds p events host s =
     sym (ap (λ z. take z s.served.served.sent) (sym s.count) ∙ ap (λ z. take (length (got_in p.log)) z) s.got
     ∙ take_at (got_in p.log) s.coming (length (got_in p.log)) refl)
 
-pub keeps_converse : ConversesLaw
-keeps_converse holdings settings deeds p events host s = converses holdings settings deeds p events host s
+pub keeps_converse : ConversationLaw
+keeps_converse holdings settings deeds p events host s = conversation holdings settings deeds p events host s
 
 pub keeps_owed : PendingLaw
 keeps_owed holdings settings deeds p events host s v i = pending_owed holdings settings deeds p events host s v i

@@ -10,10 +10,10 @@ use Rattle.zapdu.specs.Writes.{Writes}
 use Rattle.zapdu.proofs.Decoding.{one_value}
 use Rattle.ztarget.specs.declared.error.TargetError.{TargetError}
 use Rattle.ztarget.specs.Replies.{Answer}
-use Rattle.zoom_pool.specs.Coming.{Met, Stopped, Message, Foreign, Fault, Rest, Nothing, AreMetAs}
+use Rattle.zoom_pool.specs.Inputs.{Input, AlreadyStopped, Message, Foreign, Fault, Rest, Nothing, AreInput}
 use Rattle.zber.specs.declared.framer.TheConstants.{MESSAGE_LIMIT}
-use Rattle.zoom_pool.specs.Hosts.{Holdings, Received, nothing, message, IsStopping, EndsAt, HasReceived, Event, Fed, FedPart, Released, Lost, HandedOut, Served, ArePutLast, Hears, IsDue, Sends, Loses, Ignores, HasServed, owed_by, replies_to}
-use Rattle.zoom_pool.proofs.Meetings.{none_begins}
+use Rattle.zoom_pool.specs.Hosts.{Holdings, AreReceived, nothing, message, IsStopping, IsHostRest, HasReceived, HostEvent, HostFed, HostFedPart, Released, Lost, HostHandedOut, HostTranscript, ArePutLast, FeedStep, IsReleasable, ReleaseStep, LossStep, IsIgnored, IsHostTranscript, owed_by, replies_to}
+use Rattle.zoom_pool.proofs.Uniqueness.{none_begins}
 use Rattle.zoom_laws.specs.Exchange.{fed_to, ArePlain}
 use Rattle.zoom_laws.proofs.ExchangeTheory.Framing.{written_foreign}
 
@@ -38,17 +38,17 @@ follows_more here b w t = after b w t here
 follows_more (after c x s f) b w t = after c x s (follows_more f b w t)
 
 from_first : {holdings : Holdings} {stream rest : List ℕ} {received : List Apdu}
-    → Received holdings stream received rest
+    → AreReceived holdings stream received rest
     → Follows holdings [] stream received rest
 from_first nothing = here
 from_first (message r b w t) = follows_more (from_first r) b w t
 
 -- what stops a host is no message that it takes
 stops_none : (holdings : Holdings) (received : List Apdu) (xs rest : List ℕ) (e : Element) (v : Apdu) (by : Answer)
-    (met : Met)
-    → Begins MESSAGE_LIMIT xs e rest → Writes v e → owed_by holdings received v ≡ Ok by → AreMetAs xs met
-    → IsStopping holdings received met → ⊥
-stops_none holdings received xs rest e v by Stopped b w t m s = s
+    (input : Input)
+    → Begins MESSAGE_LIMIT xs e rest → Writes v e → owed_by holdings received v ≡ Ok by → AreInput xs input
+    → IsStopping holdings received input → ⊥
+stops_none holdings received xs rest e v by AlreadyStopped b w t m s = s
 stops_none holdings received xs rest e v by (Message u) b w t m s =
     let same = one_message MESSAGE_LIMIT xs e m.element rest m.rest b m.begins in
     let value : v ≡ u = one_value v u m.element (subst (λ z. Writes v z) same.0 w) m.read in
@@ -62,21 +62,21 @@ stops_none holdings received xs rest e v by Nothing b w t m s = s
 
 goes_on : (holdings : Holdings) (received : List Apdu) (xs rest : List ℕ) (e : Element) (v : Apdu) (by : Answer)
     (b : Bool)
-    → EndsAt holdings received xs b → Begins MESSAGE_LIMIT xs e rest → Writes v e → owed_by holdings received v ≡ Ok by → ⊥
+    → IsHostRest holdings received xs b → Begins MESSAGE_LIMIT xs e rest → Writes v e → owed_by holdings received v ≡ Ok by → ⊥
 goes_on holdings received xs rest e v by false u b w t = u.no_message e rest b
 goes_on holdings received xs rest e v by true u b w t = stops_none holdings received xs rest e v by u.0 b w t u.1 u.2
 
-waits_none : (holdings : Holdings) (received : List Apdu) (xs : List ℕ) (met : Met) → IsUnfinished MESSAGE_LIMIT xs
-    → AreMetAs xs met → IsStopping holdings received met → ⊥
-waits_none holdings received xs Stopped u m s = s
+waits_none : (holdings : Holdings) (received : List Apdu) (xs : List ℕ) (input : Input) → IsUnfinished MESSAGE_LIMIT xs
+    → AreInput xs input → IsStopping holdings received input → ⊥
+waits_none holdings received xs AlreadyStopped u m s = s
 waits_none holdings received xs (Message v) u m s = u.no_message m.element m.rest m.begins
 waits_none holdings received xs (Foreign error) u m s = u.no_message m.element m.rest m.begins
 waits_none holdings received xs (Fault kind at) u m s = u.no_fault kind at m
 waits_none holdings received xs (Rest n) u m s = s
 waits_none holdings received xs Nothing u m s = s
 
-one_end : (holdings : Holdings) (received : List Apdu) (xs : List ℕ) (b c : Bool) → EndsAt holdings received xs b
-    → EndsAt holdings received xs c → b ≡ c
+one_end : (holdings : Holdings) (received : List Apdu) (xs : List ℕ) (b c : Bool) → IsHostRest holdings received xs b
+    → IsHostRest holdings received xs c → b ≡ c
 one_end holdings received xs false false x y = refl
 one_end holdings received xs true true x y = refl
 one_end holdings received xs false true x y = absurd (waits_none holdings received xs y.0 x y.1 y.2)
@@ -84,17 +84,17 @@ one_end holdings received xs true false x y = absurd (waits_none holdings receiv
 
 one_follows : {holdings : Holdings} {before since now later : List Apdu} {xs ys last end : List ℕ} (b c : Bool)
     → Follows holdings before xs now last → Follows holdings since ys later end → before ≡ since → xs ≡ ys
-    → EndsAt holdings now last b → EndsAt holdings later end c → (now ≡ later) × (b ≡ c)
+    → IsHostRest holdings now last b → IsHostRest holdings later end c → (now ≡ later) × (b ≡ c)
 one_follows {holdings} b c (here {received = r} {xs = xs}) (here {received = s} {xs = ys}) p q x y =
-    (p, one_end holdings s ys b c (subst (λ z. EndsAt holdings z ys b) p (subst (λ z. EndsAt holdings r z b) q x)) y)
+    (p, one_end holdings s ys b c (subst (λ z. IsHostRest holdings z ys b) p (subst (λ z. IsHostRest holdings r z b) q x)) y)
 one_follows {holdings} b c (here {received = r} {xs = xs})
     (after {received = s} {xs = ys} {rest = rest} {e = e} {by = by} {v = v} g w t f) p q x y =
     absurd (goes_on holdings s ys rest e v by b
-    (subst (λ z. EndsAt holdings z ys b) p (subst (λ z. EndsAt holdings r z b) q x)) g w t)
+    (subst (λ z. IsHostRest holdings z ys b) p (subst (λ z. IsHostRest holdings r z b) q x)) g w t)
 one_follows {holdings} b c (after {received = r} {xs = xs} {rest = rest} {e = e} {by = by} {v = v} g w t f)
     (here {received = s} {xs = ys}) p q x y =
     absurd (goes_on holdings r xs rest e v by c
-    (subst (λ z. EndsAt holdings z xs c) (sym p) (subst (λ z. EndsAt holdings s z c) (sym q) y)) g w t)
+    (subst (λ z. IsHostRest holdings z xs c) (sym p) (subst (λ z. IsHostRest holdings s z c) (sym q) y)) g w t)
 one_follows {holdings} b c (after {received = r} {xs = xs} {rest = rest} {e = e} {v = v} g w t f)
     (after {received = s} {xs = ys} {rest = other} {e = d} {v = u} h k i j) p q x y =
     let same = one_message MESSAGE_LIMIT ys e d rest other (subst (λ z. Begins MESSAGE_LIMIT z e rest) q g) h in
@@ -118,7 +118,7 @@ module _ (holdings : Holdings) where
       (sym x.owed ∙ ap (λ z. replies_to holdings z) e ∙ y.owed) in
       x.last ∙ ap (λ z. pending ++ z) same ∙ sym y.last
 
-  one_heard : (piece : List ℕ) (p r s : Served) → Hears holdings piece p r → Hears holdings piece p s → r ≡ s
+  one_heard : (piece : List ℕ) (p r s : HostTranscript) → FeedStep holdings piece p r → FeedStep holdings piece p s → r ≡ s
   one_heard piece p r s x y =
       let same = one_received holdings
       (p.stream ++ piece) r.received s.received r.stopped s.stopped x.received y.received in
@@ -128,20 +128,20 @@ module _ (holdings : Holdings) where
       ∙ (λ i. record p { stream = p.stream ++ piece; received = same.0 i; pending = put i; stopped = same.1 i })
       ∙ sym y.is
 
-  one_piece : (piece : List ℕ) (p q r s : Served) → p ≡ q → Ignores p r ⊎ Hears holdings piece p r
-      → Ignores q s ⊎ Hears holdings piece q s → r ≡ s
+  one_piece : (piece : List ℕ) (p q r s : HostTranscript) → p ≡ q → IsIgnored p r ⊎ FeedStep holdings piece p r
+      → IsIgnored q s ⊎ FeedStep holdings piece q s → r ≡ s
   one_piece piece p q r s e (inl x) (inl y) = x.1 ∙ e ∙ sym y.1
   one_piece piece p q r s e (inl x) (inr y) = absurd (true≢false (sym x.0 ∙ ap (λ z. z.stopped) e ∙ y.going))
   one_piece piece p q r s e (inr x) (inl y) = absurd (true≢false (sym y.0 ∙ ap (λ z. z.stopped) (sym e) ∙ x.going))
-  one_piece piece p q r s e (inr x) (inr y) = one_heard piece p r s x (subst (λ z. Hears holdings piece z s) (sym e) y)
+  one_piece piece p q r s e (inr x) (inr y) = one_heard piece p r s x (subst (λ z. FeedStep holdings piece z s) (sym e) y)
 
-  one_due : (pending : List Apdu) (k : ℕ) (a b : Apdu) → IsDue pending k a → IsDue pending k b → a ≡ b
+  one_due : (pending : List Apdu) (k : ℕ) (a b : Apdu) → IsReleasable pending k a → IsReleasable pending k b → a ≡ b
   one_due pending k a b x y = some_is (sym x.there ∙ y.there)
     where
       some_is : {c d : Apdu} → Some c ≡ Some d → c ≡ d
       some_is e = cc
 
-  one_sent : (k : ℕ) (p r s : Served) → Sends k p r → Sends k p s → r ≡ s
+  one_sent : (k : ℕ) (p r s : HostTranscript) → ReleaseStep k p r → ReleaseStep k p s → r ≡ s
   one_sent k p r s x y =
       let same = one_due p.pending k x.reply y.reply x.due y.due in
       x.is
@@ -152,30 +152,30 @@ module _ (holdings : Holdings) where
       })
       ∙ sym y.is
 
-  one_lost : (k : ℕ) (p r s : Served) → Loses k p r → Loses k p s → r ≡ s
+  one_lost : (k : ℕ) (p r s : HostTranscript) → LossStep k p r → LossStep k p s → r ≡ s
   one_lost k p r s x y =
       let same = one_due p.pending k x.reply y.reply x.due y.due in
       x.is
       ∙ (λ i. record p { pending = remove p.pending k; released = p.released ++ same i ∷ []; stopped = true })
       ∙ sym y.is
 
-  pub one_served : (events : List Event) (p q : Served) → ArePlain events → HasServed holdings events p
-      → HasServed holdings events q → p ≡ q
+  pub one_served : (events : List HostEvent) (p q : HostTranscript) → ArePlain events → IsHostTranscript holdings events p
+      → IsHostTranscript holdings events q → p ≡ q
   one_served [] p q plain a b = a ∙ sym b
-  one_served (Fed piece ∷ events) p q plain a b =
+  one_served (HostFed piece ∷ events) p q plain a b =
       one_piece piece a.0 b.0 p q (one_served events a.0 b.0 plain a.1 b.1) a.2 b.2
-  one_served (FedPart piece ∷ events) p q plain a b = absurd plain
+  one_served (HostFedPart piece ∷ events) p q plain a b = absurd plain
   one_served (Released k ∷ events) p q plain a b =
-      one_sent k a.0 p q a.2 (subst (λ z. Sends k z q) (sym (one_served events a.0 b.0 plain a.1 b.1)) b.2)
+      one_sent k a.0 p q a.2 (subst (λ z. ReleaseStep k z q) (sym (one_served events a.0 b.0 plain a.1 b.1)) b.2)
   one_served (Lost k ∷ events) p q plain a b =
-      one_lost k a.0 p q a.2 (subst (λ z. Loses k z q) (sym (one_served events a.0 b.0 plain a.1 b.1)) b.2)
-  one_served (HandedOut octets ∷ events) p q plain a b =
+      one_lost k a.0 p q a.2 (subst (λ z. LossStep k z q) (sym (one_served events a.0 b.0 plain a.1 b.1)) b.2)
+  one_served (HostHandedOut octets ∷ events) p q plain a b =
       a.2 ∙ one_served events a.0 b.0 plain a.1 b.1 ∙ sym b.2
 
 -- ---- a host that goes on
 
 -- all octets fed were heard, what was released was put, and all whole messages were received
-pub record IsUnbroken (holdings : Holdings) (events : List Event) (q : Served) : Type 0 where
+pub record IsUnbroken (holdings : Holdings) (events : List HostEvent) (q : HostTranscript) : Type 0 where
   pub stream : q.stream ≡ fed_to events
   pub released : q.released ≡ q.sent
   pub received : HasReceived holdings q.stream q.received false
@@ -184,15 +184,15 @@ none_yet : IsUnfinished MESSAGE_LIMIT []
 none_yet = record { no_message = none_begins; no_fault = λ k at s. absurd (omega (arith, s.some)) }
 
 module _ (holdings : Holdings) where
-  moved : (p q : Served) → q.stream ≡ p.stream → q.received ≡ p.received
+  moved : (p q : HostTranscript) → q.stream ≡ p.stream → q.received ≡ p.received
       → HasReceived holdings p.stream p.received false
       → HasReceived holdings q.stream q.received false
   moved p q e f h = subst (λ z. HasReceived holdings z q.received false) (sym e)
       (subst (λ z. HasReceived holdings p.stream z false) (sym f) h)
 
-  fed_unbroken : (piece : List ℕ) (events : List Event) (p q : Served) →
+  fed_unbroken : (piece : List ℕ) (events : List HostEvent) (p q : HostTranscript) →
       (p.stopped ≡ false → IsUnbroken holdings events p)
-      → q.stopped ≡ false → Ignores p q ⊎ Hears holdings piece p q → IsUnbroken holdings (Fed piece ∷ events) q
+      → q.stopped ≡ false → IsIgnored p q ⊎ FeedStep holdings piece p q → IsUnbroken holdings (HostFed piece ∷ events) q
   fed_unbroken piece events p q older g (inl x) = absurd (true≢false (sym x.0 ∙ sym (ap (λ z. z.stopped) x.1) ∙ g))
   fed_unbroken piece events p q older g (inr x) =
       let u = older x.going in
@@ -203,15 +203,15 @@ module _ (holdings : Holdings) where
             (subst (λ b. HasReceived holdings (p.stream ++ piece) q.received b) g x.received);
       }
 
-  pub unbroken : (events : List Event) (q : Served) → ArePlain events → HasServed holdings events q → q.stopped ≡ false
+  pub unbroken : (events : List HostEvent) (q : HostTranscript) → ArePlain events → IsHostTranscript holdings events q → q.stopped ≡ false
       → IsUnbroken holdings events q
   unbroken [] q plain h g = subst (λ z. IsUnbroken holdings [] z) (sym h) (record {
     stream = refl;
     released = refl;
     received = record { rest = []; messages = nothing; behind = none_yet };
   })
-  unbroken (Fed piece ∷ events) q plain h g = fed_unbroken piece events h.0 q (unbroken events h.0 plain h.1) g h.2
-  unbroken (FedPart piece ∷ events) q plain h g = absurd plain
+  unbroken (HostFed piece ∷ events) q plain h g = fed_unbroken piece events h.0 q (unbroken events h.0 plain h.1) g h.2
+  unbroken (HostFedPart piece ∷ events) q plain h g = absurd plain
   unbroken (Released k ∷ events) q plain h g =
       let x = h.2 in
       let u = unbroken events h.0 plain h.1 x.going in
@@ -221,7 +221,7 @@ module _ (holdings : Holdings) where
         received = moved h.0 q (ap (λ z. z.stream) x.is) (ap (λ z. z.received) x.is) u.received;
       }
   unbroken (Lost k ∷ events) q plain h g = absurd (true≢false (sym (ap (λ z. z.stopped) h.2.is) ∙ g))
-  unbroken (HandedOut octets ∷ events) q plain h g =
+  unbroken (HostHandedOut octets ∷ events) q plain h g =
       let u = unbroken events h.0 plain h.1 (sym (ap (λ z. z.stopped) h.2) ∙ g) in
       record {
         stream = ap (λ z. z.stream) h.2 ∙ u.stream;

@@ -16,13 +16,13 @@ use Rattle.zapdu.specs.Writes.{Writes}
 use Rattle.zapdu.proofs.Decoding.{one_value}
 use Rattle.zapdu.proofs.Refusals.{one_refusal}
 use Rattle.zorigin.specs.Sending.{encoding_of, sent_of, IsReadBack}
-use Rattle.zoom_pool.specs.Coming.{Met, Stopped, Message, Foreign, Fault, Rest, Nothing, IsForeign, AreMetAs}
+use Rattle.zoom_pool.specs.Inputs.{Input, AlreadyStopped, Message, Foreign, Fault, Rest, Nothing, IsForeign, AreInput}
 use Rattle.zber.specs.declared.framer.TheConstants.{MESSAGE_LIMIT}
 use Rattle.zoom_pool.specs.Hosts as hosts
-use Rattle.zoom_pool.specs.Hosts.{Holdings, Received}
-use Rattle.zoom_pool.proofs.Meetings.{none_begins}
+use Rattle.zoom_pool.specs.Hosts.{Holdings, AreReceived}
+use Rattle.zoom_pool.proofs.Uniqueness.{none_begins}
 use Rattle.zoom_pool.proofs.Streams.{begins_longer}
-use Rattle.zoom_pool.specs.Leaving.{AreReadBack}
+use Rattle.zoom_pool.specs.Connections.{AreReadBack}
 
 -- the encodings begin with this element, which the first of the APDUs is written as
 pub record IsNext (vs : List Apdu) (e : Element) (rest : List ℕ) : Type 0 where
@@ -82,15 +82,15 @@ pub record IsReceived (vs received : List Apdu) (rest : List ℕ) : Type 0 where
   pub front : List Apdu
   pub others : List Apdu
   pub are : vs ≡ front ++ others
-  pub turned : received ≡ reverse front
+  pub reversed : received ≡ reverse front
   pub rest_is : rest ≡ flat_map encoding_of others
   pub read : AreReadBack others
 
 pub received_cut : {holdings : Holdings} {stream : List ℕ} {received : List Apdu} {rest : List ℕ} (vs : List Apdu)
-    → AreReadBack vs → stream ≡ flat_map encoding_of vs → Received holdings stream received rest
+    → AreReadBack vs → stream ≡ flat_map encoding_of vs → AreReceived holdings stream received rest
     → IsReceived vs received rest
 received_cut vs all is hosts.nothing =
-    record { front = []; others = vs; are = refl; turned = refl; rest_is = is; read = all }
+    record { front = []; others = vs; are = refl; reversed = refl; rest_is = is; read = all }
 received_cut vs all is (hosts.message {received = received} {rest = rest} {last = last} {e = e} {v = v} r b w t) =
     let c = received_cut vs all is r in
     let n = next_is c.others rest last e c.read c.rest_is b in
@@ -99,26 +99,26 @@ received_cut vs all is (hosts.message {received = received} {rest = rest} {last 
       front = c.front ++ n.first ∷ [];
       others = n.others;
       are = c.are ∙ ap (λ z. c.front ++ z) n.are ∙ sym (append_assoc c.front (n.first ∷ []) n.others);
-      turned = ap (λ z. z ∷ received) same ∙ ap (λ z. n.first ∷ z) c.turned ∙ sym
+      reversed = ap (λ z. z ∷ received) same ∙ ap (λ z. n.first ∷ z) c.reversed ∙ sym
           (reverse-append c.front (n.first ∷ []));
       rest_is = n.rest_is;
       read = n.read;
     }
 
 -- the newest first
-pub turned_cut : (vs received : List Apdu) (rest : List ℕ) (c : IsReceived vs received rest)
+pub reversed_cut : (vs received : List Apdu) (rest : List ℕ) (c : IsReceived vs received rest)
     → reverse vs ≡ reverse c.others ++ received
-turned_cut vs received rest c =
-    ap reverse c.are ∙ reverse-append c.front c.others ∙ ap (λ z. reverse c.others ++ z) (sym c.turned)
+reversed_cut vs received rest c =
+    ap reverse c.are ∙ reverse-append c.front c.others ∙ ap (λ z. reverse c.others ++ z) (sym c.reversed)
 
 -- ---- what is met
 
 -- an APDU that is met is the first of them, and neither a fault is met nor a message that is no APDU
-abbrev pub IsMetOf : List Apdu → Met → Type 0
-IsMetOf vs (Message v) = (others : List Apdu) × (vs ≡ v ∷ others)
-IsMetOf vs (Foreign error) = ⊥
-IsMetOf vs (Fault kind at) = ⊥
-IsMetOf vs _ = Unit {0}
+abbrev pub IsInputOf : List Apdu → Input → Type 0
+IsInputOf vs (Message v) = (others : List Apdu) × (vs ≡ v ∷ others)
+IsInputOf vs (Foreign error) = ⊥
+IsInputOf vs (Fault kind at) = ⊥
+IsInputOf vs _ = Unit {0}
 
 -- an element that is refused is written of no APDU
 pub written_foreign : (v : Apdu) (e : Element) (error : ApduError) → Writes v e → IsForeign e error → ⊥
@@ -135,21 +135,21 @@ no_fault (v ∷ vs) xs kind at all is f =
     message_or_fault MESSAGE_LIMIT (encoding_of v ++ behind) mine.element behind kind at (mine.framed behind)
     (subst (λ z. Shows MESSAGE_LIMIT z kind at) is f)
 
-pub met_is : (vs : List Apdu) (rest more : List ℕ) (met : Met) → AreReadBack vs → rest ++ more ≡ flat_map encoding_of vs
-    → AreMetAs rest met → IsMetOf vs met
-met_is vs rest more Stopped all is m = tt
-met_is vs rest more (Message v) all is m =
+pub input_is : (vs : List Apdu) (rest more : List ℕ) (input : Input) → AreReadBack vs → rest ++ more ≡ flat_map encoding_of vs
+    → AreInput rest input → IsInputOf vs input
+input_is vs rest more AlreadyStopped all is m = tt
+input_is vs rest more (Message v) all is m =
     let n = next_is vs (rest ++ more) (m.rest ++ more) m.element all is
     (begins_longer rest m.rest more m.element m.begins) in
     (n.others, n.are ∙ ap (λ z. z ∷ n.others) (one_value n.first v m.element n.writes m.read))
-met_is vs rest more (Foreign error) all is m =
+input_is vs rest more (Foreign error) all is m =
     let n = next_is vs (rest ++ more) (m.rest ++ more) m.element all is
     (begins_longer rest m.rest more m.element m.begins) in
     written_foreign n.first m.element error n.writes m.read
-met_is vs rest more (Fault kind at) all is m = no_fault vs (rest ++ more) kind at all is
+input_is vs rest more (Fault kind at) all is m = no_fault vs (rest ++ more) kind at all is
     (fault_stays MESSAGE_LIMIT rest more kind at m)
-met_is vs rest more (Rest n) all is m = tt
-met_is vs rest more Nothing all is m = tt
+input_is vs rest more (Rest n) all is m = tt
+input_is vs rest more Nothing all is m = tt
 
 -- encodings that begin with no message are none
 pub all_taken : (vs : List Apdu) (xs : List ℕ) → AreReadBack vs → xs ≡ flat_map encoding_of vs

@@ -18,19 +18,19 @@ use Rattle.zorigin.proofs.Members.{contained, among}
 use Rattle.zorigin.proofs.Accepting.{accepted_so}
 use Rattle.ztarget.specs.Receiving.{is_close, may_release}
 use Rattle.zoom_pool.specs.States.{is_stopped}
-use Rattle.zoom_pool.specs.Heard.{Deed, Heard, past_of, state_at}
-use Rattle.zoom_pool.specs.Hosts.{HostState, Holdings, Event, handed_out, replies_to}
+use Rattle.zoom_pool.specs.Transcripts.{Event, Transcript, past_of, state_at}
+use Rattle.zoom_pool.specs.Hosts.{HostState, Holdings, HostEvent, handed_out, replies_to}
 use Rattle.zoom_laws.specs.Accord.{requests, AccordLaws}
 use Rattle.zoom_laws.proofs.AccordTheory.Conversing as conversing
 use Rattle.zoom_laws.proofs.AccordTheory.Owing as owing
-use Rattle.zoom_laws.specs.Exchange.{IsSound, got_in, EmptyLaw, OverLaw}
+use Rattle.zoom_laws.specs.Exchange.{IsSoundExchange, got_in, EmptyLaw, OverLaw}
 use Rattle.zoom_laws.proofs.ExchangeTheory.Counts.{few_replies}
 use Rattle.zoom_laws.proofs.ExchangeTheory.Endings.{stands, close_is}
-use Rattle.zoom_laws.proofs.ExchangeTheory.Hearings.{rest_behind}
+use Rattle.zoom_laws.proofs.ExchangeTheory.Transcripts.{rest_behind}
 use Rattle.zoom_laws.proofs.ExchangeTheory.Logs.{accepted_got, closed_got}
 use Rattle.zoom_laws.proofs.ExchangeTheory.Parts.{IsPart, part_front, part_none, before_last, left_none, right_none, none_in_none, last_in}
 use Rattle.zoom_laws.proofs.ExchangeTheory.Pendings.{Follows, in_order, followed}
-use Rattle.zoom_laws.proofs.ExchangeTheory.Sounds.{left_of, more_owed, permuted, due, got_owed, pending_owed, converses, coming_is}
+use Rattle.zoom_laws.proofs.ExchangeTheory.Sounds.{left_of, more_owed, permuted, due, got_owed, pending_owed, conversation, coming_is}
 use Rattle.zoom_laws.proofs.ExchangeTheory.States.{Rejects, stopped_so, rejecting, found_in}
 
 -- ---- a Close is the last
@@ -44,9 +44,9 @@ kind_of (apdus.PresentRequest v) = inl refl
 kind_of (apdus.PresentResponse v) = inl refl
 kind_of (apdus.Close c) = inr (c, refl)
 
-module _ (laws : AccordLaws) (holdings : Holdings) (settings : Settings) (deeds : List Deed) (p : Heard)
-    (events : List Event) (host : HostState)
-    (s : IsSound holdings settings deeds p events host) where
+module _ (laws : AccordLaws) (holdings : Holdings) (settings : Settings) (deeds : List Event) (p : Transcript)
+    (events : List HostEvent) (host : HostState)
+    (s : IsSoundExchange holdings settings deeds p events host) where
   abbrev all : List Apdu
   all = replies_to holdings (requests p.settings p.log)
 
@@ -55,7 +55,7 @@ module _ (laws : AccordLaws) (holdings : Holdings) (settings : Settings) (deeds 
       → (d : Close) × (others : List Apdu) × (all ≡ others ++ apdus.Close d ∷ [])
   closes c i =
       laws.owes_close holdings.databases holdings.settings p.settings p.log
-      (converses holdings settings deeds p events host s)
+      (conversation holdings settings deeds p events host s)
       (close_is holdings settings deeds p events host s c i).0
 
   -- two are not owed one before the other
@@ -156,7 +156,7 @@ module _ (laws : AccordLaws) (holdings : Holdings) (settings : Settings) (deeds 
       let there = contained a (past_of p).accepted found.0 in
       let i = accepted_so p.settings p.log a there in
       let v = rejecting a.asked.what a.reply found.1 i.fits r in
-      let k = converses holdings settings deeds p events host s in
+      let k = conversation holdings settings deeds p events host s in
       let d = conversing.due holdings.databases holdings.settings p.settings p.log a.reply (k.owed a there) in
       let m = conversing.init_sent holdings.settings d.request v.0
       (subst (owing.Replies holdings.settings d.request) v.1 d.replies) in
@@ -198,7 +198,7 @@ module _ (laws : AccordLaws) (holdings : Holdings) (settings : Settings) (deeds 
   -- nothing is behind it
   all_came : HasAll → p.stream ≡ flat_map encoding_of s.served.served.sent
   all_came h =
-      let r = rest_behind settings deeds p s.heard s.goes in
+      let r = rest_behind settings deeds p s.transcript s.goes in
       let more = s.from ++ host.waiting in
       let c = coming_is holdings settings deeds p events host s r.0 r.1 in
       let none : more ≡ [] = right_none r.0 more (c.are ∙ ap (λ z. flat_map encoding_of z) h.none) in

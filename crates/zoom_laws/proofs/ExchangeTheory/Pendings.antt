@@ -8,7 +8,7 @@ use Rattle.zapdu.specs.declared.apdu.Apdu.{Apdu}
 use Rattle.zapdu.specs.declared.apdu.Apdu.TheVariants as apdus
 use Rattle.zapdu.specs.declared.productions.close.Close.{Close}
 use Rattle.ztarget.specs.Receiving.{may_go}
-use Rattle.zoom_pool.specs.Hosts.{Holdings, Event, Fed, FedPart, Released, Lost, HandedOut, Served, HasServed, unserved, replies_to, ArePutLast, Hears, Ignores, Sends}
+use Rattle.zoom_pool.specs.Hosts.{Holdings, HostEvent, HostFed, HostFedPart, Released, Lost, HostHandedOut, HostTranscript, IsHostTranscript, empty_host_transcript, replies_to, ArePutLast, FeedStep, IsIgnored, ReleaseStep}
 use Rattle.zoom_laws.proofs.ExchangeTheory.Parts.{IsPart, part_append, part_remove, part_in, last_cut, there_in}
 
 no_some : {A : Type 0} {x : A} → None ≡ Some x → ⊥
@@ -41,39 +41,39 @@ module _ (holdings : Holdings) where
   -- ---- the order
 
   -- what is pending is a part of what is owed, in the same order
-  abbrev InOrder : Served → Type 0
+  abbrev InOrder : HostTranscript → Type 0
   InOrder q = IsPart q.pending (replies_to holdings q.received)
 
-  order_more : (p q : Served) → ArePutLast holdings p.received p.pending q.received q.pending → InOrder p → InOrder q
+  order_more : (p q : HostTranscript) → ArePutLast holdings p.received p.pending q.received q.pending → InOrder p → InOrder q
   order_more p q put h =
       subst (λ z. IsPart z (replies_to holdings q.received)) (sym put.last)
       (subst (λ z. IsPart (p.pending ++ put.more) z) (sym put.owed)
       (part_append p.pending (replies_to holdings p.received) put.more h))
 
-  order_fed : (piece : List ℕ) (p q : Served) → InOrder p → Ignores p q ⊎ Hears holdings piece p q → InOrder q
+  order_fed : (piece : List ℕ) (p q : HostTranscript) → InOrder p → IsIgnored p q ⊎ FeedStep holdings piece p q → InOrder q
   order_fed piece p q h (inl x) = subst InOrder (sym x.1) h
   order_fed piece p q h (inr x) = order_more p q x.replies h
 
-  pub in_order : (events : List Event) (q : Served) → HasServed holdings events q → InOrder q
+  pub in_order : (events : List HostEvent) (q : HostTranscript) → IsHostTranscript holdings events q → InOrder q
   in_order [] q h = subst InOrder (sym h) tt
-  in_order (Fed piece ∷ events) q h = order_fed piece h.0 q (in_order events h.0 h.1) h.2
-  in_order (FedPart piece ∷ events) q h = order_more h.0 q h.2.replies (in_order events h.0 h.1)
+  in_order (HostFed piece ∷ events) q h = order_fed piece h.0 q (in_order events h.0 h.1) h.2
+  in_order (HostFedPart piece ∷ events) q h = order_more h.0 q h.2.replies (in_order events h.0 h.1)
   in_order (Released k ∷ events) q h =
       subst InOrder (sym h.2.is)
       (part_remove h.0.pending (replies_to holdings h.0.received) k (in_order events h.0 h.1))
   in_order (Lost k ∷ events) q h =
       subst InOrder (sym h.2.is)
       (part_remove h.0.pending (replies_to holdings h.0.received) k (in_order events h.0 h.1))
-  in_order (HandedOut octets ∷ events) q h = subst InOrder (sym h.2) (in_order events h.0 h.1)
+  in_order (HostHandedOut octets ∷ events) q h = subst InOrder (sym h.2) (in_order events h.0 h.1)
 
   -- ---- once a Close was put
 
-  abbrev IsFollowed : Served → Type 0
+  abbrev IsFollowed : HostTranscript → Type 0
   IsFollowed q =
       (a b : List Apdu) (c : Close) → q.sent ≡ a ++ b → IsIn (apdus.Close c) a
       → Follows (replies_to holdings q.received) c b q.pending
 
-  followed_more : (p q : Served) → q.sent ≡ p.sent → ArePutLast holdings p.received p.pending q.received q.pending
+  followed_more : (p q : HostTranscript) → q.sent ≡ p.sent → ArePutLast holdings p.received p.pending q.received q.pending
       → IsFollowed p → IsFollowed q
   followed_more p q same put h a b c e i =
       let f = h a b c (sym same ∙ e) i in
@@ -87,7 +87,7 @@ module _ (holdings : Holdings) where
             (part_append p.pending f.behind put.more f.left);
       }
 
-  followed_fed : (piece : List ℕ) (p q : Served) → IsFollowed p → Ignores p q ⊎ Hears holdings piece p q
+  followed_fed : (piece : List ℕ) (p q : HostTranscript) → IsFollowed p → IsIgnored p q ⊎ FeedStep holdings piece p q
       → IsFollowed q
   followed_fed piece p q h (inl x) = subst IsFollowed (sym x.1) h
   followed_fed piece p q h (inr x) = followed_more p q (ap (λ z. z.sent) x.is) x.replies h
@@ -105,7 +105,7 @@ module _ (holdings : Holdings) where
   }
 
   -- a reply was put
-  module _ (k : ℕ) (p q : Served) (order : InOrder p) (older : IsFollowed p) (x : Sends k p q) where
+  module _ (k : ℕ) (p q : HostTranscript) (order : InOrder p) (older : IsFollowed p) (x : ReleaseStep k p q) where
     there : IsIn x.reply p.pending
     there = there_in p.pending k x.reply x.due.there
 
@@ -172,14 +172,14 @@ module _ (holdings : Holdings) where
     followed_sent =
         subst IsFollowed (sym x.is) (λ a b c e i. followed_by a b c (last_cut x.reply p.sent a b e) e i)
 
-  nothing_put : IsFollowed unserved
+  nothing_put : IsFollowed empty_host_transcript
   nothing_put [] b c e i = absurd i
   nothing_put (v ∷ a) b c e i = absurd (none_put e)
 
-  pub followed : (events : List Event) (q : Served) → HasServed holdings events q → IsFollowed q
+  pub followed : (events : List HostEvent) (q : HostTranscript) → IsHostTranscript holdings events q → IsFollowed q
   followed [] q h = subst IsFollowed (sym h) nothing_put
-  followed (Fed piece ∷ events) q h = followed_fed piece h.0 q (followed events h.0 h.1) h.2
-  followed (FedPart piece ∷ events) q h =
+  followed (HostFed piece ∷ events) q h = followed_fed piece h.0 q (followed events h.0 h.1) h.2
+  followed (HostFedPart piece ∷ events) q h =
       followed_more h.0 q (ap (λ z. z.sent) h.2.is) h.2.replies (followed events h.0 h.1)
   followed (Released k ∷ events) q h =
       followed_sent k h.0 q (in_order events h.0 h.1) (followed events h.0 h.1) h.2
@@ -187,4 +187,4 @@ module _ (holdings : Holdings) where
       let older = followed events h.0 h.1 in
       subst IsFollowed (sym h.2.is)
       (λ a b c e i. fewer (replies_to holdings h.0.received) c b h.0.pending k (older a b c e i))
-  followed (HandedOut octets ∷ events) q h = subst IsFollowed (sym h.2) (followed events h.0 h.1)
+  followed (HostHandedOut octets ∷ events) q h = subst IsFollowed (sym h.2) (followed events h.0 h.1)

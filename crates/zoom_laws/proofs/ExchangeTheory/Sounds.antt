@@ -9,17 +9,17 @@ use Rattle.zapdu.specs.declared.apdu.Apdu.{Apdu}
 use Rattle.zorigin.specs.declared.settings.Settings.{Settings}
 use Rattle.zorigin.specs.Sending.{encoding_of}
 use Rattle.zorigin.proofs.Accepting.{accepted_so}
-use Rattle.zoom_pool.specs.Coming.{IsBehind}
+use Rattle.zoom_pool.specs.Inputs.{IsBehind}
 use Rattle.zber.specs.declared.framer.TheConstants.{MESSAGE_LIMIT}
-use Rattle.zoom_pool.specs.Heard.{Deed, Heard, past_of}
-use Rattle.zoom_pool.specs.Hosts.{HostState, Holdings, Event, handed_out, replies_to}
+use Rattle.zoom_pool.specs.Transcripts.{Event, Transcript, past_of}
+use Rattle.zoom_pool.specs.Hosts.{HostState, Holdings, HostEvent, handed_out, replies_to}
 use Rattle.zoom_pool.proofs.Hosts.{messages_longer}
-use Rattle.zoom_laws.specs.Accord.{requests, Converses}
-use Rattle.zoom_pool.specs.Leaving.{AreReadBack}
-use Rattle.zoom_laws.specs.Exchange.{IsSound, got_in}
+use Rattle.zoom_laws.specs.Accord.{requests, IsConversation}
+use Rattle.zoom_pool.specs.Connections.{AreReadBack}
+use Rattle.zoom_laws.specs.Exchange.{IsSoundExchange, got_in}
 use Rattle.zoom_laws.proofs.ExchangeTheory.Logs.{accepted_got}
 use Rattle.zoom_laws.proofs.ExchangeTheory.Replies.{replies_more, owed_more, owed_of}
-use Rattle.zoom_laws.proofs.ExchangeTheory.Framing.{cut_by, IsReceived, received_cut, turned_cut}
+use Rattle.zoom_laws.proofs.ExchangeTheory.Framing.{cut_by, IsReceived, received_cut, reversed_cut}
 use Rattle.zoom_laws.proofs.ExchangeTheory.Events.{IsUnbroken, unbroken}
 
 -- lists whose fronts are equally long
@@ -42,13 +42,13 @@ pub record IsComing (coming : List Apdu) (octets : List ℕ) : Type 0 where
   pub are : octets ≡ flat_map encoding_of coming
   pub read : AreReadBack coming
 
-module _ (holdings : Holdings) (settings : Settings) (deeds : List Deed) (p : Heard) (events : List Event)
+module _ (holdings : Holdings) (settings : Settings) (deeds : List Event) (p : Transcript) (events : List HostEvent)
     (host : HostState)
-    (s : IsSound holdings settings deeds p events host) where
+    (s : IsSoundExchange holdings settings deeds p events host) where
   -- ---- the host
 
   pub whole : IsUnbroken holdings events s.served.served
-  whole = unbroken holdings events s.served.served s.plain s.served.happened s.serves
+  whole = unbroken holdings events s.served.served s.plain s.served.happened s.serving
 
   pub stream_is : s.served.served.stream ++ s.to ≡ flat_map encoding_of (past_of p).sent
   stream_is = ap (λ z. z ++ s.to) whole.stream ∙ s.sends
@@ -71,7 +71,7 @@ module _ (holdings : Holdings) (settings : Settings) (deeds : List Deed) (p : He
       let more = replies_more holdings.databases holdings.settings (reverse c.others) received in (
         more.0,
         ap (λ z. replies_to holdings z)
-            (turned_cut (past_of p).sent received (whole.received.rest ++ s.to) c)
+            (reversed_cut (past_of p).sent received (whole.received.rest ++ s.to) c)
             ∙ more.1,
       )
 
@@ -90,7 +90,7 @@ module _ (holdings : Holdings) (settings : Settings) (deeds : List Deed) (p : He
       (s.served.served.sent ++ left)
   due = owed_more holdings.databases holdings.settings (reverse received_is.others) s.served.served.received
       (requests p.settings p.log) s.served.served.sent host.target.pending
-      (turned_cut (past_of p).sent s.served.served.received (whole.received.rest ++ s.to) received_is) permuted
+      (reversed_cut (past_of p).sent s.served.served.received (whole.received.rest ++ s.to) received_is) permuted
 
   pub put_owed : (v : Apdu) → Contains s.served.served.sent v → Contains
       (replies_to holdings (requests p.settings p.log)) v
@@ -99,8 +99,8 @@ module _ (holdings : Holdings) (settings : Settings) (deeds : List Deed) (p : He
   pub got_owed : (v : Apdu) → Contains (got_in p.log) v → Contains (replies_to holdings (requests p.settings p.log)) v
   got_owed v i = put_owed v (subst (λ z. Contains z v) (sym s.got) (Contains-append_left (got_in p.log) s.coming v i))
 
-  pub converses : Converses holdings.databases holdings.settings p.settings p.log
-  converses = record {
+  pub conversation : IsConversation holdings.databases holdings.settings p.settings p.log
+  conversation = record {
     owed = λ x i. got_owed x.reply (accepted_got p.settings p.log x (accepted_so p.settings p.log x i));
     sound = s.sound;
   }

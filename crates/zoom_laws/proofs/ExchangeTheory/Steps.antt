@@ -20,23 +20,23 @@ use Rattle.zorigin.proofs.Accepting.{accepted_so}
 use Rattle.ztarget.specs.declared.database.Database.{Database}
 use Rattle.ztarget.specs.declared.settings.TargetSettings.{TargetSettings}
 use Rattle.zoom_pool.specs.States.{state_as, is_stopped, or_else}
-use Rattle.zoom_pool.specs.Coming.{Met, Stopped, Message, Foreign, Fault, Rest, Nothing, IsBehind, AreMetAs}
-use Rattle.zoom_pool.specs.Heard.{Deed, Calls, Feeds, Takes, Gives, Heard, HasHeard, Meets, past_of, state_at, take_at, heed, end_by, stop_by, truncated, hears_call}
-use Rattle.zoom_pool.specs.Hosts.{HostState, Holdings, HostAfter, HasReceived, IsStopping, Event, Fed, Released, HandedOut, Served, HasServed, Hears, Ignores, Sends}
+use Rattle.zoom_pool.specs.Inputs.{Input, AlreadyStopped, Message, Foreign, Fault, Rest, Nothing, IsBehind, AreInput}
+use Rattle.zoom_pool.specs.Transcripts.{Event, Called, Fed, Took, HandedOut, Transcript, IsTranscript, NextInput, past_of, state_at, after_take, after_reply, end_by, after_stop, truncated, after_call}
+use Rattle.zoom_pool.specs.Hosts.{HostState, Holdings, HostAfter, HasReceived, IsStopping, HostEvent, HostFed, Released, HostHandedOut, HostTranscript, IsHostTranscript, FeedStep, IsIgnored, ReleaseStep}
 use Rattle.zoom_pool.proofs.Hosts.{messages_longer}
 use Rattle.zoom_laws.specs.Accord.{requests, replies_due, AreTaken, AccordLaws}
-use Rattle.zoom_pool.specs.Leaving.{AreReadBack}
+use Rattle.zoom_pool.specs.Connections.{AreReadBack}
 use Rattle.zoom_pool.proofs.Calling.{read_append}
-use Rattle.zoom_laws.specs.Exchange.{IsSound, got_in, fed_to, StartsLaw, CallsLaw, GivesLaw, HostFedLaw, HandedLaw, FedLaw, TakesLaw, ReleasedLaw}
+use Rattle.zoom_laws.specs.Exchange.{IsSoundExchange, got_in, fed_to, StartLaw, CallLaw, HandedOutLaw, HostFedLaw, HostHandedOutLaw, FedLaw, TakeStepLaw, ReleasedLaw}
 use Rattle.zoom_laws.proofs.ExchangeTheory.Logs.{accepted_got}
 use Rattle.zoom_laws.proofs.ExchangeTheory.States.{closed_so}
-use Rattle.zoom_laws.proofs.ExchangeTheory.Framing.{received_cut, turned_cut, IsMetOf, met_is}
+use Rattle.zoom_laws.proofs.ExchangeTheory.Framing.{received_cut, reversed_cut, IsInputOf, input_is}
 use Rattle.zoom_laws.proofs.ExchangeTheory.Events.{no_both, one_served}
-use Rattle.zoom_laws.proofs.ExchangeTheory.Sounds.{stream_is, due, put_owed, converses, coming_is}
+use Rattle.zoom_laws.proofs.ExchangeTheory.Sounds.{stream_is, due, put_owed, conversation, coming_is}
 
-pub starts : StartsLaw
+pub starts : StartLaw
 starts holdings settings host a = record {
-  heard = refl;
+  transcript = refl;
   served = a;
   plain = tt;
   to = [];
@@ -46,7 +46,7 @@ starts holdings settings host a = record {
   goes = refl;
   goes_on = refl;
   sound = refl;
-  serves = ap (λ z. z.stopped) a.happened;
+  serving = ap (λ z. z.stopped) a.happened;
   coming = [];
   got = ap (λ z. z.sent) a.happened;
   count = refl;
@@ -66,13 +66,13 @@ pub called : (p : Past) (call : Call) (o : Option CallRefused) → IsCalled p (a
 called p call None = record { more = request_list (request_of (standing p) call); sent = refl; fault = refl }
 called p call (Some reason) = record { more = []; sent = sym (append-nil p.sent); fault = refl }
 
-pub calls : CallsLaw
+pub calls : CallLaw
 calls holdings settings deeds p events host call s reads =
-    let q : Heard = record p { log = Made call ∷ p.log } in
-    let is : hears_call p call ≡ q = ap (λ o. cond (is_some o) p q) s.goes in
+    let q : Transcript = record p { log = Made call ∷ p.log } in
+    let is : after_call p call ≡ q = ap (λ o. cond (is_some o) p q) s.goes in
     let c = called (past_of p) call (refusal (standing (past_of p)) call) in
-    let now : IsSound holdings settings (Calls call ∷ deeds) q events host = record {
-      heard = (p, s.heard, sym is);
+    let now : IsSoundExchange holdings settings (Called call ∷ deeds) q events host = record {
+      transcript = (p, s.transcript, sym is);
       served = s.served;
       plain = s.plain;
       to = s.to ++ flat_map encoding_of c.more;
@@ -84,22 +84,22 @@ calls holdings settings deeds p events host call s reads =
       goes = s.goes;
       goes_on = s.goes_on;
       sound = c.fault ∙ s.sound;
-      serves = s.serves;
+      serving = s.serving;
       coming = s.coming;
       got = s.got;
       count = s.count;
       asks = subst (λ z. AreReadBack (past_of z).sent) is reads;
       answers = s.answers;
     } in
-    subst (λ z. IsSound holdings settings (Calls call ∷ deeds) z events host) (sym is) now
+    subst (λ z. IsSoundExchange holdings settings (Called call ∷ deeds) z events host) (sym is) now
 
 -- ---- deeds that leave the connection as it was
 
-still : (holdings : Holdings) (settings : Settings) (deeds more : List Deed) (p : Heard) (events : List Event)
-    (host : HostState) → HasHeard settings more p → IsSound holdings settings deeds p events host
-    → IsSound holdings settings more p events host
-still holdings settings deeds more p events host heard s = record {
-  heard = heard;
+still : (holdings : Holdings) (settings : Settings) (deeds more : List Event) (p : Transcript) (events : List HostEvent)
+    (host : HostState) → IsTranscript settings more p → IsSoundExchange holdings settings deeds p events host
+    → IsSoundExchange holdings settings more p events host
+still holdings settings deeds more p events host transcript s = record {
+  transcript = transcript;
   served = s.served;
   plain = s.plain;
   to = s.to;
@@ -109,7 +109,7 @@ still holdings settings deeds more p events host heard s = record {
   goes = s.goes;
   goes_on = s.goes_on;
   sound = s.sound;
-  serves = s.serves;
+  serving = s.serving;
   coming = s.coming;
   got = s.got;
   count = s.count;
@@ -117,25 +117,25 @@ still holdings settings deeds more p events host heard s = record {
   answers = s.answers;
 }
 
-pub gives : GivesLaw
+pub gives : HandedOutLaw
 gives holdings settings deeds p events host octets s =
-    still holdings settings deeds (Gives octets ∷ deeds) p events host (p, s.heard, refl) s
+    still holdings settings deeds (HandedOut octets ∷ deeds) p events host (p, s.transcript, refl) s
 
 -- ---- octets that come to the connection
 
-module _ (holdings : Holdings) (settings : Settings) (deeds : List Deed) (p : Heard) (events : List Event)
+module _ (holdings : Holdings) (settings : Settings) (deeds : List Event) (p : Transcript) (events : List HostEvent)
     (host : HostState)
-    (piece rest : List ℕ) (s : IsSound holdings settings deeds p events host) (cut : s.from ≡ piece ++ rest) where
-  abbrev longer : Heard
+    (piece rest : List ℕ) (s : IsSoundExchange holdings settings deeds p events host) (cut : s.from ≡ piece ++ rest) where
+  abbrev longer : Transcript
   longer = record p { stream = p.stream ++ piece }
 
   fed_by : (b : Bool) → (is_stopped (state_at p) || p.ended) ≡ b
-      → IsSound holdings settings (Feeds piece ∷ deeds) (cond b p longer) events host
+      → IsSoundExchange holdings settings (Fed piece ∷ deeds) (cond b p longer) events host
   fed_by true e =
-      still holdings settings deeds (Feeds piece ∷ deeds) p events host
-      (p, s.heard, ap (λ b. cond b p longer) (sym e)) s
+      still holdings settings deeds (Fed piece ∷ deeds) p events host
+      (p, s.transcript, ap (λ b. cond b p longer) (sym e)) s
   fed_by false e = record {
-    heard = (p, s.heard, ap (λ b. cond b p longer) (sym e));
+    transcript = (p, s.transcript, ap (λ b. cond b p longer) (sym e));
     served = s.served;
     plain = s.plain;
     to = s.to;
@@ -145,7 +145,7 @@ module _ (holdings : Holdings) (settings : Settings) (deeds : List Deed) (p : He
     goes = s.goes;
     goes_on = s.goes_on;
     sound = s.sound;
-    serves = s.serves;
+    serving = s.serving;
     coming = s.coming;
     got = s.got;
     count = s.count;
@@ -164,18 +164,18 @@ taken_behind : (databases : List Database) (target : TargetSettings) (later rece
 taken_behind databases target [] received t = t
 taken_behind databases target (v ∷ later) received t = taken_behind databases target later received t.1
 
-module _ (holdings : Holdings) (settings : Settings) (deeds : List Deed) (p : Heard) (events : List Event)
+module _ (holdings : Holdings) (settings : Settings) (deeds : List Event) (p : Transcript) (events : List HostEvent)
     (host : HostState)
-    (s : IsSound holdings settings deeds p events host) where
-  same_served : (q : Served) → HasServed holdings events q → q ≡ s.served.served
+    (s : IsSoundExchange holdings settings deeds p events host) where
+  same_served : (q : HostTranscript) → IsHostTranscript holdings events q → q ≡ s.served.served
   same_served q h = one_served holdings events q s.served.served s.plain h s.served.happened
 
-  handed_on : (later : HostState) → HostAfter holdings (HandedOut host.waiting ∷ events) later
-      → IsSound holdings settings deeds p (HandedOut host.waiting ∷ events) later
+  handed_on : (later : HostState) → HostAfter holdings (HostHandedOut host.waiting ∷ events) later
+      → IsSoundExchange holdings settings deeds p (HostHandedOut host.waiting ∷ events) later
   handed_on later a =
       let same : a.served ≡ s.served.served = a.happened.2 ∙ same_served a.happened.0 a.happened.1 in
       record {
-        heard = s.heard;
+        transcript = s.transcript;
         served = a;
         plain = s.plain;
         to = s.to;
@@ -185,7 +185,7 @@ module _ (holdings : Holdings) (settings : Settings) (deeds : List Deed) (p : He
         goes = s.goes;
         goes_on = s.goes_on;
         sound = s.sound;
-        serves = ap (λ z. z.stopped) same ∙ s.serves;
+        serving = ap (λ z. z.stopped) same ∙ s.serving;
         coming = s.coming;
         got = ap (λ z. z.sent) same ∙ s.got;
         count = s.count;
@@ -194,13 +194,13 @@ module _ (holdings : Holdings) (settings : Settings) (deeds : List Deed) (p : He
       }
 
   put_on : (k : ℕ) (later : HostState) → HostAfter holdings (Released k ∷ events) later
-      → IsSound holdings settings deeds p (Released k ∷ events) later
+      → IsSoundExchange holdings settings deeds p (Released k ∷ events) later
   put_on k later a =
-      let x : Sends k s.served.served a.served = subst (λ z. Sends k z a.served)
+      let x : ReleaseStep k s.served.served a.served = subst (λ z. ReleaseStep k z a.served)
       (same_served a.happened.0 a.happened.1) a.happened.2 in
       let put : a.served.sent ≡ s.served.served.sent ++ x.reply ∷ [] = ap (λ z. z.sent) x.is in
       record {
-        heard = s.heard;
+        transcript = s.transcript;
         served = a;
         plain = s.plain;
         to = s.to;
@@ -210,7 +210,7 @@ module _ (holdings : Holdings) (settings : Settings) (deeds : List Deed) (p : He
         goes = s.goes;
         goes_on = s.goes_on;
         sound = s.sound;
-        serves = ap (λ z. z.stopped) x.is ∙ s.serves;
+        serving = ap (λ z. z.stopped) x.is ∙ s.serving;
         coming = s.coming ++ x.reply ∷ [];
         got = put ∙ ap (λ z. z ++ x.reply ∷ []) s.got ∙ append_assoc (got_in p.log) s.coming (x.reply ∷ []);
         count = s.count;
@@ -220,16 +220,16 @@ module _ (holdings : Holdings) (settings : Settings) (deeds : List Deed) (p : He
 
   -- nothing that was sent stops the host
   module _ (laws : AccordLaws) (piece rest : List ℕ) (cut : s.to ≡ piece ++ rest) (received : List Apdu) where
-    stops_not : (others : List Apdu) (met : Met) → requests p.settings p.log ≡ reverse others ++ received
-        → IsMetOf others met
-        → IsStopping holdings received met → ⊥
-    stops_not others Stopped e m i = i
+    stops_not : (others : List Apdu) (input : Input) → requests p.settings p.log ≡ reverse others ++ received
+        → IsInputOf others input
+        → IsStopping holdings received input → ⊥
+    stops_not others AlreadyStopped e m i = i
     stops_not others (Message v) e m i =
         let behind : requests p.settings p.log ≡ reverse m.0 ++ (v ∷ received) =
         e ∙ ap (λ z. reverse z ++ received) m.1 ∙ ap (λ z. z ++ received) (reverse-append (v ∷ []) m.0) ∙ append_assoc
         (reverse m.0) (v ∷ []) received in
         let all = laws.taken holdings.databases holdings.settings p.settings p.log
-        (converses holdings settings deeds p events host s) in
+        (conversation holdings settings deeds p events host s) in
         let t = taken_behind holdings.databases holdings.settings (reverse m.0) (v ∷ received)
         (subst (λ z. AreTaken holdings.databases holdings.settings z) behind all) in
         no_both t.0.1 i.1
@@ -245,18 +245,18 @@ module _ (holdings : Holdings) (settings : Settings) (deeds : List Deed) (p : He
         append_assoc s.served.served.stream piece rest ∙ ap (λ z. s.served.served.stream ++ z) (sym cut)
         ∙ stream_is holdings settings deeds p events host s in
         let c = received_cut (past_of p).sent s.asks stream (messages_longer rest h.messages) in
-        let m = met_is c.others h.rest rest h.behind.0 c.read c.rest_is h.behind.1 in
-        absurd (stops_not c.others h.behind.0 (turned_cut (past_of p).sent received (h.rest ++ rest) c) m h.behind.2)
+        let m = input_is c.others h.rest rest h.behind.0 c.read c.rest_is h.behind.1 in
+        absurd (stops_not c.others h.behind.0 (reversed_cut (past_of p).sent received (h.rest ++ rest) c) m h.behind.2)
 
   heard_on : (laws : AccordLaws) (piece rest : List ℕ) (later : HostState) → s.to ≡ piece ++ rest
-      → (a : HostAfter holdings (Fed piece ∷ events) later) → Ignores s.served.served a.served
-      ⊎ Hears holdings piece s.served.served a.served
-      → IsSound holdings settings deeds p (Fed piece ∷ events) later
-  heard_on laws piece rest later cut a (inl x) = absurd (true≢false (sym x.0 ∙ s.serves))
+      → (a : HostAfter holdings (HostFed piece ∷ events) later) → IsIgnored s.served.served a.served
+      ⊎ FeedStep holdings piece s.served.served a.served
+      → IsSoundExchange holdings settings deeds p (HostFed piece ∷ events) later
+  heard_on laws piece rest later cut a (inl x) = absurd (true≢false (sym x.0 ∙ s.serving))
   heard_on laws piece rest later cut a (inr x) =
       let put : a.served.sent ≡ s.served.served.sent = ap (λ z. z.sent) x.is in
       record {
-        heard = s.heard;
+        transcript = s.transcript;
         served = a;
         plain = s.plain;
         to = rest;
@@ -266,7 +266,7 @@ module _ (holdings : Holdings) (settings : Settings) (deeds : List Deed) (p : He
         goes = s.goes;
         goes_on = s.goes_on;
         sound = s.sound;
-        serves = not_stopped laws piece rest cut a.served.received a.served.stopped x.received;
+        serving = not_stopped laws piece rest cut a.served.received a.served.stopped x.received;
         coming = s.coming;
         got = put ∙ s.got;
         count = s.count;
@@ -274,7 +274,7 @@ module _ (holdings : Holdings) (settings : Settings) (deeds : List Deed) (p : He
         answers = subst AreReadBack (sym put) s.answers;
       }
 
-pub handed : HandedLaw
+pub handed : HostHandedOutLaw
 handed holdings settings deeds p events host later s a = handed_on holdings settings deeds p events host s later a
 
 pub released : ReleasedLaw
@@ -285,7 +285,7 @@ pub host_fed : AccordLaws → HostFedLaw
 host_fed laws holdings settings deeds p events host later piece rest s cut a =
     let same = same_served holdings settings deeds p events host s a.happened.0 a.happened.1 in
     heard_on holdings settings deeds p events host s laws piece rest later cut a
-    (subst (λ z. Ignores z a.served ⊎ Hears holdings piece z a.served) same a.happened.2)
+    (subst (λ z. IsIgnored z a.served ⊎ FeedStep holdings piece z a.served) same a.happened.2)
 
 -- ---- what the connection takes
 
@@ -300,16 +300,16 @@ kept p (taken.Rejected answer) = record { sent = refl; fault = refl }
 kept p (taken.Answered answer) = record { sent = refl; fault = refl }
 kept p taken.Closed = record { sent = refl; fault = refl }
 
-module _ (holdings : Holdings) (settings : Settings) (deeds : List Deed) (p : Heard) (events : List Event)
+module _ (holdings : Holdings) (settings : Settings) (deeds : List Event) (p : Transcript) (events : List HostEvent)
     (host : HostState)
-    (s : IsSound holdings settings deeds p events host) where
+    (s : IsSoundExchange holdings settings deeds p events host) where
   -- a take that changed nothing
-  took_none : (met : Met) → Meets p met → take_at p met ≡ p → IsSound holdings settings (Takes ∷ deeds)
-      (take_at p met) events host
-  took_none met m is =
-      let now : IsSound holdings settings (Takes ∷ deeds) p events host =
-      still holdings settings deeds (Takes ∷ deeds) p events host (p, s.heard, (met, m, sym is)) s in
-      subst (λ z. IsSound holdings settings (Takes ∷ deeds) z events host) (sym is) now
+  took_none : (input : Input) → NextInput p input → after_take p input ≡ p → IsSoundExchange holdings settings (Took ∷ deeds)
+      (after_take p input) events host
+  took_none input m is =
+      let now : IsSoundExchange holdings settings (Took ∷ deeds) p events host =
+      still holdings settings deeds (Took ∷ deeds) p events host (p, s.transcript, (input, m, sym is)) s in
+      subst (λ z. IsSoundExchange holdings settings (Took ∷ deeds) z events host) (sym is) now
 
   open_by : (b : Bool) → (past_of p).closed ≡ b → is_stopped (state_at p) ≡ false → b ≡ false
   open_by false e g = refl
@@ -335,7 +335,7 @@ module _ (holdings : Holdings) (settings : Settings) (deeds : List Deed) (p : He
     accepts : is_stopped (state_at p) ≡ false → (x : Taken) × (verdict (standing (past_of p)) v ≡ Ok x)
     accepts g =
         let d = due holdings settings deeds p events host s in
-        let c = converses holdings settings deeds p events host s in
+        let c = conversation holdings settings deeds p events host s in
         let put : Contains s.served.served.sent v =
         subst (λ z. Contains z v) (sym s.got) (Contains-append_right (got_in p.log) s.coming v
         (subst (λ z. Contains z v) (append-nil s.coming) (v_comes []))) in
@@ -347,16 +347,16 @@ module _ (holdings : Holdings) (settings : Settings) (deeds : List Deed) (p : He
         (accepted_got p.settings p.log x (accepted_so p.settings p.log x i)) (v_comes d.0)) in
         (x.0, x.1)
 
-    took_reply : Meets p (Message v) → (x : Taken) × (verdict (standing (past_of p)) v ≡ Ok x)
-        → IsSound holdings settings (Takes ∷ deeds) (take_at p (Message v)) events host
+    took_reply : NextInput p (Message v) → (x : Taken) × (verdict (standing (past_of p)) v ≡ Ok x)
+        → IsSoundExchange holdings settings (Took ∷ deeds) (after_take p (Message v)) events host
     took_reply m x =
-        let q : Heard = record p { taken = suc p.taken; log = Got v ∷ p.log } in
-        let took : take_at p (Message v) ≡ q = ap (λ z. heed q z) x.1 in
+        let q : Transcript = record p { taken = suc p.taken; log = Got v ∷ p.log } in
+        let took : after_take p (Message v) ≡ q = ap (λ z. after_reply q z) x.1 in
         let after : past_of q ≡ after_verdict (past_of p) (Ok x.0) = ap (λ z. after_verdict (past_of p) z) x.1 in
         let k = kept (past_of p) x.0 in
         let asked : (past_of q).sent ≡ (past_of p).sent = ap (λ z. z.sent) after ∙ k.sent in
-        let now : IsSound holdings settings (Takes ∷ deeds) q events host = record {
-          heard = (p, s.heard, (Message v, m, sym took));
+        let now : IsSoundExchange holdings settings (Took ∷ deeds) q events host = record {
+          transcript = (p, s.transcript, (Message v, m, sym took));
           served = s.served;
           plain = s.plain;
           to = s.to;
@@ -366,30 +366,30 @@ module _ (holdings : Holdings) (settings : Settings) (deeds : List Deed) (p : He
           goes = s.goes;
           goes_on = s.goes_on;
           sound = ap (λ z. z.fault) after ∙ k.fault ∙ s.sound;
-          serves = s.serves;
+          serving = s.serving;
           coming = others;
           got = s.got ∙ ap (λ z. got_in p.log ++ z) is ∙ sym (append_assoc (got_in p.log) (v ∷ []) others);
           count = omega (arith, s.count, length-append (got_in p.log) (v ∷ []));
           asks = subst AreReadBack (sym asked) s.asks;
           answers = s.answers;
         } in
-        subst (λ z. IsSound holdings settings (Takes ∷ deeds) z events host) (sym took) now
+        subst (λ z. IsSoundExchange holdings settings (Took ∷ deeds) z events host) (sym took) now
 
-  met_next : (rest : List ℕ) (met : Met) → IsBehind p.stream p.taken rest → AreMetAs rest met → IsMetOf s.coming met
-  met_next rest met b a =
+  met_next : (rest : List ℕ) (input : Input) → IsBehind p.stream p.taken rest → AreInput rest input → IsInputOf s.coming input
+  met_next rest input b a =
       let c = coming_is holdings settings deeds p events host s rest b in
-      met_is s.coming rest (s.from ++ host.waiting) met c.read c.are a
+      input_is s.coming rest (s.from ++ host.waiting) input c.read c.are a
 
-  took : (laws : AccordLaws) (met : Met) → Meets p met → IsSound holdings settings (Takes ∷ deeds)
-      (take_at p met) events host
-  took laws Stopped m = took_none Stopped m refl
+  took : (laws : AccordLaws) (input : Input) → NextInput p input → IsSoundExchange holdings settings (Took ∷ deeds)
+      (after_take p input) events host
+  took laws AlreadyStopped m = took_none AlreadyStopped m refl
   took laws (Message v) m =
       let n = met_next m.1 (Message v) m.2 m.3 in
       took_reply laws v n.0 n.1 m (accepts laws v n.0 n.1 m.0)
   took laws (Foreign error) m = absurd (met_next m.1 (Foreign error) m.2 m.3)
   took laws (Fault kind at) m = absurd (met_next m.1 (Fault kind at) m.2 m.3)
-  took laws (Rest n) m = took_none (Rest n) m (ap (λ b. cond b (stop_by p (truncated n)) p) s.goes_on)
+  took laws (Rest n) m = took_none (Rest n) m (ap (λ b. cond b (after_stop p (truncated n)) p) s.goes_on)
   took laws Nothing m = took_none Nothing m (ap (λ b. cond b (end_by p) p) s.goes_on)
 
-pub takes : AccordLaws → TakesLaw
-takes laws holdings settings deeds p events host met s m = took holdings settings deeds p events host s laws met m
+pub takes : AccordLaws → TakeStepLaw
+takes laws holdings settings deeds p events host input s m = took holdings settings deeds p events host s laws input m

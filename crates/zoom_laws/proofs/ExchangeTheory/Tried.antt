@@ -7,10 +7,10 @@ use Rattle.zorigin.specs.declared.settings.Settings.{Settings}
 use Rattle.zorigin.specs.Log.{Log, past, opening, is_close_call}
 use Rattle.zoom_pool.specs.declared.phase.Phase.{Phase}
 use Rattle.zoom_pool.specs.declared.phase.Phase.TheVariants as phases
-use Rattle.zoom_pool.specs.Heard.{past_of}
+use Rattle.zoom_pool.specs.Transcripts.{past_of}
 use Rattle.zoom_pool.specs.Driving.{events_of}
 use Rattle.zoom_pool.specs.Steering.{Errand, errand_of, is_rejected, IsTried}
-use Rattle.zoom_pool.specs.Drivers.{IsAt}
+use Rattle.zoom_pool.specs.Drivers.{IsAtPhase}
 use Rattle.zoom_pool.proofs.Closings.{closes_in, closing_known}
 use Rattle.zoom_pool.proofs.MetaLaws.{driver_of}
 use Rattle.zoom_laws.specs.Exchange.{TriedLaw}
@@ -21,7 +21,7 @@ module _ (e : Errand) (settings : Settings) (log : Log)
   not_yet : (events : List Event) → events_of e.ask settings log ≡ events → closes_in events ≡ false → ⊥
   not_yet events is f = true≢false (sym closes ∙ closing_known e.ask settings log ∙ ap closes_in is ∙ f)
 
-  tried_at : (ph : Phase) → is_rejected (opening (past settings log)) ≡ false → IsAt e settings log ph
+  tried_at : (ph : Phase) → is_rejected (opening (past settings log)) ≡ false → IsAtPhase e settings log ph
       → IsTried settings log
   tried_at phases.Fresh r a = absurd (not_yet [] a.events refl)
   tried_at phases.Opening r a = absurd (not_yet _ a.events refl)
@@ -33,8 +33,8 @@ module _ (e : Errand) (settings : Settings) (log : Log)
   tried_at phases.Closed r a = a.tried r
 
 pub tried : TriedLaw
-tried questions s h meta c q p a at heard complete accepted =
+tried questions s h meta c q p a at transcript complete accepted =
     let d = driver_of questions meta.drivers c q a.driven.size at in
     let closes = sym (ap (λ b. b || list_any is_close_call (past_of p).admitted) accepted) ∙ complete in
     tried_at (errand_of s q) p.settings p.log closes d.0.phase accepted
-    (a.driven.each c q d.0 p at d.1 heard).at
+    (a.driven.each c q d.0 p at d.1 transcript).at

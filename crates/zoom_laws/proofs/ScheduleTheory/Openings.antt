@@ -22,7 +22,7 @@ use Rattle.zorigin.specs.declared.refusal.Refused.TheVariants as refused
 use Rattle.zorigin.specs.Replies.{verdict, answered}
 use Rattle.zorigin.specs.Log.{Log, Made, Got, Past, past, standing, state_of, state_from, opens, force_after, asked, admit_unless, accept, after_verdict}
 use Rattle.zorigin.specs.Laws.{IsOrderly}
-use Rattle.zoom_pool.specs.Heard.{answer_in}
+use Rattle.zoom_pool.specs.Transcripts.{answer_in}
 use Rattle.zoom_pool.specs.Driving.{plan_of, operation_for, reply_for, can_search, got_event, made_event, events_of, IsDueCall, IsDueEvent, IsDrivenLog}
 use Rattle.zoom_pool.specs.Laws.{plain}
 use Rattle.zorigin.proofs.Members.{among, contained}

@@ -16,7 +16,7 @@ use Rattle.zorigin.specs.Calls.{refusal}
 use Rattle.zorigin.specs.Replies.{verdict}
 use Rattle.zorigin.specs.Log.{Log, Made, Got, Past, past, standing, state_of, admit_unless, after_verdict}
 use Rattle.zorigin.specs.Laws.{IsOrderly}
-use Rattle.zoom_pool.specs.Heard.{answer_in}
+use Rattle.zoom_pool.specs.Transcripts.{answer_in}
 use Rattle.zoom_pool.specs.Driving.{operation_for, reply_for, got_event, made_event, events_of, IsDrivenLog}
 use Rattle.zoom_pool.proofs.Drivings.{in_last, in_front, replies_call, driven}
 

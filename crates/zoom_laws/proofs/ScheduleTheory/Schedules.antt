@@ -19,15 +19,15 @@ use Rattle.zoom_questions.specs.declared.question.MetaSettings.{MetaSettings}
 use Rattle.zoom_pool.specs.Driving.{operation_for, events_of, IsDrivenLog}
 use Rattle.zoom_pool.specs.Steering.{ask_of, errand_of}
 use Rattle.zoom_pool.specs.Drivers.{DriverState, IsDriver}
-use Rattle.zoom_pool.specs.Heard.{Heard, HasHeard}
-use Rattle.zoom_pool.specs.History.{History, only, accepted, facts_at}
+use Rattle.zoom_pool.specs.Transcripts.{Transcript, IsTranscript}
+use Rattle.zoom_pool.specs.History.{History, events_on, accepted, facts_at}
 use Rattle.zoom_pool.specs.Metas.{MetaLinks, MetaAfter, settings_of}
 use Rattle.zorigin.proofs.Members.{among, contained}
 use Rattle.zoom_pool.proofs.Drivings.{replied, driven}
 use Rattle.zoom_pool.proofs.Metas.{heard_at}
 use Rattle.zoom_pool.proofs.MetaLaws.{driver_of}
 use Rattle.zoom_pool.proofs.Orders.{from_answer, of_answer}
-use Rattle.zoom_laws.specs.Schedules.{IsComplete, AnswersAsked, AskedLaw, HadEqualReplies, AreAnsweredAlike, SameListLaw}
+use Rattle.zoom_laws.specs.Schedules.{IsCompleteTranscript, HasExactAnswers, AskedLaw, HaveEqualReplies, AreAnsweredAlike, SameListLaw}
 use Rattle.zoom_laws.proofs.ScheduleTheory.Answered.{is_replied, complete_by, complete_whole}
 use Rattle.zoom_laws.proofs.ScheduleTheory.Sets.{set_for, of_set, same_answer}
 use Rattle.zoom_laws.proofs.ScheduleTheory.Same.{agree}
@@ -37,24 +37,24 @@ question_at [] c lt = absurd (omega arith)
 question_at (q ∷ qs) zero lt = (q, refl)
 question_at (q ∷ qs) (suc c) lt = question_at qs c (omega arith)
 
-knows : (questions : List Question) (s : MetaSettings) (h : History) (meta : MetaLinks) (c : ℕ) (q : Question) (p : Heard)
-    → MetaAfter questions s h meta → slice_get questions c ≡ Some q → HasHeard (settings_of s) (only c h) p
+knows : (questions : List Question) (s : MetaSettings) (h : History) (meta : MetaLinks) (c : ℕ) (q : Question) (p : Transcript)
+    → MetaAfter questions s h meta → slice_get questions c ≡ Some q → IsTranscript (settings_of s) (events_on c h) p
     → (d : DriverState) × IsDriver (errand_of s q) p.settings p.log d
-knows questions s h meta c q p a at heard =
+knows questions s h meta c q p a at transcript =
     let d = driver_of questions meta.drivers c q a.driven.size at in
-    (d.0, a.driven.each c q d.0 p at d.1 heard)
+    (d.0, a.driven.each c q d.0 p at d.1 transcript)
 
 module _ (orderly : (s : Settings) (l : Log) → IsOrderly (past s l))
     (accepts : (s : Settings) (l : Log) (x : Answer) → Contains (past s l).accepted x → IsAccepted s l x) where
   -- ---- exactly what is asked was answered
 
-  answered_at : (q : Question) (s : MetaSettings) (p : Heard) (d : DriverState)
-      → IsDriver (errand_of s q) p.settings p.log d → IsComplete p → AnswersAsked q s.step p
+  answered_at : (q : Question) (s : MetaSettings) (p : Transcript) (d : DriverState)
+      → IsDriver (errand_of s q) p.settings p.log d → IsCompleteTranscript p → HasExactAnswers q s.step p
   answered_at q s p d k e =
       let events = events_of (ask_of q) p.settings p.log in
       let plan = driven (ask_of q) p.settings (positions q.wanted) s.step orderly p.log k.driven in
       record {
-        only = λ x i.
+        events_on = λ x i.
             let r = is_replied (ask_of q) p.settings p.log x (among x (accepted p) i) in
             sent_asked (positions q.wanted) s.step events plan (operation_for x.asked.what)
             (answered_sent (positions q.wanted) s.step events plan (operation_for x.asked.what) r.0 r.1);
@@ -65,22 +65,22 @@ module _ (orderly : (s : Settings) (l : Log) → IsOrderly (past s l))
       }
 
   pub asked_law : AskedLaw
-  asked_law questions s h meta c q p a at heard e =
-      let k = knows questions s h meta c q p a at heard in
+  asked_law questions s h meta c q p a at transcript e =
+      let k = knows questions s h meta c q p a at transcript in
       answered_at q s p k.0 k.1 e
 
   -- ---- the same is known
 
-  set_right : (q : Question) (s : MetaSettings) (p : Heard) (d : DriverState) → IsDriver (errand_of s q) p.settings p.log d
+  set_right : (q : Question) (s : MetaSettings) (p : Transcript) (d : DriverState) → IsDriver (errand_of s q) p.settings p.log d
       → (x : Answer) → IsIn x (accepted p) → x.asked.set ≡ set_for x.asked.what
   set_right q s p d k x i =
       of_set (errand_of s q) p.settings p.log k.steered x.asked
       (among x.asked (asked (past p.settings p.log)) ((orderly p.settings p.log).known x (contained x (accepted p) i)))
 
   -- what an answer of the one says, an answer of the other says
-  module _ (q : Question) (s t : MetaSettings) (one other : Heard) (d e : DriverState)
+  module _ (q : Question) (s t : MetaSettings) (one other : Transcript) (d e : DriverState)
       (k : IsDriver (errand_of s q) one.settings one.log d) (l : IsDriver (errand_of t q) other.settings other.log e)
-      (step : s.step ≡ t.step) (this : IsComplete one) (that : IsComplete other) (equal : HadEqualReplies one other) where
+      (step : s.step ≡ t.step) (this : IsCompleteTranscript one) (that : IsCompleteTranscript other) (equal : HaveEqualReplies one other) where
     answers_too : AreAnsweredAlike one other
     answers_too x i =
         let ask = ask_of q in
@@ -106,17 +106,17 @@ module _ (orderly : (s : Settings) (l : Log) → IsOrderly (past s l))
         (set_right q t other e l y.0 (among y.0 (accepted other) y.1)) y.2 y.3 in
         of_answer c (accepted other) y.0 f y.1 (subst (λ z. Contains z f) same x.2)
 
-  turned : (one other : Heard) → HadEqualReplies one other → HadEqualReplies other one
-  turned one other equal x y i j op = sym (equal y x j i (sym op))
+  reversed : (one other : Transcript) → HaveEqualReplies one other → HaveEqualReplies other one
+  reversed one other equal x y i j op = sym (equal y x j i (sym op))
 
   module _ (questions : List Question) (s t : MetaSettings) (g h : History) (one other : MetaLinks)
       (a : MetaAfter questions s g one) (b : MetaAfter questions t h other) where
     -- of each connection
-    both_at : s.step ≡ t.step → ((c : ℕ) → c < length questions → IsComplete (a.pool.heard c))
-        → ((c : ℕ) → c < length questions → IsComplete (b.pool.heard c))
-        → ((c : ℕ) → HadEqualReplies (a.pool.heard c) (b.pool.heard c))
-        → (c : ℕ) → AreAnsweredAlike (a.pool.heard c) (b.pool.heard c)
-        × ((f : Fact) → Contains (facts_at c (a.pool.heard c)) f → Contains (facts_at c (b.pool.heard c)) f)
+    both_at : s.step ≡ t.step → ((c : ℕ) → c < length questions → IsCompleteTranscript (a.pool.transcript c))
+        → ((c : ℕ) → c < length questions → IsCompleteTranscript (b.pool.transcript c))
+        → ((c : ℕ) → HaveEqualReplies (a.pool.transcript c) (b.pool.transcript c))
+        → (c : ℕ) → AreAnsweredAlike (a.pool.transcript c) (b.pool.transcript c)
+        × ((f : Fact) → Contains (facts_at c (a.pool.transcript c)) f → Contains (facts_at c (b.pool.transcript c)) f)
     both_at step first second equal c = by (below c (length questions))
       where
         below : (c n : ℕ) → (c < n) ⊎ (n ≤ c)
@@ -125,18 +125,18 @@ module _ (orderly : (s : Settings) (l : Log) → IsOrderly (past s l))
           | false ↦ λ e. inr (grind (arith, nat_tests))
         ] refl
 
-        by : (c < length questions) ⊎ (length questions ≤ c) → AreAnsweredAlike (a.pool.heard c) (b.pool.heard c)
-            × ((f : Fact) → Contains (facts_at c (a.pool.heard c)) f → Contains (facts_at c (b.pool.heard c)) f)
+        by : (c < length questions) ⊎ (length questions ≤ c) → AreAnsweredAlike (a.pool.transcript c) (b.pool.transcript c)
+            × ((f : Fact) → Contains (facts_at c (a.pool.transcript c)) f → Contains (facts_at c (b.pool.transcript c)) f)
         by (inl lt) =
             let q = question_at questions c lt in
-            let mine = heard_at (settings_of s) g a.pool.heard one.pool.connections c a.pool.stands
+            let mine = heard_at (settings_of s) g a.pool.transcript one.pool.connections c a.pool.stands
             (subst (λ n. c < n) (sym a.size) lt) in
-            let theirs = heard_at (settings_of t) h b.pool.heard other.pool.connections c b.pool.stands
+            let theirs = heard_at (settings_of t) h b.pool.transcript other.pool.connections c b.pool.stands
             (subst (λ n. c < n) (sym b.size) lt) in
-            let k = knows questions s g one c q.0 (a.pool.heard c) a q.1 mine in
-            let l = knows questions t h other c q.0 (b.pool.heard c) b q.1 theirs in (
-              answers_too q.0 s t (a.pool.heard c) (b.pool.heard c) k.0 l.0 k.1 l.1 step (first c lt) (second c lt) (equal c),
-              says_too q.0 s t (a.pool.heard c) (b.pool.heard c) k.0 l.0 k.1 l.1 step (first c lt) (second c lt) (equal c) c,
+            let k = knows questions s g one c q.0 (a.pool.transcript c) a q.1 mine in
+            let l = knows questions t h other c q.0 (b.pool.transcript c) b q.1 theirs in (
+              answers_too q.0 s t (a.pool.transcript c) (b.pool.transcript c) k.0 l.0 k.1 l.1 step (first c lt) (second c lt) (equal c),
+              says_too q.0 s t (a.pool.transcript c) (b.pool.transcript c) k.0 l.0 k.1 l.1 step (first c lt) (second c lt) (equal c) c,
             )
         by (inr le) =
             let silent = (a.pool.stands.others c (subst (λ n. n ≤ c) (sym a.size) le)).1 in (
@@ -146,7 +146,7 @@ module _ (orderly : (s : Settings) (l : Log) → IsOrderly (past s l))
 
   pub same_law : SameListLaw
   same_law questions s t g h one other a b alike =
-      let turn = λ (c : ℕ). turned (a.pool.heard c) (b.pool.heard c) (alike.equal c) in
+      let turn = λ (c : ℕ). reversed (a.pool.transcript c) (b.pool.transcript c) (alike.equal c) in
       let there = both_at questions s t g h one other a b alike.step alike.first alike.second alike.equal in
       let back = both_at questions t s h g other one b a (sym alike.step) alike.second alike.first turn in
       let known : one.pool.knowledge ≡ other.pool.knowledge =

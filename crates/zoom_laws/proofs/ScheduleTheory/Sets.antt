@@ -19,7 +19,7 @@ use Rattle.zorigin.specs.Replies.{verdict}
 use Rattle.zorigin.specs.Log.{Log, Made, Got, past, standing, asked, operation_of, admit_unless}
 use Rattle.zorigin.specs.Facts.{facts_by, facts_of, init_facts, search_facts, present_facts}
 use Rattle.zoom_pool.specs.Driving.{operation_for}
-use Rattle.zoom_pool.specs.Steering.{Errand, IsOf, IsSteered, IsSteeredCall}
+use Rattle.zoom_pool.specs.Steering.{Errand, IsCallOf, IsSteered, IsSteeredCall}
 use Rattle.zoom_pool.specs.Laws.{plain}
 use Rattle.zoom_pool.proofs.Drivings.{asked_more, same_asked}
 
@@ -30,7 +30,7 @@ set_for what.Init = 0
 set_for what.Search = 1
 set_for (what.Present ranges) = 1
 
-of_call : (e : Errand) (call : Call) (q : Asked) → IsOf e call → IsIn q (operation_of call) → q.set ≡ set_for q.what
+of_call : (e : Errand) (call : Call) (q : Asked) → IsCallOf e call → IsIn q (operation_of call) → q.set ≡ set_for q.what
 of_call e Init q of (inl is) = ap (λ (z : Asked). z.set) is ∙ ap (λ (z : Asked). set_for z.what) (sym is)
 of_call e Init q of (inr i) = absurd i
 of_call e (Search op set ask) q of (inl is) =

@@ -1,12 +1,12 @@
 use Rattle.std.proofs.Common.{◌≡◌, [], sym, subst, arith}
-use Rattle.zmeta_commands.specs.Digits.{digits, BeginsWith}
+use Rattle.zmeta_commands.specs.Digits.{digits, HasOctetFirst}
 use Rattle.zmeta_commands.proofs.Reading.{IsRead, read_more, read_all}
 use Rattle.zmeta_commands.proofs.digits.decode.Goals as goal
 
 pub loop-octets-preserved : goal.loop-octets-preserved
 loop-octets-preserved c =
     let before = c.loop-octets in
-    let front : BeginsWith before.rest.now c.in-Some.next.0 c.in-Some.next.1.now = rw c.in-Some.is at c.in_ok-next.ensures.octet in record {
+    let front : HasOctetFirst before.rest.now c.in-Some.next.0 c.in-Some.next.1.now = rw c.in-Some.is at c.in_ok-next.ensures.octet in record {
       read = subst (λ z. IsRead c.args.text.now z c.in-Some.next.1.now) (sym c.push_reserved.ensures.items)
           (read_more c.args.text.now before.octets.items before.rest.now c.in-Some.next.1.now c.in-Some.next.0 before.invariant.read front);
       room = let shorter = front.shorter in omega (arith, shorter, c.push_reserved.ensures.len, c.push_reserved.ensures.capacity, before.invariant.room);

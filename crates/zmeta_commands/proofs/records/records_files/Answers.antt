@@ -1,7 +1,7 @@
 use Rattle.std.proofs.Common.{◌≡◌, refl, ◌∙◌, [], ◌∷◌, rules}
 use Rattle.std.proofs.lemmas.Result.{err_from_is_err_and}
 use Rattle.zknow_records.specs.Records.{records_octets, left_out}
-use Rattle.zmeta_commands.specs.Devices.{held}
+use Rattle.zmeta_commands.specs.Devices.{output_device}
 use Rattle.zmeta_args.specs.Texts.{texts_of}
 use Rattle.zmeta_commands.specs.Records.{extract}
 use Rattle.zmeta_commands.proofs.Extracting.{files_refused, extracted}
@@ -11,7 +11,7 @@ pub returns-in_err-knowledge : goal.returns-in_err-knowledge
 returns-in_err-knowledge g c =
     let p = err_from_is_err_and c.from_residual-in_err-knowledge.result c.from_residual-in_err-knowledge.ensures.1 in
     files_refused (extract c.args.wanted) (g.F.Folder.octets c.args.files.now) (c.args.saved.first.now ∷ texts_of c.args.saved.others.now)
-    (held g.W.Write.contents c.args.output.now) (held g.E.Write.contents c.args.errors.now)
+    (output_device g.W.Write.contents c.args.output.now) (output_device g.E.Write.contents c.args.errors.now)
     c.in_err-knowledge.field-0.0 p.0 c.from_residual-in_err-knowledge.result p.1 p.2 c.in_err-knowledge.ensures
 
 pub returns : goal.returns
@@ -21,9 +21,9 @@ returns g c =
     let put : c.in_ok-octets.octets.items ≡ records_octets oid c.args.wanted.conflicts facts = search rules in
     let which : c.in_ok-octets.left ≡ left_out oid c.args.wanted.conflicts facts = search rules in
     extracted (extract c.args.wanted) (g.F.Folder.octets c.args.files.now) (c.args.saved.first.now ∷ texts_of c.args.saved.others.now)
-    (held g.W.Write.contents c.args.output.now) (held g.E.Write.contents c.args.errors.now)
+    (output_device g.W.Write.contents c.args.output.now) (output_device g.E.Write.contents c.args.errors.now)
     facts c.in_ok-knowledge.field-0-1 oid c.as_slice.result.now c.as_slice-2.result.now [] c.in_ok-octets.left
     c.in_ok-knowledge.ensures c.in_ok-syntax.ensures refl
     (c.as_slice.ensures.value ∙ put) which (c.as_slice-2.ensures.value ∙ c.in_ok-lines.ensures)
-    (held g.W.Write.contents c.put_records.new.output) (held g.E.Write.contents c.put_records.new.errors)
+    (output_device g.W.Write.contents c.put_records.new.output) (output_device g.E.Write.contents c.put_records.new.errors)
     c.known_status-status.result c.known_status-status.ensures c.in_ok-put_records.ensures

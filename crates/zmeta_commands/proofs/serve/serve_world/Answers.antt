@@ -1,5 +1,5 @@
 use Rattle.std.proofs.Common.{◌∙◌, ap, sym}
-use Rattle.zmeta_world.specs.Fitness.{target_named}
+use Rattle.zmeta_world.specs.InMemoryRuns.{target_named}
 use Rattle.zmeta_commands.proofs.serve.serve_world.Goals as goal
 
 pub returns : goal.returns

@@ -1,12 +1,12 @@
 use Rattle.std.proofs.Common.{arith}
-use Rattle.zoom_io.specs.Among.{seen}
+use Rattle.zoom_io.specs.TalksAmong.{view_of}
 use Rattle.zoom_io.proofs.Joining.{steps_trans}
 use Rattle.zoom_io.proofs.among.take_leave.Goals as goal
 
 pub returns-then-branch-clause-steps : goal.returns-then-branch-clause-steps
 returns-then-branch-clause-steps g c n =
-    steps_trans c.args.c n n n n c.args.meta.now c.settle_ends.new.meta c.turn_out-then-branch.new.meta
-    (seen g.R.Polled.state g.R.Polled.polls g.W.Sink.state c.args.ends.now)
-    (seen g.R.Polled.state g.R.Polled.polls g.W.Sink.state c.settle_ends.new.ends)
-    (seen g.R.Polled.state g.R.Polled.polls g.W.Sink.state c.turn_out-then-branch.new.ends)
-    (c.in_ok-settle_ends-in-Due.ensures.steps n n (omega arith)) (c.turn_out-then-branch.ensures.steps n)
+    steps_trans c.args.c n n n n c.args.meta.now c.settle_halves.new.meta c.stop_at_limit-then-branch.new.meta
+    (view_of g.R.NonBlocking.state g.R.NonBlocking.polls g.W.Sink.state c.args.halves.now)
+    (view_of g.R.NonBlocking.state g.R.NonBlocking.polls g.W.Sink.state c.settle_halves.new.halves)
+    (view_of g.R.NonBlocking.state g.R.NonBlocking.polls g.W.Sink.state c.stop_at_limit-then-branch.new.halves)
+    (c.in_ok-settle_halves-in-Due.ensures.steps n n (omega arith)) (c.stop_at_limit-then-branch.ensures.steps n)

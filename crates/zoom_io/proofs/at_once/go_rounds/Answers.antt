@@ -1,12 +1,12 @@
 use Rattle.std.proofs.Common.{◌≡◌, ◌<◌, ◌∙◌, length, subst, refl, rules}
-use Rattle.zoom_io.specs.Among.{seen}
-use Rattle.zoom_io.specs.Rounds.{RoundsFrom}
+use Rattle.zoom_io.specs.TalksAmong.{view_of}
+use Rattle.zoom_io.specs.PollRounds.{AfterRounds}
 use Rattle.zoom_io.proofs.Together.{rounds_begin, rounds_go, rounds_over}
 use Rattle.zoom_io.proofs.at_once.go_rounds.Goals as goal
 
 pub loop-init : goal.loop-init
 loop-init g c = (
-  rounds_begin g.R.Polled.state g.R.Polled.polls g.W.Sink.state c.args.turns c.args.ends.now c.args.meta.now
+  rounds_begin g.R.NonBlocking.state g.R.NonBlocking.polls g.W.Sink.state c.args.turns c.args.halves.now c.args.meta.now
       c.requires.due,
   refl,
   refl,
@@ -14,16 +14,16 @@ loop-init g c = (
 
 pub returns-then-are_over-clause-rounds : goal.returns-then-are_over-clause-rounds
 returns-then-are_over-clause-rounds g c =
-    rounds_over g.R.Polled.state g.R.Polled.polls g.W.Sink.state c.loop.counter c.args.turns c.args.turns
-    c.args.ends.now c.loop.ends c.args.meta.now c.loop.meta (c.are_over.ensures c.if-are_over.true)
+    rounds_over g.R.NonBlocking.state g.R.NonBlocking.polls g.W.Sink.state c.loop.counter c.args.turns c.args.turns
+    c.args.halves.now c.loop.halves c.args.meta.now c.loop.meta (c.are_over.ensures c.if-are_over.true)
     c.loop.invariant.0
 
 pub loop-preserved : goal.loop-preserved
 loop-preserved g c =
     let few : c.loop.counter < c.args.turns = search rules in
-    let size : length c.go_round.new.ends ≡ length c.loop.ends = search rules in (
-      rounds_go (seen g.R.Polled.state g.R.Polled.polls g.W.Sink.state) c.loop.counter c.args.turns c.args.ends.now
-          c.loop.ends c.go_round.new.ends c.args.meta.now c.loop.meta c.go_round.new.meta c.loop.invariant.0
+    let size : length c.go_round.new.halves ≡ length c.loop.halves = search rules in (
+      rounds_go (view_of g.R.NonBlocking.state g.R.NonBlocking.polls g.W.Sink.state) c.loop.counter c.args.turns c.args.halves.now
+          c.loop.halves c.go_round.new.halves c.args.meta.now c.loop.meta c.go_round.new.meta c.loop.invariant.0
           (c.in_ok-idle.ensures.round c.loop.counter c.args.turns few),
       c.go_round.ensures.size ∙ c.loop.invariant.1,
       size ∙ c.loop.invariant.2,
@@ -32,5 +32,5 @@ loop-preserved g c =
 pub returns-clause-rounds : goal.returns-clause-rounds
 returns-clause-rounds g c =
     let all : c.loop.counter ≡ c.args.turns = search rules in
-    subst (λ z. RoundsFrom (seen g.R.Polled.state g.R.Polled.polls g.W.Sink.state) z c.args.turns
-    c.args.ends.now c.loop.ends c.args.meta.now c.loop.meta) all c.loop.invariant.0
+    subst (λ z. AfterRounds (view_of g.R.NonBlocking.state g.R.NonBlocking.polls g.W.Sink.state) z c.args.turns
+    c.args.halves.now c.loop.halves c.args.meta.now c.loop.meta) all c.loop.invariant.0

@@ -1,8 +1,8 @@
 use Rattle.std.proofs.Common.{◌≡◌, ◌∙◌, ◌<◌, ap, subst, sym, refl, Err, arith, rules}
 use Rattle.std.proofs.lemmas.Result.{err_from_is_err_and}
-use Rattle.zoom_io.specs.Talks.{Talks, Due}
-use Rattle.zoom_io.proofs.Speaking.{Begun, begun}
-use Rattle.zoom_io.proofs.Ending.{ends_over, waits_on, ends_unsettled, ends_turned, ends_unheard, hears_on, ends_finished}
+use Rattle.zoom_io.specs.TalkTraces.{AfterTalk, Due}
+use Rattle.zoom_io.proofs.Sending.{Begun, begun}
+use Rattle.zoom_io.proofs.Ending.{ends_over, waits_on, ends_unsettled, ends_at_limit, ends_unread, listened_on, ends_finished}
 use Rattle.zoom_io.proofs.conversation.converse.Goals as goal
 
 pub loop-init : goal.loop-init
@@ -27,7 +27,7 @@ pub returns-in_err-settle-clause-talks : goal.returns-in_err-settle-clause-talks
 returns-in_err-settle-clause-talks g c =
     let few : c.loop.counter < c.args.turns = search rules in
     let p = err_from_is_err_and c.from_residual.result c.from_residual.ensures.1 in
-    subst (λ z. Talks c.args.c c.args.turns z c.args.meta.now c.settle.new.meta (g.R.Source.state c.args.source.now)
+    subst (λ z. AfterTalk c.args.c c.args.turns z c.args.meta.now c.settle.new.meta (g.R.Source.state c.args.source.now)
     (g.R.Source.state c.loop.source) (g.W.Sink.state c.args.sink.now) (g.W.Sink.state c.settle.new.sink))
     (sym (p.1 ∙ ap Err p.2))
     (ends_unsettled c.args.c c.loop.counter c.args.turns c.args.meta.now c.loop.meta c.settle.new.meta
@@ -39,10 +39,10 @@ pub returns-in_err-listen-clause-talks : goal.returns-in_err-listen-clause-talks
 returns-in_err-listen-clause-talks g c =
     let few : c.loop.counter < c.args.turns = search rules in
     let p = err_from_is_err_and c.from_residual-in_err-listen.result c.from_residual-in_err-listen.ensures.1 in
-    subst (λ z. Talks c.args.c c.args.turns z c.args.meta.now c.listen.new.meta (g.R.Source.state c.args.source.now)
+    subst (λ z. AfterTalk c.args.c c.args.turns z c.args.meta.now c.listen.new.meta (g.R.Source.state c.args.source.now)
     (g.R.Source.state c.listen.new.source) (g.W.Sink.state c.args.sink.now) (g.W.Sink.state c.settle.new.sink))
     (sym (p.1 ∙ ap Err p.2))
-    (ends_unheard c.args.c c.loop.counter c.args.turns c.args.meta.now c.settle.new.meta c.listen.new.meta
+    (ends_unread c.args.c c.loop.counter c.args.turns c.args.meta.now c.settle.new.meta c.listen.new.meta
     (g.R.Source.state c.args.source.now) (g.R.Source.state c.loop.source) (g.R.Source.state c.listen.new.source)
     (g.W.Sink.state c.args.sink.now) (g.W.Sink.state c.settle.new.sink) few
     (waits_on c.args.c c.loop.counter c.args.meta.now c.loop.meta c.settle.new.meta (g.R.Source.state c.args.source.now)
@@ -64,7 +64,7 @@ returns-then-not-branch-clause-talks g c =
 
 pub loop-preserved : goal.loop-preserved
 loop-preserved g c = (
-  hears_on c.args.c c.loop.counter c.args.meta.now c.settle.new.meta c.listen.new.meta
+  listened_on c.args.c c.loop.counter c.args.meta.now c.settle.new.meta c.listen.new.meta
       (g.R.Source.state c.args.source.now) (g.R.Source.state c.loop.source) (g.R.Source.state c.listen.new.source)
       (g.W.Sink.state c.args.sink.now) (g.W.Sink.state c.settle.new.sink)
       (waits_on c.args.c c.loop.counter c.args.meta.now c.loop.meta c.settle.new.meta
@@ -79,7 +79,7 @@ pub returns-in_err-settle-2-clause-talks : goal.returns-in_err-settle-2-clause-t
 returns-in_err-settle-2-clause-talks g c =
     let all : c.loop.counter ≡ c.args.turns = search rules in
     let p = err_from_is_err_and c.from_residual-in_err-settle-2.result c.from_residual-in_err-settle-2.ensures.1 in
-    subst (λ z. Talks c.args.c c.args.turns z c.args.meta.now c.settle-2.new.meta (g.R.Source.state c.args.source.now)
+    subst (λ z. AfterTalk c.args.c c.args.turns z c.args.meta.now c.settle-2.new.meta (g.R.Source.state c.args.source.now)
     (g.R.Source.state c.loop.source) (g.W.Sink.state c.args.sink.now) (g.W.Sink.state c.settle-2.new.sink))
     (sym (p.1 ∙ ap Err p.2))
     (ends_unsettled c.args.c c.loop.counter c.args.turns c.args.meta.now c.loop.meta c.settle-2.new.meta
@@ -98,7 +98,7 @@ returns-then-branch-2-clause-talks g c =
 pub returns-clause-talks : goal.returns-clause-talks
 returns-clause-talks g c =
     let all : c.loop.counter ≡ c.args.turns = search rules in
-    ends_turned c.args.c c.args.turns c.args.meta.now c.settle-2.new.meta c.stop.new.self
+    ends_at_limit c.args.c c.args.turns c.args.meta.now c.settle-2.new.meta c.stop.new.self
     (g.R.Source.state c.args.source.now) (g.R.Source.state c.loop.source) (g.W.Sink.state c.args.sink.now)
     (g.W.Sink.state c.settle-2.new.sink)
     (waits_on c.args.c c.args.turns c.args.meta.now c.loop.meta c.settle-2.new.meta (g.R.Source.state c.args.source.now)

@@ -1,6 +1,6 @@
 use Rattle.std.proofs.Common.{◌≡◌, length}
-use Rattle.zoom_io.specs.Talks.{Due}
-use Rattle.zoom_io.proofs.Speaking.{Begun}
+use Rattle.zoom_io.specs.TalkTraces.{Due}
+use Rattle.zoom_io.proofs.Sending.{Begun}
 use Rattle.zoom_io.proofs.conversation.converse.Given as goal
 
 abbrev pub invariant-loop : goal.invariant-loop

@@ -1,16 +1,16 @@
 use Rattle.std.proofs.Common.{ap, sym, subst, ◌∙◌, ◌<◌, true, false, Err}
 use Rattle.std.proofs.lemmas.Result.{err_from_is_err_and}
-use Rattle.zoom_io.specs.Talks.{Waiting}
-use Rattle.zoom_io.specs.Talking.{Finishes}
-use Rattle.zoom_io.proofs.Speaking.{halts_ended}
+use Rattle.zoom_io.specs.TalkTraces.{Waiting}
+use Rattle.zoom_io.specs.Talking.{AfterFinish}
+use Rattle.zoom_io.proofs.Sending.{halts_ended}
 use Rattle.zoom_io.proofs.Ending.{goes_ended, well_tells}
 use Rattle.zoom_io.proofs.conversation.finish.Goals as goal
 
 pub returns-then-ended_well-clause-finishes : goal.returns-then-ended_well-clause-finishes
 returns-then-ended_well-clause-finishes c = (
-  goes_ended c.up_to.ensures c.one_meeting.ensures c.args.c c.args.meta.now c.end.new.self c.take_last.new.meta
+  goes_ended c.up_to.ensures c.one_input.ensures c.args.c c.args.meta.now c.end.new.self c.take_last.new.meta
       c.end.ensures.after c.in_ok-take_last.ensures.took,
-  well_tells c.up_to.ensures c.one_hearing.ensures c.args.c c.take_last.new.meta c.state.result true
+  well_tells c.up_to.ensures c.one_transcript.ensures c.args.c c.take_last.new.meta c.state.result true
       (subst (λ n. c.args.c < n) (sym (c.take_last.ensures.size ∙ c.end.ensures.size)) c.requires)
       c.state.ensures (sym c.ended_well.ensures ∙ c.if-ended_well.true),
 )
@@ -19,9 +19,9 @@ pub returns-clause-finishes : goal.returns-clause-finishes
 returns-clause-finishes c = (
   (
     c.take_last.new.meta,
-    goes_ended c.up_to.ensures c.one_meeting.ensures c.args.c c.args.meta.now c.end.new.self c.take_last.new.meta
+    goes_ended c.up_to.ensures c.one_input.ensures c.args.c c.args.meta.now c.end.new.self c.take_last.new.meta
         c.end.ensures.after c.in_ok-take_last.ensures.took,
-    well_tells c.up_to.ensures c.one_hearing.ensures c.args.c c.take_last.new.meta c.state.result false
+    well_tells c.up_to.ensures c.one_transcript.ensures c.args.c c.take_last.new.meta c.state.result false
         (subst (λ n. c.args.c < n) (sym (c.take_last.ensures.size ∙ c.end.ensures.size)) c.requires)
         c.state.ensures (sym c.ended_well.ensures ∙ c.if-ended_well.false),
     c.stop.ensures.after,
@@ -32,6 +32,6 @@ returns-clause-finishes c = (
 pub returns-in_err-take_last-clause-finishes : goal.returns-in_err-take_last-clause-finishes
 returns-in_err-take_last-clause-finishes c =
     let p = err_from_is_err_and c.from_residual.result c.from_residual.ensures.1 in
-    subst (λ z. Finishes c.args.c z c.args.meta.now c.take_last.new.meta) (sym (p.1 ∙ ap Err p.2))
+    subst (λ z. AfterFinish c.args.c z c.args.meta.now c.take_last.new.meta) (sym (p.1 ∙ ap Err p.2))
     (halts_ended c.up_to.ensures c.args.c Waiting c.args.meta.now c.end.new.self c.take_last.new.meta
     c.end.ensures.after c.in_err-take_last.ensures.keeps)

@@ -1,8 +1,8 @@
 use Rattle.std.proofs.Common.{◌≡◌, ◌<◌, ◌≤◌, length, ap, subst, sym, ◌∙◌, Err, rules, arith}
 use Rattle.std.proofs.lemmas.Result.{err_from_is_err_and}
-use Rattle.zoom_io.specs.Talks.{Waiting}
-use Rattle.zoom_io.specs.Talking.{Listens}
-use Rattle.zoom_io.proofs.Speaking.{halts_same}
+use Rattle.zoom_io.specs.TalkTraces.{Waiting}
+use Rattle.zoom_io.specs.Talking.{AfterListen}
+use Rattle.zoom_io.proofs.Sending.{halts_same}
 use Rattle.zoom_io.proofs.Ending.{fed_on}
 use Rattle.zoom_io.proofs.conversation.listen.Goals as goal
 
@@ -19,6 +19,6 @@ returns-in_ok-feed-in-Ok-clause-listens g c =
 pub returns-in_err-feed-in-Ok-clause-listens : goal.returns-in_err-feed-in-Ok-clause-listens
 returns-in_err-feed-in-Ok-clause-listens g c =
     let p = err_from_is_err_and c.from_residual.result c.from_residual.ensures.1 in
-    subst (λ z. Listens c.args.c z c.args.meta.now c.feed.new.self (g.R.Source.state c.args.source.now)
+    subst (λ z. AfterListen c.args.c z c.args.meta.now c.feed.new.self (g.R.Source.state c.args.source.now)
     (g.R.Source.state c.read.new.self)) (sym (p.1 ∙ ap Err p.2))
     (halts_same c.up_to.ensures c.args.c Waiting c.args.meta.now c.feed.new.self c.in_err-feed-in-Ok.ensures.err)

@@ -1,48 +1,48 @@
 use Rattle.std.proofs.Common.{◌∙◌, ◌<◌, ap, subst, sym, refl, Ok, Err}
 use Rattle.std.proofs.lemmas.Result.{err_from_is_err_and}
-use Rattle.zoom_io.specs.Talks.{Due, Waiting, Over, same}
-use Rattle.zoom_io.specs.Talking.{Settles}
-use Rattle.zoom_io.specs.Turns.{TakesTurn}
-use Rattle.zoom_io.proofs.Speaking.{goes_same, goes_trans, halts_after, halts_same, unsettled}
+use Rattle.zoom_io.specs.TalkTraces.{Due, Waiting, Over, same}
+use Rattle.zoom_io.specs.Talking.{AfterSettle}
+use Rattle.zoom_io.specs.TalkSteps.{AfterSendAndTake}
+use Rattle.zoom_io.proofs.Sending.{goes_same, goes_trans, halts_after, halts_same, unsettled}
 use Rattle.zoom_io.proofs.conversation.settle.Goals as goal
 
 pub loop-init : goal.loop-init
 loop-init g c = (λ left. goes_same c.args.c Due c.args.meta.now left (g.W.Sink.state c.args.sink.now), refl)
 
-pub take_turn-requires : goal.take_turn-requires
-take_turn-requires g c = subst (λ n. c.args.c < n) (sym c.loop.invariant.1) c.requires
+pub send_and_take-requires : goal.send_and_take-requires
+send_and_take-requires g c = subst (λ n. c.args.c < n) (sym c.loop.invariant.1) c.requires
 
-pub returns-in_err-take_turn-clause-settles : goal.returns-in_err-take_turn-clause-settles
-returns-in_err-take_turn-clause-settles g c =
+pub returns-in_err-send_and_take-clause-settles : goal.returns-in_err-send_and_take-clause-settles
+returns-in_err-send_and_take-clause-settles g c =
     let p = err_from_is_err_and c.from_residual.result c.from_residual.ensures.1 in
-    subst (λ z. Settles c.args.c z c.args.meta.now c.take_turn.new.meta (g.W.Sink.state c.args.sink.now)
-    (g.W.Sink.state c.take_turn.new.sink)) (sym (p.1 ∙ ap Err p.2))
-    (unsettled c.args.c c.in_err-take_turn.field-0.0 c.args.meta.now c.loop.meta c.take_turn.new.meta
-    (g.W.Sink.state c.args.sink.now) (g.W.Sink.state c.loop.sink) (g.W.Sink.state c.take_turn.new.sink)
-    c.loop.invariant.0 c.in_err-take_turn.ensures.turn)
+    subst (λ z. AfterSettle c.args.c z c.args.meta.now c.send_and_take.new.meta (g.W.Sink.state c.args.sink.now)
+    (g.W.Sink.state c.send_and_take.new.sink)) (sym (p.1 ∙ ap Err p.2))
+    (unsettled c.args.c c.in_err-send_and_take.field-0.0 c.args.meta.now c.loop.meta c.send_and_take.new.meta
+    (g.W.Sink.state c.args.sink.now) (g.W.Sink.state c.loop.sink) (g.W.Sink.state c.send_and_take.new.sink)
+    c.loop.invariant.0 c.in_err-send_and_take.ensures.receipt)
 
 pub returns-in-Nothing-clause-settles : goal.returns-in-Nothing-clause-settles
 returns-in-Nothing-clause-settles g c left =
-    goes_trans c.args.c Due Due Waiting same same c.args.meta.now c.loop.meta c.take_turn.new.meta left left left
-    (g.W.Sink.state c.args.sink.now) (g.W.Sink.state c.loop.sink) (g.W.Sink.state c.take_turn.new.sink)
-    (c.loop.invariant.0 left) (subst (λ z. TakesTurn c.args.c (Ok z) c.loop.meta c.take_turn.new.meta (g.W.Sink.state c.loop.sink)
-    (g.W.Sink.state c.take_turn.new.sink)) c.in-Nothing.is c.in_ok-take_turn.ensures.turn left)
+    goes_trans c.args.c Due Due Waiting same same c.args.meta.now c.loop.meta c.send_and_take.new.meta left left left
+    (g.W.Sink.state c.args.sink.now) (g.W.Sink.state c.loop.sink) (g.W.Sink.state c.send_and_take.new.sink)
+    (c.loop.invariant.0 left) (subst (λ z. AfterSendAndTake c.args.c (Ok z) c.loop.meta c.send_and_take.new.meta (g.W.Sink.state c.loop.sink)
+    (g.W.Sink.state c.send_and_take.new.sink)) c.in-Nothing.is c.in_ok-send_and_take.ensures.receipt left)
 
 pub returns-in-Over-clause-settles : goal.returns-in-Over-clause-settles
 returns-in-Over-clause-settles g c left =
-    goes_trans c.args.c Due Due Over same same c.args.meta.now c.loop.meta c.take_turn.new.meta left left left
-    (g.W.Sink.state c.args.sink.now) (g.W.Sink.state c.loop.sink) (g.W.Sink.state c.take_turn.new.sink)
-    (c.loop.invariant.0 left) (subst (λ z. TakesTurn c.args.c (Ok z) c.loop.meta c.take_turn.new.meta (g.W.Sink.state c.loop.sink)
-    (g.W.Sink.state c.take_turn.new.sink)) c.in-Over.is c.in_ok-take_turn.ensures.turn left)
+    goes_trans c.args.c Due Due Over same same c.args.meta.now c.loop.meta c.send_and_take.new.meta left left left
+    (g.W.Sink.state c.args.sink.now) (g.W.Sink.state c.loop.sink) (g.W.Sink.state c.send_and_take.new.sink)
+    (c.loop.invariant.0 left) (subst (λ z. AfterSendAndTake c.args.c (Ok z) c.loop.meta c.send_and_take.new.meta (g.W.Sink.state c.loop.sink)
+    (g.W.Sink.state c.send_and_take.new.sink)) c.in-Over.is c.in_ok-send_and_take.ensures.receipt left)
 
 pub loop-preserved : goal.loop-preserved
 loop-preserved g c = (
   λ left.
-      goes_trans c.args.c Due Due Due same same c.args.meta.now c.loop.meta c.take_turn.new.meta left left left
-      (g.W.Sink.state c.args.sink.now) (g.W.Sink.state c.loop.sink) (g.W.Sink.state c.take_turn.new.sink)
-      (c.loop.invariant.0 left) (subst (λ z. TakesTurn c.args.c (Ok z) c.loop.meta c.take_turn.new.meta (g.W.Sink.state c.loop.sink)
-      (g.W.Sink.state c.take_turn.new.sink)) c.in-Message.is c.in_ok-take_turn.ensures.turn left),
-  c.take_turn.ensures.size ∙ c.loop.invariant.1,
+      goes_trans c.args.c Due Due Due same same c.args.meta.now c.loop.meta c.send_and_take.new.meta left left left
+      (g.W.Sink.state c.args.sink.now) (g.W.Sink.state c.loop.sink) (g.W.Sink.state c.send_and_take.new.sink)
+      (c.loop.invariant.0 left) (subst (λ z. AfterSendAndTake c.args.c (Ok z) c.loop.meta c.send_and_take.new.meta (g.W.Sink.state c.loop.sink)
+      (g.W.Sink.state c.send_and_take.new.sink)) c.in-Message.is c.in_ok-send_and_take.ensures.receipt left),
+  c.send_and_take.ensures.size ∙ c.loop.invariant.1,
 )
 
 pub returns-clause-settles : goal.returns-clause-settles

@@ -1,10 +1,10 @@
 use Rattle.std.proofs.Common.{◌≡◌, length}
 use Rattle.zoom_io.specs.Devices.{DeviceState}
-use Rattle.zoom_io.specs.Talks.{Due, GoesOn, same}
+use Rattle.zoom_io.specs.TalkTraces.{Due, TalkStep, same}
 use Rattle.zoom_io.proofs.conversation.settle.Given as goal
 
 abbrev pub invariant-loop : goal.invariant-loop
 invariant-loop g l =
-    ((left : DeviceState) → GoesOn l.c Due Due same l.initial.meta l.meta left left (g.W.Sink.state l.initial.sink)
+    ((left : DeviceState) → TalkStep l.c Due Due same l.initial.meta l.meta left left (g.W.Sink.state l.initial.sink)
     (g.W.Sink.state l.sink))
     × (length l.meta.pool.connections ≡ length l.initial.meta.pool.connections)

@@ -1,6 +1,6 @@
 use Rattle.std.proofs.Common.{◌≡◌, ◌∙◌, ◌<◌, ap, subst, sym, Err, arith, rules}
 use Rattle.std.proofs.lemmas.Result.{err_from_is_err_and}
-use Rattle.zoom_io.specs.Answers.{Answers}
+use Rattle.zoom_io.specs.Answering.{AfterAnswer}
 use Rattle.zoom_io.proofs.Answering.{begun, piece_on, answers_end, answers_done, answers_turns, answers_failed}
 use Rattle.zoom_io.proofs.replies.answer.Goals as goal
 
@@ -33,7 +33,7 @@ pub returns-in_err-answer_piece : goal.returns-in_err-answer_piece
 returns-in_err-answer_piece g c =
     let few : c.loop.counter < c.args.reads = search rules in
     let p = err_from_is_err_and c.from_residual.result c.from_residual.ensures.1 in
-    subst (λ z. Answers c.args.reads z c.args.host.now c.answer_piece.new.host (g.R.Source.state c.args.source.now)
+    subst (λ z. AfterAnswer c.args.reads z c.args.host.now c.answer_piece.new.host (g.R.Source.state c.args.source.now)
     (g.R.Source.state c.answer_piece.new.source) (g.W.Sink.state c.args.sink.now)
     (g.W.Sink.state c.answer_piece.new.sink)) (sym (p.1 ∙ ap Err p.2))
     (answers_failed c.loop.counter c.args.reads c.args.host.now c.loop.host (g.R.Source.state c.args.source.now)

@@ -1,8 +1,8 @@
 use Rattle.std.proofs.Common.{◌≡◌, ◌∙◌, ◌<◌, ◌≤◌, suc, length, ap, subst, sym, Err, arith, rules}
 use Rattle.std.proofs.lemmas.Result.{err_from_is_err_and}
 use Rattle.std.specs.declared.alloc.AllocError.{AllocError}
-use Rattle.zoom_io.specs.Answers.{AnswersPiece}
-use Rattle.zoom_io.specs.Talks.{same}
+use Rattle.zoom_io.specs.Answering.{AfterAnswerPiece}
+use Rattle.zoom_io.specs.TalkTraces.{same}
 use Rattle.zoom_io.proofs.Answering.{on_fed, on_trans, piece_failed, starves_unfed, starves_unserved}
 use Rattle.zoom_io.proofs.replies.answer_piece.Goals as goal
 
@@ -15,7 +15,7 @@ returns-in_err-feed-in-Ok g c =
     let p = err_from_is_err_and c.from_residual.result c.from_residual.ensures.1 in
     let left = g.R.Source.state c.read.new.self in
     let held = g.W.Sink.state c.args.sink.now in
-    subst (λ z. AnswersPiece z c.args.host.now c.feed.new.self (g.R.Source.state c.args.source.now) left held held)
+    subst (λ z. AfterAnswerPiece z c.args.host.now c.feed.new.self (g.R.Source.state c.args.source.now) left held held)
     (sym (p.1 ∙ ap Err p.2))
     (starves_unfed c.args.host.now c.feed.new.self _ (g.R.Source.state c.args.source.now) left held
     c.in_err-feed-in-Ok.ensures.part c.in_err-feed-in-Ok.ensures.err c.in-Ok.ensures.reads.octets.0
@@ -32,7 +32,7 @@ returns-in_err-release_all-in-Ok g c =
     let left = g.R.Source.state c.read.new.self in
     let held = g.W.Sink.state c.args.sink.now in
     subst
-    (λ z. AnswersPiece z c.args.host.now c.release_all.new.host (g.R.Source.state c.args.source.now) left held held)
+    (λ z. AfterAnswerPiece z c.args.host.now c.release_all.new.host (g.R.Source.state c.args.source.now) left held held)
     (sym (p.1 ∙ ap Err p.2))
     (starves_unserved AllocError c.in_err-release_all-in-Ok.field-0.0 c.args.host.now c.feed.new.self
     c.release_all.new.host (g.R.Source.state c.args.source.now) left held
@@ -51,7 +51,7 @@ returns-in_err-write_replies-in-Ok g c =
     let source = g.R.Source.state c.args.source.now in
     let left = g.R.Source.state c.read.new.self in
     let held = g.W.Sink.state c.args.sink.now in
-    subst (λ z. AnswersPiece z c.args.host.now c.write_replies.new.host source left held
+    subst (λ z. AfterAnswerPiece z c.args.host.now c.write_replies.new.host source left held
     (g.W.Sink.state c.write_replies.new.sink)) (sym (p.1 ∙ ap Err p.2))
     (piece_failed c.in_err-write_replies-in-Ok.field-0.0 c.args.host.now c.release_all.new.host c.write_replies.new.host
     source left held held (g.W.Sink.state c.write_replies.new.sink)

@@ -1,7 +1,7 @@
 use Rattle.std.proofs.Common.{sym, subst}
 use Rattle.std.proofs.lemmas.Result.{err_from_is_err_and}
 use Rattle.std.specs.declared.alloc.AllocError.{AllocError}
-use Rattle.zoom_io.specs.Answers.{ServesAll}
+use Rattle.zoom_io.specs.Answering.{AfterReleaseAll}
 use Rattle.zoom_io.proofs.Answering.{serves_same, serves_trans, serves_release, serves_none}
 use Rattle.zoom_io.proofs.replies.release_all.Goals as goal
 
@@ -11,7 +11,7 @@ loop-init c = serves_same c.args.host.now
 pub returns-in_err-release : goal.returns-in_err-release
 returns-in_err-release c =
     let p = err_from_is_err_and c.from_residual.result c.from_residual.ensures.1 in
-    subst (λ z. ServesAll z c.args.host.now c.release.new.self) (sym p.1)
+    subst (λ z. AfterReleaseAll z c.args.host.now c.release.new.self) (sym p.1)
     (serves_none AllocError p.0 0 c.args.host.now c.loop.host c.release.new.self c.loop.invariant
     c.in_err-release.ensures.releases)
 

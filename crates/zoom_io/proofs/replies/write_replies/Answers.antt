@@ -1,7 +1,7 @@
 use Rattle.std.proofs.Common.{◌≡◌, ◌∙◌, ◌++◌, ap, subst, sym, Err}
 use Rattle.std.proofs.lemmas.Result.{err_from_is_err_and}
 use Rattle.std.specs.Io.KnownBytes.{Appends}
-use Rattle.zoom_io.specs.Answers.{Hands}
+use Rattle.zoom_io.specs.Answering.{AfterWriteReplies}
 use Rattle.zoom_io.proofs.Answering.{on_handed, starves_unhanded}
 use Rattle.zoom_io.proofs.replies.write_replies.Goals as goal
 
@@ -19,5 +19,5 @@ pub returns-in_err-outgoing : goal.returns-in_err-outgoing
 returns-in_err-outgoing g c =
     let p = err_from_is_err_and c.from_residual.result c.from_residual.ensures.1 in
     let sink = g.W.Sink.state c.args.sink.now in
-    subst (λ z. Hands z c.args.host.now c.outgoing.new.self sink sink) (sym (p.1 ∙ ap Err p.2))
+    subst (λ z. AfterWriteReplies z c.args.host.now c.outgoing.new.self sink sink) (sym (p.1 ∙ ap Err p.2))
     (starves_unhanded c.args.host.now c.outgoing.new.self sink c.in_err-outgoing.ensures.err)

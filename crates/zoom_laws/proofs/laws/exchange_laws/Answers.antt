@@ -20,7 +20,7 @@ returns c = record {
   takes = takes c.accord_laws.ensures;
   released = released;
   took = took;
-  converses = keeps_converse;
+  conversation = keeps_converse;
   ends = ends;
   rests = rests c.accord_laws.ensures;
   pending = keeps_owed;
@@ -30,5 +30,5 @@ returns c = record {
   over = over c.accord_laws.ensures;
   ended = ended c.next_laws.ensures c.agenda_laws.ensures c.driven_laws.ensures;
   tried = tried;
-  few = few c.meta_laws.ensures c.one_hearing.ensures;
+  few = few c.meta_laws.ensures c.one_transcript.ensures;
 }

@@ -2,7 +2,7 @@ use Rattle.std.proofs.Common.{◌≡◌, ◌∷◌, [], ◌++◌, List, length, 
 use Rattle.std.specs.Vec.Iter.{into_iter_items}
 use Rattle.zoom_questions.specs.declared.question.Question.{Question}
 use Rattle.zoom_questions.specs.Askable.{IsAskable, AreAskable}
-use Rattle.zoom_pool.specs.Metas.{StandFor}
+use Rattle.zoom_pool.specs.Metas.{AreNewDrivers}
 use Rattle.zoom_pool.proofs.Metas.{askable_at, stand_push}
 use Rattle.zoom_pool.proofs.meta.drivers_for.Goals as goal
 
@@ -39,7 +39,7 @@ loop-question-preserved c =
     let x = c.in-Some.question in
     let steps : into_iter_items at.question-iterator ≡ x ∷ into_iter_items c.next.new.self = c.in-Some.ensures.steps.0 in (
       append_assoc at.yielded (x ∷ []) _ ∙ rw (← steps) at.invariant.0,
-      subst (StandFor (at.yielded ++ x ∷ []) c.args.step c.args.window) (sym c.in_ok-push.ensures.items)
+      subst (AreNewDrivers (at.yielded ++ x ∷ []) c.args.step c.args.window) (sym c.in_ok-push.ensures.items)
           (stand_push at.yielded c.args.step c.args.window at.drivers.items x _ at.invariant.1 c.new.ensures),
       let was = at.invariant.2 in
           let gone = c.in-Some.ensures.steps.1 in
@@ -54,4 +54,4 @@ returns c =
     let empty : into_iter_items at.question-iterator ≡ [] = nothing_left _ (sym at.invariant.2 ∙ none.0) in
     let all = sym (append-nil at.yielded) ∙ rw empty at at.invariant.0
     ∙ c.into_iter-question-iterator.ensures.into_iter_gives.0 ∙ c.into_vec-question-items.ensures in
-    subst (λ l. StandFor l c.args.step c.args.window at.drivers.items) all at.invariant.1
+    subst (λ l. AreNewDrivers l c.args.step c.args.window at.drivers.items) all at.invariant.1

@@ -30,5 +30,5 @@ returns-in-Ok-None c =
 
 pub returns : goal.returns
 returns c =
-    next_error _ c.args.framer.now.stream c.next.new.self.stream c.args.target.now c.in-Err.error c.turn_at.result
-    c.in-Err.ensures.answers c.turn_at.ensures
+    next_error _ c.args.framer.now.stream c.next.new.self.stream c.args.target.now c.in-Err.error c.reception_of.result
+    c.in-Err.ensures.answers c.reception_of.ensures

@@ -1,5 +1,5 @@
 use Rattle.std.proofs.Common.{◌≡◌, ◌++◌, take}
-use Rattle.zoom_pool.specs.Heard.{joined}
+use Rattle.zoom_pool.specs.Transcripts.{joined}
 use Rattle.zoom_pool.proofs.waiting.append_all.Given as goal
 
 abbrev pub invariant-loop-octets : goal.invariant-loop-octets

@@ -1,6 +1,6 @@
 use Rattle.std.proofs.Common.{subst}
 use Rattle.std.proofs.lemmas.Result.{IfOk-weaker}
-use Rattle.zoom_sim.specs.RunSound.{Started}
+use Rattle.zoom_sim.specs.RunSound.{AreStarted}
 use Rattle.zoom_sim.proofs.RunRounds.{started_fine}
 use Rattle.zoom_sim.proofs.RunWorlds.{goes_world, peers_size, world_ends, world_trans}
 use Rattle.zoom_sim.proofs.rounds.carry_out.Goals as goal
@@ -14,7 +14,7 @@ returns-clause-ends g c = IfOk-weaker c.finish.result _ _ (λ _ f.
 
 pub returns-clause-whole : goal.returns-clause-whole
 returns-clause-whole g c = λ sure. IfOk-weaker c.finish.result _ _ (λ _ whole qs s ts after of equal.
-    let started = subst (λ n. Started n qs s ts c.drive_all.new.meta c.args.peers.now) after.size
+    let started = subst (λ n. AreStarted n qs s ts c.drive_all.new.meta c.args.peers.now) after.size
     (c.in_ok-drive_all.ensures.starts.on qs s ts c.args.peers.now after of) in
     whole.on qs s ts ((c.in_ok-make_moves.ensures.stays sure).on qs s ts
     (started_fine qs s ts c.drive_all.new.meta c.args.peers.now started (peers_size ts c.args.peers.now of) equal)))

@@ -1,8 +1,8 @@
 use Rattle.std.proofs.Common.{true, ◌∙◌, subst, arith}
 use Rattle.zoom_pool.specs.Metas.{IsFinishedUpTo}
 use Rattle.zoom_pool.proofs.Advancing.{finished_after}
-use Rattle.zoom_sim.proofs.RunHalts.{finished_halts}
-use Rattle.zoom_sim.proofs.RunSpares.{spares_trans}
+use Rattle.zoom_sim.proofs.RunStops.{finished_halts}
+use Rattle.zoom_sim.proofs.RunUnfinished.{spares_trans}
 use Rattle.zoom_sim.proofs.RunRounds.{grown_more, finished_whole, most_whole}
 use Rattle.zoom_sim.proofs.RunWorlds.{goes_world, halts_ends, world_ends, world_trans}
 use Rattle.zoom_sim.proofs.rounds.finish.Goals as goal
@@ -39,7 +39,7 @@ returns-clause-ends g c =
 
 pub returns-clause-whole : goal.returns-clause-whole
 returns-clause-whole g c = λ sure.
-    most_whole c.exchange_laws.ensures c.one_hearing.ensures c.loop.counter c.args.meta.now c.loop.meta
+    most_whole c.exchange_laws.ensures c.one_transcript.ensures c.loop.counter c.args.meta.now c.loop.meta
     c.stop_all.new.meta c.args.peers.now c.loop.peers (c.loop.invariant.2 sure) (omega (arith, c.loop-test.false))
     (spares_trans c.loop.meta c.end_inputs.new.meta c.stop_all.new.meta
     c.in_ok-end_inputs.ensures.spares c.stop_all.ensures.spares)

@@ -1,6 +1,6 @@
 use Rattle.std.proofs.Common.{◌∙◌, arith}
 use Rattle.std.specs.Prelude.{◌||◌}
-use Rattle.zoom_sim.proofs.RunRounds.{turned_all, turned_more, or_left, or_right}
+use Rattle.zoom_sim.proofs.RunRounds.{round_all, round_more, or_left, or_right}
 use Rattle.zoom_sim.proofs.RunWorlds.{step_world, world_trans}
 use Rattle.zoom_sim.proofs.rounds.go_round.Goals as goal
 
@@ -10,7 +10,7 @@ loop-c-preserved g c = (
       (step_world c.loop-c.c c.loop-c.meta c.go_round.new.meta c.loop-c.peers c.index-peers-c.result c.go_round.new.self
       (omega arith) c.in_ok-moved.ensures.carries),
   c.go_round.ensures.size ∙ c.loop-c.invariant.1,
-  λ sure. turned_more c.one_hearing.ensures c.exchange_laws.ensures.longer c.loop-c.any c.in_ok-moved.moved
+  λ sure. round_more c.one_transcript.ensures c.exchange_laws.ensures.longer c.loop-c.any c.in_ok-moved.moved
       (c.loop-c.any || c.in_ok-moved.moved) c.args.meta.now c.loop-c.meta c.go_round.new.meta c.args.peers.now
       c.loop-c.peers c.loop-c.c c.index-peers-c.result c.go_round.new.self (omega arith)
       (or_right c.loop-c.any c.in_ok-moved.moved) (or_left c.loop-c.any c.in_ok-moved.moved)
@@ -19,5 +19,5 @@ loop-c-preserved g c = (
 
 pub returns-clause-rounds : goal.returns-clause-rounds
 returns-clause-rounds g c = λ sure.
-    turned_all c.loop-c.c c.loop-c.any c.args.meta.now c.loop-c.meta c.args.peers.now c.loop-c.peers
+    round_all c.loop-c.c c.loop-c.any c.args.meta.now c.loop-c.meta c.args.peers.now c.loop-c.peers
     (omega (arith, c.loop-c-test.false)) (c.loop-c.invariant.2 sure)

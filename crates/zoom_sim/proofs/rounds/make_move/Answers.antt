@@ -10,6 +10,6 @@ returns-clause-goes g c =
 
 pub returns-clause-stays : goal.returns-clause-stays
 returns-clause-stays g c = λ sure.
-    step_stays c.one_hearing.ensures c.exchange_laws.ensures.longer c.args.meta.now c.make.new.meta c.args.peers.now
+    step_stays c.one_transcript.ensures c.exchange_laws.ensures.longer c.args.meta.now c.make.new.meta c.args.peers.now
     c.connection_of-c.result c.index-peers-c.result c.make.new.self c.if-c-peers.false false
     (c.in_ok-make.ensures.steps sure)

@@ -1,9 +1,9 @@
 use Rattle.std.proofs.Common.{sym, subst, ap, is_some}
-use Rattle.zoom_tcp.specs.AskingSteps.{TalksOut}
-use Rattle.zoom_tcp.proofs.InTurn.{talks_none}
-use Rattle.zoom_tcp.proofs.in_turn.talk_if.Goals as goal
+use Rattle.zoom_tcp.specs.AskingSteps.{AfterTalkOn}
+use Rattle.zoom_tcp.proofs.InOrder.{talks_none}
+use Rattle.zoom_tcp.proofs.in_order.talk_if.Goals as goal
 
 pub returns-in-None-clause-talks : goal.returns-in-None-clause-talks
 returns-in-None-clause-talks g c =
-    subst (λ z. TalksOut c.args.c z c.args.meta.now c.args.meta.now) (sym (ap is_some c.in-None.is))
+    subst (λ z. AfterTalkOn c.args.c z c.args.meta.now c.args.meta.now) (sym (ap is_some c.in-None.is))
     (talks_none c.args.c c.args.meta.now)

@@ -1,5 +1,5 @@
-use Rattle.zoom_tcp.proofs.InTurn.{talks_itself, talks_stopped}
-use Rattle.zoom_tcp.proofs.in_turn.talk_on.Goals as goal
+use Rattle.zoom_tcp.proofs.InOrder.{talks_itself, talks_stopped}
+use Rattle.zoom_tcp.proofs.in_order.talk_on.Goals as goal
 
 pub returns-in-Ok-clause-talks : goal.returns-in-Ok-clause-talks
 returns-in-Ok-clause-talks g c =

@@ -1,4 +1,4 @@
-use Rattle.zmeta_world.proofs.FitnessTargets.{small_target}
+use Rattle.zmeta_world.proofs.InMemoryTargets.{small_target}
 use Rattle.zmeta_world.proofs.world.World.target.Goals as goal
 
 pub returns-clause-small : goal.returns-clause-small

@@ -1,7 +1,7 @@
 use Rattle.std.proofs.Common.{rules, ◌≡◌, false, sym, ap, subst, ◌∙◌}
 use Rattle.zber.specs.Unfinished.{IsUnfinished}
 use Rattle.zber.specs.declared.framer.TheConstants.{MESSAGE_LIMIT}
-use Rattle.zoom_pool.specs.Leaving.{Matches}
+use Rattle.zoom_pool.specs.Connections.{AreConsistent}
 use Rattle.zoom_pool.specs.Links.{Link}
 use Rattle.zoom_pool.proofs.Taking.{idle, truncated_at}
 use Rattle.zoom_pool.proofs.connection.Connection.lack.Goals as goal
@@ -13,7 +13,7 @@ returns-then-not-self-clause-answer c = λ p m s u.
 
 pub returns-in-Fault-clause-answer : goal.returns-in-Fault-clause-answer
 returns-in-Fault-clause-answer c = λ p m s u.
-    truncated_at p _ c.in-Fault.kind c.in-Fault.at (subst (Matches p) (sym c.self.view_is) m) s
+    truncated_at p _ c.in-Fault.kind c.in-Fault.at (subst (AreConsistent p) (sym c.self.view_is) m) s
     (ap (λ (z : Link). z.held) c.self.view_is ∙ c.requires.none) (ap (λ (z : Link). z.framer.asked) c.self.view_is
     ∙ c.requires.asked) (ap (λ (z : Link). z.framer.fault) c.self.view_is ∙ c.requires.sound)
     (subst (λ (z : Link). IsUnfinished MESSAGE_LIMIT z.framer.octets) (sym c.self.view_is) u) (search rules) (search rules)

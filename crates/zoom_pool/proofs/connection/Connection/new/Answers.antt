@@ -4,7 +4,7 @@ use Rattle.zoom_pool.proofs.connection.Connection.new.Goals as goal
 
 pub returns : goal.returns
 returns c = record {
-  heard = refl;
+  transcript = refl;
   matches = record {
     origin = c.new.ensures;
     frames = record {

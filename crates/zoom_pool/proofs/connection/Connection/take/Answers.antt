@@ -1,10 +1,10 @@
 use Rattle.std.proofs.Common.{◌≡◌, false, None, Some, refl, sym, ap, subst, ◌∙◌}
 use Rattle.zoom_pool.specs.Links.{Link}
-use Rattle.zoom_pool.specs.Heard.{state_at, stop_by, joined}
+use Rattle.zoom_pool.specs.Transcripts.{state_at, after_stop, joined}
 use Rattle.zoom_pool.specs.States.{is_stopped}
 use Rattle.zoom_pool.specs.declared.state.Reason.TheVariants as reasons
 use Rattle.zoom_pool.specs.declared.state.State.TheVariants as states
-use Rattle.zoom_pool.specs.Leaving.{Frames, Matches}
+use Rattle.zoom_pool.specs.Connections.{FramerAfter, AreConsistent}
 use Rattle.zoom_pool.proofs.Streams.{going}
 use Rattle.zorigin.specs.Log.{After as OriginAfter}
 use Rattle.zoom_pool.specs.Steps.{stop_after}
@@ -21,10 +21,10 @@ pub returns-in-Ok-Some-clause-done : goal.returns-in-Ok-Some-clause-done
 returns-in-Ok-Some-clause-done c = λ p m d.
     let s : is_stopped (state_at p) ≡ false = sym (ap is_stopped (c.state.ensures p m)) ∙ sym c.is_stopped.ensures
     ∙ c.if-is_stopped.false in
-    let n = subst (Matches p) (sym c.self.view_is) m in
+    let n = subst (AreConsistent p) (sym c.self.view_is) m in
     let draws = rw c.in-Ok-Some.field-0-is at (c.in-Ok-Some.ensures.answer p (going _ p.stop s) n.frames) in
     let k : Link = record {
-      origin = c.heed-answer.new.origin;
+      origin = c.process-answer.new.origin;
       framer = c.next_message.new.framer.stream;
       held =
           c.settle.new.held;
@@ -33,20 +33,20 @@ returns-in-Ok-Some-clause-done c = λ p m d.
       stop =
           c.settle.new.stop;
     } in
-    let stop : c.settle.new.stop ≡ stop_after p.stop c.heed-answer.result = c.settle.ensures.stopped
-    ∙ ap (λ z. stop_after z c.heed-answer.result) n.stop in
-    let none : c.settle.new.held ≡ None = c.settle.ensures.kept ∙ held_done c.heed-answer.result _ _ d ∙ draws.0 in
-    took c.stream_laws.ensures c.args.target p _ c.heed-answer.result k _ _ s draws.1 none
-    (c.heed-answer.ensures.done p n.origin d) n.ended stop
+    let stop : c.settle.new.stop ≡ stop_after p.stop c.process-answer.result = c.settle.ensures.stopped
+    ∙ ap (λ z. stop_after z c.process-answer.result) n.stop in
+    let none : c.settle.new.held ≡ None = c.settle.ensures.kept ∙ held_done c.process-answer.result _ _ d ∙ draws.0 in
+    took c.stream_laws.ensures c.args.target p _ c.process-answer.result k _ _ s draws.1 none
+    (c.process-answer.ensures.done p n.origin d) n.ended stop
 
 pub returns-in-Ok-Some-clause-memory : goal.returns-in-Ok-Some-clause-memory
 returns-in-Ok-Some-clause-memory c = λ p m e.
     let s : is_stopped (state_at p) ≡ false = sym (ap is_stopped (c.state.ensures p m)) ∙ sym c.is_stopped.ensures
     ∙ c.if-is_stopped.false in
-    let n = subst (Matches p) (sym c.self.view_is) m in
+    let n = subst (AreConsistent p) (sym c.self.view_is) m in
     let draws = rw c.in-Ok-Some.field-0-is at (c.in-Ok-Some.ensures.answer p (going _ p.stop s) n.frames) in
     let k : Link = record {
-      origin = c.heed-answer.new.origin;
+      origin = c.process-answer.new.origin;
       framer = c.next_message.new.framer.stream;
       held =
           c.settle.new.held;
@@ -55,24 +55,24 @@ returns-in-Ok-Some-clause-memory c = λ p m e.
       stop =
           c.settle.new.stop;
     } in
-    let stop : c.settle.new.stop ≡ stop_after p.stop c.heed-answer.result = c.settle.ensures.stopped
-    ∙ ap (λ z. stop_after z c.heed-answer.result) n.stop in
-    kept_back p _ c.heed-answer.result _ k e (subst (OriginAfter p.settings p.log)
-    (sym (c.heed-answer.ensures.memory e)) n.origin) draws.1 n.ended c.settle.ensures.kept stop
+    let stop : c.settle.new.stop ≡ stop_after p.stop c.process-answer.result = c.settle.ensures.stopped
+    ∙ ap (λ z. stop_after z c.process-answer.result) n.stop in
+    kept_back p _ c.process-answer.result _ k e (subst (OriginAfter p.settings p.log)
+    (sym (c.process-answer.ensures.memory e)) n.origin) draws.1 n.ended c.settle.ensures.kept stop
 
 pub returns-in-Ok-Some-clause-part : goal.returns-in-Ok-Some-clause-part
 returns-in-Ok-Some-clause-part c = λ p m e.
     let s : is_stopped (state_at p) ≡ false = sym (ap is_stopped (c.state.ensures p m)) ∙ sym c.is_stopped.ensures
     ∙ c.if-is_stopped.false in
-    let n = subst (Matches p) (sym c.self.view_is) m in
+    let n = subst (AreConsistent p) (sym c.self.view_is) m in
     let draws = rw c.in-Ok-Some.field-0-is at (c.in-Ok-Some.ensures.answer p (going _ p.stop s) n.frames) in
-    news_told c.args.target p _ c.next_message.new.framer.stream _ _ s draws.1 (c.heed-answer.ensures.part p n.origin e)
+    news_told c.args.target p _ c.next_message.new.framer.stream _ _ s draws.1 (c.process-answer.ensures.part p n.origin e)
 
 pub returns-in-Ok-None-clause-done : goal.returns-in-Ok-None-clause-done
 returns-in-Ok-None-clause-done c = λ p m d.
     let s : is_stopped (state_at p) ≡ false = sym (ap is_stopped (c.state.ensures p m)) ∙ sym c.is_stopped.ensures
     ∙ c.if-is_stopped.false in
-    let n = subst (Matches p) (sym c.self.view_is) m in
+    let n = subst (AreConsistent p) (sym c.self.view_is) m in
     let draws = rw c.in-Ok-None.field-0-is at (c.in-Ok-None.ensures.answer p (going _ p.stop s) n.frames) in
     let k : Link = record {
       origin = c.self.inside.origin;
@@ -84,10 +84,10 @@ returns-in-Ok-None-clause-done c = λ p m d.
       stop =
           c.self.inside.stop;
     } in
-    let now : Matches p k = record {
+    let now : AreConsistent p k = record {
       origin = n.origin;
       frames =
-          subst (λ z. Frames p z c.next_message.new.framer.stream) (sym draws.0) draws.1;
+          subst (λ z. FramerAfter p z c.next_message.new.framer.stream) (sym draws.0) draws.1;
       ended = n.ended;
       stop = n.stop;
     }
@@ -98,7 +98,7 @@ pub returns-in-Fault-clause-done : goal.returns-in-Fault-clause-done
 returns-in-Fault-clause-done c = λ p m d.
     let s : is_stopped (state_at p) ≡ false = sym (ap is_stopped (c.state.ensures p m)) ∙ sym c.is_stopped.ensures
     ∙ c.if-is_stopped.false in
-    let n = subst (Matches p) (sym c.self.view_is) m in
+    let n = subst (AreConsistent p) (sym c.self.view_is) m in
     let draws = rw c.in-Fault.is at (c.in-Err.ensures.answer p (going _ p.stop s) n.frames) in
     let reason = reasons.Frame c.in-Fault.kind c.in-Fault.at in
     let k : Link = record {
@@ -112,5 +112,5 @@ returns-in-Fault-clause-done c = λ p m d.
           Some (states.Failed reason);
     } in
     faulty c.args.target p c.in-Fault.kind c.in-Fault.at k c.args.knowledge.now s n.origin n.ended
-    (subst (λ z. Frames (stop_by p reason) z c.next_message.new.framer.stream) (sym draws.0) (draws.1 reason))
+    (subst (λ z. FramerAfter (after_stop p reason) z c.next_message.new.framer.stream) (sym draws.0) (draws.1 reason))
     draws.0 draws.2 refl

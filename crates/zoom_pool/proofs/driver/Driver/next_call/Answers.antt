@@ -1,6 +1,6 @@
 use Rattle.std.proofs.Common.{refl, subst, sym}
 use Rattle.std.proofs.lemmas.Result.{IfOk-weaker}
-use Rattle.zoom_pool.specs.Drivers.{Prepares}
+use Rattle.zoom_pool.specs.Drivers.{PrepareStep}
 use Rattle.zoom_pool.proofs.Nexts.{gives}
 use Rattle.zoom_pool.proofs.Kept.{stays}
 use Rattle.zoom_pool.proofs.driver.Driver.next_call.Goals as goal
@@ -11,4 +11,4 @@ returns-clause-ok c = IfOk-weaker c.give.result _ _ (λ g x. gives c.next_laws.e
 pub returns-clause-stays : goal.returns-clause-stays
 returns-clause-stays c =
     stays c.agenda_laws.ensures c.driven_laws.ensures c.args.self.now _ _
-    (subst (Prepares c.args.self.now) (sym c.self.view_is) c.in_ok-prepare.ensures.ok) c.give.ensures.same refl refl refl refl refl
+    (subst (PrepareStep c.args.self.now) (sym c.self.view_is) c.in_ok-prepare.ensures.ok) c.give.ensures.same refl refl refl refl refl

@@ -1,7 +1,7 @@
 use Rattle.std.proofs.Common.{◌≡◌, true, false, refl, sym, ap, subst, ◌∙◌}
-use Rattle.zoom_pool.specs.Heard.{joined}
+use Rattle.zoom_pool.specs.Transcripts.{joined}
 use Rattle.zoom_pool.specs.Hosts.{HostState}
-use Rattle.zoom_pool.specs.HostSteps.{Leads, FollowsPiece, Rests, Anywhere, KeepsPut}
+use Rattle.zoom_pool.specs.HostSteps.{ReceiptStep, IsFollowingPiece, IsReceiptEnd, AnyRest, SameOutput}
 use Rattle.zoom_pool.proofs.Served.{fed_by, part_by}
 use Rattle.zoom_pool.proofs.host.Host.feed.Goals as goal
 
@@ -20,7 +20,7 @@ returns-in-Ok-clause-fed c =
     } in
     let going : old.stopped ≡ false = sym (ap (λ (z : HostState). z.stopped) c.self.view_is) ∙ c.if-self.false in
     let did = subst (λ (z : HostState).
-    KeepsPut old z × Leads (FollowsPiece old.framer piece) (Rests z.framer b) old.target z.target)
+    SameOutput old z × ReceiptStep (IsFollowingPiece old.framer piece) (IsReceiptEnd z.framer b) old.target z.target)
     (sym c.self-2.view_is) c.in-Ok.ensures in
     fed_by piece b old new going refl did.0 did.1
 
@@ -38,6 +38,6 @@ returns-in-Err-clause-part c =
     } in
     let going : old.stopped ≡ false = sym (ap (λ (z : HostState). z.stopped) c.self.view_is) ∙ c.if-self.false in
     let did = subst (λ (z : HostState).
-    KeepsPut old z × Leads (FollowsPiece old.framer piece) Anywhere old.target z.target)
+    SameOutput old z × ReceiptStep (IsFollowingPiece old.framer piece) AnyRest old.target z.target)
     (sym c.self-2.view_is) c.in-Err.ensures in
     part_by piece old new going refl did.0 did.1

@@ -1,5 +1,5 @@
 use Rattle.std.proofs.Common.{ap}
-use Rattle.zoom_pool.specs.Heard.{joined}
+use Rattle.zoom_pool.specs.Transcripts.{joined}
 use Rattle.zoom_pool.proofs.Served.{at_start}
 use Rattle.zoom_pool.proofs.host.Host.new.Goals as goal
 

@@ -1,5 +1,5 @@
 use Rattle.std.proofs.Common.{refl, ap}
-use Rattle.zoom_pool.specs.Heard.{joined}
+use Rattle.zoom_pool.specs.Transcripts.{joined}
 use Rattle.zoom_pool.specs.Hosts.{HostState}
 use Rattle.zoom_pool.proofs.Hosts.{piece_done}
 use Rattle.zoom_pool.proofs.host.Host.receive.Goals as goal

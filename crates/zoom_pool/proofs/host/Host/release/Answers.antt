@@ -1,7 +1,7 @@
 use Rattle.std.proofs.Common.{◌≡◌, refl, ap, ◌∙◌}
 use Rattle.std.specs.Prelude.{not, ◌&&◌, ◌||◌}
 use Rattle.ztarget.specs.Receiving.{is_close}
-use Rattle.zoom_pool.specs.Heard.{joined}
+use Rattle.zoom_pool.specs.Transcripts.{joined}
 use Rattle.zoom_pool.specs.Hosts.{HostState}
 use Rattle.zoom_pool.specs.HostSteps.{is_unput}
 use Rattle.zoom_pool.proofs.Served.{released_as}

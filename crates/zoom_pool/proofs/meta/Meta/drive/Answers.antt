@@ -1,6 +1,6 @@
 use Rattle.std.proofs.Common.{◌<◌, Ok, subst, sym, ◌∙◌, arith}
 use Rattle.std.specs.declared.alloc.AllocError.{AllocError}
-use Rattle.zoom_pool.specs.Metas.{AdvancesTo}
+use Rattle.zoom_pool.specs.Metas.{AdvanceResult}
 use Rattle.zoom_pool.proofs.Advancing.{drove_admitted, drove_skipped, drove_rests, drove_wanting, drove_all}
 use Rattle.zoom_pool.proofs.meta.Meta.drive.Goals.{in-Admitted, in-Skipped}
 use Rattle.zoom_pool.proofs.meta.Meta.drive.Goals as goal
@@ -16,13 +16,13 @@ returns-in_err-advance-clause-after c = drove_wanting _ _ c.args.c c.loop.admitt
 pub returns-in-Rests-clause-after : goal.returns-in-Rests-clause-after
 returns-in-Rests-clause-after c = drove_rests AllocError c.args.c c.loop.admitted c.loop.counter c.args.self.now c.loop.self
     c.advance.new.self c.loop.invariant.0
-    (subst (λ z. AdvancesTo {E = AllocError} c.args.c (Ok z) c.loop.self c.advance.new.self) c.in-Rests.is c.in_ok-advance.ensures.after)
+    (subst (λ z. AdvanceResult {E = AllocError} c.args.c (Ok z) c.loop.self c.advance.new.self) c.in-Rests.is c.in_ok-advance.ensures.after)
 
 pub loop-preserved : goal.loop-preserved
 loop-preserved c = elim c.match-branch-2.branch [
   | in-Admitted w ↦ rw w.admitted-is (
     drove_admitted AllocError c.args.c c.loop.admitted c.loop.counter c.args.self.now c.loop.self c.advance.new.self
-        c.loop.invariant.0 (subst (λ z. AdvancesTo {E = AllocError} c.args.c (Ok z) c.loop.self c.advance.new.self) w.in-Admitted.is
+        c.loop.invariant.0 (subst (λ z. AdvanceResult {E = AllocError} c.args.c (Ok z) c.loop.self c.advance.new.self) w.in-Admitted.is
         c.in_ok-advance.ensures.after),
     c.in_ok-advance.ensures.size ∙ c.loop.invariant.1,
     omega (arith, c.loop.invariant.2),
@@ -30,7 +30,7 @@ loop-preserved c = elim c.match-branch-2.branch [
   )
   | in-Skipped w ↦ rw w.admitted-is (
     drove_skipped AllocError c.args.c c.loop.admitted c.loop.counter c.args.self.now c.loop.self c.advance.new.self
-        c.loop.invariant.0 (subst (λ z. AdvancesTo {E = AllocError} c.args.c (Ok z) c.loop.self c.advance.new.self) w.in-Skipped.is
+        c.loop.invariant.0 (subst (λ z. AdvanceResult {E = AllocError} c.args.c (Ok z) c.loop.self c.advance.new.self) w.in-Skipped.is
         c.in_ok-advance.ensures.after),
     c.in_ok-advance.ensures.size ∙ c.loop.invariant.1,
     omega (arith, c.loop.invariant.2),

@@ -1,5 +1,5 @@
 use Rattle.std.proofs.Common.{refl}
-use Rattle.zoom_pool.specs.Heard.{Ends}
+use Rattle.zoom_pool.specs.Transcripts.{InputEnded}
 use Rattle.zoom_pool.specs.Metas.{MetaLinks, settings_of}
 use Rattle.zoom_pool.proofs.Metas.{quiet_after}
 use Rattle.zoom_pool.proofs.meta.Meta.end.Goals as goal
@@ -9,5 +9,5 @@ returns-clause-after c =
     let old : MetaLinks = record { pool = c.self.inside.pool; drivers = c.self.inside.drivers.items } in
     let new : MetaLinks = record { pool = c.end.new.self; drivers = c.self.inside.drivers.items } in
     rw (← c.self.view_is) (λ questions s h a.
-    quiet_after questions s h old new c.args.c Ends tt a (c.end.ensures.after (settings_of s) h a.pool) refl
+    quiet_after questions s h old new c.args.c InputEnded tt a (c.end.ensures.after (settings_of s) h a.pool) refl
     c.end.ensures.size)

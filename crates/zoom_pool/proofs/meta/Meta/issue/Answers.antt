@@ -12,7 +12,7 @@ returns-in-Ok-clause-after c =
       pool = c.call.new.self;
       drivers = slice_set c.self.inside.drivers.items c.args.c c.note_sent.new.self;
     } in
-    rw (← c.self.view_is) (admitted_to (Unit {0}) c.one_hearing.ensures c.args.c (call_of c.args.call.now) old new
+    rw (← c.self.view_is) (admitted_to (Unit {0}) c.one_transcript.ensures c.args.c (call_of c.args.call.now) old new
     c.index_mut.result.now c.note_sent.new.self lt (c.in-Ok.ensures.after tt) c.in-Ok.ensures.answer
     (driver_at old.drivers old.pool.connections c.args.c _ c.index_mut.result.now c.self.invariant lt c.index_mut.ensures.value)
     c.note_sent.ensures refl c.in-Ok.ensures.size)
@@ -21,7 +21,7 @@ pub returns-in-Memory-clause-after : goal.returns-in-Memory-clause-after
 returns-in-Memory-clause-after c =
     let old : MetaLinks = record { pool = c.self.inside.pool; drivers = c.self.inside.drivers.items } in
     let new : MetaLinks = record { pool = c.call.new.self; drivers = c.self.inside.drivers.items } in
-    rw (← c.self.view_is) (kept_to (Unit {0}) c.one_hearing.ensures c.args.c (call_of c.args.call.now) old new tt
+    rw (← c.self.view_is) (kept_to (Unit {0}) c.one_transcript.ensures c.args.c (call_of c.args.call.now) old new tt
     (ap (λ z. record { pool = z; drivers = c.self.inside.drivers.items }) c.in-Err.ensures.err))
 
 pub returns-in_default-clause-after : goal.returns-in_default-clause-after
@@ -32,7 +32,7 @@ returns-in_default-clause-after c =
       pool = c.call.new.self;
       drivers = slice_set c.self.inside.drivers.items c.args.c c.note_refused.new.self;
     } in
-    rw (← c.self.view_is) (refused_to (Unit {0}) c.one_hearing.ensures c.sent_requests.ensures c.args.c (call_of c.args.call.now)
+    rw (← c.self.view_is) (refused_to (Unit {0}) c.one_transcript.ensures c.sent_requests.ensures c.args.c (call_of c.args.call.now)
     c.in-Err.reason old new c.index_mut-in_default.result.now c.note_refused.new.self c.in_default.not-Memory lt
     (c.in-Err.ensures.after c.in_default.not-Memory) c.in-Err.ensures.answer
     (driver_at old.drivers old.pool.connections c.args.c _ c.index_mut-in_default.result.now c.self.invariant lt c.index_mut-in_default.ensures.value)

@@ -1,29 +1,29 @@
 use Rattle.std.proofs.Common.{Ok, Err, refl, subst, sym, slice_set}
-use Rattle.zoom_pool.specs.Befalling.{IsTakeAnswer}
+use Rattle.zoom_pool.specs.PoolSteps.{IsTakeResult}
 use Rattle.zoom_pool.specs.Metas.{MetaLinks}
-use Rattle.zoom_pool.proofs.Told.{take_answer}
+use Rattle.zoom_pool.proofs.Outcomes.{take_answer}
 use Rattle.zoom_pool.proofs.Metas.{took_meta, refused_meta, learns}
 use Rattle.zoom_pool.proofs.Advancing.{driver_at}
 use Rattle.zoom_pool.proofs.meta.Meta.take.Goals as goal
 
 pub returns-in-Ok-clause-answer : goal.returns-in-Ok-clause-answer
 returns-in-Ok-clause-answer c = rw (← c.self.view_is)
-    (subst (λ z. IsTakeAnswer c.args.c c.self.inside.pool (Ok z)) (sym c.step_told.ensures)
-    (take_answer c.args.c c.self.inside.pool (Ok c.in-Ok.told) c.in-Ok.ensures.answer))
+    (subst (λ z. IsTakeResult c.args.c c.self.inside.pool (Ok z)) (sym c.step_told.ensures)
+    (take_answer c.args.c c.self.inside.pool (Ok c.in-Ok.outcome) c.in-Ok.ensures.answer))
 
 pub returns-in-Ok-clause-after : goal.returns-in-Ok-clause-after
 returns-in-Ok-clause-after c =
     let old : MetaLinks = record { pool = c.self.inside.pool; drivers = c.self.inside.drivers.items } in
     let lt = rw (← c.self.view_is) at c.requires in
     let new : MetaLinks = record {
-      pool = c.take_told.new.self;
-      drivers = slice_set c.self.inside.drivers.items c.args.c c.know_take.new.driver;
+      pool = c.take_outcome.new.self;
+      drivers = slice_set c.self.inside.drivers.items c.args.c c.note_take.new.driver;
     } in
-    rw (← c.self.view_is) (λ done. took_meta c.one_meeting.ensures c.one_hearing.ensures c.args.c old new
-    c.index_mut.result.now c.know_take.new.driver (Ok c.in-Ok.told) c.in-Ok.ensures.answer tt
+    rw (← c.self.view_is) (λ done. took_meta c.one_input.ensures c.one_transcript.ensures c.args.c old new
+    c.index_mut.result.now c.note_take.new.driver (Ok c.in-Ok.outcome) c.in-Ok.ensures.answer tt
     (c.in-Ok.ensures.after tt) lt
     (driver_at old.drivers old.pool.connections c.args.c _ c.index_mut.result.now c.self.invariant lt c.index_mut.ensures.value)
-    (learns c.refused_law.ensures c.in-Ok.told c.index_mut.result.now c.know_take.new.driver c.know_take.ensures) refl
+    (learns c.refused_law.ensures c.in-Ok.outcome c.index_mut.result.now c.note_take.new.driver c.note_take.ensures) refl
     c.in-Ok.ensures.size)
 
 pub returns-in-Err-clause-answer : goal.returns-in-Err-clause-answer
@@ -34,8 +34,8 @@ pub returns-in-Err-clause-after : goal.returns-in-Err-clause-after
 returns-in-Err-clause-after c =
     let old : MetaLinks = record { pool = c.self.inside.pool; drivers = c.self.inside.drivers.items } in
     let lt = rw (← c.self.view_is) at c.requires in
-    let new : MetaLinks = record { pool = c.take_told.new.self; drivers = c.self.inside.drivers.items } in
-    rw (← c.self.view_is) (λ done. refused_meta c.one_meeting.ensures c.one_hearing.ensures c.refused_law.ensures c.args.c
+    let new : MetaLinks = record { pool = c.take_outcome.new.self; drivers = c.self.inside.drivers.items } in
+    rw (← c.self.view_is) (λ done. refused_meta c.one_input.ensures c.one_transcript.ensures c.refused_law.ensures c.args.c
     old new c.in-Err.error c.in-Err.ensures.answer done (c.in-Err.ensures.after done) lt refl c.in-Err.ensures.size)
 
 pub returns-in-Ok-clause-waiting : goal.returns-in-Ok-clause-waiting

@@ -1,9 +1,9 @@
 use Rattle.std.proofs.Common.{◌≡◌, ◌++◌, refl, subst, ◌∙◌, slice_set}
 use Rattle.std.specs.Prelude.{OnOk}
 use Rattle.std.proofs.lemmas.Result.{IfOk-weaker}
-use Rattle.zoom_pool.specs.Heard.{Gives}
+use Rattle.zoom_pool.specs.Transcripts.{HandedOut}
 use Rattle.zoom_pool.specs.Links.{Links}
-use Rattle.zoom_pool.specs.Befalling.{Befell}
+use Rattle.zoom_pool.specs.PoolSteps.{Recorded}
 use Rattle.zoom_pool.proofs.Pools.{gained, given_all, waits_at, waits_put}
 use Rattle.zoom_pool.proofs.pool.Pool.outgoing.Goals as goal
 
@@ -22,9 +22,9 @@ returns-clause-after c =
       knowledge = c.self.inside.knowledge;
     } in
     let lt = rw (← c.self.view_is) at c.requires in
-    rw (← c.self.view_is) (subst (λ w. OnOk c.outgoing.result (Befell c.args.c (Gives w) old new))
+    rw (← c.self.view_is) (subst (λ w. OnOk c.outgoing.result (Recorded c.args.c (HandedOut w) old new))
     (waits_at old c.args.c _ c.index_mut.result.now lt c.index_mut.ensures.value)
-    (IfOk-weaker c.outgoing.result _ _ (λ _ f. gained c.args.c (Gives c.index_mut.result.now.waiting) (λ p. p) old new
+    (IfOk-weaker c.outgoing.result _ _ (λ _ f. gained c.args.c (HandedOut c.index_mut.result.now.waiting) (λ p. p) old new
     _ c.index_mut.result.now c.outgoing.new.self lt c.index_mut.ensures.value f (λ p. refl) refl refl)
     c.outgoing.ensures.after))
 

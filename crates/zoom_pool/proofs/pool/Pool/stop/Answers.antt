@@ -1,5 +1,5 @@
 use Rattle.std.proofs.Common.{refl, ◌∙◌, slice_set}
-use Rattle.zoom_pool.specs.Heard.{Stops, stop_by}
+use Rattle.zoom_pool.specs.Transcripts.{Stopped, after_stop}
 use Rattle.zoom_pool.specs.Links.{Links}
 use Rattle.zoom_pool.proofs.Metas.{get_other}
 use Rattle.zoom_pool.proofs.Pools.{gained, stops_put}
@@ -7,7 +7,7 @@ use Rattle.zoom_pool.proofs.pool.Pool.stop.Goals as goal
 
 pub returns-clause-after : goal.returns-clause-after
 returns-clause-after c = rw (← c.self.view_is) (
-    gained c.args.c (Stops c.args.reason) (λ p. stop_by p c.args.reason) _ _ _ c.index_mut.result.now c.stop.new.self
+    gained c.args.c (Stopped c.args.reason) (λ p. after_stop p c.args.reason) _ _ _ c.index_mut.result.now c.stop.new.self
     (rw (← c.self.view_is) at c.requires)
     c.index_mut.ensures.value c.stop.ensures.after (λ p. refl) refl refl)
 

@@ -1,4 +1,4 @@
-use Rattle.zoom_sim.proofs.RunGoes.{goes_trans}
+use Rattle.zoom_sim.proofs.RunSilentSteps.{goes_trans}
 use Rattle.zoom_sim.proofs.RunCarries.{carries_trans, goes_carries}
 use Rattle.zoom_sim.proofs.RunPeers.{taken_steps}
 use Rattle.zoom_sim.proofs.peers.Peer.carry_from.Goals as goal
@@ -14,7 +14,7 @@ returns-clause-carries g c =
 
 pub returns-clause-steps : goal.returns-clause-steps
 returns-clause-steps g c = λ sure.
-    taken_steps c.one_hearing.ensures c.exchange_laws.ensures.longer c.args.c c.in_ok-carried.carried c.args.meta.now
+    taken_steps c.one_transcript.ensures c.exchange_laws.ensures.longer c.args.c c.in_ok-carried.carried c.args.meta.now
     c.feed_from.new.meta c.stop_for.new.meta c.end_where_stopped.new.meta c.take_all.new.meta c.args.self.now
     c.feed_from.new.self (c.in_ok-carried.ensures.steps sure) (c.stop_for.ensures.same (c.failure.ensures sure))
     c.end_where_stopped.ensures.steps c.in_ok-take_all.ensures.all

@@ -18,7 +18,7 @@ returns-clause-steps g c = λ sure.
     let was : Peer = c.args.self.now in
     let now : Peer = record { host = c.feed.new.self; to = c.pass.new.self; from = was.from } in
     let laws = c.exchange_laws.ensures in
-    to_steps c.one_hearing.ensures laws.gives laws.host_fed c.args.c c.args.meta.now c.take_in_sent.new.meta was now
+    to_steps c.one_transcript.ensures laws.gives laws.host_fed c.args.c c.args.meta.now c.take_in_sent.new.meta was now
     c.take_in_sent.new.self c.next-piece.result.now c.count_of.result c.in_ok-take_in_sent.ensures.after
     c.in_ok-take_in_sent.ensures.pipe c.next-piece.ensures.front c.in_ok-feed.ensures.fed c.pass.ensures refl
 

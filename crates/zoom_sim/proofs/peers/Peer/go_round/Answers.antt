@@ -15,7 +15,7 @@ pub returns-clause-rounds : goal.returns-clause-rounds
 returns-clause-rounds g c = λ sure.
     let laws = c.exchange_laws.ensures in
     let all = c.in_ok-sent.ensures.all sure refl in
-    rounds c.one_hearing.ensures laws.longer laws.one_served laws.rests laws.ended c.args.c c.args.meta.now
+    rounds c.one_transcript.ensures laws.longer laws.one_served laws.rests laws.ended c.args.c c.args.meta.now
     c.carry_to.new.meta c.carry_from.new.meta c.args.self.now c.carry_to.new.self c.release_all.new.self
     c.carry_from.new.self c.in_ok-came.came _
     (λ e. (none_moved c.in_ok-sent.sent c.in_ok-released.released c.in_ok-came.came e).2)

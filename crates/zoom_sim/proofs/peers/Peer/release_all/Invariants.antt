@@ -1,6 +1,6 @@
-use Rattle.zoom_sim.specs.RunSteps.{ReleasesReplies}
-use Rattle.zoom_sim.specs.RunPeers.{Putting}
+use Rattle.zoom_sim.specs.RunSteps.{PeerReleaseStep}
+use Rattle.zoom_sim.specs.RunPeers.{ReleaseSteps}
 use Rattle.zoom_sim.proofs.peers.Peer.release_all.Given as goal
 
-abbrev pub invariant-loop-turn : goal.invariant-loop-turn
-invariant-loop-turn l = ReleasesReplies l.initial.self l.self × Putting l._turn l.initial.self l.self
+abbrev pub invariant-loop-count : goal.invariant-loop-count
+invariant-loop-count l = PeerReleaseStep l.initial.self l.self × ReleaseSteps l._count l.initial.self l.self

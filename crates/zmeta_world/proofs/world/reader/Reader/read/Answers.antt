@@ -1,5 +1,5 @@
 use Rattle.zmeta_world.specs.WorldReading.{world_of}
-use Rattle.zmeta_world.proofs.WorldSaid.{made}
+use Rattle.zmeta_world.proofs.WorldParsing.{made}
 use Rattle.zmeta_world.proofs.world.reader.Reader.read.Goals as goal
 
 pub returns-in-Ok : goal.returns-in-Ok

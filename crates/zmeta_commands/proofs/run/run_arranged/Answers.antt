@@ -1,6 +1,0 @@
-use Rattle.std.proofs.Common.{sym, subst}
-use Rattle.zoom.specs.NewTargets.{AreNew}
-use Rattle.zmeta_commands.proofs.run.run_arranged.Goals as goal
-
-pub run_world-requires-clause-new : goal.run_world-requires-clause-new
-run_world-requires-clause-new c = subst AreNew (sym c.into_vec-2.ensures) c.requires.2.fresh

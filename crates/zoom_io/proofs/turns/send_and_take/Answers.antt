@@ -1,0 +1,20 @@
+use Rattle.std.proofs.Common.{◌∙◌, ap, subst, sym, Err}
+use Rattle.std.proofs.lemmas.Result.{err_from_is_err_and}
+use Rattle.zoom_io.specs.TalkTraces.{Due, Listening, same}
+use Rattle.zoom_io.specs.TalkSteps.{AfterSendAndTake}
+use Rattle.zoom_io.proofs.Sending.{halts_after, sent_and_taken}
+use Rattle.zoom_io.proofs.talk_steps.send_and_take.Goals as goal
+
+pub returns-in_err-take_message-clause-receipt : goal.returns-in_err-take_message-clause-receipt
+returns-in_err-take_message-clause-receipt g c =
+    let p = err_from_is_err_and c.from_residual-in_err-take_message.result c.from_residual-in_err-take_message.ensures.1 in
+    let sink = g.W.Sink.state c.args.sink.now in
+    let held = g.W.Sink.state c.send_due.new.sink in
+    subst (λ z. AfterSendAndTake c.args.c z c.args.meta.now c.take_message.new.meta sink held) (sym (p.1 ∙ ap Err p.2))
+    (halts_after c.args.c Due Listening same c.args.meta.now c.send_due.new.meta c.take_message.new.meta sink held
+    c.in_ok-send_due.ensures.speaks (c.in_err-take_message.ensures.halts held))
+
+pub returns-clause-receipt : goal.returns-clause-receipt
+returns-clause-receipt g c =
+    sent_and_taken c.args.c c.in_ok-take_message.field-0 c.args.meta.now c.send_due.new.meta c.take_message.new.meta (g.W.Sink.state c.args.sink.now)
+    (g.W.Sink.state c.send_due.new.sink) c.in_ok-send_due.ensures.speaks c.in_ok-take_message.ensures.hears

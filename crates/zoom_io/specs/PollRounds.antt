@@ -1,0 +1,62 @@
+-- What rounds do, in which each connection that is not over is polled once.
+use Rattle.std.specs.Prelude.{◌≡◌, ◌+◌, ◌<◌, ℕ, nat_lt, if◌then◌else◌, List, Option, None, Some}
+use Rattle.zoom_questions.specs.declared.question.Question.{Question}
+use Rattle.zoom_questions.specs.declared.question.MetaSettings.{MetaSettings}
+use Rattle.zoom_pool.specs.History.{History, events_on}
+use Rattle.zoom_pool.specs.Metas.{MetaLinks, MetaAfter}
+use Rattle.zoom_io.specs.TalksAmong.{View, IsAmong, StepAmong, halves_at}
+
+-- what befell a connection with ends, and one without
+abbrev pub IsAmongIf : {E : Type 0} → (E → View) → List Question → MetaSettings → ℕ → History → History → ℕ → ℕ
+    → Option E → Option E → Type 0
+IsAmongIf view q s c h now n turns None None = events_on c now ≡ events_on c h
+IsAmongIf view q s c h now n turns (Some first) (Some last) = IsAmong q s c h now n turns (view first) (view last)
+IsAmongIf view q s c h now n turns _ _ = ⊥
+
+-- some history left the connections, each polled so many times
+pub record AreAmong {E : Type 0}
+    (view : E → View) (q : List Question) (s : MetaSettings) (h : History) (n : ℕ → ℕ) (turns : ℕ)
+    (first last : List (Option E)) (new : MetaLinks)
+    : Type 0 where
+  pub now : History
+  pub after : MetaAfter q s now new
+  pub each : (c : ℕ) → IsAmongIf view q s c h now (n c) turns (halves_at first c) (halves_at last c)
+
+-- the same number for each connection
+abbrev pub for_each : ℕ → ℕ → ℕ
+for_each n c = n
+
+-- one poll more for those below a number
+abbrev pub one_more_below : ℕ → ℕ → ℕ → ℕ
+one_more_below i n c = if nat_lt c i then n + 1 else n
+
+-- a step of a connection, where it has ends
+abbrev pub OptionStep : {E : Type 0} → (E → View) → (c n m turns : ℕ) → Option E → Option E
+    → MetaLinks → MetaLinks → Type 0
+OptionStep view c n m turns None None old new = new ≡ old
+OptionStep view c n m turns (Some before) (Some last) old new = StepAmong c n m turns old new (view before) (view last)
+OptionStep view c n m turns _ _ old new = ⊥
+
+-- Whatever befell the connections before, they go from so many polls each to so many.
+pub record RoundStep {E : Type 0}
+    (view : E → View) (n m : ℕ → ℕ) (turns : ℕ) (before last : List (Option E)) (old new : MetaLinks)
+    : Type 0 where
+  pub on : (q : List Question) (s : MetaSettings) (h : History) (first : List (Option E))
+      → AreAmong view q s h n turns first before old → AreAmong view q s h m turns first last new
+
+-- one round of at most so many, whatever went before
+abbrev pub AfterRound : {E : Type 0} → (E → View) → List (Option E) → List (Option E) → MetaLinks → MetaLinks → Type 0
+AfterRound view before last old new =
+    (n turns : ℕ) → n < turns → RoundStep view (for_each n) (for_each (n + 1)) turns before last old new
+
+-- rounds from the start on
+pub record AfterRounds {E : Type 0}
+    (view : E → View) (n turns : ℕ) (first last : List (Option E)) (old new : MetaLinks)
+    : Type 0 where
+  pub on : (q : List Question) (s : MetaSettings) (h : History) → MetaAfter q s h old
+      → AreAmong view q s h (for_each n) turns first last new
+
+-- the connections that are not over are stopped, after as many polls as each may have
+abbrev pub AfterLeaveAll : {E : Type 0} → (E → View) → List (Option E) → List (Option E) → MetaLinks → MetaLinks
+    → Type 0
+AfterLeaveAll view before last old new = (n : ℕ) → RoundStep view (for_each n) (for_each n) n before last old new

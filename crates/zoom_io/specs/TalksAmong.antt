@@ -1,0 +1,172 @@
+-- Talks that go on at once: the deeds of each connection follow one another as in a talk alone, among those of the
+-- others (Z39.50-2003, 3.2).
+use Rattle.std.specs.Prelude.{◌≡◌, ◌≤◌, ◌==◌, ℕ, false, List, ◌∷◌, ◌++◌, slice_get, Option, None, Some}
+use Rattle.std.specs.Io.KnownBytes.{Appends, Consumes, IsAtEnd}
+use Rattle.zoom_questions.specs.declared.question.Question.{Question}
+use Rattle.zoom_questions.specs.declared.question.MetaSettings.{MetaSettings}
+use Rattle.zoom_pool.specs.declared.state.Reason.{Reason}
+use Rattle.zoom_pool.specs.declared.state.Reason.TheVariants as reasons
+use Rattle.zoom_pool.specs.Transcripts.{HandedOut, Stopped}
+use Rattle.zoom_pool.specs.History.{History, events_on}
+use Rattle.zoom_pool.specs.Metas.{MetaLinks, MetaAfter}
+use Rattle.zoom_io.specs.declared.among.Halves.{Halves}
+use Rattle.zoom_io.specs.declared.among.TalkPhase.{TalkPhase}
+use Rattle.zoom_io.specs.declared.among.TalkPhase.TheVariants as phases
+use Rattle.zoom_io.specs.Devices.{DeviceState, HasAppendedFront, HasFailed, HasRisen, HasNoFailure}
+use Rattle.zoom_io.specs.TalkTraces.{Stage, Due, Listening, Waiting, Over, Ended, TalkTrace, IsStoppedAt, HasEndedWell, IsCutOff}
+
+-- What is seen of the devices of a connection, and where its talk stands.
+pub record View : Type 0 where
+  pub source : DeviceState
+  pub polls : ℕ
+  pub sink : DeviceState
+  pub phase : TalkPhase
+
+abbrev pub view_of : {R W : Type 0} → (R → DeviceState) → (R → ℕ) → (W → DeviceState) → Halves R W → View
+view_of state polls held halves =
+    record { source = state halves.source; polls = polls halves.source; sink = held halves.sink; phase = halves.phase }
+
+-- ---- one connection
+
+-- A talk so far: deeds that follow the history before it, what its devices gave and took, and that nothing else befell
+-- the connection.
+pub record TalkAmong
+    (questions : List Question) (s : MetaSettings) (c : ℕ) (h now : History) (reads : ℕ) (stage : Stage)
+    (first last : View)
+    : Type 0 where
+  pub more : History
+  pub read : List ℕ
+  pub written : List ℕ
+  pub trace : TalkTrace questions s c h more read written reads stage
+  pub mine : events_on c now ≡ events_on c (more ++ h)
+  pub consumed : Consumes first.source.octets last.source.octets read
+  pub appended : Appends first.sink.octets last.sink.octets written
+
+-- a talk goes on: its source was polled so many times, and no device failed
+pub record OngoingTalkAmong
+    (questions : List Question) (s : MetaSettings) (c : ℕ) (h now : History) (n : ℕ) (stage : Stage)
+    (first last : View)
+    : Type 0 where
+  pub reads : ℕ
+  pub talk : TalkAmong questions s c h now reads stage first last
+  pub few : reads ≤ n
+  pub polled : HasRisen n first.polls last.polls
+  pub reader : last.source.failures ≡ first.source.failures
+  pub writer : last.sink.failures ≡ first.sink.failures
+
+-- a talk came to this stage, and its host then stopped the connection
+pub record StoppedTalkAmong
+    (questions : List Question) (s : MetaSettings) (c : ℕ) (h now : History) (reads : ℕ) (stage : Stage)
+    (reason : Reason) (first last : View)
+    : Type 0 where
+  pub more : History
+  pub read : List ℕ
+  pub written : List ℕ
+  pub trace : TalkTrace questions s c h more read written reads stage
+  pub mine : events_on c now ≡ events_on c ((c, Stopped reason) ∷ (more ++ h))
+  pub consumed : Consumes first.source.octets last.source.octets read
+  pub appended : Appends first.sink.octets last.sink.octets written
+
+-- A write failed: of the octets that were to go out then, a front went.
+pub record BrokenTalkAmong
+    (questions : List Question) (s : MetaSettings) (c : ℕ) (h now : History) (reads : ℕ) (first last : View)
+    : Type 0 where
+  pub more : History
+  pub read : List ℕ
+  pub written : List ℕ
+  pub octets : List ℕ
+  pub trace : TalkTrace questions s c h ((c, HandedOut octets) ∷ more) read (written ++ octets) reads Listening
+  pub mine : events_on c now ≡ events_on c ((c, Stopped reasons.Write) ∷ (c, HandedOut octets) ∷ (more ++ h))
+  pub consumed : Consumes first.source.octets last.source.octets read
+  pub before : DeviceState
+  pub appended : Appends first.sink.octets before.octets written
+  pub front : HasAppendedFront before.octets last.sink.octets octets
+
+-- no call of its devices failed
+pub record AreSound (first last : View) : Type 0 where
+  pub reader : HasNoFailure first.source last.source
+  pub writer : HasNoFailure first.sink last.sink
+
+-- How a talk ended, after so many reads that gave octets: the connection was stopped by its messages, or before; the
+-- input ended, and the connection otherwise; one read or one write failed; the input ended, and the connection with it,
+-- since it was not Closing and no part of a message was left; the source was polled as many times as it may be, and the
+-- connection was not stopped.
+pub data TalkEndAmong
+    (questions : List Question) (s : MetaSettings) (c : ℕ) (h now : History) (reads turns : ℕ) (first last : View)
+    : Type 0 where
+  stopped_by_itself : TalkAmong questions s c h now reads Over first last → AreSound first last
+      → TalkEndAmong questions s c h now reads turns first last
+  input_ended : (talk : TalkAmong questions s c h now reads Ended first last) → HasEndedWell s c (talk.more ++ h)
+      → IsAtEnd last.source.octets → AreSound first last → TalkEndAmong questions s c h now reads turns first last
+  read_failed : StoppedTalkAmong questions s c h now reads Waiting reasons.Read first last
+      → HasFailed first.source.failures last.source.failures → HasNoFailure first.sink last.sink
+      → TalkEndAmong questions s c h now reads turns first last
+  write_failed : BrokenTalkAmong questions s c h now reads first last
+      → HasFailed first.sink.failures last.sink.failures → HasNoFailure first.source last.source
+      → TalkEndAmong questions s c h now reads turns first last
+  cut_short : (talk : StoppedTalkAmong questions s c h now reads Ended reasons.Ended first last)
+      → IsCutOff s c (talk.more ++ h) → IsAtEnd last.source.octets → AreSound first last
+      → TalkEndAmong questions s c h now reads turns first last
+  out_of_turns : StoppedTalkAmong questions s c h now reads Waiting reasons.Turns first last
+      → HasRisen turns first.polls last.polls → AreSound first last
+      → TalkEndAmong questions s c h now reads turns first last
+
+-- A talk ended, and the connection is Closed or Failed; its source was polled no more often than it may be, and no more
+-- reads gave octets than there were polls.
+pub record IsDoneAmong
+    (questions : List Question) (s : MetaSettings) (c : ℕ) (h now : History) (turns : ℕ) (first last : View)
+    : Type 0 where
+  pub reads : ℕ
+  pub polls : ℕ
+  pub given : reads ≤ polls
+  pub few : polls ≤ turns
+  pub polled : HasRisen polls first.polls last.polls
+  pub ended : TalkEndAmong questions s c h now reads turns first last
+  pub over : IsStoppedAt s c now
+
+-- what a phase says, after so many polls, of a talk that may take so many
+abbrev pub PhaseAmong
+    : TalkPhase → List Question → MetaSettings → ℕ → History → History → ℕ → ℕ → View → View → Type 0
+PhaseAmong phases.Due q s c h now n turns first last = OngoingTalkAmong q s c h now n Due first last
+PhaseAmong phases.Waiting q s c h now n turns first last = OngoingTalkAmong q s c h now n Waiting first last
+PhaseAmong phases.Over q s c h now n turns first last = IsDoneAmong q s c h now turns first last
+
+abbrev pub IsAmong : List Question → MetaSettings → ℕ → History → History → ℕ → ℕ → View → View → Type 0
+IsAmong q s c h now n turns first last = PhaseAmong last.phase q s c h now n turns first last
+
+-- ---- a step of one connection
+
+-- the connection goes on so, and nothing befell the others
+pub record AfterStepAmong
+    (q : List Question) (s : MetaSettings) (c : ℕ) (h now : History) (n turns : ℕ) (first last : View)
+    (new : MetaLinks)
+    : Type 0 where
+  pub later : History
+  pub after : MetaAfter q s later new
+  pub among : IsAmong q s c h later n turns first last
+  pub others : (i : ℕ) → (c == i) ≡ false → events_on i later ≡ events_on i now
+
+-- whatever befell the connections before, it goes from so many polls to so many
+pub record StepAmong (c n m turns : ℕ) (old new : MetaLinks) (before last : View) : Type 0 where
+  pub on : (q : List Question) (s : MetaSettings) (h now : History) (first : View)
+      → MetaAfter q s now old → IsAmong q s c h now n turns first before
+      → AfterStepAmong q s c h now m turns first last new
+
+-- ---- all connections
+
+abbrev pub flat : {E : Type 0} → Option (Option E) → Option E
+flat None = None
+flat (Some halves) = halves
+
+-- the ends of a connection, where it has any
+abbrev pub halves_at : {E : Type 0} → List (Option E) → ℕ → Option E
+halves_at halves c = flat (slice_get halves c)
+
+-- where there are ends, the talk stands so
+abbrev pub IsAtPhase : {R W : Type 0} → TalkPhase → Option (Halves R W) → Type 0
+IsAtPhase phase None = Unit {0}
+IsAtPhase phase (Some halves) = halves.phase ≡ phase
+
+-- each talk stands so
+abbrev pub AreAtPhase : {R W : Type 0} → TalkPhase → List (Option (Halves R W)) → Type 0
+AreAtPhase phase halves = (c : ℕ) → IsAtPhase phase (halves_at halves c)

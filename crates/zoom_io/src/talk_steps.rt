@@ -1,0 +1,80 @@
+//! Turns of a talk: what is due is written, and one message is taken.
+ghost use Rattle.std.specs.Prelude.{◌≡◌, ◌<◌, length, IfOk, OnErr};
+ghost use Rattle.zoom_io.specs.Pushing.{IsBroken};
+ghost use Rattle.zoom_io.specs.TalkTraces.{Listening};
+ghost use Rattle.zoom_io.specs.TalkSteps.{receipt_of, HaltStepAlone, AfterTakeMessage, AfterSendDue, AfterSendAndTake};
+
+use crate::device::Sink;
+use crate::outgoing::{PushError, push};
+use std::alloc::{AllocError, Global};
+use zoom_pool::laws::{one_input, one_transcript, up_to};
+use zoom_pool::{Meta, Step, TakeError};
+
+/// What taking a message came to.
+#[derive(Clone, Copy, Debug, PartialEq, Eq)]
+pub(crate) enum Receipt {
+    /// One was taken and accepted.
+    Message,
+    /// None is there.
+    Nothing,
+    /// The connection is Closed or Failed.
+    Over,
+}
+
+fn receipt_of(step: Step) -> Receipt
+    ensures { result ≡ receipt_of step }
+{
+    match step {
+        Step::Opened | Step::Rejected | Step::Answered | Step::Closed => Receipt::Message,
+        Step::Nothing => Receipt::Nothing,
+        Step::Ended | Step::Stopped => Receipt::Over,
+    }
+}
+
+/// Takes a message of a connection.
+fn take_message(meta: &mut Meta, c: u32) -> Result<Receipt, AllocError>
+    requires { c < length meta.old.pool.connections }
+    ensures hears { IfOk result (λ receipt. AfterTakeMessage c receipt meta.old meta.new) }
+    ensures halts { OnErr result (HaltStepAlone c Listening meta.old meta.new) }
+    ensures size { length meta.new.pool.connections ≡ length meta.old.pool.connections }
+{
+    up_to();
+    one_transcript();
+    one_input();
+    match meta.take(c) {
+        Ok(step) => Ok(receipt_of(step)),
+        Err(error) => match error {
+            TakeError::Memory => Err(AllocError),
+            _ => Ok(Receipt::Over),
+        },
+    }
+}
+
+/// Makes the calls of a connection that are due, and writes what waits.
+fn send_due<W: Sink>(alloc: Global, meta: &mut Meta, c: u32, sink: &mut W) -> Result<(), PushError>
+    requires { c < length meta.old.pool.connections }
+    ensures speaks { AfterSendDue c result meta.old meta.new (W.state sink.old) (W.state sink.new) }
+    ensures stopped { IsBroken c result meta.new }
+    ensures size { length meta.new.pool.connections ≡ length meta.old.pool.connections }
+{
+    up_to();
+    one_transcript();
+    meta.drive(c)?;
+    push(alloc, meta, c, sink)
+}
+
+/// Makes the calls of a connection that are due, writes what waits, and takes a message.
+pub(crate) fn send_and_take<W: Sink>(
+    alloc: Global,
+    meta: &mut Meta,
+    c: u32,
+    sink: &mut W,
+) -> Result<Receipt, PushError>
+    requires { c < length meta.old.pool.connections }
+    ensures receipt { AfterSendAndTake c result meta.old meta.new (W.state sink.old) (W.state sink.new) }
+    ensures stopped { IsBroken c result meta.new }
+    ensures size { length meta.new.pool.connections ≡ length meta.old.pool.connections }
+{
+    send_due(alloc, meta, c, sink)?;
+    Ok(take_message(meta, c)?)
+}

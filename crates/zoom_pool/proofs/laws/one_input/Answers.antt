@@ -1,0 +1,10 @@
+use Rattle.zoom_pool.proofs.Uniqueness.{one_met}
+use Rattle.zoom_pool.proofs.laws.one_input.Goals as goal
+
+pub returns : goal.returns
+returns c = one_met (record {
+  answer = c.one_answer.ensures;
+  value = c.one_value.ensures;
+  refusal =
+      c.one_refusal.ensures;
+})

@@ -1,0 +1,57 @@
+-- What octets begin with, as a connection takes it: messages of at most 2,097,152 octets, one by one.
+use Rattle.std.specs.Prelude.{◌≡◌, ℕ, ◌<◌, List, [], length}
+use Rattle.zber.specs.declared.fault.FaultKind.{FaultKind}
+use Rattle.zber.specs.declared.framer.TheConstants.{MESSAGE_LIMIT}
+use Rattle.zber.specs.Elements.{Element}
+use Rattle.zber.specs.Spelling.{Begins}
+use Rattle.zber.specs.Shown.{Shows}
+use Rattle.zber.specs.Unfinished.{IsUnfinished}
+use Rattle.zber.specs.Laws.{Gave}
+use Rattle.zapdu.specs.declared.apdu.Apdu.{Apdu}
+use Rattle.zapdu.specs.declared.apdu.ApduError.{ApduError}
+use Rattle.zapdu.specs.declared.apdu.ApduError.TheVariants as errors
+use Rattle.zapdu.specs.Writes.{Writes, IsNoApdu, IsMalformed}
+
+-- What a Take meets: a connection that was stopped before; a message, or one that is no APDU; a fault; octets that are
+-- no whole message, so many; no octets.
+pub data Input : Type 0 where
+  AlreadyStopped : Input
+  Message : Apdu → Input
+  Foreign : ApduError → Input
+  Fault : FaultKind → ℕ → Input
+  Rest : ℕ → Input
+  Nothing : Input
+
+-- the element is refused so
+abbrev pub IsForeign : Element → ApduError → Type 0
+IsForeign e errors.NotApdu = IsNoApdu e
+IsForeign e (errors.Malformed kind at) = ((v : Apdu) → Writes v e → ⊥) × IsMalformed kind at e
+IsForeign e errors.Memory = ⊥
+
+-- the element is met as this
+abbrev pub IsReadAs : Element → Input → Type 0
+IsReadAs e (Message v) = Writes v e
+IsReadAs e (Foreign error) = IsForeign e error
+IsReadAs e _ = ⊥
+
+-- the octets begin with a message that is met as this
+pub record HasMessage (xs : List ℕ) (input : Input) : Type 0 where
+  pub element : Element
+  pub rest : List ℕ
+  pub begins : Begins MESSAGE_LIMIT xs element rest
+  pub read : IsReadAs element input
+
+-- octets are met as this, by a connection that goes on
+abbrev pub AreInput : List ℕ → Input → Type 0
+AreInput xs AlreadyStopped = ⊥
+AreInput xs (Message v) = HasMessage xs (Message v)
+AreInput xs (Foreign error) = HasMessage xs (Foreign error)
+AreInput xs (Fault kind at) = Shows MESSAGE_LIMIT xs kind at
+AreInput xs (Rest n) = (0 < length xs) × (n ≡ length xs) × IsUnfinished MESSAGE_LIMIT xs
+AreInput xs Nothing = xs ≡ []
+
+-- behind so many messages of the stream these octets follow
+pub record IsBehind (stream : List ℕ) (k : ℕ) (rest : List ℕ) : Type 0 where
+  pub messages : List Element
+  pub gave : Gave MESSAGE_LIMIT stream messages rest
+  pub count : length messages ≡ k

@@ -1,0 +1,9 @@
+use Rattle.std.proofs.Common.{◌≡◌, length}
+use Rattle.zoom_sim.specs.RunSteps.{SilentStep}
+use Rattle.zoom_sim.specs.RunSound.{DriveAllStep}
+use Rattle.zoom_sim.proofs.drives.drive_all.Given as goal
+
+abbrev pub invariant-loop-c : goal.invariant-loop-c
+invariant-loop-c l =
+    SilentStep l.initial.meta l.meta × DriveAllStep l.c l.initial.meta l.meta
+    × (length l.meta.pool.connections ≡ length l.initial.meta.pool.connections)

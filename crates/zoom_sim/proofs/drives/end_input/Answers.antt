@@ -1,0 +1,21 @@
+use Rattle.std.proofs.Common.{subst}
+use Rattle.std.proofs.lemmas.Result.{IfOk-weaker}
+use Rattle.zoom_pool.specs.Transcripts.{InputEnded}
+use Rattle.zoom_pool.specs.Metas.{IsTranscriptValue}
+use Rattle.zoom_sim.specs.Run.{is_over}
+use Rattle.zoom_sim.proofs.RunSilentSteps.{goes_trans, recorded_silent}
+use Rattle.zoom_sim.proofs.RunTakes.{adds_trans}
+use Rattle.zoom_sim.proofs.RunUnfinished.{adds_spares, recorded_adds}
+use Rattle.zoom_sim.proofs.drives.end_input.Goals as goal
+
+pub returns-clause-on : goal.returns-clause-on
+returns-clause-on c = IfOk-weaker c.take_all.result _ _ (λ _ g.
+    goes_trans c.args.meta.now c.end.new.self c.take_all.new.meta
+    (recorded_silent c.args.c InputEnded c.args.meta.now c.end.new.self tt c.end.ensures.after) g) c.take_all.ensures.on
+
+pub returns-clause-spares : goal.returns-clause-spares
+returns-clause-spares c = IfOk-weaker c.take_all.result _ _ (λ _ more.
+    adds_spares c.args.c c.args.meta.now c.take_all.new.meta
+    (subst (λ b. IsTranscriptValue c.args.c c.args.meta.now is_over b) c.if-is_over.false c.is_over.ensures)
+    (adds_trans c.args.c c.args.meta.now c.end.new.self c.take_all.new.meta
+    (recorded_adds c.args.c InputEnded c.args.meta.now c.end.new.self c.end.ensures.after) more)) c.take_all.ensures.adds

@@ -1,0 +1,12 @@
+use Rattle.std.proofs.Common.{◌∙◌}
+use Rattle.zoom_sim.proofs.RunSilentSteps.{goes_trans}
+use Rattle.zoom_sim.proofs.RunUnfinished.{spares_trans}
+use Rattle.zoom_sim.proofs.drives.end_inputs.Goals as goal
+
+pub loop-c-preserved : goal.loop-c-preserved
+loop-c-preserved c = (
+  goes_trans c.args.meta.now c.loop-c.meta c.end_input.new.meta c.loop-c.invariant.0 c.in_ok-end_input.ensures.on,
+  spares_trans c.args.meta.now c.loop-c.meta c.end_input.new.meta c.loop-c.invariant.1
+      c.in_ok-end_input.ensures.spares,
+  c.end_input.ensures.size ∙ c.loop-c.invariant.2,
+)

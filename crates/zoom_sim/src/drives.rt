@@ -1,0 +1,170 @@
+//! Turns of connections: what is due is sent, and what came is taken.
+ghost use Rattle.std.specs.Prelude.{◌≡◌, ◌<◌, ◌^◌, length, IfOk, OnOk, None};
+ghost use Rattle.zoom_pool.specs.Transcripts.{is_message};
+ghost use Rattle.zoom_pool.specs.States.{is_stopped};
+ghost use Rattle.zoom_pool.specs.Metas.{IsTranscriptValue};
+ghost use Rattle.zoom_sim.specs.Run.{is_over};
+ghost use Rattle.zoom_sim.specs.RunSteps.{SilentStep, StopOneStep, StopAllStep};
+ghost use Rattle.zoom_sim.specs.RunSound.{DriveOneStep, TakeOneStep, TakeAllStep, DriveAllStep, UnfinishedOnlyStep};
+ghost use Rattle.zoom_sim.specs.RunTakeAll.{MoreEventsStep};
+
+use std::alloc::AllocError;
+use zoom_laws::laws::exchange_laws;
+use zoom_pool::laws::{one_transcript, take_laws, up_to};
+use zoom_pool::{Meta, Reason, State, Step, TakeError};
+
+/// Drives a connection.
+fn drive(meta: &mut Meta, c: u32) -> Result<(), AllocError>
+    requires { c < length meta.old.pool.connections }
+    ensures on { OnOk result (SilentStep meta.old meta.new) }
+    ensures at { OnOk result (DriveOneStep c meta.old meta.new) }
+    ensures size { length meta.new.pool.connections ≡ length meta.old.pool.connections }
+{
+    meta.drive(c)?;
+    Ok(())
+}
+
+/// Whether a message was taken.
+fn is_message(step: Step) -> bool
+    ensures { result ≡ is_message step }
+{
+    matches!(
+        step,
+        Step::Opened | Step::Rejected | Step::Answered | Step::Closed
+    )
+}
+
+/// Takes a message of a connection; whether there was one that was accepted.
+fn take_one(meta: &mut Meta, c: u32) -> Result<bool, AllocError>
+    requires { c < length meta.old.pool.connections }
+    ensures on { OnOk result (SilentStep meta.old meta.new) }
+    ensures at { IfOk result (λ taken. TakeOneStep c taken meta.old meta.new) }
+    ensures size { length meta.new.pool.connections ≡ length meta.old.pool.connections }
+{
+    up_to();
+    one_transcript();
+    match meta.take(c) {
+        Ok(step) => Ok(is_message(step)),
+        Err(error) => match error {
+            TakeError::Memory => Err(AllocError),
+            _ => Ok(false),
+        },
+    }
+}
+
+/// Takes the whole messages of a connection, and drives it after each.
+pub(crate) fn take_all(meta: &mut Meta, c: u32) -> Result<(), AllocError>
+    requires { c < length meta.old.pool.connections }
+    ensures on { OnOk result (SilentStep meta.old meta.new) }
+    ensures all { OnOk result (TakeAllStep c meta.old meta.new) }
+    ensures adds { OnOk result (MoreEventsStep c meta.old meta.new) }
+    ensures size { length meta.new.pool.connections ≡ length meta.old.pool.connections }
+{
+    exchange_laws();
+    take_laws();
+    one_transcript();
+    for _count in 0..u64::MAX {
+        if !take_one(meta, c)? {
+            return Ok(());
+        }
+        drive(meta, c)?;
+    }
+    Ok(())
+}
+
+/// Drives each connection.
+pub fn drive_all(meta: &mut Meta) -> Result<(), AllocError>
+    requires { length meta.old.pool.connections < 2 ^ 32 }
+    ensures on { OnOk result (SilentStep meta.old meta.new) }
+    ensures starts { OnOk result (DriveAllStep (length meta.old.pool.connections) meta.old meta.new) }
+    ensures size { length meta.new.pool.connections ≡ length meta.old.pool.connections }
+{
+    exchange_laws();
+    take_laws();
+    one_transcript();
+    for c in 0..meta.connections() {
+        drive(meta, c as u32)?;
+    }
+    Ok(())
+}
+
+/// Whether nothing more is taken in this state.
+fn is_stopped(state: State) -> bool
+    ensures { result ≡ is_stopped state }
+{
+    matches!(state, State::Closed | State::Failed(_))
+}
+
+/// Whether a connection is finished.
+fn is_over(meta: &Meta, c: u32) -> bool
+    requires { c < length meta.now.pool.connections }
+    ensures { IsTranscriptValue c meta.now is_over result }
+{
+    up_to();
+    one_transcript();
+    is_stopped(meta.state(c))
+}
+
+/// Ends the input of a connection that is not finished, and takes what is left.
+fn end_input(meta: &mut Meta, c: u32) -> Result<(), AllocError>
+    requires { c < length meta.old.pool.connections }
+    ensures on { OnOk result (SilentStep meta.old meta.new) }
+    ensures spares { OnOk result (UnfinishedOnlyStep meta.old meta.new) }
+    ensures size { length meta.new.pool.connections ≡ length meta.old.pool.connections }
+{
+    if is_over(meta, c) {
+        return Ok(());
+    }
+    meta.end(c);
+    take_all(meta, c)
+}
+
+/// Ends the input of each connection that is not finished, and takes what is left.
+pub(crate) fn end_inputs(meta: &mut Meta) -> Result<(), AllocError>
+    requires { length meta.old.pool.connections < 2 ^ 32 }
+    ensures on { OnOk result (SilentStep meta.old meta.new) }
+    ensures spares { OnOk result (UnfinishedOnlyStep meta.old meta.new) }
+    ensures size { length meta.new.pool.connections ≡ length meta.old.pool.connections }
+{
+    for c in 0..meta.connections() {
+        end_input(meta, c as u32)?;
+    }
+    Ok(())
+}
+
+/// Stops a connection whose way failed.
+pub(crate) fn stop_for(meta: &mut Meta, c: u32, failure: Option<Reason>)
+    requires { c < length meta.old.pool.connections }
+    ensures on { SilentStep meta.old meta.new }
+    ensures same { failure ≡ None → meta.new ≡ meta.old }
+    ensures size { length meta.new.pool.connections ≡ length meta.old.pool.connections }
+{
+    if let Some(reason) = failure {
+        meta.stop(c, reason);
+    }
+}
+
+/// Stops a connection that is not finished.
+fn stop(meta: &mut Meta, c: u32)
+    requires { c < length meta.old.pool.connections }
+    ensures after { StopOneStep c meta.old meta.new }
+    ensures spares { UnfinishedOnlyStep meta.old meta.new }
+    ensures size { length meta.new.pool.connections ≡ length meta.old.pool.connections }
+{
+    if is_over(meta, c) {
+        return;
+    }
+    meta.stop(c, Reason::Turns);
+}
+
+/// Stops each connection that is not finished.
+pub(crate) fn stop_all(meta: &mut Meta)
+    requires { length meta.old.pool.connections < 2 ^ 32 }
+    ensures after { StopAllStep (length meta.old.pool.connections) meta.old meta.new }
+    ensures spares { UnfinishedOnlyStep meta.old meta.new }
+    ensures size { length meta.new.pool.connections ≡ length meta.old.pool.connections }
+{
+    for c in 0..meta.connections() {
+        stop(meta, c as u32);
+    }
+}

@@ -1,0 +1,108 @@
+//! Hosts are asked, one after the other.
+ghost use Rattle.std.specs.Prelude.{◌≡◌, ◌<◌, ◌^◌, false, true, length, is_some, IfOk, OnOk};
+ghost use Rattle.zoom_questions.specs.Askable.{AreFit, AreAskable};
+ghost use Rattle.zoom_tcp.specs.Asking.{is_present, IsAsked};
+ghost use Rattle.zoom_tcp.specs.AskingSteps.{AfterTalkOn, AfterTalkAll};
+
+use crate::link::TcpLink;
+use crate::opening::open_all;
+use bytes::Bytes;
+use std::alloc::{AllocError, Global};
+use std::io::{Read, Write};
+use std::net::Net;
+use std::time::Clock;
+use zber::Seq;
+use zoom_io::{TalkError, Watch, talk};
+use zoom_pool::{Meta, MetaSettings, Question};
+
+/// The most reads of one conversation.
+const TURNS: u32 = 1_000_000;
+
+/// Puts each question to the host at the address of its number, `host:port`, where it has one: connects to all of them
+/// and sends each the Init, and then talks with each in order (Z39.50-2003, 3.2). A host that there is no way to, that
+/// fails, that is silent for 30 seconds or that takes more than an hour costs its own connection alone. Nothing befalls
+/// the connection of a question without an address. Before each talk `watch` looks on.
+///
+/// An error only where no memory was found.
+pub fn ask<N: Net + Clock, V: Watch>(
+    alloc: Global,
+    net: &N,
+    questions: Vec<Question>,
+    settings: MetaSettings,
+    addresses: &[Option<Bytes>],
+    watch: &mut V,
+) -> Result<Meta, AllocError>
+    requires some { length questions.items < 2 ^ 32 }
+    requires askable { AreAskable questions.items }
+    requires fit { AreFit settings }
+    requires equal { length addresses.now ≡ length questions.items }
+    ensures asked { IfOk result (λ meta. IsAsked questions.items settings false (is_present addresses.now) meta) }
+{
+    let mut meta = Meta::new(alloc, Seq::from_vec(questions), settings)?;
+    let links = open_all(alloc, net, &mut meta, addresses)?;
+    talk_all(alloc, &mut meta, links, watch)?;
+    Ok(meta)
+}
+
+/// Talks with each host in order. Each line ends with its talk.
+fn talk_all<C: Clock, S: Read + Write + Drop, V: Watch>(
+    alloc: Global,
+    meta: &mut Meta,
+    links: Vec<Option<TcpLink<'_, C, S>>>,
+    watch: &mut V,
+) -> Result<(), AllocError>
+    requires few { length meta.old.pool.connections < 2 ^ 32 }
+    requires equal { length links.items ≡ length meta.old.pool.connections }
+    ensures talks { OnOk result (AfterTalkAll links.entry.items (length links.entry.items) meta.old meta.new) }
+    ensures size { length meta.new.pool.connections ≡ length meta.old.pool.connections }
+{
+    let mut c = 0;
+    for link in links {
+        watch.look(meta);
+        talk_if(alloc, meta, c, link)?;
+        c += 1;
+    }
+    Ok(())
+}
+
+/// Talks with a host, where there is a way to it.
+fn talk_if<C: Clock, S: Read + Write + Drop>(
+    alloc: Global,
+    meta: &mut Meta,
+    c: u32,
+    link: Option<TcpLink<'_, C, S>>,
+) -> Result<(), AllocError>
+    requires { c < length meta.old.pool.connections }
+    ensures talks { OnOk result (AfterTalkOn c (is_some link.entry) meta.old meta.new) }
+    ensures size { length meta.new.pool.connections ≡ length meta.old.pool.connections }
+{
+    match link {
+        Some(link) => talk_on(alloc, meta, c, link),
+        None => Ok(()),
+    }
+}
+
+/// Talks with a host until its connection ends.
+fn talk_on<C: Clock, S: Read + Write + Drop>(
+    alloc: Global,
+    meta: &mut Meta,
+    c: u32,
+    link: TcpLink<'_, C, S>,
+) -> Result<(), AllocError>
+    requires { c < length meta.old.pool.connections }
+    ensures talks { OnOk result (AfterTalkOn c true meta.old meta.new) }
+    ensures size { length meta.new.pool.connections ≡ length meta.old.pool.connections }
+{
+    let TcpLink {
+        mut source,
+        mut sink,
+    } = link;
+    match talk(alloc, meta, c, &mut source, &mut sink, TURNS) {
+        Ok(()) => Ok(()),
+        Err(error) => match error {
+            TalkError::Memory => Err(AllocError),
+            // Of what else failed the connection tells.
+            _ => Ok(()),
+        },
+    }
+}

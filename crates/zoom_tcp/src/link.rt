@@ -1,0 +1,124 @@
+//! A TCP stream as the devices of a conversation, with time limits.
+ghost use Rattle.std.specs.Prelude.{◌≡◌, IfOk};
+
+use bytes::Bytes;
+use std::io;
+use std::io::{ErrorKind, Read, Write};
+use std::net::{Net, OpenStream, TcpStream, ToSocketAddrs};
+use std::time::{Clock, Duration, Instant};
+use zoom_io::Counting;
+
+/// How long a host may take to answer a connection, and to give or take octets, in seconds.
+pub const PATIENCE: u64 = 30;
+
+/// How long a conversation may take in all, in seconds.
+pub const HOUR: u64 = 3600;
+
+/// A stream that fails once its conversation has taken an hour.
+#[derive(Drop)]
+pub struct Timed<'a, C, S> {
+    clock: &'a C,
+    begun: Instant,
+    pub(crate) stream: S,
+}
+
+impl<'a, C: Clock, S> Timed<'a, C, S> {
+    /// The time, or an error where that of the conversation is up, or the clock fails.
+    pub(crate) fn now(&self) -> io::Result<Instant> {
+        let now = Instant::now(self.clock)?;
+        if now.duration_since(self.begun) < Duration::from_secs(HOUR) {
+            Ok(now)
+        } else {
+            Err(io::Error::from(ErrorKind::TimedOut))
+        }
+    }
+}
+
+impl<'a, C: Clock, S: Read> Read for Timed<'a, C, S> {
+    fn read(&mut self, buf: &mut [u8]) -> io::Result<usize> {
+        self.now()?;
+        self.stream.read(buf)
+    }
+}
+
+impl<'a, C: Clock, S: Write> Write for Timed<'a, C, S> {
+    fn write(&mut self, buf: &[u8]) -> io::Result<usize> {
+        self.now()?;
+        self.stream.write(buf)
+    }
+
+    fn flush(&mut self) -> io::Result<()> {
+        self.stream.flush()
+    }
+}
+
+/// Both ways of a stream.
+#[derive(Drop)]
+pub struct TcpLink<'a, C, S> {
+    /// What comes.
+    pub source: Counting<Timed<'a, C, S>>,
+    /// What goes.
+    pub sink: Counting<Timed<'a, C, S>>,
+}
+
+impl<'a, C: Clock, S: OpenStream + Drop> TcpLink<'a, C, S> {
+    /// Of a stream, with limits of 30 seconds for a read and for a write, and of an hour for all of them. What comes is
+    /// that of the stream itself, the hour begins at one time for both ways, and no call of either failed yet.
+    pub fn new(clock: &'a C, stream: S) -> io::Result<TcpLink<'a, C, S>>
+        ensures stream { IfOk result (λ link. link.source.inner.stream ≡ stream) }
+        ensures begun { IfOk result (λ link. link.sink.inner.begun ≡ link.source.inner.begun) }
+        ensures sound { IfOk result (λ link. (link.source.failures ≡ 0) × (link.sink.failures ≡ 0)) }
+    {
+        set_limits(&stream)?;
+        let begun = Instant::now(clock)?;
+        let other = stream.try_clone()?;
+        Ok(TcpLink {
+            source: timed_device(clock, begun, stream),
+            sink: timed_device(clock, begun, other),
+        })
+    }
+}
+
+/// Sets limits of 30 seconds for a read and for a write, and has octets go out at once.
+pub(crate) fn set_limits<S: OpenStream>(stream: &S) -> io::Result<()> {
+    let patience = Duration::from_secs(PATIENCE);
+    stream.set_read_timeout(Some(patience))?;
+    stream.set_write_timeout(Some(patience))?;
+    stream.set_nodelay(true)
+}
+
+/// A stream as a device of which no call failed yet, with the hour that began then.
+fn timed_device<C, S>(clock: &C, begun: Instant, stream: S) -> Counting<Timed<'_, C, S>>
+    ensures stream { result.inner.stream ≡ stream }
+    ensures begun { result.inner.begun ≡ begun }
+    ensures sound { result.failures ≡ 0 }
+{
+    Counting::new(Timed {
+        clock,
+        begun,
+        stream,
+    })
+}
+
+/// Connects to the first address that answers within 30 seconds.
+fn stream_to<N: Net>(net: &N, address: &str) -> io::Result<N::Stream> {
+    let patience = Duration::from_secs(PATIENCE);
+    let mut last = io::Error::from(ErrorKind::InvalidInput);
+    for found in address.to_socket_addrs(net)? {
+        match TcpStream::connect_timeout(net, &found, patience) {
+            Ok(stream) => return Ok(stream),
+            Err(error) => last = error,
+        }
+    }
+    Err(last)
+}
+
+/// A line to a host at an address of the form `host:port`; `None` where there is no way to it.
+pub(crate) fn link_to<'a, N: Net + Clock>(
+    net: &'a N,
+    address: &Bytes,
+) -> Option<TcpLink<'a, N, N::Stream>> {
+    let text = str::from_utf8(address.as_slice()).ok()?;
+    let stream = stream_to(net, text).ok()?;
+    TcpLink::new(net, stream).ok()
+}
