@@ -1,4 +1,4 @@
-//! The words of the command line, read with `clap`.
+//! The arguments of the command line, read with `clap`.
 
 ghost use Rattle.std.specs.Prelude.{◌≡◌, IfOk, IfSome, codes, map, option_map, slice_get, string_bytes};
 ghost use Rattle.clap.specs.Words.{kind_of, found_of};
@@ -12,37 +12,37 @@ use clap::{ArgMatches, Command, Error};
 use std::alloc::{AllocError, Global};
 use zber::Mode;
 
-/// What the words ask for.
+/// A command of the program, with its arguments.
 #[derive(Debug, Drop)]
 pub enum Arguments<'a> {
-    /// Show the messages whose hexadecimal digits standard input has.
+    /// Print the messages whose hexadecimal digits standard input has.
     Show,
     /// Print a query and its encoding.
     Pqf {
         text: &'a str,
     },
-    /// Print the list of what saved files know together.
+    /// Print the list of all facts of saved files: the first, and the others.
     Join {
         first: &'a str,
         others: Vec<&'a str>,
         mode: Mode,
     },
-    /// Print the list of what the targets of a world file answer, and save what is known then, if it is to be.
+    /// Ask the targets of a world file in memory, and print the list. Save the facts if `saved` is a path.
     Run {
         world: &'a str,
         saved: Option<&'a str>,
         mode: Mode,
     },
-    /// Write the records that saved files know together: of one syntax, or of any, and of places that have several none
-    /// or all.
+    /// Write the records of saved files: of one syntax, or of any. With `conflicts`, write all records of a
+    /// position that has several, else none of them.
     Records {
         first: &'a str,
         others: Vec<&'a str>,
         syntax: Option<&'a str>,
         conflicts: bool,
     },
-    /// Print the list of what the hosts of a world file answer over TCP, asked at once or one after the other, of
-    /// questions of these names or of all, and save what is known then, if it is to be.
+    /// Ask the hosts of a world file over TCP, at once or one after the other, and print the list. Only questions
+    /// to these names are asked, or all if `only` is empty. Save the facts if `saved` is a path.
     Ask {
         world: &'a str,
         saved: Option<&'a str>,
@@ -50,13 +50,13 @@ pub enum Arguments<'a> {
         only: Vec<&'a str>,
         mode: Mode,
     },
-    /// As `Run`, over TCP on 127.0.0.1 and without moves.
+    /// As `Run`, but over TCP on 127.0.0.1 and without moves.
     Loop {
         world: &'a str,
         saved: Option<&'a str>,
         mode: Mode,
     },
-    /// Let a target of a world file answer so many connections at an address.
+    /// Serve a target of a world file at an address, for `count` connections.
     Serve {
         address: &'a str,
         name: &'a str,
@@ -65,8 +65,11 @@ pub enum Arguments<'a> {
     },
 }
 
-/// What the words ask for, the first being the program's name and the second that of the command. Else the text for
-/// words that are wrong or that ask for help; its kind is `OutOfMemory` where memory ran out.
+/// Reads the command line: `arguments[0]` is the program's name and `arguments[1]` that of the command.
+///
+/// Returns the command with the values that `clap` found for its arguments. Otherwise returns `clap`'s error: why
+/// the arguments are wrong, or the help that was asked for. The error's kind is `OutOfMemory` if no memory is
+/// found.
 pub fn parse<'a>(alloc: Global, arguments: &'a [String]) -> Result<Arguments<'a>, Error>
     ensures asks { IfOk result (IsParsed (map string_bytes arguments.now)) }
 {
@@ -76,7 +79,7 @@ pub fn parse<'a>(alloc: Global, arguments: &'a [String]) -> Result<Arguments<'a>
     asked
 }
 
-/// What the words ask for, by the commands and what each reads.
+/// Reads the command line by the forms of the commands.
 fn asked_by<'a>(
     alloc: Global,
     command: &mut Command<'a>,
@@ -93,7 +96,7 @@ fn asked_by<'a>(
     Err(command.error(ErrorKind::InvalidSubcommand, "no such command")?)
 }
 
-/// What words ask for with the arguments that were found for their command. `None` where there is no command.
+/// Returns the command with the arguments that `clap` found for it, or `None` if there is no command.
 fn asked_of<'a>(
     alloc: Global,
     arguments: &[String],
@@ -107,7 +110,7 @@ fn asked_of<'a>(
     }
 }
 
-/// The word behind the program's name.
+/// Returns the argument behind the program's name.
 fn second(arguments: &[String]) -> Option<&str>
     ensures { option_map (λ word. word.now) result ≡ slice_get (map string_bytes arguments.now) 1 }
 {
@@ -117,8 +120,8 @@ fn second(arguments: &[String]) -> Option<&str>
     }
 }
 
-/// What the command of this name asks for with the arguments that were found. `None` where no command has the name, or
-/// a word that it wants is missing.
+/// Returns the command of this name with the arguments that were found. `None` if no command has the name, or a
+/// required argument is missing.
 fn arguments_of<'a>(
     alloc: Global,
     name: &str,
@@ -134,7 +137,7 @@ fn arguments_of<'a>(
     }
 }
 
-/// The values of an argument, in their order: none, where it is not given.
+/// Returns the values of an argument, in order: none if the argument is not given.
 fn values_of<'a>(
     alloc: Global,
     found: &ArgMatches<'a>,
@@ -149,7 +152,7 @@ fn values_of<'a>(
     Ok(values)
 }
 
-/// What `join` asks for: files, the first and the others.
+/// Returns `join` with its paths: the first, and the others.
 fn joins_of<'a>(alloc: Global, found: &ArgMatches<'a>) -> Result<Option<Arguments<'a>>, AllocError>
     ensures asks { IfOk result (λ arguments. IfSome arguments (AreArgumentsOf (codes "join") (found_of found.now))) }
 {
@@ -164,7 +167,7 @@ fn joins_of<'a>(alloc: Global, found: &ArgMatches<'a>) -> Result<Option<Argument
     }))
 }
 
-/// What `records` asks for: files, and which records.
+/// Returns `records` with its paths and its choice of records.
 fn records_of<'a>(
     alloc: Global,
     found: &ArgMatches<'a>,
@@ -183,7 +186,7 @@ fn records_of<'a>(
     }))
 }
 
-/// What `ask` asks for: a world file, and which of its questions how.
+/// Returns `ask` with its world file and its choice of questions.
 fn asks_of<'a>(alloc: Global, found: &ArgMatches<'a>) -> Result<Option<Arguments<'a>>, AllocError>
     ensures asks { IfOk result (λ arguments. IfSome arguments (AreArgumentsOf (codes "ask") (found_of found.now))) }
 {
@@ -200,7 +203,7 @@ fn asks_of<'a>(alloc: Global, found: &ArgMatches<'a>) -> Result<Option<Arguments
     }))
 }
 
-/// What a command asks for that takes a fixed number of words.
+/// Returns a command that takes a fixed number of arguments.
 fn single_of<'a>(name: &str, found: &ArgMatches<'a>) -> Option<Arguments<'a>>
     ensures asks { IfSome result (AreArgumentsOf name.now (found_of found.now)) }
 {
@@ -229,7 +232,7 @@ fn single_of<'a>(name: &str, found: &ArgMatches<'a>) -> Option<Arguments<'a>>
     }
 }
 
-/// How the option asks for records to be printed.
+/// Returns how records are printed: in hexadecimal if `--hex` is given, else as text.
 fn mode_of(found: &ArgMatches<'_>) -> Mode
     ensures { HasMode (found_of found.now) result }
 {
@@ -240,7 +243,8 @@ fn mode_of(found: &ArgMatches<'_>) -> Mode
     }
 }
 
-/// The text for words that are not UTF-8.
+/// Returns the error for arguments that are not UTF-8: its kind is `InvalidValue`. Returns `AllocError` if no
+/// memory is found.
 pub fn odd_arguments(alloc: Global) -> Result<Error, AllocError>
     ensures { IfOk result (λ e. kind_of e ≡ InvalidValue) }
 {

@@ -1,14 +1,14 @@
-//! The forms of the command line: its commands with the words and options that each wants, and their help.
+//! The forms of the command line: its commands with their arguments and options, and their help.
 
 use clap::{Arg, ArgAction, Command, value_parser};
 use std::alloc::{AllocError, Global};
 
-/// An option that a command may be given.
+/// An option of a command.
 #[derive(Clone, Copy)]
 struct Extra {
     id: &'static str,
     help: &'static str,
-    /// The name that help gives its value, where it has one.
+    /// The name of its value in the help, if it has a value.
     value: Option<&'static str>,
     /// Whether it may be given more than once.
     is_many: bool,
@@ -56,10 +56,10 @@ const CONFLICTS: Extra = Extra {
     is_many: false,
 };
 
-/// The most connections that one command serves.
+/// The most connections that one `serve` takes.
 const MOST_CONNECTIONS: i64 = 1_000_000;
 
-/// A command: its name, what it is for, an example for its help, the words that it wants, and its options.
+/// A command: its name, its purpose, an example for its help, its arguments and its options.
 #[derive(Clone, Copy)]
 struct Form {
     name: &'static str,
@@ -69,22 +69,22 @@ struct Form {
     may: &'static [Extra],
 }
 
-/// A word that a command wants, under the name that help gives it.
+/// An argument of a command, under its name in the help.
 #[derive(Clone, Copy)]
 struct Argument {
     id: &'static str,
     help: &'static str,
-    /// Whether it may begin with a hyphen and be no option.
+    /// Whether it may begin with a hyphen without being an option.
     has_hyphen: bool,
     /// Whether it is a number of connections.
     is_count: bool,
-    /// Whether more than one may be given.
+    /// Whether it may be given more than once.
     is_many: bool,
-    /// Whether one has to be given.
+    /// Whether it is required.
     is_needed: bool,
 }
 
-/// A file that was saved.
+/// A saved file.
 const SAVED: Argument = Argument {
     id: "A",
     help: "A file that --save made",
@@ -371,7 +371,7 @@ fn subcommand<'a>(alloc: Global, form: &Form) -> Result<Command<'a>, AllocError>
     Ok(command)
 }
 
-/// The command line: its commands, what each reads, and their help.
+/// Returns the command line's form: its commands with their arguments, and their help.
 pub(crate) fn command<'a>(alloc: Global) -> Result<Command<'a>, AllocError> {
     let mut command = Command::new(alloc, "zmeta")
         .about(ABOUT)

@@ -1,4 +1,4 @@
-//! The words of the command line: the forms of its commands, and what words ask for.
+//! The command line: the forms of its commands, and the reading of its arguments.
 #![tactic(auto)]
 
 mod arguments;

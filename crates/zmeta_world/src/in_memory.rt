@@ -1,4 +1,4 @@
-//! Worlds that are run: each question, and the target in memory that it is put to.
+//! In-memory runs: each question of a world with its own target in memory.
 
 ghost use Rattle.std.specs.Prelude.{◌≡◌, ◌≤◌, ◌<◌, ◌^◌, length, IfOk, IfErr, IfSome};
 ghost use Rattle.std.specs.Option.{option_map};
@@ -16,25 +16,26 @@ use zknow::Names;
 use zoom_questions::{MetaSettings, Move, Question};
 use ztarget::Target;
 
-/// A world arranged so that it can be run: question `i` is put to target `i`, under name `i`.
+/// A plan for a run in memory: question `i` goes to target `i`, which the list shows as name `i`.
 #[derive(Drop)]
 pub struct InMemoryRun {
-    /// The questions, in order.
+    /// The questions, in the order of the file.
     pub questions: Seq<Question>,
-    /// How they are asked.
+    /// The settings for the whole run: the origin's name, the step and the window.
     pub settings: MetaSettings,
-    /// The targets, of which none has received anything yet.
+    /// One new target for each question, in the order of the questions.
     pub targets: Seq<Target>,
-    /// The names of the targets, for the list.
+    /// The names of the targets, in the order of the questions.
     pub names: Names,
-    /// The moves, in order; `c` is the place of a question.
+    /// The moves, in order. The field `c` of a move is the index of a question.
     pub moves: Seq<Move>,
 }
 
 impl NamedTarget {
-    /// A target with these databases and settings that has received nothing yet. Octets are shared, not copied.
+    /// Makes a target with these databases and settings that has received nothing yet. It shares the octets of the
+    /// records.
     ///
-    /// An error only where no memory was found.
+    /// Requires fewer than 2^32 records in the databases. Returns an error only if no memory is found.
     pub fn target(&self, alloc: Global) -> Result<Target, AllocError>
         requires { length (entries_in self.now.databases) < 2 ^ 32 }
         ensures { IfOk result (λ target. target ≡ state_of self.now) }
@@ -44,7 +45,7 @@ impl NamedTarget {
     }
 }
 
-/// The target that stands there, where it is one in memory.
+/// Returns the target at this end, or `None` if the end is a host.
 fn target_at(targets: &[NamedTarget], end: End) -> Option<&NamedTarget>
     ensures { option_map (λ target. target.now) result ≡ target_at targets.entry.now end }
 {
@@ -54,7 +55,7 @@ fn target_at(targets: &[NamedTarget], end: End) -> Option<&NamedTarget>
     }
 }
 
-/// The target for a question.
+/// Makes the target for a question. `Refused` if the question goes to a host.
 fn target_for(
     alloc: Global,
     targets: &[NamedTarget],
@@ -71,7 +72,7 @@ fn target_for(
     }
 }
 
-/// The targets for questions, in order.
+/// Makes the targets for the questions, in order.
 fn targets_for(
     alloc: Global,
     targets: &[NamedTarget],
@@ -89,14 +90,14 @@ fn targets_for(
     Ok(found)
 }
 
-/// Whether the target has the name.
+/// Returns whether this is the target's name.
 fn has_name(target: &NamedTarget, name: &[u8]) -> bool
     ensures { result ≡ bytes_eq name.now target.now.name }
 {
     name == target.name.as_slice()
 }
 
-/// The target of the name, which no other has.
+/// Returns the target with this name, which no other target has.
 fn target_named<'a>(targets: &'a [NamedTarget], name: &[u8]) -> Option<&'a NamedTarget>
     ensures { option_map (λ target. target.now) result ≡ target_named name.now targets.entry.now }
 {
@@ -109,7 +110,9 @@ fn target_named<'a>(targets: &'a [NamedTarget], name: &[u8]) -> Option<&'a Named
 }
 
 impl World {
-    /// The target in memory of this name.
+    /// Returns the target in memory with this name, or `None` if there is none.
+    ///
+    /// Requires a world that `read_world` returned. The target then has fewer than 2^32 records.
     pub fn target(&self, name: &[u8]) -> Option<&NamedTarget>
         requires { IsFit self.now }
         ensures named { option_map (λ target. target.now) result ≡ target_named name.now self.entry.now.targets }
@@ -118,9 +121,11 @@ impl World {
         target_named(self.targets.as_slice(), name)
     }
 
-    /// The world as it is run by one of this name, which has at most 2,000,000 octets.
+    /// Plans a run in memory by an origin with this name.
     ///
-    /// Refusals: `Refused` with the line of the first question that is put to a host; and `Memory`.
+    /// Requires a world that `read_world` returned, and a name of at most 2,000,000 octets.
+    ///
+    /// `Refused` gives the line of the first question that goes to a host. `Memory` if no memory is found.
     pub fn in_memory(self, alloc: Global, name: Bytes) -> Result<InMemoryRun, WorldError>
         requires fit { IsFit self }
         requires short { length name ≤ 2000000 }

@@ -1,4 +1,4 @@
-//! Worlds.
+//! World files: reads a file into a `World`, and plans an in-memory or a network run of it.
 #![tactic(auto)]
 
 pub mod in_memory;

@@ -1,4 +1,4 @@
-//! Worlds whose hosts are asked: each question, and the address that it is put to.
+//! Network runs: each question of a world with the address of its host.
 
 ghost use Rattle.std.specs.Prelude.{◌≡◌, ◌≤◌, length, IfOk, IfErr};
 ghost use Rattle.std.specs.Option.{option_map};
@@ -14,20 +14,21 @@ use zber::Seq;
 use zknow::Names;
 use zoom_questions::{MetaSettings, Question};
 
-/// A world arranged so that its hosts can be asked: question `i` is put to the host at address `i`, under name `i`.
+/// A plan for a run over the network: question `i` goes to the host at address `i`, which the list shows as name
+/// `i`.
 #[derive(Drop)]
 pub struct NetworkRun {
-    /// The questions, in order.
+    /// The questions, in the order of the file.
     pub questions: Seq<Question>,
-    /// How they are asked.
+    /// The settings for the whole run: the origin's name, the step and the window.
     pub settings: MetaSettings,
-    /// `host:port` each.
+    /// One address for each question, as `host:port`, in the order of the questions.
     pub addresses: Seq<Bytes>,
-    /// The names of the hosts, for the list.
+    /// The names of the hosts, in the order of the questions.
     pub names: Names,
 }
 
-/// The host that stands there, where it is one at an address.
+/// Returns the host at this end, or `None` if the end is a target in memory.
 fn host_at(hosts: &[NamedHost], end: End) -> Option<&NamedHost>
     ensures { option_map (λ host. host.now) result ≡ host_at hosts.entry.now end }
 {
@@ -37,7 +38,7 @@ fn host_at(hosts: &[NamedHost], end: End) -> Option<&NamedHost>
     }
 }
 
-/// The address for a question.
+/// Returns the address for a question. `Refused` if the question goes to a target in memory.
 fn address_for(hosts: &[NamedHost], asked_question: &AskedQuestion) -> Result<Bytes, WorldError>
     ensures { FindResult (address_for hosts.now) asked_question.now result }
 {
@@ -49,7 +50,7 @@ fn address_for(hosts: &[NamedHost], asked_question: &AskedQuestion) -> Result<By
     }
 }
 
-/// The addresses for questions, in order.
+/// Returns the addresses for the questions, in order.
 fn addresses_for(
     alloc: Global,
     hosts: &[NamedHost],
@@ -67,9 +68,12 @@ fn addresses_for(
 }
 
 impl World {
-    /// The world as its hosts are asked by one of this name, which has at most 2,000,000 octets.
+    /// Plans a run over the network by an origin with this name.
     ///
-    /// Refusals: `Refused` with the line of the first question that is put to a target in memory; and `Memory`.
+    /// Requires a world that `read_world` returned, and a name of at most 2,000,000 octets.
+    ///
+    /// `Refused` gives the line of the first question that goes to a target in memory. `Memory` if no memory is
+    /// found.
     pub fn network(self, alloc: Global, name: Bytes) -> Result<NetworkRun, WorldError>
         requires fit { IsFit self }
         requires short { length name ≤ 2000000 }

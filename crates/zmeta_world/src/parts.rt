@@ -1,4 +1,4 @@
-//! Questions of a world, apart from whom they are put to.
+//! The questions of a world, split into what is asked and the names of those asked.
 
 ghost use Rattle.std.specs.Prelude.{◌≡◌, [], ◌++◌, ◌∷◌, IfOk, OnOk};
 ghost use Rattle.zmeta_world.specs.Finding.{AreParts, IsOneMore};
@@ -8,7 +8,7 @@ use bytes::Bytes;
 use std::alloc::{AllocError, Global};
 use zoom_questions::Question;
 
-/// The questions, and the name that each is put to, in order.
+/// The questions, and the names of the targets or hosts that they go to, in the same order.
 #[derive(Drop)]
 pub(crate) struct Parts {
     pub questions: Vec<Question>,
@@ -16,7 +16,7 @@ pub(crate) struct Parts {
 }
 
 impl Parts {
-    /// Of no questions. It takes no memory.
+    /// Returns the parts of no questions. It allocates nothing.
     fn new(alloc: Global) -> Parts
         ensures { AreParts [] result }
     {
@@ -26,7 +26,7 @@ impl Parts {
         }
     }
 
-    /// Puts a question last.
+    /// Appends the parts of one question.
     fn put(&mut self, asked_question: AskedQuestion) -> Result<(), AllocError>
         ensures { OnOk result (IsOneMore asked_question self.old self.new) }
     {
@@ -42,14 +42,14 @@ impl Parts {
     }
 }
 
-/// Puts one more last.
+/// Appends one value.
 pub(crate) fn add<A: Drop>(all: &mut Vec<A>, one: A) -> Result<(), AllocError>
     ensures { OnOk result (all.new.items ≡ all.old.items ++ one ∷ []) }
 {
     Ok(all.push(one)?)
 }
 
-/// The parts of questions.
+/// Splits questions into their parts.
 pub(crate) fn split_questions(
     alloc: Global,
     asked_questions: Vec<AskedQuestion>,

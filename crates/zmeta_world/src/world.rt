@@ -1,4 +1,4 @@
-//! World files: catalogues in memory or at an address, what is asked of them, and in which order octets are carried.
+//! World files: targets in memory, hosts, questions to them, and the order in which octets are carried.
 
 ghost use Rattle.std.specs.Prelude.{◌≡◌, ◌<◌, ◌^◌, length, IfOk, IfErr};
 ghost use Rattle.zmeta_world.specs.declared.world.WorldError.TheVariants.{Memory};
@@ -26,66 +26,66 @@ use zber::Seq;
 use zoom_questions::{Move, Question};
 use ztarget::{Database, TargetSettings};
 
-/// A target in memory, under the name that it is asked by.
+/// A target in memory, with its name.
 #[derive(Drop)]
 pub struct NamedTarget {
-    /// The name, which no other target and no host has.
+    /// The name. No other target and no host has it.
     pub name: Bytes,
-    /// What it offers, and how large its replies may be.
+    /// The services that the target supports, and the size of its largest reply in octets.
     pub settings: TargetSettings,
-    /// Its databases, in order.
+    /// Its databases, in the order of the file.
     pub databases: Seq<Database>,
 }
 
-/// A target at an address, under the name that it is asked by.
+/// A host: a target at an address, with its name.
 #[derive(Drop)]
 pub struct NamedHost {
-    /// The name, which no target and no other host has.
+    /// The name. No other host and no target in memory has it.
     pub name: Bytes,
-    /// `host:port`.
+    /// The address, as `host:port`.
     pub address: Bytes,
 }
 
-/// Whom a question is put to: the place among the targets or among the hosts.
+/// The end that a question goes to: an index into the targets or into the hosts of the world.
 #[derive(Clone, Copy, Debug, PartialEq, Eq)]
 pub enum End {
-    /// A target in memory.
+    /// A target in memory, by its index in `targets`.
     Target(usize),
-    /// A target at an address.
+    /// A host, by its index in `hosts`.
     Host(usize),
 }
 
-/// A question: the number of its line, from 1, and whom it is put to.
+/// A question with its line, and the target or host that it goes to.
 #[derive(Drop)]
 pub struct AskedQuestion {
-    /// The number of its line in the file.
+    /// The number of the question's line in the file, from 1.
     pub line: u64,
-    /// The name of the one that is asked.
+    /// The name of the target or host.
     pub name: Bytes,
-    /// Where that one stands.
+    /// The target or host itself, as an index.
     pub end: End,
-    /// What is asked.
+    /// The question: databases, query, record syntax and wanted positions.
     pub question: Question,
 }
 
-/// What a world file says.
+/// The contents of a world file.
 #[derive(Drop)]
 pub struct World {
     /// How many positions one Present asks for, 1 to 1,000.
     pub step: u32,
-    /// How many Presents of one connection may wait for their answers at a time, 1 to 64.
+    /// How many Presents of one connection may be outstanding at a time, 1 to 64.
     pub window: u32,
-    /// The targets, in order.
+    /// The targets in memory, in the order of the file.
     pub targets: Seq<NamedTarget>,
-    /// The hosts, in order.
+    /// The hosts, in the order of the file.
     pub hosts: Seq<NamedHost>,
-    /// The questions, in order.
+    /// The questions, in the order of the file.
     pub questions: Seq<AskedQuestion>,
-    /// The moves, in order; `c` is the place of a question.
+    /// The moves, in order. The field `c` of a move is the index of a question.
     pub moves: Seq<Move>,
 }
 
-/// Why a file is no world file.
+/// Why a world file is refused, or cannot be planned as the run that was asked for.
 #[derive(Clone, Copy, Debug, PartialEq, Eq)]
 pub enum WorldError {
     /// The first line at fault, from 1.
@@ -102,7 +102,7 @@ impl From<AllocError> for WorldError {
     }
 }
 
-/// Reads line `number`.
+/// Reads line `number`. `Refused` gives that number.
 fn read_line(reader: &mut Reader, number: u64, text: &[u8]) -> Result<(), WorldError>
     requires sound { IsSoundReader reader.old }
     requires few { length reader.old.questions.items < 2 ^ 32 }
@@ -115,11 +115,13 @@ fn read_line(reader: &mut Reader, number: u64, text: &[u8]) -> Result<(), WorldE
     }
 }
 
-/// What a world file of fewer than 4,294,967,296 octets says: questions that can be asked, and targets that can be
-/// made.
+/// Reads a world file.
 ///
-/// Refusals: `Refused` with the first line that is no line of a world file, or that can't stand where it does; and
-/// `Memory`.
+/// Requires a file of fewer than 2^32 octets. The result is exactly the world that the lines make, and it can be
+/// planned by `in_memory` or `network`.
+///
+/// `Refused` gives the first line that is not a line of a world file, or that cannot follow the lines before it.
+/// `Memory` if no memory is found.
 pub fn read_world(alloc: Global, file: &[u8]) -> Result<World, WorldError>
     requires { length file.now < 2 ^ 32 }
     ensures world { IfOk result (IsWorld file.now) }

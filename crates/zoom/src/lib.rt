@@ -12,6 +12,6 @@ pub use zoom_io::{
 };
 pub use zoom_pool::{Call, Host, Meta, Pool, Reason, ResultSet, State, Step, TakeError};
 pub use zoom_questions::{MetaSettings, Move, Question};
-pub use zoom_sim::channels::{Way, Within};
+pub use zoom_sim::channels::{Channel, InMemory};
 pub use zoom_sim::{run_over, run_world};
 pub use zoom_tcp::{ServeError, TcpLink, ask, ask_at_once, run_loopback, serve};

@@ -1,4 +1,4 @@
-//! One connection's part of talks that go on at once.
+//! One connection's part in talks that go on at once.
 ghost use Rattle.std.specs.Prelude.{◌≡◌, ◌<◌, ◌≤◌, ℕ, ◌+◌, length, if◌then◌else◌, IfOk, OnOk};
 ghost use Rattle.zoom_io.specs.declared.among.TalkPhase.TheVariants as phases;
 ghost use Rattle.zoom_io.specs.TalksAmong.{view_of, StepAmong};
@@ -11,33 +11,33 @@ use crate::outgoing::PushError;
 use std::alloc::{AllocError, Global};
 use zoom_pool::{Meta, Reason};
 
-/// The most octets of one poll.
+/// The most octets that one poll reads.
 const PIECE: usize = 4096;
 
-/// Where a talk stands.
+/// How far the talk on a connection has come.
 #[derive(Clone, Copy, Debug, PartialEq, Eq)]
 pub enum TalkPhase {
-    /// Calls may be due, and octets may wait to go out: before the talk, and after octets came.
+    /// Calls may be due, and octets may wait to be written: before the talk, and after octets were fed.
     Due,
-    /// All that was due is written, and no message is there.
+    /// Everything due is written, and no complete message is waiting.
     Waiting,
     /// The connection is Closed or Failed.
     Over,
 }
 
-/// The devices of a connection, and where its talk stands.
+/// The two devices of a connection, and the phase of its talk.
 #[derive(Drop)]
 pub struct Halves<R, W> {
-    /// What octets come from.
+    /// The source that octets are read from.
     pub source: R,
-    /// What octets go to.
+    /// The sink that octets are written to.
     pub sink: W,
-    /// Where the talk stands: Due before it.
+    /// The phase of the talk: `Due` before it begins.
     pub phase: TalkPhase,
 }
 
 impl<R, W> Halves<R, W> {
-    /// The devices of a connection that was not talked over yet. It takes no memory.
+    /// The devices of a connection whose talk has not begun: phase `Due`. It allocates nothing.
     pub fn new(source: R, sink: W) -> Halves<R, W>
         ensures source { result.source ≡ source }
         ensures sink { result.sink ≡ sink }
@@ -51,31 +51,31 @@ impl<R, W> Halves<R, W> {
     }
 }
 
-/// What one poll came to.
+/// The result of one poll.
 #[derive(Clone, Copy, Debug, PartialEq, Eq)]
 pub(crate) enum Arrival {
-    /// Octets came, and were fed to the connection.
+    /// Octets were read, and fed to the connection.
     Octets,
-    /// None came yet.
+    /// No octets have come yet.
     Nothing,
-    /// None are left.
+    /// The input has ended.
     End,
-    /// The poll failed, for which the connection was stopped.
+    /// The poll failed, and the connection was stopped for `Read`.
     Failure,
 }
 
-/// How a connection took part in a round.
+/// What a connection did in a round.
 #[derive(Clone, Copy, Debug, PartialEq, Eq)]
 pub(crate) enum Part {
     /// It was not polled.
     Out,
     /// It was polled, and no octets came.
     Idle,
-    /// Octets came.
+    /// It was polled, and octets came.
     Busy,
 }
 
-/// Polls a source once, and feeds what came to its connection.
+/// Polls the source once, and feeds the octets to the connection. If the poll fails, stops the connection for `Read`.
 fn arrive<R: NonBlocking>(
     meta: &mut Meta,
     c: u32,
@@ -103,7 +103,8 @@ fn arrive<R: NonBlocking>(
     }
 }
 
-/// Makes the calls that are due and writes what waits, first and after each message; whether the connection goes on.
+/// Makes the calls that are due and writes what waits, first and after each message. Returns whether the connection
+/// goes on: its phase is then `Waiting`, and otherwise `Over`.
 fn settle_halves<R: NonBlocking, W: Sink>(
     alloc: Global,
     meta: &mut Meta,
@@ -136,7 +137,7 @@ fn settle_halves<R: NonBlocking, W: Sink>(
     }
 }
 
-/// Ends the input of a connection, and takes what is left of it; an error for want of memory.
+/// Ends the input of a connection, and takes what is left of it. Fails only if no memory is found.
 fn drain(meta: &mut Meta, c: u32) -> Result<(), AllocError>
     requires { c < length meta.old.pool.connections }
     ensures drains { OnOk result (AfterDrain c meta.old meta.new) }
@@ -151,7 +152,7 @@ fn drain(meta: &mut Meta, c: u32) -> Result<(), AllocError>
     }
 }
 
-/// Polls the source once, and feeds what came; at the end of the input takes what is left of it.
+/// Polls the source once, and feeds the octets to the connection. At the end of the input, takes what is left of it.
 fn poll_halves<R: NonBlocking, W: Sink>(
     meta: &mut Meta,
     c: u32,
@@ -182,7 +183,7 @@ fn poll_halves<R: NonBlocking, W: Sink>(
     }
 }
 
-/// Takes part in a round: what is due is written, and the source is polled once.
+/// Takes part in a round: writes what is due, then polls the source once.
 pub(crate) fn take_part<R: NonBlocking, W: Sink>(
     alloc: Global,
     meta: &mut Meta,
@@ -208,7 +209,7 @@ pub(crate) fn take_part<R: NonBlocking, W: Sink>(
     }
 }
 
-/// Stops a connection that was polled as many times as it may be.
+/// Stops a connection for `Turns`: its source was polled as often as the limit on reads allows.
 fn stop_at_limit<R: NonBlocking, W: Sink>(meta: &mut Meta, c: u32, halves: &mut Halves<R, W>)
     requires c { c < length meta.old.pool.connections }
     requires phase { halves.old.phase ≡ phases.Waiting }
@@ -221,7 +222,7 @@ fn stop_at_limit<R: NonBlocking, W: Sink>(meta: &mut Meta, c: u32, halves: &mut 
     halves.phase = TalkPhase::Over;
 }
 
-/// Takes leave: what is due is written, and the connection is then stopped where it is not over.
+/// Takes leave: writes what is due, then stops the connection for `Turns` if it is not over.
 pub(crate) fn take_leave<R: NonBlocking, W: Sink>(
     alloc: Global,
     meta: &mut Meta,

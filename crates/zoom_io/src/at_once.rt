@@ -1,4 +1,4 @@
-//! Connections are talked over at once, without threads: in rounds, in which each is polled once.
+//! Drives many connections at once, without threads: in rounds, in each of which every source is polled once.
 ghost use Rattle.std.specs.Prelude.{◌≡◌, ◌<◌, ◌^◌, ℕ, ◌+◌, true, length, OnOk};
 ghost use Rattle.zoom_io.specs.declared.among.TalkPhase.TheVariants as phases;
 ghost use Rattle.zoom_io.specs.TalksAmong.{view_of, IsAtPhase, AreAtPhase};
@@ -11,18 +11,20 @@ use crate::watch::Watch;
 use std::alloc::{AllocError, Global};
 use zoom_pool::Meta;
 
-/// Drives all connections that have ends over their devices at once (Z39.50-2003, 3.2), as `talk` does one of them, in
-/// at most so many rounds. In a round each connection that is not over has its due calls made and what waits written,
-/// and is then polled once for up to 4,096 octets. After a round in which no octets came the first poll of the next
-/// may wait; the others may not.
+/// Drives every connection that has devices (`Some` halves) at once, in at most `turns` rounds (Z39.50-2003, 3.2).
+/// Each round makes the due calls of each connection that is not over, writes what waits, and polls its source once
+/// for up to 4,096 octets. After a round without octets the first poll of the next round may wait; other polls may
+/// not. `watch` looks at the connections before each round.
 ///
-/// Each of them is Closed or Failed then: by its messages, by its calls or by the end of its input, or for the reason
-/// `Read`, `Write` or `Ended`, as `talk` says, or for `Turns`, where it was polled that many times. It is polled at
-/// most once for each round, and no more reads of it give octets; and of its devices at most one call fails. One that
-/// fails costs its own connection alone. Nothing befalls a connection that has no ends. Before each round `watch` looks
-/// on.
+/// On success each connection with devices is Closed or Failed. Its messages, its calls or the end of its input ended
+/// it, or it failed for `Read`, `Write` or `Ended`, as in `talk`. Or its source was polled `turns` times, and it
+/// failed for `Turns`. Each source is polled at most `turns` times, and no more reads of it than polls give octets.
+/// At most one call of a connection's devices fails, and that ends its own connection alone. A connection without
+/// devices is unchanged.
 ///
-/// An error only where no memory was found; of the connections nothing more is told then.
+/// `halves` holds an entry for each connection, of which there are fewer than 2^32; each talk is in phase `Due`.
+///
+/// Returns an error only if no memory is found; the contract then says nothing of the connections.
 pub fn talk_at_once<R: NonBlocking, W: Sink, V: Watch>(
     alloc: Global,
     meta: &mut Meta,
@@ -41,7 +43,7 @@ pub fn talk_at_once<R: NonBlocking, W: Sink, V: Watch>(
     leave_all(alloc, meta, halves)
 }
 
-/// Goes as many rounds, fewer where each talk is over before.
+/// Goes `turns` rounds, or fewer if every talk is over earlier.
 fn go_rounds<R: NonBlocking, W: Sink, V: Watch>(
     alloc: Global,
     meta: &mut Meta,
@@ -67,7 +69,7 @@ fn go_rounds<R: NonBlocking, W: Sink, V: Watch>(
     Ok(())
 }
 
-/// Whether each talk is over.
+/// Whether every talk is over.
 fn are_over<R, W>(halves: &[Option<Halves<R, W>>]) -> bool
     ensures { result ≡ true → AreAtPhase phases.Over halves.now }
 {
@@ -79,6 +81,7 @@ fn are_over<R, W>(halves: &[Option<Halves<R, W>>]) -> bool
     true
 }
 
+/// Whether the talk is over. It is if there are no devices.
 fn is_over<R, W>(halves: &Option<Halves<R, W>>) -> bool
     ensures { result ≡ true → IsAtPhase phases.Over halves.now }
 {
@@ -88,7 +91,7 @@ fn is_over<R, W>(halves: &Option<Halves<R, W>>) -> bool
     }
 }
 
-/// Goes one round; whether no octets came in it. After such a round the first poll may wait.
+/// Goes one round, and returns whether it brought no octets. If `idle` holds, the first poll may wait.
 fn go_round<R: NonBlocking, W: Sink>(
     alloc: Global,
     meta: &mut Meta,
@@ -110,7 +113,7 @@ fn go_round<R: NonBlocking, W: Sink>(
     Ok(none_came)
 }
 
-/// Takes part in a round, where there are ends.
+/// Takes part in a round if there are devices.
 fn take_part_if<R: NonBlocking, W: Sink>(
     alloc: Global,
     meta: &mut Meta,
@@ -148,7 +151,7 @@ fn leave_all<R: NonBlocking, W: Sink>(
     Ok(())
 }
 
-/// Takes leave, where there are ends.
+/// Takes leave if there are devices.
 fn take_leave_if<R: NonBlocking, W: Sink>(
     alloc: Global,
     meta: &mut Meta,

@@ -1,4 +1,4 @@
-//! A connection is driven over devices until it ends.
+//! Drives one connection over its devices until it ends.
 ghost use Rattle.std.specs.Prelude.{◌≡◌, ◌<◌, length, Some, IfErr, OnOk, OnErr};
 ghost use Rattle.zoom_pool.specs.declared.state.State.TheVariants as states;
 ghost use Rattle.zoom_pool.specs.Links.{stop_at};
@@ -19,20 +19,20 @@ use zoom_pool::{Meta, Reason, State, TakeError};
 /// The most octets of one read.
 const PIECE: usize = 4096;
 
-/// Why a talk ended before the connection did. The connection has then failed for this reason, and what is known is
-/// what the last take left.
+/// Why a talk ended before its connection did. The connection has then failed for this reason. What is known is what
+/// the messages taken say; after `Memory` perhaps also a part of what the next message says.
 #[derive(Clone, Copy, Debug, PartialEq, Eq, Error)]
 pub enum TalkError {
-    /// The reader failed.
+    /// A call of the reader failed.
     #[error("the reader failed")]
     Read,
-    /// The writer failed. How much of what waited went out is not known.
+    /// A call of the writer failed. How many of the octets handed out last were written is not known.
     #[error("the writer failed")]
     Write,
-    /// The input ended behind a whole message, and the connection was not Closing.
+    /// The input ended after a whole message, and the connection was not Closing.
     #[error("the input ended")]
     Ended,
-    /// So many reads were made, and the connection did not end.
+    /// The limit on reads was reached before the connection ended.
     #[error("too many reads")]
     Turns,
     /// No memory was found.
@@ -59,8 +59,8 @@ impl From<PushError> for TalkError {
     }
 }
 
-/// Makes the calls that are due and writes what waits, first and after each message; whether the connection was
-/// stopped, or else no message is there.
+/// Makes the calls that are due and writes what waits, first and after each message. Returns whether the connection
+/// is Closed or Failed; if not, no complete message is waiting.
 pub(crate) fn settle<W: Sink>(
     alloc: Global,
     meta: &mut Meta,
@@ -80,11 +80,11 @@ pub(crate) fn settle<W: Sink>(
             Receipt::Over => return Ok(true),
         }
     }
-    // more messages than memory holds
+    // More messages came than memory can hold.
     Err(PushError::Memory)
 }
 
-/// Reads a piece of octets, and feeds it to the connection; `false` where none are left.
+/// Reads a piece of octets and feeds it to the connection. Returns `false` if the input has ended.
 fn listen<R: Source>(meta: &mut Meta, c: u32, source: &mut R) -> Result<bool, TalkError>
     requires { c < length meta.old.pool.connections }
     ensures listens { AfterListen c result meta.old meta.new (R.state source.old) (R.state source.new) }
@@ -105,7 +105,7 @@ fn listen<R: Source>(meta: &mut Meta, c: u32, source: &mut R) -> Result<bool, Ta
     }
 }
 
-/// Whether the connection ended, and not for the end of its input.
+/// Whether the connection ended for a reason other than the end of its input.
 fn ended_well(state: State) -> bool
     ensures { result ≡ ended_well state }
 {
@@ -116,7 +116,7 @@ fn ended_well(state: State) -> bool
     }
 }
 
-/// Takes what is left of the input; an error for want of memory.
+/// Takes what is left of the input. Fails only if no memory is found.
 fn take_last(meta: &mut Meta, c: u32) -> Result<(), AllocError>
     requires { c < length meta.old.pool.connections }
     ensures took { OnOk result (MetaTakeStep c meta.old meta.new) }
@@ -132,7 +132,8 @@ fn take_last(meta: &mut Meta, c: u32) -> Result<(), AllocError>
     }
 }
 
-/// Ends the input of a connection, and takes what is left of it.
+/// Ends the input of a connection and takes what is left of it. Refuses with `Ended`, and stops the connection, if
+/// that did not end it otherwise.
 pub(crate) fn finish(meta: &mut Meta, c: u32) -> Result<(), TalkError>
     requires { c < length meta.old.pool.connections }
     ensures finishes { AfterFinish c result meta.old meta.new }
@@ -150,7 +151,7 @@ pub(crate) fn finish(meta: &mut Meta, c: u32) -> Result<(), TalkError>
     Err(TalkError::Ended)
 }
 
-/// Drives a connection over its devices until it ends, or something fails.
+/// Drives a connection over its devices until it ends or a device, the limit on reads or memory fails it.
 fn converse<R: Source, W: Sink>(
     alloc: Global,
     meta: &mut Meta,
@@ -179,18 +180,25 @@ fn converse<R: Source, W: Sink>(
     Err(TalkError::Turns)
 }
 
-/// Drives a connection over its devices (Z39.50-2003, 3.2) until it is Closed or Failed: makes the calls that are due,
-/// writes what waits, and takes the messages that are there, doing the first two again after each; then reads up to
-/// 4,096 octets, at most so many times, and goes on. A reader that has none left ends the connection's input.
+/// Drives connection `c` over its devices until it is Closed or Failed (Z39.50-2003, 3.2). Makes the calls that are
+/// due, writes what waits and takes the waiting messages, and repeats the first two after each message. Then reads up
+/// to 4,096 octets and goes on; at most `turns` reads give octets. When the reader has no octets left, the
+/// connection's input ends.
 ///
-/// `Ok` where the connection is Closed, or failed for its messages, or was stopped before. What was read is what it was
-/// fed, and all that it sent was written. Else the connection has failed for the reason that is answered. `Memory`
-/// aside it reads no more often than that, and no second call of a device fails.
+/// Returns `Ok` if the connection is Closed, failed for its messages, or was stopped before. The octets read are
+/// those that the connection was fed; the octets written are those that it handed out. Before each take, everything
+/// sent by then is handed out and written.
 ///
-/// Refusals: `Read` and `Write`, where that device failed, and the other did not; `Ended`, where the input ended behind
-/// a whole message and the connection was not Closing; `Turns`, where that many reads gave octets, and the connection
-/// did not end after them; `Memory`, where what is known is what the messages taken say, and perhaps a part of what the
-/// next one says. Whatever is answered, nothing befalls the other connections.
+/// Each refusal leaves the connection failed for the same reason. `Memory` aside, at most one call of a device fails:
+///
+/// - `Read`, `Write`: one call of that device failed, and none of the other. After `Write`, a front of the octets
+///   handed out last was written.
+/// - `Ended`: the input ended after a whole message, and the connection was not Closing.
+/// - `Turns`: `turns` reads gave octets, and the connection did not end after them.
+/// - `Memory`: no memory was found. What is known is what the messages taken say, and perhaps a part of what the next
+///   message says.
+///
+/// The other connections are unchanged, whatever the result.
 pub fn talk<R: Source, W: Sink>(
     alloc: Global,
     meta: &mut Meta,

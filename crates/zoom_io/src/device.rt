@@ -1,4 +1,5 @@
-//! Devices that octets are read from and written to, each with a count of the calls of it that failed.
+//! Devices: sources that octets are read from and sinks that octets are written to, each with a count of its
+//! failures.
 ghost use Rattle.std.specs.Prelude.{◌≡◌, ◌<◌, ℕ, length, IfOk};
 ghost use Rattle.std.specs.Io.{ReadsAtMost, WritesAtMost};
 ghost use Rattle.zoom_io.specs.Devices.{DeviceState, AfterRead, AfterWrite, IsBoundedPoll, AfterPoll, next_count};
@@ -10,50 +11,51 @@ use thiserror::Error;
 #[error("the device failed")]
 pub struct Failed;
 
-/// What octets are read from.
+/// A device that octets are read from. A read may wait.
 pub trait Source {
-    /// The octets that are left, where they are known, and how many calls failed.
+    /// The octets left, if they are known, and the number of failed calls.
     ghost state: { Self → DeviceState };
 
-    /// Reads octets into the front of a piece, and answers how many: none only where no room was given, or none are
-    /// left.
+    /// Reads octets into the front of `piece`, and returns how many. Returns 0 only if `piece` is empty or no octets
+    /// are left.
     fn read(&mut self, piece: &mut [u8]) -> Result<usize, Failed>
         ensures bound { ReadsAtMost result piece.new }
         ensures reads { AfterRead (state self.old) (state self.new) result piece.new };
 
-    /// How many calls failed, up to the largest number there is. It takes no memory.
+    /// The number of failed calls, at most `u64::MAX`. It allocates nothing.
     fn failures(&self) -> u64
         ensures { result ≡ (state self.now).failures };
 }
 
-/// What octets are read from as they come: it need not wait for them.
+/// A device that octets are read from as they come, without waiting for them.
 pub trait NonBlocking {
-    /// The octets that are left, where they are known, and how many calls failed.
+    /// The octets left, if they are known, and the number of failed calls.
     ghost state: { Self → DeviceState };
 
-    /// How many calls were made, up to the largest number there is.
+    /// The number of polls, at most `u64::MAX`.
     ghost polls: { Self → ℕ };
 
-    /// Reads the octets that are there into the front of a piece, and answers how many: none only where no room was
-    /// given, or none are left. `None` where none came yet. Where `wait` holds it may wait some milliseconds for them.
+    /// Reads the octets that have come into the front of `piece`, and returns how many. Returns `Some(0)` only if
+    /// `piece` is empty or no octets are left, and `None` if none have come yet. If `wait` holds, it may wait some
+    /// milliseconds for them.
     fn poll(&mut self, piece: &mut [u8], wait: bool) -> Result<Option<usize>, Failed>
         ensures bound { IsBoundedPoll result piece.new }
         ensures reads { AfterPoll (state self.old) (state self.new) result piece.new }
         ensures counts { polls self.new ≡ next_count (polls self.old) };
 }
 
-/// What octets are written to.
+/// A device that octets are written to.
 pub trait Sink {
-    /// The octets that it holds, where they are known, and how many calls failed.
+    /// The octets written so far, if they are known, and the number of failed calls.
     ghost state: { Self → DeviceState };
 
-    /// Writes octets of the front of a piece, and answers how many: none only where the piece has none.
+    /// Writes a front of `piece`, and returns how many octets. Returns 0 only if `piece` is empty.
     fn write(&mut self, piece: &[u8]) -> Result<usize, Failed>
         ensures bound { WritesAtMost result piece.now }
         ensures some { IfOk result (λ n. 0 < length piece.now → 0 < n) }
         ensures writes { AfterWrite (state self.old) (state self.new) result piece.now };
 
-    /// How many calls failed, up to the largest number there is. It takes no memory.
+    /// The number of failed calls, at most `u64::MAX`. It allocates nothing.
     fn failures(&self) -> u64
         ensures { result ≡ (state self.now).failures };
 }

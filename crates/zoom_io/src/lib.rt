@@ -1,4 +1,4 @@
-//! Connections that are driven over devices: what is due is written, and what is read is taken.
+//! Drives connections over devices: writes what is due, reads octets, and takes messages.
 #![tactic(auto)]
 
 mod among;

@@ -1,4 +1,4 @@
-//! What waits to go out on a connection is written to a device.
+//! Writes the octets that wait on a connection to a device.
 ghost use Rattle.std.specs.Prelude.{◌≡◌, ◌<◌, [], length, OnOk};
 ghost use Rattle.zoom_pool.specs.Links.{waiting_at};
 ghost use Rattle.zoom_io.specs.declared.outgoing.PushError.TheVariants as errors;
@@ -10,14 +10,14 @@ use std::alloc::{AllocError, Global};
 use thiserror::Error;
 use zoom_pool::{Meta, Reason};
 
-/// Why what waited was not written.
+/// Why waiting octets were not all written.
 #[derive(Clone, Copy, Debug, PartialEq, Eq, Error)]
 pub enum PushError {
-    /// The device failed: the connection has then failed for that reason, and how much of what waited went out is not
+    /// The device failed. The connection has failed for `Write`, and how many of the octets were written is not
     /// known.
     #[error("the device failed")]
     Write,
-    /// No memory was found: nothing was written or forgotten.
+    /// No memory was found. Nothing was written, and the connection is unchanged.
     #[error("out of memory")]
     Memory,
 }
@@ -30,7 +30,7 @@ impl From<AllocError> for PushError {
     }
 }
 
-/// Writes all the octets, in as many calls as the device wants.
+/// Writes all the octets, in as many calls as the device needs.
 pub(crate) fn write_all<W: Sink>(sink: &mut W, octets: &[u8]) -> Result<(), Failed>
     ensures { AfterWriteAll (W.state sink.old) (W.state sink.new) octets.now result }
 {
@@ -42,10 +42,10 @@ pub(crate) fn write_all<W: Sink>(sink: &mut W, octets: &[u8]) -> Result<(), Fail
     Ok(())
 }
 
-/// Writes what waits to go out on a connection: each octet is written once, and then nothing waits.
+/// Writes the octets that wait on connection `c`, each once. On success none wait any more.
 ///
-/// Refusals: `Write`, where the device failed; the connection has then failed for that reason. `Memory`; nothing was
-/// written or forgotten then.
+/// Refusals: `Write` if the device failed: a front of the octets was written, and the connection has failed for
+/// `Write`. `Memory` if no memory is found: nothing was written, and the connection is unchanged.
 pub fn push<W: Sink>(alloc: Global, meta: &mut Meta, c: u32, sink: &mut W) -> Result<(), PushError>
     requires { c < length meta.old.pool.connections }
     ensures pushes { AfterPush c result meta.old meta.new (W.state sink.old) (W.state sink.new) }

@@ -1,4 +1,4 @@
-//! A target in memory answers over devices.
+//! Lets a target in memory answer over devices.
 ghost use Rattle.std.specs.Prelude.{◌≡◌, ◌||◌};
 ghost use Rattle.zoom_io.specs.declared.replies.AnswerError.TheVariants as errors;
 ghost use Rattle.zoom_io.specs.Answering.{AfterReleaseAll, AfterWriteReplies, AfterAnswerPiece, AfterAnswer};
@@ -12,16 +12,16 @@ use zoom_pool::Host;
 /// The most octets of one read.
 const PIECE: usize = 4096;
 
-/// Why a target's answering ended. The host stands where what it was fed, and what it released, have left it.
+/// Why answering ended early. The octets fed and the replies released by then stay in effect at the serving end.
 #[derive(Clone, Copy, Debug, PartialEq, Eq, Error)]
 pub enum AnswerError {
-    /// The reader failed.
+    /// A call of the reader failed.
     #[error("the reader failed")]
     Read,
-    /// The writer failed. How much of the replies went out is not known.
+    /// A call of the writer failed. How many octets of the replies were written is not known.
     #[error("the writer failed")]
     Write,
-    /// So many reads were made, and the host went on.
+    /// The limit on reads was reached before the serving end was done.
     #[error("too many reads")]
     Turns,
     /// No memory was found.
@@ -49,7 +49,7 @@ fn release_all(host: &mut Host) -> Result<(), AllocError>
     Ok(())
 }
 
-/// Writes what waits to go out.
+/// Writes the octets that wait at the serving end.
 fn write_replies<W: Sink>(alloc: Global, host: &mut Host, sink: &mut W) -> Result<(), AnswerError>
     ensures { AfterWriteReplies result host.old host.new (W.state sink.old) (W.state sink.new) }
 {
@@ -61,14 +61,15 @@ fn write_replies<W: Sink>(alloc: Global, host: &mut Host, sink: &mut W) -> Resul
     }
 }
 
-/// Whether the host stopped, or its Close was put to go out.
+/// Whether the serving end stopped, or put its Close out.
 fn is_done(host: &Host) -> bool
     ensures { result ≡ (host.now.stopped || host.now.closed) }
 {
     host.stopped() || host.closed()
 }
 
-/// Reads a piece of octets, feeds it to the host, and writes its replies; `false` where none are left.
+/// Reads a piece of octets, feeds it to the serving end, and writes the replies. Returns `false` if the input has
+/// ended.
 fn answer_piece<R: Source, W: Sink>(
     alloc: Global,
     host: &mut Host,
@@ -91,13 +92,19 @@ fn answer_piece<R: Source, W: Sink>(
     }
 }
 
-/// Lets a target in memory answer what is read, until its input ends, its Close was written (Z39.50-2003, 3.2.11.1), or
-/// it stopped: reads up to 4,096 octets, at most so many times, feeds them to it, releases all its replies in order,
-/// and writes them.
+/// Lets a target in memory answer what is read. Reads up to 4,096 octets, feeds them to the serving end, releases all
+/// its replies in order, and writes them. At most `reads` reads give octets.
 ///
-/// Refusals: `Read` and `Write`, where that device failed, and the other did not; `Turns`, where that many reads gave
-/// octets, and the target goes on; `Memory`. After each of them the host stands where the octets fed and the replies
-/// released have left it, stopped where memory was wanting for one of them. No second call of a device fails.
+/// Returns `Ok` if the input ended, the serving end put its Close out (Z39.50-2003, 3.2.11.1), or it stopped. The
+/// octets read are those that it was fed; the octets written are those that it handed out.
+///
+/// After a refusal, the octets fed and the replies released by then stay in effect. At most one call of a device
+/// fails:
+///
+/// - `Read`, `Write`: one call of that device failed, and none of the other. After `Write`, a front of the octets
+///   handed out last was written.
+/// - `Turns`: `reads` reads gave octets, and the serving end neither stopped nor put its Close out.
+/// - `Memory`: no memory was found. If it was lacking for a piece or a reply, the serving end stopped.
 pub fn answer<R: Source, W: Sink>(
     alloc: Global,
     host: &mut Host,

@@ -6,9 +6,9 @@ ghost use Rattle.zoom_io.specs.Streams.{AfterReadAgain, AfterWriteAgain};
 use crate::device::{Failed, Sink, Source};
 use std::io::{ErrorKind, Read, Write};
 
-/// A reader, a writer, or both, with a count of its failures: as a TCP stream, a slice of octets that is read, or a
-/// `Vec` that is written. Of a stream nothing is known of its octets. A call that was interrupted is made again. A
-/// write that takes none of a piece that has some is a failure.
+/// A reader, a writer, or both, with a count of its failures: a TCP stream, a slice of octets to read, or a `Vec` to
+/// write to. The octets of a stream are not known. An interrupted call is made again. A write that takes no octet of
+/// a piece that is not empty is a failure.
 #[derive(Drop)]
 pub struct Counting<D> {
     inner: D,
@@ -16,7 +16,7 @@ pub struct Counting<D> {
 }
 
 impl<D> Counting<D> {
-    /// A device of a reader or writer, of which no call failed yet. It takes no memory.
+    /// A device made of a reader or writer, with no failed call yet. It allocates nothing.
     pub fn new(inner: D) -> Counting<D>
         ensures inner { result.inner ≡ inner }
         ensures failures { result.failures ≡ 0 }
@@ -24,7 +24,7 @@ impl<D> Counting<D> {
         Counting { inner, failures: 0 }
     }
 
-    /// The reader or writer. It takes no memory.
+    /// The reader or writer. It allocates nothing.
     pub fn into_inner(self) -> D
         ensures { result ≡ self.inner }
     {
@@ -72,7 +72,7 @@ impl<D: Write> Sink for Counting<D> {
     }
 }
 
-/// Reads, again where it was interrupted. `None` where it failed.
+/// Reads, and repeats an interrupted read. Returns `None` if the read failed.
 fn read_again<D: Read>(reader: &mut D, piece: &mut [u8]) -> Option<usize>
     ensures { AfterReadAgain (D.remaining reader.old) (D.remaining reader.new) result piece.new }
 {
@@ -89,7 +89,8 @@ fn read_again<D: Read>(reader: &mut D, piece: &mut [u8]) -> Option<usize>
     None
 }
 
-/// Writes, again where it was interrupted. `None` where it failed, or took none of some octets.
+/// Writes, and repeats an interrupted write. Returns `None` if the write failed, or took no octet of a piece that is
+/// not empty.
 fn write_again<D: Write>(writer: &mut D, piece: &[u8]) -> Option<usize>
     ensures { AfterWriteAgain (D.contents writer.old) (D.contents writer.new) result piece.now }
 {

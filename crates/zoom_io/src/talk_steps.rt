@@ -1,4 +1,4 @@
-//! Turns of a talk: what is due is written, and one message is taken.
+//! The steps of a talk: writing what is due, and taking one message.
 ghost use Rattle.std.specs.Prelude.{◌≡◌, ◌<◌, length, IfOk, OnErr};
 ghost use Rattle.zoom_io.specs.Pushing.{IsBroken};
 ghost use Rattle.zoom_io.specs.TalkTraces.{Listening};
@@ -10,17 +10,18 @@ use std::alloc::{AllocError, Global};
 use zoom_pool::laws::{one_input, one_transcript, up_to};
 use zoom_pool::{Meta, Step, TakeError};
 
-/// What taking a message came to.
+/// The result of taking a message.
 #[derive(Clone, Copy, Debug, PartialEq, Eq)]
 pub(crate) enum Receipt {
-    /// One was taken and accepted.
+    /// A message was taken and accepted.
     Message,
-    /// None is there.
+    /// No complete message is waiting.
     Nothing,
     /// The connection is Closed or Failed.
     Over,
 }
 
+/// The receipt of a take that returned this step.
 fn receipt_of(step: Step) -> Receipt
     ensures { result ≡ receipt_of step }
 {

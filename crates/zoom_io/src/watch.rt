@@ -1,16 +1,17 @@
-//! What looks on while connections are talked over.
+//! Watches connections while they are driven.
 ghost use Rattle.std.specs.Prelude.{◌<◌, ◌^◌, length};
 
 use zoom_pool::Meta;
 
-/// What looks on while connections are talked over, to tell how far they are. It changes nothing of them.
+/// Watches connections while they are driven, for example to report progress. It changes nothing of them.
 pub trait Watch {
-    /// Looks at the connections as they stand: once a round, so that it should cost little.
+    /// Looks at the connections, of which there are fewer than 2^32. `talk_at_once` calls it before each round, so it
+    /// should be cheap.
     fn look(&mut self, meta: &Meta)
         requires { length meta.now.pool.connections < 2 ^ 32 };
 }
 
-/// Nobody looks on.
+/// Watches nothing.
 #[derive(Clone, Copy, Debug)]
 pub struct Unwatched;
 

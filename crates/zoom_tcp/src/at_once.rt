@@ -1,4 +1,4 @@
-//! Hosts are asked at once, without threads.
+//! Asks hosts at once, without threads.
 ghost use Rattle.std.specs.Prelude.{◌≡◌, ◌<◌, ◌^◌, ℕ, true, length, is_some, IfOk};
 ghost use Rattle.zoom_questions.specs.Askable.{AreFit, AreAskable};
 ghost use Rattle.zoom_io.specs.declared.among.TalkPhase.TheVariants as phases;
@@ -17,16 +17,18 @@ use zber::Seq;
 use zoom_io::{Counting, Halves, Watch, talk_at_once};
 use zoom_pool::{Meta, MetaSettings, Question};
 
-/// The most rounds, in each of which every host is polled once.
+/// The most rounds; each polls every host once.
 const ROUNDS: u32 = 1_000_000_000;
 
-/// Puts each question to the host at the address of its number, `host:port`, where it has one, as `ask` does, but talks
-/// with all hosts at once: in rounds, in which each is polled once, without threads (Z39.50-2003, 3.2). A host that
-/// there is no way to, that fails, of which nothing comes for 30 seconds or that takes more than an hour costs its own
-/// connection alone. Nothing befalls the connection of a question without an address. Before each round `watch` looks
-/// on.
+/// Puts each question to the host at the address (`host:port`) with its number, if it has one, and talks with all
+/// hosts at once (Z39.50-2003, 3.2). It goes in rounds that poll each host once, without threads; a host is polled at
+/// most 1,000,000,000 times.
 ///
-/// An error only where no memory was found.
+/// A host costs its own connection alone if it cannot be reached, fails, sends nothing for 30 seconds or takes more
+/// than an hour. Nothing happens on the connection of a question without an address. `watch` looks at the connections
+/// before each round.
+///
+/// Returns an error only if no memory is found.
 pub fn ask_at_once<N: Net + Clock, V: Watch>(
     alloc: Global,
     net: &N,
@@ -50,7 +52,7 @@ pub fn ask_at_once<N: Net + Clock, V: Watch>(
     Ok(meta)
 }
 
-/// The two ends of each line.
+/// The two halves of each link.
 fn halves_of<'a, C: Clock, S: Read + Write + OpenStream + Drop>(
     alloc: Global,
     links: Vec<Option<TcpLink<'a, C, S>>>,
@@ -66,7 +68,7 @@ fn halves_of<'a, C: Clock, S: Read + Write + OpenStream + Drop>(
     Ok(all)
 }
 
-/// The two ends of a line, where there is one.
+/// The two halves of a link, if there is one.
 fn halves_if<'a, C: Clock, S: Read + Write + OpenStream + Drop>(
     link: Option<TcpLink<'a, C, S>>,
 ) -> Option<Halves<Polling<'a, C, S>, Counting<Timed<'a, C, S>>>>

@@ -1,4 +1,4 @@
-//! Hosts are asked, one after the other.
+//! Asks hosts one after the other.
 ghost use Rattle.std.specs.Prelude.{◌≡◌, ◌<◌, ◌^◌, false, true, length, is_some, IfOk, OnOk};
 ghost use Rattle.zoom_questions.specs.Askable.{AreFit, AreAskable};
 ghost use Rattle.zoom_tcp.specs.Asking.{is_present, IsAsked};
@@ -15,15 +15,17 @@ use zber::Seq;
 use zoom_io::{TalkError, Watch, talk};
 use zoom_pool::{Meta, MetaSettings, Question};
 
-/// The most reads of one conversation.
+/// The most reads of one talk.
 const TURNS: u32 = 1_000_000;
 
-/// Puts each question to the host at the address of its number, `host:port`, where it has one: connects to all of them
-/// and sends each the Init, and then talks with each in order (Z39.50-2003, 3.2). A host that there is no way to, that
-/// fails, that is silent for 30 seconds or that takes more than an hour costs its own connection alone. Nothing befalls
-/// the connection of a question without an address. Before each talk `watch` looks on.
+/// Puts each question to the host at the address (`host:port`) with its number, if it has one. Connects to all of
+/// them and sends each the Init, then talks with each in order (Z39.50-2003, 3.2).
 ///
-/// An error only where no memory was found.
+/// A host costs its own connection alone if it cannot be reached, fails, is silent for 30 seconds or takes more than
+/// an hour, or if 1,000,000 reads do not end its talk. Nothing happens on the connection of a question without an
+/// address. `watch` looks at the connections before each talk.
+///
+/// Returns an error only if no memory is found.
 pub fn ask<N: Net + Clock, V: Watch>(
     alloc: Global,
     net: &N,
@@ -44,7 +46,7 @@ pub fn ask<N: Net + Clock, V: Watch>(
     Ok(meta)
 }
 
-/// Talks with each host in order. Each line ends with its talk.
+/// Talks with each host in order. Each link is dropped when its talk ends.
 fn talk_all<C: Clock, S: Read + Write + Drop, V: Watch>(
     alloc: Global,
     meta: &mut Meta,
@@ -65,7 +67,7 @@ fn talk_all<C: Clock, S: Read + Write + Drop, V: Watch>(
     Ok(())
 }
 
-/// Talks with a host, where there is a way to it.
+/// Talks with a host if there is a link to it.
 fn talk_if<C: Clock, S: Read + Write + Drop>(
     alloc: Global,
     meta: &mut Meta,
@@ -101,7 +103,7 @@ fn talk_on<C: Clock, S: Read + Write + Drop>(
         Ok(()) => Ok(()),
         Err(error) => match error {
             TalkError::Memory => Err(AllocError),
-            // Of what else failed the connection tells.
+            // The state of the connection records every other failure.
             _ => Ok(()),
         },
     }

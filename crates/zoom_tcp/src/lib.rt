@@ -1,4 +1,4 @@
-//! Connections to catalogues over TCP, and catalogues that are served over it, with time limits.
+//! Asks catalogues over TCP, and serves catalogues over TCP, with time limits.
 #![tactic(auto)]
 
 mod at_once;

@@ -1,4 +1,4 @@
-//! A TCP stream as the devices of a conversation, with time limits.
+//! A TCP stream as a source and a sink, with time limits.
 ghost use Rattle.std.specs.Prelude.{◌≡◌, IfOk};
 
 use bytes::Bytes;
@@ -8,13 +8,13 @@ use std::net::{Net, OpenStream, TcpStream, ToSocketAddrs};
 use std::time::{Clock, Duration, Instant};
 use zoom_io::Counting;
 
-/// How long a host may take to answer a connection, and to give or take octets, in seconds.
+/// The most seconds that connecting, a read or a write may take.
 pub const PATIENCE: u64 = 30;
 
-/// How long a conversation may take in all, in seconds.
+/// The most seconds that a whole talk may take.
 pub const HOUR: u64 = 3600;
 
-/// A stream that fails once its conversation has taken an hour.
+/// A stream that fails once its talk has taken an hour.
 #[derive(Drop)]
 pub struct Timed<'a, C, S> {
     clock: &'a C,
@@ -23,7 +23,7 @@ pub struct Timed<'a, C, S> {
 }
 
 impl<'a, C: Clock, S> Timed<'a, C, S> {
-    /// The time, or an error where that of the conversation is up, or the clock fails.
+    /// The time, or an error if the talk's hour has passed or the clock fails.
     pub(crate) fn now(&self) -> io::Result<Instant> {
         let now = Instant::now(self.clock)?;
         if now.duration_since(self.begun) < Duration::from_secs(HOUR) {
@@ -52,18 +52,21 @@ impl<'a, C: Clock, S: Write> Write for Timed<'a, C, S> {
     }
 }
 
-/// Both ways of a stream.
+/// A TCP stream as a source and a sink.
 #[derive(Drop)]
 pub struct TcpLink<'a, C, S> {
-    /// What comes.
+    /// The source that octets are read from.
     pub source: Counting<Timed<'a, C, S>>,
-    /// What goes.
+    /// The sink that octets are written to.
     pub sink: Counting<Timed<'a, C, S>>,
 }
 
 impl<'a, C: Clock, S: OpenStream + Drop> TcpLink<'a, C, S> {
-    /// Of a stream, with limits of 30 seconds for a read and for a write, and of an hour for all of them. What comes is
-    /// that of the stream itself, the hour begins at one time for both ways, and no call of either failed yet.
+    /// A link over this stream, with limits of 30 seconds for each read and each write, and of an hour for the whole
+    /// talk. The source reads the stream itself, the hour begins at the same time for both devices, and neither has a
+    /// failed call yet.
+    ///
+    /// Fails if the limits cannot be set, the clock fails or the stream cannot be cloned.
     pub fn new(clock: &'a C, stream: S) -> io::Result<TcpLink<'a, C, S>>
         ensures stream { IfOk result (λ link. link.source.inner.stream ≡ stream) }
         ensures begun { IfOk result (λ link. link.sink.inner.begun ≡ link.source.inner.begun) }
@@ -79,7 +82,7 @@ impl<'a, C: Clock, S: OpenStream + Drop> TcpLink<'a, C, S> {
     }
 }
 
-/// Sets limits of 30 seconds for a read and for a write, and has octets go out at once.
+/// Limits each read and each write to 30 seconds, and sends small writes at once (`TCP_NODELAY`).
 pub(crate) fn set_limits<S: OpenStream>(stream: &S) -> io::Result<()> {
     let patience = Duration::from_secs(PATIENCE);
     stream.set_read_timeout(Some(patience))?;
@@ -87,7 +90,7 @@ pub(crate) fn set_limits<S: OpenStream>(stream: &S) -> io::Result<()> {
     stream.set_nodelay(true)
 }
 
-/// A stream as a device of which no call failed yet, with the hour that began then.
+/// A stream as a device with no failed call yet, whose hour began at `begun`.
 fn timed_device<C, S>(clock: &C, begun: Instant, stream: S) -> Counting<Timed<'_, C, S>>
     ensures stream { result.inner.stream ≡ stream }
     ensures begun { result.inner.begun ≡ begun }
@@ -100,7 +103,7 @@ fn timed_device<C, S>(clock: &C, begun: Instant, stream: S) -> Counting<Timed<'_
     })
 }
 
-/// Connects to the first address that answers within 30 seconds.
+/// Connects to the first address that accepts within 30 seconds.
 fn stream_to<N: Net>(net: &N, address: &str) -> io::Result<N::Stream> {
     let patience = Duration::from_secs(PATIENCE);
     let mut last = io::Error::from(ErrorKind::InvalidInput);
@@ -113,7 +116,7 @@ fn stream_to<N: Net>(net: &N, address: &str) -> io::Result<N::Stream> {
     Err(last)
 }
 
-/// A line to a host at an address of the form `host:port`; `None` where there is no way to it.
+/// A link to the host at an address of the form `host:port`. Returns `None` if the host cannot be reached.
 pub(crate) fn link_to<'a, N: Net + Clock>(
     net: &'a N,
     address: &Bytes,

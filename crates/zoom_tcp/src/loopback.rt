@@ -13,14 +13,14 @@ use std::net::{Net, OpenListener, SocketAddr, TcpListener, TcpStream};
 use std::time::Duration;
 use zoom_io::{Counting, Sink, Source};
 use zoom_pool::{Meta, MetaSettings, Question, Reason};
-use zoom_sim::channels::Way;
+use zoom_sim::channels::Channel;
 use zoom_sim::run_over;
 use ztarget::Target;
 
 /// The most octets of one write.
 const PIECE: usize = 4096;
 
-/// The two ends of a connection, and why it failed, if it did.
+/// The two ends of a connection, and the reason if it failed.
 #[derive(Drop)]
 struct Pair<S> {
     client: Counting<S>,
@@ -28,13 +28,13 @@ struct Pair<S> {
     failure: Option<Reason>,
 }
 
-/// Connections of which both ends are in this process. Each write is read at the other end before the next.
+/// Connections with both ends in this process. Each write is read at the other end before the next write.
 #[derive(Drop)]
 struct Loopback<S> {
     pairs: Vec<Pair<S>>,
 }
 
-/// Whether exactly these octets come. No more are read.
+/// Whether the source gives exactly these octets. Reads no more than these.
 fn comes<R: Source>(source: &mut R, octets: &[u8]) -> bool {
     let mut piece = [0; PIECE];
     let mut rest = octets;
@@ -51,7 +51,7 @@ fn comes<R: Source>(source: &mut R, octets: &[u8]) -> bool {
     true
 }
 
-/// Writes octets of the front, and reads them at the other end; how many.
+/// Writes a front of the octets, reads it at the other end, and returns its length.
 fn carry_front<W: Sink, R: Source>(
     sink: &mut W,
     source: &mut R,
@@ -71,7 +71,7 @@ fn carry_front<W: Sink, R: Source>(
     }
 }
 
-/// Writes all octets, and reads each write at the other end before the next.
+/// Writes all octets, and reads each write at the other end before the next write.
 fn carry<W: Sink, R: Source>(sink: &mut W, source: &mut R, octets: &[u8]) -> Result<(), Reason> {
     let mut rest = octets;
     while !rest.is_empty() {
@@ -82,7 +82,7 @@ fn carry<W: Sink, R: Source>(sink: &mut W, source: &mut R, octets: &[u8]) -> Res
 }
 
 impl<S: Read + Write> Pair<S> {
-    /// Notes why octets did not come, if they did not; whether they came.
+    /// Records the reason if the octets were not carried. Returns whether they were.
     fn note(&mut self, carried: Result<(), Reason>) -> bool {
         match carried {
             Ok(()) => true,
@@ -93,18 +93,20 @@ impl<S: Read + Write> Pair<S> {
         }
     }
 
+    /// Carries octets from the client to the server. Returns whether all were carried.
     fn carry_to(&mut self, octets: &[u8]) -> bool {
         let carried = carry(&mut self.client, &mut self.server, octets);
         self.note(carried)
     }
 
+    /// Carries octets from the server to the client. Returns whether all were carried.
     fn carry_from(&mut self, octets: &[u8]) -> bool {
         let carried = carry(&mut self.server, &mut self.client, octets);
         self.note(carried)
     }
 }
 
-impl<S: Read + Write> Way for Loopback<S> {
+impl<S: Read + Write> Channel for Loopback<S> {
     ghost use Rattle.std.specs.Prelude.{false};
 
     ghost sure = { false };
@@ -128,7 +130,7 @@ impl<S: Read + Write> Way for Loopback<S> {
     }
 }
 
-/// As `run_over`, without moves.
+/// Runs `run_over` without moves.
 fn run_on<S: Read + Write>(
     alloc: Global,
     questions: Vec<Question>,
@@ -146,7 +148,7 @@ fn run_on<S: Read + Write>(
     run_over(alloc, questions, settings, targets, way, &[])
 }
 
-/// A connection of which both ends are here, with limits of 30 seconds for connecting, for a read and for a write.
+/// A connection with both ends here, with limits of 30 seconds for connecting, for each read and for each write.
 fn pair_of<N: Net>(
     net: &N,
     listener: &N::Listener,
@@ -163,7 +165,7 @@ fn pair_of<N: Net>(
     })
 }
 
-/// So many connections of which both ends are here. `Listen` where there are none.
+/// Makes `count` connections with both ends here. Refuses with `Listen` if one cannot be made.
 fn open_loopback<N: Net>(
     alloc: Global,
     net: &N,
@@ -187,12 +189,14 @@ fn open_loopback<N: Net>(
     Ok(Loopback { pairs })
 }
 
-/// Puts each question to the target of the same number, as `run_world` does without moves, with both ends of each
-/// connection in this process: what either end has for the other goes over TCP on 127.0.0.1, in writes of at most 4,096
-/// octets, each of which is read at the other end before the next (Z39.50-2003, 3.2). A write that does not come as it
-/// was written costs its own connection alone.
+/// Puts each question to the target of the same number, as `run_world` does without moves, over TCP on 127.0.0.1
+/// (Z39.50-2003, 3.2). Both ends of each connection are in this process. Each write has at most 4,096 octets and is
+/// read at the other end before the next write. If a write does not arrive as it was written, its own connection
+/// alone fails.
 ///
-/// Refusals: `Listen`, where the connections cannot be made; and `Memory`.
+/// There are fewer than 2^32 questions, and as many targets.
+///
+/// Refusals: `Listen` if the connections cannot be made, and `Memory`.
 pub fn run_loopback<N: Net>(
     alloc: Global,
     net: &N,

@@ -1,4 +1,4 @@
-//! The ways to hosts are opened: a line to each, on which the Init was sent.
+//! Opens a link to each host, and sends the Init on it.
 ghost use Rattle.std.specs.Prelude.{◌≡◌, ◌<◌, ◌^◌, length, is_some, IfOk};
 ghost use Rattle.zoom_tcp.specs.Asking.{is_present};
 ghost use Rattle.zoom_tcp.specs.AskingSteps.{AfterOpen, AfterOpenIf, AfterOpenAll};
@@ -12,8 +12,8 @@ use zoom_io::{PushError, Sink, push};
 use zoom_pool::laws::one_transcript;
 use zoom_pool::{Meta, Reason};
 
-/// A line to each host that has an address, on which the Init was sent; `None` where there is no way to it, or no
-/// address.
+/// Opens a link to each host that has an address, and sends the Init on it. An entry is `None` if there is no
+/// address, or if the host cannot be reached or the Init cannot be written.
 pub(crate) fn open_all<'a, N: Net + Clock>(
     alloc: Global,
     net: &'a N,
@@ -33,7 +33,7 @@ pub(crate) fn open_all<'a, N: Net + Clock>(
     Ok(links)
 }
 
-/// A line to a host, where it has an address.
+/// Opens a link to a host if it has an address.
 fn open_if<'a, N: Net + Clock>(
     alloc: Global,
     net: &'a N,
@@ -51,7 +51,8 @@ fn open_if<'a, N: Net + Clock>(
     }
 }
 
-/// A line to a host, on which the Init was sent.
+/// Opens a link to a host, and sends the Init on it. Returns `None`, and stops the connection, if it cannot be
+/// reached or the Init cannot be written.
 fn open<'a, N: Net + Clock>(
     alloc: Global,
     net: &'a N,
@@ -74,7 +75,7 @@ fn open<'a, N: Net + Clock>(
     }
 }
 
-/// Makes the calls that are due, and writes what waits; whether it was written.
+/// Makes the calls that are due, and writes what waits. Returns whether it was written.
 fn begin<W: Sink>(alloc: Global, meta: &mut Meta, c: u32, sink: &mut W) -> Result<bool, AllocError>
     requires { c < length meta.old.pool.connections }
     ensures opens { IfOk result (λ reached. AfterOpen c reached meta.old meta.new) }

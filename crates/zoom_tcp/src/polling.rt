@@ -10,11 +10,11 @@ use std::net::OpenStream;
 use std::time::{Clock, Duration, Instant};
 use zoom_io::{Failed, NonBlocking};
 
-/// How long a poll that may wait waits, in milliseconds.
+/// How many milliseconds a poll waits if it may wait.
 const WAIT: u64 = 4;
 
-/// A stream that need not be waited for. A poll fails where the stream does, where nothing came for 30 seconds, and
-/// once the conversation has taken an hour.
+/// A stream that is polled without waiting. A poll fails if the stream does, if no octets came for 30 seconds, or
+/// once the talk has taken an hour.
 #[derive(Drop)]
 pub(crate) struct Polling<'a, C, S> {
     timed: Timed<'a, C, S>,
@@ -35,12 +35,12 @@ impl<'a, C, S> Polling<'a, C, S> {
     }
 }
 
-/// Whether a read failed because nothing has come yet.
+/// Whether a read failed because no octets have come yet.
 fn is_early(kind: ErrorKind) -> bool {
     kind == ErrorKind::WouldBlock || kind == ErrorKind::TimedOut || kind == ErrorKind::Interrupted
 }
 
-/// Reads what is there, or comes within the wait.
+/// Reads the octets that have come or, if `wait` holds, come within the wait.
 fn read_soon<S: Read + OpenStream>(
     stream: &mut S,
     piece: &mut [u8],
@@ -59,7 +59,7 @@ fn read_soon<S: Read + OpenStream>(
 }
 
 impl<'a, C: Clock, S: Read + OpenStream> Polling<'a, C, S> {
-    /// Whether octets came less than 30 seconds before, or the first poll was made then.
+    /// Whether octets came, or the first poll was made, less than 30 seconds ago.
     fn is_alive(&mut self, now: Instant) -> bool
         ensures failures { self.new.failures ≡ self.old.failures }
         ensures polls { self.new.polls ≡ self.old.polls }
@@ -71,7 +71,8 @@ impl<'a, C: Clock, S: Read + OpenStream> Polling<'a, C, S> {
         now.duration_since(came_at) < Duration::from_secs(PATIENCE)
     }
 
-    /// Reads what is there, or comes within the wait.
+    /// Reads the octets that have come or, if `wait` holds, come within the wait. Returns `None` if none have come
+    /// yet.
     fn look(&mut self, piece: &mut [u8], wait: bool) -> io::Result<Option<usize>>
         ensures bound { IsBoundedPoll result piece.new }
         ensures failures { self.new.failures ≡ self.old.failures }

@@ -1,4 +1,4 @@
-//! A target in memory is served.
+//! Serves a target in memory over TCP.
 ghost use Rattle.std.specs.Prelude.{◌≡◌, ◌<◌, ◌^◌, length};
 ghost use Rattle.zoom_tcp.specs.declared.service.ServeError.TheVariants.{Memory};
 ghost use Rattle.ztarget.specs.Receiving.{new_target};
@@ -15,7 +15,7 @@ use zoom_io::{AnswerError, answer};
 use zoom_pool::Host;
 use ztarget::{Database, Target, TargetSettings};
 
-/// The most reads of one conversation.
+/// The most reads of one connection.
 const READS: u32 = 1_000_000;
 
 /// Why serving ended early.
@@ -37,12 +37,12 @@ impl From<AllocError> for ServeError {
     }
 }
 
-/// Serves so many connections, one after the other, each with a target of these databases that has received nothing
-/// yet (Z39.50-2003, 3.2). A client that breaks off, sends what is no Z39.50, is silent for 30 seconds or takes more than
-/// an hour costs
-/// its own connection alone. Where no connection is to be served nothing is done, and that does not fail.
+/// Serves `count` connections, one after the other, each with a new target of these databases (Z39.50-2003, 3.2). A
+/// client costs its own connection alone if it breaks off, sends octets that are not Z39.50, is silent for 30 seconds
+/// or takes more than an hour. The databases have fewer than 2^32 entries. If `count` is 0, nothing is done, and the
+/// call succeeds.
 ///
-/// Refusals: `Listen`, where no connection can be taken; and `Memory`.
+/// Refusals: `Listen` if no connection can be accepted, and `Memory`.
 pub fn serve<C: Clock, L: OpenListener>(
     alloc: Global,
     clock: &C,
@@ -88,7 +88,7 @@ fn serve_one<C: Clock, S: Read + Write + OpenStream + Drop>(
         Ok(()) => Ok(()),
         Err(error) => match error {
             AnswerError::Memory => Err(AllocError),
-            // Of what else failed the client is gone.
+            // After any other failure the client is gone, and the next one is served.
             _ => Ok(()),
         },
     }

@@ -9,6 +9,8 @@ mod arranged;
 #[cfg(test)]
 mod failing;
 #[cfg(test)]
+mod heads;
+#[cfg(test)]
 mod hosts;
 #[cfg(test)]
 mod metas;

@@ -11,7 +11,7 @@ use zber_tests::rows::{each_row, halves, pair};
 use zber_tests::unread::Unread;
 use zmeta_world::in_memory::Arrangement;
 use zoom::{Meta, Move, Reason, State};
-use zoom_sim::channels::Within;
+use zoom_sim::channels::InMemory;
 use zoom_sim::drives::drive_all;
 use zoom_sim::peers::{Peer, peers_of};
 use zoom_sim::rounds::make_moves;
@@ -143,7 +143,7 @@ fn make(peers: &mut [Peer], meta: &mut Meta, steps: &[Move]) -> Result<(), Unrea
     if peers.len() != 1 {
         return Err(Unread);
     }
-    Ok(make_moves(peers, meta, &mut Within, steps)?)
+    Ok(make_moves(peers, meta, &mut InMemory, steps)?)
 }
 
 // Whether the target has accepted the association once these moves were made.
@@ -178,7 +178,7 @@ fn stop(peers: &mut [Peer], meta: &mut Meta) -> Result<bool, Unread> {
         return Err(Unread);
     }
     feed(&mut peers[0])?;
-    Ok(peers[0].go_round(meta, 0, &mut Within)?)
+    Ok(peers[0].go_round(meta, 0, &mut InMemory)?)
 }
 
 fn is_ended(alloc: Global) -> Result<bool, Unread> {

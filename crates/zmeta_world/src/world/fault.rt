@@ -4,10 +4,10 @@ ghost use Rattle.zmeta_world.specs.declared.world.fault.LineFault.TheVariants.{M
 
 use std::alloc::{AllocError, AllocFailed};
 
-/// Why a line of a world file is not taken.
+/// Why a line of a world file is refused.
 #[derive(Clone, Copy, Debug, PartialEq, Eq)]
 pub(crate) enum LineFault {
-    /// It is of no form, or does not go with the lines before it.
+    /// The line has none of the forms, or cannot follow the lines before it.
     Refused,
     /// No memory was found.
     Memory,

@@ -1,8 +1,8 @@
-//! What the first word of a line says that it is.
+//! The keyword of a line: its first token.
 ghost use Rattle.std.specs.Prelude.{◌≡◌};
 ghost use Rattle.zmeta_world.specs.WorldLines.{keyword_of};
 
-/// What a line begins with.
+/// The keywords of the lines of a world file.
 #[derive(Clone, Copy, Debug, PartialEq, Eq)]
 pub(crate) enum Keyword {
     Step,
@@ -18,7 +18,7 @@ pub(crate) enum Keyword {
     From,
 }
 
-/// The keyword that a word is.
+/// Returns the keyword that a token is.
 #[tactic(auto, unfolding(crate::specs::WorldLines::keyword_of))]
 pub(crate) fn keyword_of(word: &[u8]) -> Option<Keyword>
     ensures { result ≡ keyword_of word.now }

@@ -1,4 +1,4 @@
-//! What a line says by itself.
+//! One line of a world file, by itself.
 ghost use Rattle.std.specs.Prelude.{◌≡◌, ◌<◌, ◌^◌};
 ghost use Rattle.std.specs.List.{list_all};
 ghost use Rattle.zmeta_world.specs.World.{LineResult};
@@ -15,21 +15,21 @@ use zplan::Range;
 use zquery::{Token, oid_named};
 use ztarget::{Field, TargetSettings};
 
-/// Between whom a move carries octets.
+/// The direction of a move.
 #[derive(Clone, Copy, Debug, PartialEq, Eq)]
 pub(crate) enum Way {
     /// From a connection to its target.
     To,
-    /// A reply of the target, to what waits at it.
+    /// At the target: a waiting reply is released.
     Release,
     /// From a target to its connection.
     From,
 }
 
-/// What a question's line says.
+/// The contents of an `ask` line.
 #[derive(Drop)]
 pub(crate) struct AskLine {
-    /// Whom it is put to.
+    /// The name of the target or host that the question goes to.
     pub(crate) name: Bytes,
     pub(crate) database: Bytes,
     pub(crate) syntax: Option<Oid>,
@@ -38,16 +38,16 @@ pub(crate) struct AskLine {
     pub(crate) text: Bytes,
 }
 
-/// What a line adds to the last database.
+/// What a `rec` or a `field` line adds to the last database.
 #[derive(Drop)]
 pub(crate) enum Content {
-    /// A record, without fields.
+    /// A record without fields.
     Record { syntax: Oid, octets: Bytes },
     /// A field of the last record.
     Field(Field),
 }
 
-/// What a line says.
+/// The contents of a line.
 #[derive(Drop)]
 pub(crate) enum Line {
     Empty,
@@ -107,14 +107,14 @@ fn are_all_flags(text: &[u8]) -> bool
     text.iter().all(|octet| is_flag(*octet))
 }
 
-/// Whether the text is flags of a target, or `-`.
+/// Returns whether the text is a list of a target's flags, or `-`.
 fn are_flags(text: &[u8]) -> bool
     ensures { result ≡ are_flags text.now }
 {
     text == b"-".as_slice() || (!text.is_empty() && are_all_flags(text))
 }
 
-/// Whether a flag is among the octets.
+/// Returns whether the octets contain this flag.
 fn has_flag(flag: u8, text: &[u8]) -> bool
     ensures { result ≡ has_flag flag text.now }
 {
@@ -202,7 +202,7 @@ fn field_line(args: &[Token]) -> Result<Line, LineFault>
     }
 }
 
-/// The syntax of a question, of at most 1,000 arcs.
+/// Returns the record syntax of a question: at most 1,000 arcs, or none for `-`.
 #[tactic(auto, unfolding(crate::specs::WorldLines::syntax_of))]
 fn syntax_of(alloc: Global, text: &[u8]) -> Result<Option<Oid>, LineFault>
     ensures { LineResult (syntax_of text.now) result }
@@ -249,7 +249,7 @@ fn carry_line(way: Way, args: &[Token]) -> Result<Line, LineFault>
     }
 }
 
-/// What stands behind a keyword.
+/// Reads the tokens behind a keyword.
 fn line_by(alloc: Global, key: Keyword, args: &[Token]) -> Result<Line, LineFault>
     ensures { LineResult (line_by key (token_texts args.now)) result }
 {
@@ -268,7 +268,7 @@ fn line_by(alloc: Global, key: Keyword, args: &[Token]) -> Result<Line, LineFaul
     }
 }
 
-/// What the words of a line say.
+/// Reads the tokens of a line. `Refused` if they are no line of a world file.
 pub(crate) fn line_of(alloc: Global, tokens: &[Token]) -> Result<Line, LineFault>
     ensures { LineResult (line_of (token_texts tokens.now)) result }
 {

@@ -1,4 +1,4 @@
-//! What a line says, and what a question asks.
+//! From the text of a line to its tokens, its contents and its query.
 ghost use Rattle.std.specs.Prelude.{◌≡◌};
 ghost use Rattle.zmeta_world.specs.WorldReading.{ParseResult, HasQuery, fault_of};
 
@@ -8,7 +8,7 @@ use std::alloc::Global;
 use zquery::laws::{one_answer, one_lexing};
 use zquery::{PqfError, PqfErrorKind, Query, parse_pqf, tokens};
 
-/// A text at fault is refused.
+/// Returns the line's fault for an error of the prefix notation's parser: `Memory` stays, all else is `Refused`.
 fn fault_of(error: PqfError) -> LineFault
     ensures { result ≡ fault_of error.kind }
 {
@@ -18,7 +18,7 @@ fn fault_of(error: PqfError) -> LineFault
     }
 }
 
-/// What the words of a text say.
+/// Reads the text of a line. `Refused` if its tokens are no line of a world file.
 pub(crate) fn read_line(alloc: Global, text: &[u8]) -> Result<Line, LineFault>
     ensures { ParseResult text.now result }
 {
@@ -29,7 +29,7 @@ pub(crate) fn read_line(alloc: Global, text: &[u8]) -> Result<Line, LineFault>
     }
 }
 
-/// The query of a text.
+/// Reads the query of an `ask` line. `Refused` if the text is no query.
 pub(crate) fn query_of(alloc: Global, text: &[u8]) -> Result<Query, LineFault>
     ensures { HasQuery text.now result }
 {

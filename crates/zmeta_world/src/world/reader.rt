@@ -1,4 +1,4 @@
-//! What was read of a world file so far, and what a line adds to it.
+//! The reader: the world of the lines that were read, and what the next line adds to it.
 ghost use Rattle.std.specs.Prelude.{◌≡◌, ◌<◌, ◌^◌, ◌++◌, ◌∷◌, [], length, false, Some, IfOk, OnOk};
 ghost use Rattle.zmeta_world.specs.declared.world.line.Line.TheVariants as lines;
 ghost use Rattle.zmeta_world.specs.WorldParts.{list_of};
@@ -21,7 +21,7 @@ use zoom_questions::{Move, Question};
 use zquery::Query;
 use ztarget::TargetSettings;
 
-/// What was read so far.
+/// The world of the lines that were read, with the sets of its names.
 #[derive(Drop)]
 pub(crate) struct Reader {
     alloc: Global,
@@ -36,7 +36,7 @@ pub(crate) struct Reader {
     moves: Vec<Move>,
 }
 
-/// What is asked in one database.
+/// Makes a question in one database.
 fn asked_question(
     alloc: Global,
     number: u64,
@@ -80,7 +80,7 @@ fn move_of(way: Way, c: u32, k: u32) -> Move
 }
 
 impl Reader {
-    /// Nothing was read yet. It takes no memory.
+    /// Returns a reader that has read no line. It allocates nothing.
     pub(crate) fn new(alloc: Global) -> Reader
         ensures sound { IsSoundReader result }
         ensures world { world_of result ≡ empty }
@@ -99,7 +99,7 @@ impl Reader {
         }
     }
 
-    /// The world, once all is read.
+    /// Returns the world of all lines that were read.
     pub(crate) fn finish(self) -> Result<World, AllocError>
         ensures { IfOk result (λ world. world ≡ world_of self) }
     {
@@ -113,7 +113,7 @@ impl Reader {
         })
     }
 
-    /// Whether a target or a host has the name.
+    /// Returns whether a target or a host has this name.
     fn is_defined(&self, name: &Bytes) -> bool
         requires { IsSoundReader self.now }
         ensures { result ≡ is_defined name.now (list_of self.now.targets) self.now.hosts.items }
@@ -121,7 +121,7 @@ impl Reader {
         self.target_names.contains(name) || self.host_names.contains(name)
     }
 
-    /// Whom a name means.
+    /// Returns the target or host that has this name.
     fn end_of(&self, name: &Bytes) -> Option<End>
         requires { IsSoundReader self.now }
         ensures { result ≡ end_of name.now (list_of self.now.targets) self.now.hosts.items }
@@ -252,7 +252,7 @@ impl Reader {
         Ok(())
     }
 
-    /// What a line, once it is read, adds.
+    /// Adds the contents of line `number`.
     fn add_line(&mut self, number: u64, line: Line) -> Result<(), LineFault>
         requires sound { IsSoundReader self.old }
         requires few { length self.old.questions.items < 2 ^ 32 }
@@ -279,8 +279,8 @@ impl Reader {
 
     /// Reads line `number`.
     ///
-    /// `Refused` where it is no line of a world file, or none that can stand here; what was read so far is of no use
-    /// then.
+    /// `Refused` if the text is no line of a world file, or cannot follow the lines before it. After an error the
+    /// reader is of no further use.
     pub(crate) fn read(&mut self, number: u64, text: &[u8]) -> Result<(), LineFault>
         requires sound { IsSoundReader self.old }
         requires few { length self.old.questions.items < 2 ^ 32 }

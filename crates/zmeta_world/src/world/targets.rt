@@ -1,4 +1,4 @@
-//! Targets as lines tell of them: the last one grows.
+//! The targets of the lines that were read. Lines add to the last target only.
 ghost use Rattle.std.specs.Prelude.{◌≡◌, ◌++◌, ◌∷◌, [], true, false, IfOk, IfErr, Option};
 ghost use Rattle.zmeta_world.specs.declared.world.fault.LineFault.TheVariants.{Refused};
 ghost use Rattle.ztarget.specs.declared.database.Entry.{Entry};
@@ -17,7 +17,7 @@ use std::marker::Model;
 use zber::{Oid, Seq};
 use ztarget::{Database, Entry, Field, TargetSettings};
 
-/// Records, of which the last may get more fields. Contracts see the list.
+/// Records, the last of which may still get fields. Contracts see the whole list.
 #[derive(Drop)]
 pub(crate) struct OpenEntry {
     before: Vec<Entry>,
@@ -36,7 +36,7 @@ impl Model for OpenEntry {
     ghost view = { λ o. o.before.items ++ entry o.syntax o.octets o.fields.items ∷ [] };
 }
 
-/// The records, none of which may get more fields.
+/// Closes the last record, and returns all records.
 fn closed_entries(alloc: Global, had: Option<OpenEntry>) -> Result<Vec<Entry>, AllocError>
     ensures { IfOk result (λ entries. entries.items ≡ list_of had) }
 {
@@ -52,7 +52,7 @@ fn closed_entries(alloc: Global, had: Option<OpenEntry>) -> Result<Vec<Entry>, A
     Ok(entries)
 }
 
-/// One more record, without fields.
+/// Appends a record without fields.
 fn with_entry(
     alloc: Global,
     had: Option<OpenEntry>,
@@ -69,7 +69,7 @@ fn with_entry(
     })
 }
 
-/// One more field of the last record.
+/// Appends a field to the last record.
 #[tactic(auto, using(crate::proofs::WorldLast::in_last_end))]
 fn with_field(had: Option<OpenEntry>, field: Field) -> Result<OpenEntry, LineFault>
     ensures { LineResult (in_last (add_field field) (list_of had)) result }
@@ -82,7 +82,7 @@ fn with_field(had: Option<OpenEntry>, field: Field) -> Result<OpenEntry, LineFau
     Ok(OpenEntry { fields, ..had })
 }
 
-/// One more record, or one more field of the last one.
+/// Appends a record, or a field to the last record.
 fn with_content(
     alloc: Global,
     had: Option<OpenEntry>,
@@ -96,7 +96,7 @@ fn with_content(
     }
 }
 
-/// Databases, of which the last may get more records. Contracts see the list.
+/// Databases, the last of which may still get records. Contracts see the whole list.
 #[derive(Drop)]
 pub(crate) struct OpenDatabase {
     before: Vec<Database>,
@@ -114,7 +114,7 @@ impl Model for OpenDatabase {
     ghost view = { λ o. o.before.items ++ database o.name (list_of o.entries) ∷ [] };
 }
 
-/// The databases, none of which may get more records.
+/// Closes the last database, and returns all databases.
 fn closed_databases(alloc: Global, had: Option<OpenDatabase>) -> Result<Vec<Database>, AllocError>
     ensures { IfOk result (λ databases. databases.items ≡ list_of had) }
 {
@@ -129,7 +129,7 @@ fn closed_databases(alloc: Global, had: Option<OpenDatabase>) -> Result<Vec<Data
     Ok(databases)
 }
 
-/// One more database, without records.
+/// Appends a database without records.
 fn with_database(
     alloc: Global,
     had: Option<OpenDatabase>,
@@ -144,7 +144,7 @@ fn with_database(
     })
 }
 
-/// More in the last database.
+/// Adds to the last database.
 #[tactic(auto, using(crate::proofs::WorldLast::in_last_end))]
 fn with_database_content(
     alloc: Global,
@@ -160,7 +160,7 @@ fn with_database_content(
     Ok(OpenDatabase { entries, ..had })
 }
 
-/// Targets, of which the last may get more databases. Contracts see the list.
+/// Targets, the last of which may still get databases. Contracts see the whole list.
 #[derive(Drop)]
 pub(crate) struct OpenTarget {
     before: Vec<NamedTarget>,
@@ -183,7 +183,7 @@ impl Model for OpenTarget {
     ghost invariant = { λ o. o.names.keys ≡ database_names (list_of o.databases) };
 }
 
-/// The targets, none of which may get more databases.
+/// Closes the last target, and returns all targets.
 pub(crate) fn closed_targets(
     alloc: Global,
     had: Option<OpenTarget>,
@@ -202,7 +202,7 @@ pub(crate) fn closed_targets(
     Ok(targets)
 }
 
-/// One more target, without databases.
+/// Appends a target without databases.
 pub(crate) fn with_target(
     alloc: Global,
     had: Option<OpenTarget>,
@@ -220,7 +220,7 @@ pub(crate) fn with_target(
     })
 }
 
-/// The names with one more. `Refused` where it is among them.
+/// Appends a name. `Refused` if it is already among the names.
 fn more_names(names: IndexSet<Bytes>, name: &Bytes) -> Result<IndexSet<Bytes>, LineFault>
     ensures more { IfOk result (λ all. all.keys ≡ names.keys ++ name.now ∷ []) }
     ensures fresh { IfOk result (λ all. is_among name.now names.keys ≡ false) }
@@ -234,7 +234,7 @@ fn more_names(names: IndexSet<Bytes>, name: &Bytes) -> Result<IndexSet<Bytes>, L
     Ok(all)
 }
 
-/// One more database of the last target.
+/// Appends a database to the last target.
 #[tactic(auto, using(crate::proofs::WorldLast::in_last_end))]
 pub(crate) fn with_target_database(
     alloc: Global,
@@ -255,7 +255,7 @@ pub(crate) fn with_target_database(
     })
 }
 
-/// More in the last database of the last target.
+/// Adds to the last database of the last target.
 #[tactic(auto, using(crate::proofs::WorldLast::in_last_end))]
 pub(crate) fn with_target_content(
     alloc: Global,

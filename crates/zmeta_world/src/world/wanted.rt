@@ -16,10 +16,10 @@ use zplan::Range;
 /// The highest position that a Present can name.
 const HIGHEST: u64 = 2_147_483_647;
 
-/// How many positions a question may want.
+/// The most positions that a question may want.
 const MOST: u64 = 1_000_000;
 
-/// The two texts, where no hyphen stands in the second.
+/// Returns both texts if the second has no hyphen.
 fn pair<'a>(first: &'a [u8], rest: &'a [u8]) -> Option<(&'a [u8], &'a [u8])>
     ensures { option_map (λ texts. (texts.0.now, texts.1.now)) result
         ≡ two (first.now ∷ slice_split is_hyphen rest.now) }
@@ -31,7 +31,7 @@ fn pair<'a>(first: &'a [u8], rest: &'a [u8]) -> Option<(&'a [u8], &'a [u8])>
     }
 }
 
-/// The two texts on both sides of the only hyphen.
+/// Returns the texts before and behind the only hyphen.
 fn two(text: &[u8]) -> Option<(&[u8], &[u8])>
     ensures { option_map (λ texts. (texts.0.now, texts.1.now)) result ≡ two (slice_split is_hyphen text.now) }
 {
@@ -42,7 +42,7 @@ fn two(text: &[u8]) -> Option<(&[u8], &[u8])>
     }
 }
 
-/// The first and the last position of a range from `low` on.
+/// Returns the first and the last position of a range, if it begins at `low` or later.
 fn ends_of(low: u64, first: &[u8], last: &[u8]) -> Option<(u64, u64)>
     ensures value { result ≡ ends_of low (first.now, last.now) }
     ensures low { IfSome result (λ ends. low ≤ ends.0) }
@@ -58,7 +58,7 @@ fn ends_of(low: u64, first: &[u8], last: &[u8]) -> Option<(u64, u64)>
     }
 }
 
-/// The first and the last position of a range: two numbers with a hyphen between them.
+/// Reads a range: two numbers with a hyphen between them.
 #[tactic(auto, unfolding(crate::specs::WorldWants::ends_in))]
 fn ends_in(low: u64, room: u64, text: &[u8]) -> Option<(u64, u64)>
     ensures value { result ≡ ends_in low room text.now }
@@ -87,7 +87,7 @@ fn range(ends: (u64, u64)) -> Range
     }
 }
 
-/// Ranges that ascend and neither touch nor overlap.
+/// Reads a list of ranges that ascend and neither touch nor overlap.
 fn ranges_of(alloc: Global, text: &[u8]) -> Result<Seq<Range>, LineFault>
     ensures { LineResult (ranges_in 1 most_wanted (slice_split is_comma text.now)) result }
 {
@@ -108,7 +108,7 @@ fn ranges_of(alloc: Global, text: &[u8]) -> Result<Seq<Range>, LineFault>
     Ok(Seq::from_vec(ranges))
 }
 
-/// The positions from 1 on, so many.
+/// Returns the positions from 1 to `n`.
 fn firsts(alloc: Global, n: u64) -> Result<Seq<Range>, LineFault>
     requires { n ≤ most_wanted }
     ensures ok { IfOk result (λ ranges. ranges ≡ firsts n) }
@@ -124,7 +124,7 @@ fn firsts(alloc: Global, n: u64) -> Result<Seq<Range>, LineFault>
     Ok(Seq::from_vec(ranges))
 }
 
-/// The positions that a text wants: so many from 1 on, or ranges.
+/// Reads the wanted positions: a number of positions from 1 on, or a list of ranges.
 #[tactic(auto, unfolding(crate::specs::WorldWants::wanted_of))]
 pub(crate) fn wanted_of(alloc: Global, text: &[u8]) -> Result<Seq<Range>, LineFault>
     ensures { LineResult (wanted_of text.now) result }
