@@ -1,10 +1,10 @@
--- What words ask for.
+-- The command that arguments ask for.
 use Rattle.std.proofs.Common.{◌≡◌, ℕ, List, Option, Some, None, Result, Ok, Err, IfOk, IfSome, slice_get}
 use Rattle.clap.specs.declared.parser.matches.Found.{Found}
 use Rattle.zmeta_args.specs.declared.arguments.Arguments.{Arguments}
 use Rattle.zmeta_args.specs.Arguments.{IsParsed, AreArgumentsOf}
 
--- words of which the second names the command
+-- the second argument names the command
 pub is_parsed : {E : Type 0} (arguments : List (List ℕ)) (name : List ℕ) (found : Found) (answer : Result (Option Arguments) E)
     → slice_get arguments 1 ≡ Some name → IfOk answer (λ asked. IfSome asked (AreArgumentsOf name found))
     → IfOk answer (λ asked. IfSome asked (IsParsed arguments))

@@ -1,4 +1,4 @@
--- What the words of a command line ask for.
+-- The arguments of a command line, as `clap` found them.
 use Rattle.std.specs.Prelude.{◌≡◌, ◌⊎◌, ℕ, Bool, true, false, List, [], slice_get, Option, Some, None, codes}
 use Rattle.std.specs.Option.{option_map}
 use Rattle.std.specs.Str.Parse.{digits_value, without_leading_plus}
@@ -10,29 +10,30 @@ use Rattle.zmeta_args.specs.declared.arguments.Arguments.{Arguments}
 use Rattle.zmeta_args.specs.declared.arguments.Arguments.TheVariants.{Show, Pqf, Join, Records, Run, Ask, Loop, Serve}
 use Rattle.zmeta_args.specs.Texts.{texts_of, now_of}
 
--- the words of a command give this value to an argument
+-- the argument has this value
 abbrev pub HasValue : Found → List ℕ → List ℕ → Type 0
 HasValue found id value = first_value found id ≡ Some value
 
+-- the values, or none
 abbrev pub or_none : Option (List (List ℕ)) → List (List ℕ)
 or_none None = []
 or_none (Some values) = values
 
--- the words of a command give these values to an argument, in their order, or none
+-- the argument has these values, in order, or none
 abbrev pub HasValues : Found → List ℕ → List (List ℕ) → Type 0
 HasValues found id values = or_none (option_map raw_values (matched_of found id)) ≡ values
 
--- the words give this number in decimal digits
+-- the argument is this number in decimal digits
 abbrev pub HasNumber : Found → List ℕ → ℕ → Type 0
 HasNumber found id n =
     (text : List ℕ) → one_text found id ≡ Some text → n ≡ digits_value 10 (without_leading_plus text)
 
--- an option without a value is given, exactly where this holds
+-- whether the option is given; it takes no value
 pub record HasFlag (found : Found) (id : List ℕ) (given : Bool) : Type 0 where
   pub holds : one_text found id ≡ Some (codes "true") → given ≡ true
   pub left_out : (one_text found id ≡ None) ⊎ (one_text found id ≡ Some (codes "false")) → given ≡ false
 
--- records are printed in hexadecimal exactly where the option is given
+-- records are printed in hexadecimal exactly if the option is given
 pub record HasMode (found : Found) (mode : Mode) : Type 0 where
   pub given : one_text found (codes "hex") ≡ Some (codes "true") → mode ≡ modes.Hex
   pub left_out : (one_text found (codes "hex") ≡ None) ⊎ (one_text found (codes "hex") ≡ Some (codes "false"))
@@ -43,7 +44,7 @@ abbrev pub HasSearch : Found → List ℕ → Option (List ℕ) → Mode → Typ
 HasSearch found world saved mode =
     HasValue found (codes "FILE") world × (saved ≡ first_value found (codes "save")) × HasMode found mode
 
--- what the command of this name asks for, with the arguments that were found
+-- the arguments of the command with this name, as they were found
 abbrev pub AreArgumentsOf : List ℕ → Found → Arguments → Type 0
 AreArgumentsOf name found Show = name ≡ codes "show"
 AreArgumentsOf name found (Pqf text) = (name ≡ codes "pqf") × HasValue found (codes "TEXT") text.now
@@ -64,7 +65,7 @@ AreArgumentsOf name found (Serve address whose world count) =
     × HasValue found (codes "NAME") whose.now × HasValue found (codes "FILE") world.now
     × HasNumber found (codes "N") count
 
--- Words ask for this: the one behind the program's name is a command's, and these are arguments that were found for it.
+-- the argument behind the program's name is a command's name, and its arguments are these
 pub record IsParsed (arguments : List (List ℕ)) (asked : Arguments) : Type 0 where
   pub name : List ℕ
   pub found : Found

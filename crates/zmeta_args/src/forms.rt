@@ -324,15 +324,15 @@ prints lines as
 
 const FORMS: [Form; 8] = [ASK, RUN, LOOP, JOIN, RECORDS, SERVE, SHOW, PQF];
 
-fn argument(alloc: Global, word: &Argument) -> Arg<'static> {
-    let argument = Arg::new(alloc, word.id)
-        .help(word.help)
-        .required(word.is_needed)
-        .allow_hyphen_values(word.has_hyphen)
+fn clap_argument(alloc: Global, wanted: &Argument) -> Arg<'static> {
+    let argument = Arg::new(alloc, wanted.id)
+        .help(wanted.help)
+        .required(wanted.is_needed)
+        .allow_hyphen_values(wanted.has_hyphen)
         .action(ArgAction::Set);
-    if word.is_count {
+    if wanted.is_count {
         argument.value_parser(value_parser!(u32).range(0..=MOST_CONNECTIONS))
-    } else if word.is_many {
+    } else if wanted.is_many {
         argument.num_args(1..).action(ArgAction::Append)
     } else {
         argument
@@ -362,8 +362,8 @@ fn subcommand<'a>(alloc: Global, form: &Form) -> Result<Command<'a>, AllocError>
     let mut command = Command::new(alloc, form.name)
         .about(form.about)
         .after_help(form.example);
-    for word in form.wants {
-        command = command.arg(argument(alloc, word))?;
+    for wanted in form.wants {
+        command = command.arg(clap_argument(alloc, wanted))?;
     }
     for extra in form.may {
         command = command.arg(option(alloc, extra))?;

@@ -1,4 +1,4 @@
--- What is done for words.
+-- What the program does for its arguments.
 use Rattle.std.proofs.Common.{◌≡◌, ℕ, List, Option, Result, Ok, Err, IfOk, MatchResult}
 use Rattle.clap.specs.declared.error.Error.{Error}
 use Rattle.zmeta_commands.specs.Devices.{Device}
@@ -7,7 +7,7 @@ use Rattle.zmeta_args.specs.declared.arguments.Arguments.{Arguments}
 use Rattle.zmeta_args.specs.Arguments.{IsParsed}
 use Rattle.zmeta_commands.specs.Arguments.{AfterCall, AfterParsed, AfterUsage}
 
--- what is done for what they ask for; `Kept` says that the input is left as it is
+-- the state after the command that was parsed; `Kept` says that the input is unchanged
 pub after_parsed : (octets : List ℕ → Option (List ℕ)) (arguments : List (List ℕ)) (asked : Result Arguments Error)
     (Kept : Type 0) (input rest output printed errors told : Device) (status : Status)
     → IfOk asked (IsParsed arguments)

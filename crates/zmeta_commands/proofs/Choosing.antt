@@ -1,4 +1,4 @@
--- Which questions are asked.
+-- Which questions are chosen.
 use Rattle.std.proofs.Common.{◌≡◌, ◌∙◌, sym, subst, refl, arith, ℕ, zero, suc, ◌+◌, ◌<◌, ◌==◌, Bool, true, false, List, [], ◌∷◌, length, slice_get, Some}
 use Rattle.std.specs.Prelude.{slice_index_or}
 use Rattle.std.specs.Borrow.{Bor}
@@ -8,16 +8,16 @@ use Rattle.std.proofs.lemmas.Bool.Decides.{nat_tests}
 use Rattle.zmeta_args.specs.Texts.{texts_of}
 use Rattle.zmeta_commands.specs.Choice.{is_among, is_picked, AreKnown}
 
--- ---- elements in their places
+-- ---- items by their indexes
 
--- of texts that are borrowed
+-- of borrowed texts
 text_in : (xs : List (Bor (List ℕ))) (i : ℕ) (d : Bor (List ℕ)) (x : List ℕ) → slice_get (texts_of xs) i ≡ Some x
     → (slice_index_or xs i d).now ≡ x
 text_in [] i d x is = absurd cc
 text_in (y ∷ xs) zero d x is = cc
 text_in (y ∷ xs) (suc i) d x is = text_in xs i d x is
 
--- ---- names that are picked
+-- ---- chosen names
 
 among_texts : (only : List (Bor (List ℕ))) (name : List ℕ)
     → list_any (λ (text : Bor (List ℕ)). bytes_eq text.now name) only ≡ is_among (texts_of only) name
@@ -29,7 +29,7 @@ pub picked_by : (only : List (Bor (List ℕ))) (name : List ℕ) (found : Bool) 
 picked_by [] name found some among = absurd (omega (arith, some))
 picked_by (text ∷ only) name found some among = among ∙ among_texts (text ∷ only) name
 
--- ---- the addresses of the questions that are asked
+-- ---- the addresses of the chosen questions
 
 -- ---- names that no question has
 

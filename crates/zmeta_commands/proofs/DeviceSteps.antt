@@ -1,4 +1,4 @@
--- What is written to a stream in pieces.
+-- A text that is written to a stream in pieces.
 use Rattle.std.proofs.Common.{◌≡◌, ℕ, ◌-◌, List, [], ◌++◌, length, take, drop, sym, ap, ◌∙◌, subst, append_assoc, append-nil, take-append-drop, Option, Some, refl}
 use Rattle.std.proofs.lemmas.List.{take_rest}
 use Rattle.std.specs.Io.KnownBytes.{Appends, Keeps}
@@ -6,7 +6,7 @@ use Rattle.std.proofs.KnownBytes.{Appends-trans, Appends-kept, Appends-nil}
 use Rattle.zoom.specs.Devices.{HasAppendedFront}
 use Rattle.zmeta_commands.specs.Pieces.{WritePieceResult}
 
--- a front of the text is written, and the rest is not
+-- a front of the text was written, and the rest was not
 abbrev pub HasPut : Option (List ℕ) → Option (List ℕ) → List ℕ → List ℕ → Type 0
 HasPut old now text rest = (done : List ℕ) × (text ≡ done ++ rest) × Appends old now done
 
@@ -17,7 +17,7 @@ moves_front all done rest n e =
 pub put_more : (old now then : Option (List ℕ)) (text rest : List ℕ) (n : ℕ) → HasPut old now text rest → Appends now then (take n rest) → HasPut old then text (take (length rest - n) (drop n rest))
 put_more old now then text rest n h w = (h.0 ++ take n rest, moves_front text h.0 rest n h.1, Appends-trans old now then h.0 (take n rest) h.2 w)
 
--- the same behind the answer of a call
+-- the same after a call with this result
 pub put_piece : (old now then : Option (List ℕ)) (text rest : List ℕ) (n : ℕ) (r : Option ℕ) → HasPut old now text rest → WritePieceResult now then rest r → r ≡ Some n → HasPut old then text (take (length rest - n) (drop n rest))
 put_piece old now then text rest n r h w is = put_more old now then text rest n h (subst (WritePieceResult now then rest) is w)
 

@@ -1,4 +1,4 @@
--- What saved files say together.
+-- The facts of saved files together.
 use Rattle.std.proofs.Common.{◌≡◌, ◌∙◌, ℕ, zero, suc, ◌+◌, ◌<◌, List, [], ◌∷◌, ◌++◌, take, drop, length, get_or, append_assoc, Option, Some, None, Result, Ok, Err, refl, ap, sym, subst, arith}
 use Rattle.std.specs.Prelude.{IfSome, slice_index_or}
 use Rattle.std.specs.Borrow.{Bor}
@@ -22,7 +22,7 @@ use Rattle.zmeta_commands.specs.declared.fault.Fault.TheVariants.{Read, Write, N
 
 -- ---- one file
 
--- a file that is refused
+-- a file is refused
 refused : (file : List ℕ) (e : LoadError) → IsFault file e → LoadFileResult file (Err (of_load e))
 refused file (loads.NotKnowledge at) h = h
 refused file (loads.NotCanonical at) h = h
@@ -35,7 +35,7 @@ load_refused None octets e f r is of whole fault = tt
 load_refused (Some file) octets e f r is of whole fault =
     rw (is, of) (refused file e (subst (λ l. IsFault l e) whole fault))
 
--- ---- one file more
+-- ---- one more file
 
 -- ---- all files
 
@@ -73,7 +73,7 @@ among octets names paths path rest old new Memory joined a = later paths names r
 among octets names paths path rest old new NamesDiffer joined a = other_names paths names rest old path joined a
 among octets names paths path rest old new f joined a = absurd a
 
--- one of them is refused
+-- one of the files is refused
 pub other_refused : (octets : List ℕ → Option (List ℕ)) (names before : List (List ℕ)) (others : List (Bor (List ℕ)))
     (i : ℕ) (p : Bor (List ℕ)) (old new : List Fact) (f : Fault) → i < length others → p ≡ get_or others i p
     → AreJoined octets names (before ++ texts_of (take i others)) old → AbsorbNamedResult octets names p.now old new (Err f)
@@ -94,20 +94,20 @@ pub all_refused : (octets : List ℕ → Option (List ℕ)) (names : List (List 
 all_refused octets names others old was now i p g f r is of lt at so a =
     rw (is, of) (λ before joined. other_refused octets names before others i p was now g lt at (so before joined) a)
 
--- the element at a place within the list is there, whatever stands for one past its end
+-- an index within the list gives an item, whatever the default is
 pub in_place : {X : Type 0} (xs : List X) (i : ℕ) (d : X) → i < length xs
     → slice_index_or xs i d ≡ get_or xs i (slice_index_or xs i d)
 in_place [] i d lt = absurd (omega arith)
 in_place (x ∷ xs) zero d lt = refl
 in_place (x ∷ xs) (suc i) d lt = in_place xs i d (omega (arith, lt))
 
--- one behind the first is
+-- a file behind the first is refused
 pub rest_refused : (octets : List ℕ → Option (List ℕ)) (names : List (List ℕ)) (path : List ℕ) (rest : List (List ℕ))
     (old new : List Fact) (g f : Fault) (r : Result (List Fact × List (List ℕ)) Fault) → r ≡ Err f → f ≡ g
     → IsSavedAt octets path names old → AbsorbAllResult octets names rest old new (Err g) → LoadAllResult octets (path ∷ rest) r
 rest_refused octets names path rest old new g f r is of saved h = rw (is, of) (h (path ∷ []) (one path saved))
 
--- the first is
+-- the first file is refused
 pub first_refused : (octets : List ℕ → Option (List ℕ)) (path : List ℕ) (rest : List (List ℕ)) (g f : Fault)
     (r : Result (List Fact × List (List ℕ)) Fault) → r ≡ Err f → f ≡ g → IsFaultAt octets path g
     → LoadAllResult octets (path ∷ rest) r
@@ -118,7 +118,7 @@ first_refused octets path rest g f r is of h = rw (is, of) (first path rest h)
 pub kept : (s : Device) → IsUnchanged s s
 kept s = record { kept = Keeps-refl s.known; path = refl; sound = refl }
 
--- no fault of the files is one of the stream that is written, or of a syntax
+-- no fault of the files is one of the stream that is written, or of a record syntax
 abbrev pub IsOfReading : Fault → Type 0
 IsOfReading (Write told) = ⊥
 IsOfReading (NotOid told) = ⊥
@@ -151,7 +151,7 @@ pub join_refused : (mode : Mode) (octets : List ℕ → Option (List ℕ)) (path
     (r : Result Status Fault) → r ≡ Err f → f ≡ g → IsRefusedAmong octets paths g → JoinResult mode octets paths old old r
 join_refused mode octets paths old g f r is of h = rw (is, of) (told mode octets paths g old h)
 
--- the list is written, or a front of it
+-- the list was written, or a front of it
 put_joined : (mode : Mode) (octets : List ℕ → Option (List ℕ)) (paths : List (List ℕ)) (facts : List Fact) (text : List ℕ)
     (old new : Device) (status : Status) (r : Result Status Fault) → IsListOf octets mode paths facts text
     → IsKnownStatus facts status → PutListResult text status old new r → JoinResult mode octets paths old new r

@@ -1,4 +1,4 @@
--- Octets have one text and one end.
+-- Octets have only one text and one end.
 use Rattle.std.proofs.Common.{◌≡◌, ℕ, ◌<◌, List, [], ◌++◌, length, Result, Ok, Err, refl, ap, sym, ◌∙◌, subst, arith}
 use Rattle.zber.specs.declared.fault.FaultKind.{FaultKind}
 use Rattle.zber.specs.declared.fault.FaultKind.TheVariants as kinds
@@ -64,7 +64,7 @@ none xs q m = absurd (omega (arith, ap length q))
 same_frame : {j k : FaultKind} {a b : ℕ} → (j ≡ k) × (a ≡ b) → ◌≡◌ {A = End} (Err (Frame j a)) (Err (Frame k b))
 same_frame {j} {k} {a} {b} q = ap (λ z. Err (Frame z a)) q.0 ∙ ap (λ z. Err (Frame k z)) q.1
 
--- octets that begin with no message end in one way
+-- octets that begin with no message have only one end
 halted_once : (l : Laws) (xs : List ℕ) (f g : End) → Halted xs f → Halted xs g → f ≡ g
 halted_once l xs f g (at_end p) (at_end q) = refl
 halted_once l xs f g (at_end p) (at_fault q) = absurd (no_fault xs _ _ p q)

@@ -1,4 +1,4 @@
--- A query that a text stands for is printed, and has an element, unless memory runs out.
+-- A query that was read from a text is printed and has an element, unless no memory is found.
 use Rattle.std.proofs.Common.{◌≡◌, ℕ, List, true, false, Some, Result, Ok, Err, IfErr, IfOk, refl}
 use Rattle.zber.specs.Elements.{Element}
 use Rattle.zquery.specs.BuildError.{BuildError}
@@ -29,7 +29,7 @@ memory_or_no_element q (Err builds.Memory) some is = refl
 pub built : (q : RpnQuery) (r : Result Element BuildError) → TextSpellable → ((text : List ℕ) × IsQueryOf text q) → IsWritten (WritesQuery q) r → IfErr r (λ e. e ≡ builds.Memory)
 built q r law known is = memory_or_no_element q r (law known.0 q known.1.0) is
 
--- the element is the one that is made
+-- the element is the one that is made of the query
 pub spelled : (q : RpnQuery) (r : Result Element BuildError) → Makes (query_spelt q) r
     → IfOk r (λ n. query_spelt q ≡ Some n)
 spelled q (Ok n) is = is

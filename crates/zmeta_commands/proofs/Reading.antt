@@ -1,4 +1,4 @@
--- Octets read from the front of a text, two digits at a time.
+-- Octets are read from the front of a text, two digits at a time.
 use Rattle.std.proofs.Common.{◌≡◌, ℕ, ◌+◌, ◌-◌, ◌*◌, ◌<◌, ◌≤◌, List, [], ◌∷◌, ◌++◌, length, length-drop, take, drop, get_or, Bool, true, false, if◌then◌else◌, Option, Some, None, unwrap_or, is_some, Result, Ok, Err, map, refl, ap, sym, ◌∙◌, subst, arith}
 use Rattle.std.specs.Char.{is_ascii_whitespace}
 use Rattle.std.proofs.lemmas.List.FromFn.{get_or-map-range_with_len}
@@ -20,7 +20,7 @@ table_is = refl
 pub value_at : (c : ℕ) → c < 256 → get_or VALUES c 0 ≡ digit_value c
 value_at c h = ap (λ t. get_or t c 0) table_is ∙ get_or-map-range_with_len digit_value 0 256 c c 0 h (omega arith)
 
--- what the value of an octet says of it
+-- what the value of an octet says about the octet
 value_some : (o : Option ℕ) (w : Bool) (v : ℕ) → v ≡ unwrap_or o (if w then 16 else 17) → v < 16 → o ≡ Some v
 value_some (Some x) w v e lt = ap Some (sym e)
 value_some None true v e lt = absurd (omega arith)
@@ -49,11 +49,11 @@ no_high high low first octet p m s = let lt = digit_small high s.first s.high_is
 pub no_low : (high low second octet : ℕ) → second ≡ digit_value low → 16 ≤ second → IsOctetOf high low octet → ⊥
 no_low high low second octet p m s = let lt = digit_small low s.second s.low_is in omega (arith, lt, p)
 
--- white space is left out
+-- white space is left out, and other octets are kept
 pub kept : (x : ℕ) (xs : List ℕ) → is_ascii_whitespace x ≡ false → digits (x ∷ xs) ≡ x ∷ digits xs
 kept x xs h = rw h refl
 
--- texts that stand for no octets
+-- texts that write no octets
 some_value : (o : Option ℕ) → is_some o ≡ true → (v : ℕ) × (o ≡ Some v)
 some_value (Some v) h = (v, refl)
 some_value None h = cc h
@@ -93,7 +93,7 @@ nil_is (x ∷ xs) h = absurd (omega arith)
 rest_is : (xs : List ℕ) → take (length xs - 1) (drop 1 xs) ≡ drop 1 xs
 rest_is xs = take_all (length xs - 1) (drop 1 xs) (omega (arith, length-drop 1 xs))
 
--- the same, as the code has the texts
+-- the same for the texts in the code
 pub refused_alone : (text xs ys : List ℕ) → digits xs ≡ digits text → HasNoSpaceFirst xs → 1 ≤ length xs → digits ys ≡ digits (take (length xs - 1) (drop 1 xs)) → length ys < 1 → HasNoOctets text
 refused_alone text xs ys p f m q short =
     none_alone text (drop 1 xs) (get_or xs 0 0) (ap digits (sym (front_is xs m)) ∙ p) (subst HasNoSpaceFirst (front_is xs m) f)
@@ -105,7 +105,7 @@ refused_apart text xs ys p f m q g n none =
     none_apart text (drop 1 xs) (drop 1 ys) (get_or xs 0 0) (get_or ys 0 0) (ap digits (sym (front_is xs m)) ∙ p) (subst HasNoSpaceFirst (front_is xs m) f)
     (ap digits (sym (front_is ys n)) ∙ q ∙ ap digits (rest_is xs)) (subst HasNoSpaceFirst (front_is ys n) g) none
 
--- the octets read so far stand before those of the rest
+-- the octets read so far come before those of the rest
 pub record IsRead (text octets rest : List ℕ) : Type 0 where
   pub at : ℕ
   pub same : decode_pairs 0 (digits text) ≡ prepend octets (decode_pairs at (digits rest))

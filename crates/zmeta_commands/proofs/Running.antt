@@ -1,4 +1,4 @@
--- What is known once all was asked, and what is written of it.
+-- The end of a command that asks, and what is written then.
 use Rattle.std.proofs.Common.{◌≡◌, ℕ, List, Option, Some, None, Result, Ok, Err, IfSome, inl, inr}
 use Rattle.zmeta_commands.specs.Devices.{Device}
 use Rattle.zmeta_commands.specs.Finished.{IsPrinted, PutFinishedResult, IsOfSaving, FinishResult, Conclusion}
@@ -28,7 +28,7 @@ unsaved r saved output printed errors told (Write path) h s = inl (h, s)
 unsaved r saved output printed errors told Memory h s = inr (h, s)
 unsaved r saved output printed errors told f h s = absurd s
 
--- it was written, and not saved
+-- the list was written, and the facts were not saved
 pub not_saved : (r : Finished) (saved : Option (List ℕ)) (output printed errors told : Device) (g f : Fault) (answer : Result Status Fault)
     → answer ≡ Err f → f ≡ g → IsPrinted r output printed errors told → IsOfSaving saved g
     → FinishResult r saved output printed errors told answer
@@ -64,7 +64,7 @@ serves_at name octets world (Err Serve) says told = (world, says)
 serves_at name octets world (Err Memory) says told = tt
 serves_at name octets world (Err f) says told = absurd told
 
--- where a file says the world
+-- the result if a file has the world
 pub serve_result : (name : List ℕ) (file : Option (List ℕ)) (world : World) (answer : Result (Unit {0}) Fault)
     → IfSome file (λ octets. IsWorld octets world) → ServeWorldResult name world answer
     → IfSome file (λ octets. ServeResult name octets answer)

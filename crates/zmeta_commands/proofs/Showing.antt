@@ -1,4 +1,4 @@
--- What has been shown so far, and how it goes on or ends.
+-- What was shown so far, and how it continues or ends.
 use Rattle.std.proofs.Common.{◌≡◌, ℕ, ◌<◌, inl, inr, List, [], ◌∷◌, ◌++◌, length, Bool, true, false, Option, Some, None, Result, Ok, Err, MatchResult, IsErrAnd, IfSome, refl, ap, sym, ◌∙◌, subst, append_assoc, append-nil, arith, length-append}
 use Rattle.zber.specs.declared.fault.FaultKind.{FaultKind}
 use Rattle.zber.specs.declared.fault.FaultKind.TheVariants as kinds
@@ -28,7 +28,7 @@ use Rattle.zmeta_commands.specs.declared.fault.Fault.TheVariants.{Read, Write, H
 pub rest_shorter : (size : ℕ) (xs rest : List ℕ) (e : Element) → Begins size xs e rest → length rest < length xs
 rest_shorter size xs rest e b = omega (arith, spells_some b.is.spelled, ap length b.cut, length-append b.message rest)
 
--- what is shown of the rest goes on behind the text so far
+-- the text of the rest follows the text so far
 pub record HasShown (xs rest old now : List ℕ) : Type 0 where
   pub text : List ℕ
   pub written : now ≡ old ++ text
@@ -41,7 +41,7 @@ shown_more xs rest left old now then e v h b w q = record {
   goes_on = λ t end s. subst (λ z. ShownText xs z end) (sym (append_assoc h.text (apdu_text v) t)) (h.goes_on (apdu_text v ++ t) end (apdu v b w s));
 }
 
--- what an error becomes behind a `?`
+-- the error that `?` returns
 is_err : {A E : Type 0} (r : Result A E) (x : E) → IsErrAnd r (λ f. f ≡ x) → Err x ≡ r
 is_err (Ok v) x h = absurd h
 is_err (Err f) x h = ap Err (sym h)
@@ -58,7 +58,7 @@ refused_here s t text n apdus.NotApdu l a d = (no_apdu (subst (λ z. Begins z s.
 refused_here s t text n (apdus.Malformed kind at) l a d = (malformed (subst (λ z. Begins z s.octets n t.octets) l a.1) d.0 d.1, refl)
 refused_here s t text n apdus.Memory l a d = tt
 
--- a framing fault is shown next, and so is a message that is refused
+-- a framing fault is shown next, as is a message that is refused
 pub fault_next : (s t : Stream) (text : List ℕ) (e : FrameError) (r : Result Bool Fault) → s.limit ≡ MESSAGE_LIMIT → s.fault ≡ None → Answers s (Err e) t → IsErrAnd r (λ f. f ≡ of_frame e) → ShowNextResult s t text text r
 fault_next s t text e r l p a w = subst (ShowNextResult s t text text) (is_err r (of_frame e) w) (fault_here s t text e l p a)
 
@@ -107,7 +107,7 @@ end_err : (xs old now new : List ℕ) (s t : Stream) (e : FrameError) → s.faul
 end_err xs old now new s t (frames.Fault k at) p h m q = shown_end xs old now new s t h m (Err (Frame k at)) (finish_err s.limit s.octets (frames.Fault k at) m.0 (q ∙ ap finished (asked_is s t p m.2)))
 end_err xs old now new s t frames.Memory p h m q = tt
 
--- where no message follows, the octets end, or are unfinished
+-- if no message follows, the octets end or are unfinished
 pub unfinished_end : (xs old now new : List ℕ) (s t : Stream) (b : Bool) (e : FrameError) (r : Result (Unit {0}) Fault) → s.fault ≡ None → HasShown xs s.octets old now
     → ShowNextResult s t now new (Ok b) → b ≡ false → Err e ≡ finished t → IsErrAnd r (λ f. f ≡ of_frame e) → ShowOctetsResult xs old new r
 unfinished_end xs old now new s t b e r p h m f q w =
@@ -119,7 +119,7 @@ whole_end xs old now new s t b c p h m f q =
     let none = subst (λ z. ShowNextResult s t now new (Ok z)) f m in
     shown_end xs old now new s t h none (Ok tt) (finish_ok s.limit s.octets c (q ∙ ap finished (asked_is s t p none.2)))
 
--- octets end at no fault of a stream, of digits or of memory
+-- octets do not end with a fault of a stream, of digits or of memory
 abbrev IsEnd : Result (Unit {0}) Fault → Type 0
 IsEnd (Err (Read path)) = ⊥
 IsEnd (Err (Write path)) = ⊥
@@ -164,7 +164,7 @@ text_shown : (digits xs lines : List ℕ) (old new : Device) (answer end : Resul
 text_shown digits xs lines old new (Err Memory) end q s p = subst (ShowResult digits old new) (sym p.0) p.1
 text_shown digits xs lines old new answer end q s p = put_shown digits xs lines old new answer end q s p
 
--- the same for the input of a reader that tells its octets, each value behind its name
+-- the same for the input of a reader whose octets are known; each value has a name
 pub input_shown : (known : Option (List ℕ)) (input digits octets xs start lines printed : List ℕ) (old new : Device) (answer end : Result (Unit {0}) Fault)
     → IfSome known (λ ys. input ≡ ys) → digits ≡ input → octets_of digits ≡ Ok octets → xs ≡ octets → start ≡ [] → ShowOctetsResult xs start lines answer → printed ≡ lines → PrintLinesResult printed answer old new end
     → IfSome known (λ ys. ShowResult ys old new end)
@@ -173,7 +173,7 @@ input_shown (Some ys) input digits octets xs start lines printed old new answer 
     let shown : ShowOctetsResult octets [] lines answer = subst (λ z. ShowOctetsResult z [] lines answer) e (subst (λ z. ShowOctetsResult xs z lines answer) b s) in
     subst (λ z. ShowResult z old new end) (q ∙ k) (text_shown digits octets lines old new answer end d shown (subst (λ z. PrintLinesResult z answer old new end) f p))
 
--- a stream that is told to have failed is the one that was written
+-- the stream that a fault names is the one that was written
 ends_whole : {xs text : List ℕ} (input output : Device) (answer : Result (Unit {0}) Fault) → ShownText xs text answer → IsOfStream input output answer
 ends_whole input output (Err (Read path)) s = absurd (is_end s)
 ends_whole input output (Err (Write path)) s = absurd (is_end s)

@@ -16,7 +16,7 @@ trouble_at law hearing c meta state failed complete skipped answer lt is f k n e
     ∙ ap (λ z. has_failed p || not z || skipped) (k q s h p a transcript)
     ∙ ap (λ z. has_failed p || not (is_complete p) || z) (n q s h p a transcript)
 
--- of a question that was to be asked
+-- the question is chosen
 pub troubled_at : (addresses : List (Option (List ℕ))) (c : ℕ) (meta : MetaLinks) (answer : Bool) → is_asked addresses c ≡ true
     → IsTranscriptValue c meta is_troubled answer → IsTroubledAt addresses c meta answer
 troubled_at addresses c meta true asked tells = (asked, tells)
@@ -24,7 +24,7 @@ troubled_at addresses c meta false asked tells = λ _. tells
 
 -- ---- lines
 
--- the lines with those of one connection more
+-- the lines, with those of one more connection
 pub one_line : (meta : MetaLinks) (c at : ℕ) (front : List (List ℕ)) (name : List ℕ) (state : State) (text : List ℕ) → AreLinesFrom meta c front text → at ≡ c + length front → IsStateAt at meta.pool state
     → AreLinesFrom meta c (front ++ name ∷ []) (text ++ failure_line name state)
 one_line meta c at [] name state text h e is =

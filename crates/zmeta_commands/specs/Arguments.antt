@@ -1,4 +1,4 @@
--- What is done for the words of a command line.
+-- What the program does with the arguments of a command line.
 use Rattle.std.specs.Prelude.{◌≡◌, ◌⊎◌, ℕ, true, List, ◌∷◌, Option, Result, Ok, Err}
 use Rattle.clap.specs.Words.{kind_of}
 use Rattle.clap.specs.declared.error.Error.{Error}
@@ -21,7 +21,7 @@ use Rattle.zmeta_commands.specs.declared.fault.Fault.TheVariants as faults
 use Rattle.zmeta_commands.specs.declared.fault.Status.{Status}
 use Rattle.zmeta_commands.specs.declared.fault.Status.TheVariants as statuses
 
--- what is done for the words: their command, with these arguments and none other
+-- the devices and the status after the command, with these arguments and no others
 abbrev pub AfterCall
     : (List ℕ → Option (List ℕ)) → Arguments → Device → Device → Device → Device → Device → Device → Status → Type 0
 AfterCall octets Show input rest output printed errors told status =
@@ -47,11 +47,11 @@ AfterCall octets (Serve address name world count) input rest output printed erro
 abbrev pub IsHelp : ErrorKind → Type 0
 IsHelp kind = (kind ≡ kinds.DisplayHelp) ⊎ (kind ≡ kinds.DisplayVersion)
 
--- help is printed, and told only where it cannot be printed
+-- help is printed; an error is reported only if help cannot be printed
 pub record AfterHelp (output printed errors told : Device) (status : Status) : Type 0 where
   pub ends : ((status ≡ statuses.Done) × (told ≡ errors)) ⊎ ((status ≡ statuses.Refused) × (printed.has_failed ≡ true))
 
--- why words ask for nothing: that is told, and nothing is printed; or help is printed
+-- no command was run: the reason is reported and nothing is printed, or help is printed
 pub record AfterUsage (error : Error) (output printed errors told : Device) (status : Status) : Type 0 where
   pub memory : kind_of error ≡ kinds.OutOfMemory
       → (status ≡ statuses.Memory) × AfterTell errors told faults.Memory × (printed ≡ output)
@@ -59,11 +59,11 @@ pub record AfterUsage (error : Error) (output printed errors told : Device) (sta
   pub wrong : (kind_of error ≡ kinds.OutOfMemory → ⊥) → (IsHelp (kind_of error) → ⊥)
       → (status ≡ statuses.Arguments) × (printed ≡ output)
 
--- words that are not UTF-8 are wrong, unless memory ran out
+-- arguments that are not UTF-8 are wrong, unless no memory is found
 abbrev pub IsWrong : Status → Type 0
 IsWrong status = (status ≡ statuses.Arguments) ⊎ (status ≡ statuses.Memory)
 
--- what is done for words: what they ask for; or it is told that they ask for nothing, and the input is left as it is
+-- the devices and the status after the command that was parsed; or none was run, and the input is unchanged
 abbrev pub AfterParsed
     : (List ℕ → Option (List ℕ)) → List (List ℕ) → Result Arguments Error → Device → Device → Device → Device → Device
     → Device → Status → Type 0
@@ -72,6 +72,7 @@ AfterParsed octets arguments (Ok asked) input rest output printed errors told st
 AfterParsed octets arguments (Err error) input rest output printed errors told status =
     (rest ≡ input) × AfterUsage error output printed errors told status
 
+-- the devices and the status after a call of the program with these arguments
 abbrev pub AfterArguments
     : (List ℕ → Option (List ℕ)) → List (List ℕ) → Device → Device → Device → Device → Device → Device → Status
     → Type 0

@@ -1,4 +1,4 @@
--- What `ask` prints of a world file, what it tells, and how it ends.
+-- What `ask` prints and reports for a world file, and how it ends.
 use Rattle.std.specs.Prelude.{◌≡◌, ◌⊎◌, ℕ, List, Option, Result, Ok, Err}
 use Rattle.zber.specs.declared.text.Mode.{Mode}
 use Rattle.zmeta_world.specs.declared.world.World.{World}
@@ -16,21 +16,21 @@ use Rattle.zmeta_commands.specs.Finished.{asker, IsListed, Conclusion, Command, 
 
 -- ---- the world of a file
 
--- the hosts of some world are asked so
+-- the program has this network plan for some world
 abbrev pub CanBeAsked : NetworkRun → Type 0
 CanBeAsked e = (world : World) × IsNetworkRun asker world e
 
--- the file says a world, whose hosts are asked so
+-- the file has a world with this network plan
 abbrev pub IsNetworkFile : List ℕ → NetworkRun → Type 0
 IsNetworkFile file e = (world : World) × IsWorld file world × IsNetworkRun asker world e
 
--- the line of a file that is refused: it says nothing, or cannot stand where it does; or the file says a world, of
--- whose questions it has the first that is put to a target in memory
+-- the line is refused: by itself, or as the first question that goes to a target in memory
 abbrev pub IsLineUnasked : List ℕ → ℕ → Type 0
 IsLineUnasked file number =
     IsRefused file number ⊎ ((world : World) × IsWorld file world
     × IsFirstTargetLine world.hosts world.questions number)
 
+-- the network plan of a file, or the line that is refused
 abbrev pub ReadNetworkResult : List ℕ → Result NetworkRun Fault → Type 0
 ReadNetworkResult file (Ok e) = IsNetworkFile file e
 ReadNetworkResult file (Err (Line number)) = IsLineUnasked file number
@@ -40,8 +40,7 @@ ReadNetworkResult file (Err _) = ⊥
 
 -- ---- hosts that were asked
 
--- Each of the names given is some question's; each question that was chosen was put to its host; and this is the list
--- of what is known then.
+-- each given name is a question's; each chosen question was put to its host; and the list has the facts
 pub record IsAskedOf (manner : Manner) (mode : Mode) (e : NetworkRun) (r : Finished) : Type 0 where
   pub known : AreAllKnown manner.only e.names
   pub chosen : List (Option (List ℕ))
@@ -57,6 +56,7 @@ AreAsked manner mode file r = (e : NetworkRun) × IsNetworkFile file e × IsAske
 abbrev pub HasNoQuestion : List (List ℕ) → List ℕ → List ℕ → Type 0
 HasNoQuestion only file name = (e : NetworkRun) × IsNetworkFile file e × IsFirstUnknown only e.names name
 
+-- the finished connections of the hosts of a file, or why they were not asked
 abbrev pub AskFileResult : Manner → Mode → List ℕ → Result Finished Fault → Type 0
 AskFileResult manner mode file (Ok r) = AreAsked manner mode file r
 AskFileResult manner mode file (Err (Line number)) = IsLineUnasked file number
@@ -65,14 +65,14 @@ AskFileResult manner mode file (Err (Read path)) = Unit {0}
 AskFileResult manner mode file (Err Memory) = Unit {0}
 AskFileResult manner mode file (Err _) = ⊥
 
--- an answer of asking the hosts of an enquiry
+-- the finished connections of a network plan, or why its hosts were not asked
 abbrev pub AskNetworkResult : Manner → Mode → NetworkRun → Result Finished Fault → Type 0
 AskNetworkResult manner mode e (Ok r) = IsAskedOf manner mode e r
 AskNetworkResult manner mode e (Err (NoQuestion told)) = IsFirstUnknown manner.only e.names told.now
 AskNetworkResult manner mode e (Err Memory) = Unit {0}
 AskNetworkResult manner mode e (Err _) = ⊥
 
--- a fault of asking the hosts of the file at a path
+-- a fault that can end asking the hosts of the file at a path
 abbrev pub IsOfAsking : List ℕ → Fault → Type 0
 IsOfAsking path (Read told) = told.now ≡ path
 IsOfAsking path (Line number) = Unit {0}
@@ -82,12 +82,12 @@ IsOfAsking path _ = ⊥
 
 -- ---- the command
 
--- what an answer of `ask` says of the world file, and of what was written and told
+-- the result of `ask`, and the devices after it
 abbrev pub AskResult : Manner → Mode → List ℕ → Option (List ℕ)
     → Device → Device → Device → Device → Result Status Fault → Type 0
 AskResult manner mode file saved output printed errors told answer =
     Conclusion (AskFileResult manner mode file) saved output printed errors told answer
 
--- what `ask` does with the world file at a path: what it writes and tells, and its status
+-- the devices and the status after `ask`
 abbrev pub AfterAsk : Manner → Mode → Command
 AfterAsk manner mode = AfterCommand (AskResult manner mode)

@@ -1,4 +1,4 @@
--- Which questions of a world file are asked, and how.
+-- The choice of questions, and how their hosts are asked.
 use Rattle.std.specs.Prelude.{◌≡◌, ℕ, ◌<◌, Bool, true, false, List, [], ◌∷◌, length, slice_get, Option, Some, None, Result, Ok, Err}
 use Rattle.std.specs.List.{list_any}
 use Rattle.std.specs.Str.{bytes_eq}
@@ -7,55 +7,57 @@ use Rattle.zmeta_commands.specs.declared.choice.Choice.{Choice}
 use Rattle.zmeta_commands.specs.declared.fault.Fault.{Fault}
 use Rattle.zmeta_commands.specs.declared.fault.Fault.TheVariants.{NoQuestion, Memory}
 
--- how hosts are asked: all at once, or one after the other; and the names of the questions that are asked, or none
+-- whether all hosts are asked at once, and the names of the questions to ask, or none for all
 pub record Manner : Type 0 where
   pub at_once : Bool
   pub only : List (List ℕ)
 
+-- the manner of a choice
 abbrev pub manner : Choice → Manner
 manner choice = record { at_once = choice.at_once; only = texts_of choice.only.now }
 
+-- the name is among the names
 abbrev pub is_among : List (List ℕ) → List ℕ → Bool
 is_among names name = list_any (λ known. bytes_eq known name) names
 
--- those of these names, or all, where there are none
+-- the name is among `only`, or `only` is empty
 abbrev pub is_picked : List (List ℕ) → List ℕ → Bool
 is_picked [] name = true
 is_picked (first ∷ only) name = is_among (first ∷ only) name
 
+-- the address of a chosen question
 abbrev pub address_if : Bool → List ℕ → Option (List ℕ)
 address_if true address = Some address
 address_if false address = None
 
--- the addresses of the first so many questions of these names, of those that are asked
+-- the addresses of the chosen questions among the first n
 abbrev pub AreChosen : List (List ℕ) → List (List ℕ) → List (List ℕ) → ℕ → List (Option (List ℕ)) → Type 0
 AreChosen only names addresses n chosen =
     (c : ℕ) (name address : List ℕ) → c < n → slice_get names c ≡ Some name → slice_get addresses c ≡ Some address
     → slice_get chosen c ≡ Some (address_if (is_picked only name) address)
 
--- the address of each question that is asked, by the names of all, and none for each that is left out
+-- the address of each chosen question, and none for each other
 pub record IsChosen (only names addresses : List (List ℕ)) (chosen : List (Option (List ℕ))) : Type 0 where
   pub size : length chosen ≡ length addresses
   pub each : AreChosen only names addresses (length chosen) chosen
 
--- the first so many of the names are questions'
+-- each of the first n names is a question's
 abbrev pub AreKnown : List (List ℕ) → List (List ℕ) → ℕ → Type 0
 AreKnown only names n =
     (c : ℕ) (name : List ℕ) → c < n → slice_get only c ≡ Some name → is_among names name ≡ true
 
--- each of the names is some question's
+-- each of the names is a question's
 abbrev pub AreAllKnown : List (List ℕ) → List (List ℕ) → Type 0
 AreAllKnown only names = AreKnown only names (length only)
 
--- the first of the names that no question has
+-- the name is the first that no question has
 pub record IsFirstUnknown (only names : List (List ℕ)) (name : List ℕ) : Type 0 where
   pub at : ℕ
   pub stands : slice_get only at ≡ Some name
   pub unknown : is_among names name ≡ false
   pub known : AreKnown only names at
 
--- each of the names is some question's, and these are the addresses of the questions that are asked; or the name that
--- no question has
+-- the addresses of the chosen questions, or the first name that no question has
 abbrev pub AddressesResult
     : List (List ℕ) → List (List ℕ) → List (List ℕ) → Result (List (Option (List ℕ))) Fault → Type 0
 AddressesResult only names addresses (Ok chosen) = AreAllKnown only names × IsChosen only names addresses chosen
@@ -63,7 +65,7 @@ AddressesResult only names addresses (Err (NoQuestion told)) = IsFirstUnknown on
 AddressesResult only names addresses (Err Memory) = Unit {0}
 AddressesResult only names addresses (Err _) = ⊥
 
--- each of the names is some question's, or this is the first that is none
+-- each of the names is a question's, or this is the first that is not
 abbrev pub CheckNamesResult : List (List ℕ) → List (List ℕ) → Result (Unit {0}) Fault → Type 0
 CheckNamesResult only names (Ok u) = AreAllKnown only names
 CheckNamesResult only names (Err (NoQuestion told)) = IsFirstUnknown only names told.now

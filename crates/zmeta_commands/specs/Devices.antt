@@ -1,4 +1,4 @@
--- What commands do to the devices that they read and write: standard streams and files.
+-- The streams and files that commands read and write, before and after a call.
 use Rattle.std.specs.Prelude.{◌≡◌, ◌⊎◌, ℕ, List, ◌++◌, Option, Bool, true, false, Result, Ok, Err, MatchResult, codes}
 use Rattle.std.specs.Io.KnownBytes.{Keeps, Appends}
 use Rattle.zoom.specs.Devices.{HasAppendedFront}
@@ -8,8 +8,7 @@ use Rattle.zmeta_commands.specs.declared.fault.Fault.TheVariants.{Read, Write}
 use Rattle.zmeta_commands.specs.declared.input.Input.{Input}
 use Rattle.zmeta_commands.specs.declared.output.Output.{Output}
 
--- a device: the octets that it has left or holds, where they are known, the path that is told of it, and whether a call
--- of it failed
+-- a stream: its octets left or written, if known; its path; and whether a call of it failed
 pub record Device : Type 0 where
   pub known : Option (List ℕ)
   pub path : List ℕ
@@ -23,52 +22,52 @@ left remaining s = record { known = remaining s.reader; path = s.path.now; has_f
 abbrev pub output_device : {W : Type 0} → (W → Option (List ℕ)) → Output W → Device
 output_device contents s = record { known = contents s.writer; path = s.path.now; has_failed = s.has_failed }
 
--- nothing is written
+-- nothing was written
 pub record IsUnchanged (old new : Device) : Type 0 where
   pub kept : Keeps old.known new.known
   pub path : new.path ≡ old.path
   pub sound : new.has_failed ≡ old.has_failed
 
--- the whole text is written
+-- the whole text was written
 pub record HasGained (old new : Device) (text : List ℕ) : Type 0 where
   pub written : Appends old.known new.known text
   pub path : new.path ≡ old.path
   pub sound : new.has_failed ≡ old.has_failed
 
--- whether the whole text was taken, or a front of it
+-- the whole text was written, or a front of it
 abbrev pub WritePiecesResult : Option (List ℕ) → Option (List ℕ) → List ℕ → Bool → Type 0
 WritePiecesResult old new text true = Appends old new text
 WritePiecesResult old new text false = HasAppendedFront old new text
 
--- a call of the stream failed, and a front of the text is written
+-- a call of the stream failed after a front of the text was written
 pub record HasStopped (old new : Device) (text : List ℕ) : Type 0 where
   pub written : HasAppendedFront old.known new.known text
   pub path : new.path ≡ old.path
   pub failed : new.has_failed ≡ true
 
--- the stream failed and is told, and a front of the text is written
+-- the fault names the stream that failed after a front of the text was written
 abbrev pub PutFailure : Device → Device → List ℕ → Fault → Type 0
 PutFailure old new text (Write told) = (told.now ≡ old.path) × HasStopped old new text
 PutFailure old new text _ = ⊥
 
--- the whole text is written, or a front of it where the stream failed
+-- the whole text was written, or a front of it if the stream failed
 abbrev pub PutResult : Device → Device → List ℕ → Result (Unit {0}) Fault → Type 0
 PutResult old new text result = MatchResult result (λ _. HasGained old new text) (PutFailure old new text)
 
--- the line that is told of a fault
+-- the line that reports a fault
 abbrev pub fault_line : Fault → List ℕ
 fault_line f = codes "zmeta: " ++ fault_text f ++ codes "\n"
 
--- the line of a fault is written, or a call of the stream failed
+-- the line of a fault was written, or a call of the stream failed
 abbrev pub AfterTell : Device → Device → Fault → Type 0
 AfterTell old new f = (new.has_failed ≡ true) ⊎ HasGained old new (fault_line f)
 
--- what a command tells of its answer: the line of the fault that stopped it, else nothing
+-- the fault that stopped a command was reported, or nothing if there was none
 abbrev pub AfterReport : {A : Type 0} → Device → Device → Result A Fault → Type 0
 AfterReport old new (Ok _) = new ≡ old
 AfterReport old new (Err f) = AfterTell old new f
 
--- A stream that is told to have failed is one of which a call failed: the one that is read, or the one that is written.
+-- the stream that a fault names has failed: the one read, or the one written
 abbrev pub IsOfStream : {A : Type 0} → Device → Device → Result A Fault → Type 0
 IsOfStream input output (Err (Read told)) = (told.now ≡ input.path) × (input.has_failed ≡ true)
 IsOfStream input output (Err (Write told)) = (told.now ≡ output.path) × (output.has_failed ≡ true)

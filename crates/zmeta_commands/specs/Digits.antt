@@ -1,4 +1,4 @@
--- Octets given as hexadecimal text.
+-- Octets written as hexadecimal digits.
 use Rattle.std.specs.Prelude.{◌≡◌, ℕ, ◌+◌, ◌*◌, ◌≤◌, List, [], ◌∷◌, length, filter, false, not, if◌then◌else◌}
 use Rattle.std.specs.Prelude.{Some, Result, Ok, Err, Vec, vec_items}
 use Rattle.std.specs.Option.{unwrap_or}
@@ -8,11 +8,11 @@ use Rattle.hex.specs.declared.error.FromHexError.{FromHexError}
 use Rattle.zmeta_commands.specs.declared.fault.Fault.{Fault}
 use Rattle.zmeta_commands.specs.declared.fault.Fault.TheVariants.{Hex, Memory}
 
--- a text without its white space
+-- the text without its white space
 abbrev pub digits : List ℕ → List ℕ
 digits text = filter (λ b. not (is_ascii_whitespace b)) text
 
--- the octets that the digits of a text stand for, its white space aside
+-- the octets that the digits of a text write
 abbrev pub octets_of : List ℕ → Result (List ℕ) FromHexError
 octets_of text = decode_of (digits text)
 
@@ -23,11 +23,11 @@ IsDecoded text (Err Hex) = (xs : List ℕ) → octets_of text ≡ Ok xs → ⊥
 IsDecoded text (Err Memory) = Unit {0}
 IsDecoded text (Err _) = ⊥
 
--- the value of a digit in either case, else 16 for white space and 17 for any other octet
+-- the value of a digit in either case; 16 for white space, and 17 for any other octet
 unfoldable pub digit_value : ℕ → ℕ
 digit_value c = unwrap_or (hex_digit_value c) (if is_ascii_whitespace c then 16 else 17)
 
--- two digits, and the octet that they stand for
+-- two digits, and the octet that they write
 pub record IsOctetOf (high low octet : ℕ) : Type 0 where
   pub first : ℕ
   pub second : ℕ
@@ -35,11 +35,12 @@ pub record IsOctetOf (high low octet : ℕ) : Type 0 where
   pub low_is : hex_digit_value low ≡ Some second
   pub octet_is : octet ≡ first * 16 + second
 
+-- the text does not begin with white space
 abbrev pub HasNoSpaceFirst : List ℕ → Type 0
 HasNoSpaceFirst [] = Unit {0}
 HasNoSpaceFirst (x ∷ xs) = is_ascii_whitespace x ≡ false
 
--- the first two digits of a text stand for the octet, and the rest is behind them
+-- the first two digits of the text write this octet, and the rest follows
 pub record HasOctetFirst (text : List ℕ) (octet : ℕ) (rest : List ℕ) : Type 0 where
   pub high : ℕ
   pub low : ℕ
@@ -47,6 +48,6 @@ pub record HasOctetFirst (text : List ℕ) (octet : ℕ) (rest : List ℕ) : Typ
   pub spell : IsOctetOf high low octet
   pub shorter : length rest + 2 ≤ length text
 
--- a text whose digits stand for no octets, wherever they are counted from
+-- the digits of the text write no octets, whatever index their first digit has
 abbrev pub HasNoOctets : List ℕ → Type 0
 HasNoOctets text = (i : ℕ) (xs : List ℕ) → decode_pairs i (digits text) ≡ Ok xs → ⊥

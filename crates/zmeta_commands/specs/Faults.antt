@@ -1,4 +1,4 @@
--- The texts and the statuses of faults.
+-- The texts and statuses of faults.
 use Rattle.std.specs.Prelude.{ℕ, List, ◌++◌, Result, Ok, Err, codes}
 use Rattle.std.specs.Fmt.{decimal}
 use Rattle.zber.specs.Faults.{kind_word as fault_word}
@@ -37,7 +37,7 @@ code_of statuses.Arguments = 2
 code_of statuses.Refused = 3
 code_of statuses.Memory = 4
 
--- what is told of a fault on standard error
+-- the text of a fault
 abbrev pub fault_text : Fault → List ℕ
 fault_text (Read path) = codes "cannot read " ++ path.now
 fault_text (Write path) = codes "cannot write " ++ path.now
@@ -58,41 +58,48 @@ fault_text (NotOid text) = codes "no OID " ++ text.now
 fault_text Serve = codes "cannot serve"
 fault_text Memory = codes "out of memory"
 
+-- the fault for a framing error
 abbrev pub of_frame : FrameError → Fault
 of_frame (frames.Fault kind at) = Frame kind at
 of_frame frames.Memory = Memory
 
+-- the fault for an error of an APDU
 abbrev pub of_apdu : ApduError → Fault
 of_apdu apdus.NotApdu = NotApdu
 of_apdu (apdus.Malformed kind at) = Malformed kind at
 of_apdu apdus.Memory = Memory
 
--- a text that wants memory is no text at fault
+-- the fault for an error of the prefix notation at this octet
 abbrev pub of_kind : PqfErrorKind → ℕ → Fault
 of_kind queries.Memory at = Memory
 of_kind kind at = Query kind at
 
+-- the fault for a text that is no query
 abbrev pub of_query : PqfError → Fault
 of_query e = of_kind e.kind e.at
 
+-- the fault for a query that cannot be printed
 abbrev pub of_print : PrintError → Fault
 of_print prints.NotPrintable = NotPrintable
 of_print prints.Memory = Memory
 
--- a query that was read has a spelling, so that this never tells of one
+-- the fault for a query without an element; a query read from a text always has one
 abbrev pub of_build : BuildError → Fault
 of_build builds.NotSpellable = NotPrintable
 of_build builds.Memory = Memory
 
+-- the fault for a saved file that is refused
 abbrev pub of_load : LoadError → Fault
 of_load (loads.NotKnowledge at) = NotKnowledge at
 of_load (loads.NotCanonical at) = NotCanonical at
 of_load loads.Memory = Memory
 
+-- the fault for a world file that is refused
 abbrev pub of_world : WorldError → Fault
 of_world (worlds.Refused line) = Line line
 of_world worlds.Memory = Memory
 
+-- the fault for a target that cannot be served
 abbrev pub of_serve : ServeError → Fault
 of_serve serves.Listen = Serve
 of_serve serves.Memory = Memory
@@ -102,12 +109,12 @@ abbrev pub status_of : Fault → Status
 status_of Memory = statuses.Memory
 status_of _ = statuses.Refused
 
--- the status of a command that answers so
+-- the status of a command with this result
 abbrev pub result_status : Result (Unit {0}) Fault → Status
 result_status (Ok _) = statuses.Done
 result_status (Err f) = status_of f
 
--- the status of a command that answers its own where no fault stopped it
+-- the status of a command: its own, or that of the fault that stopped it
 abbrev pub end_status : Result Status Fault → Status
 end_status (Ok status) = status
 end_status (Err f) = status_of f

@@ -1,4 +1,4 @@
--- What `join` prints of saved files.
+-- What `join` prints for saved files.
 use Rattle.std.specs.Prelude.{◌≡◌, ◌≢◌, ℕ, List, [], ◌∷◌, ◌++◌, Contains, Option, IfSome, Result, Ok, Err, MatchResult}
 use Rattle.zknow.specs.declared.fact.Fact.{Fact}
 use Rattle.zber.specs.declared.text.Mode.{Mode}
@@ -18,7 +18,7 @@ use Rattle.zmeta_commands.specs.declared.fault.Status.TheVariants as statuses
 
 -- ---- one file
 
--- what a file says, or why it is refused
+-- the facts and names of a file, or why it is refused
 abbrev pub LoadFileResult : List ℕ → Result (List Fact × List (List ℕ)) Fault → Type 0
 LoadFileResult file (Ok r) = IsSaved r.1 r.0 file
 LoadFileResult file (Err (NotKnowledge at)) = IsNotKnowledge file at
@@ -27,7 +27,7 @@ LoadFileResult file (Err (Read path)) = Unit {0}
 LoadFileResult file (Err Memory) = Unit {0}
 LoadFileResult file (Err _) = ⊥
 
--- a fault of the file at a path: it cannot be read, is no saved one, or memory ran out on it
+-- a fault of the file at a path: it cannot be read, is no saved file, or no memory was found
 abbrev pub IsOfFile : List ℕ → Fault → Type 0
 IsOfFile path (Read told) = told.now ≡ path
 IsOfFile path (NotKnowledge at) = Unit {0}
@@ -35,9 +35,9 @@ IsOfFile path (NotCanonical at) = Unit {0}
 IsOfFile path Memory = Unit {0}
 IsOfFile path _ = ⊥
 
--- Files by their paths, each with its octets where they are known.
+-- files by their paths, each with its octets if they are known
 module _ (octets : List ℕ → Option (List ℕ)) where
-  -- the file at the path is a saved one of these names and facts
+  -- the file at the path is a saved file of these names and facts
   abbrev pub IsSavedAt : List ℕ → List (List ℕ) → List Fact → Type 0
   IsSavedAt path names facts = IfSome (octets path) (λ file. IsSaved names facts file)
 
@@ -49,19 +49,19 @@ module _ (octets : List ℕ → Option (List ℕ)) where
   IsFaultAt path Memory = Unit {0}
   IsFaultAt path _ = ⊥
 
-  -- what the file at the path says, or why it is refused
+  -- the facts and names of the file at the path, or why it is refused
   abbrev pub LoadNamedResult : List ℕ → Result (List Fact × List (List ℕ)) Fault → Type 0
   LoadNamedResult path (Ok r) = IsSavedAt path r.1 r.0
   LoadNamedResult path (Err f) = IsFaultAt path f
 
-  -- the file at the path is a saved one of other names
+  -- the file at the path is a saved file with other names
   pub record HasOtherNames (names : List (List ℕ)) (path : List ℕ) : Type 0 where
     pub others : List (List ℕ)
     pub facts : List Fact
     pub saved : IsSavedAt path others facts
     pub differ : names ≢ others
 
-  -- what the file at the path says is added; or why it is not
+  -- the facts of the file at the path were added, or why not
   abbrev pub AbsorbNamedResult
       : List (List ℕ) → List ℕ → List Fact → List Fact → Result (Unit {0}) Fault → Type 0
   AbsorbNamedResult names path old new (Ok u) = (theirs : List Fact) × IsSavedAt path names theirs × AreFacts new
@@ -71,15 +71,14 @@ module _ (octets : List ℕ → Option (List ℕ)) where
 
   -- ---- several files
 
-  -- the files at these paths are saved ones of the same names, and these are the facts of all of them
+  -- the files at these paths are saved files of the same names, and together have these facts
   pub data AreJoined (names : List (List ℕ)) : List (List ℕ) → List Fact → Type 0 where
     one : {facts : List Fact} (path : List ℕ) → IsSavedAt path names facts → AreJoined names (path ∷ []) facts
     more : {paths : List (List ℕ)} {facts : List Fact} (path : List ℕ) (mine theirs : List Fact)
         → AreJoined names paths mine → IsSavedAt path names theirs → AreFacts facts
         → IsUnion (Contains mine) (Contains theirs) (Contains facts) → AreJoined names (paths ++ path ∷ []) facts
 
-  -- The fault is that of the first file; or those before some file are saved ones of the same names, and it is that
-  -- file's, which may be that it has other names.
+  -- the fault is the first file's; or the files before some file have the same names, and the fault is that file's
   pub data IsRefusedAmong : List (List ℕ) → Fault → Type 0 where
     first : {fault : Fault} (path : List ℕ) (rest : List (List ℕ))
         → IsFaultAt path fault → IsRefusedAmong (path ∷ rest) fault
@@ -89,7 +88,7 @@ module _ (octets : List ℕ → Option (List ℕ)) where
         → AreJoined names paths facts → HasOtherNames names path
         → IsRefusedAmong (paths ++ path ∷ rest) NamesDiffer
 
-  -- what the files at these paths say is added to that of others before them; or why not
+  -- the facts of the files at these paths were added to those of files before them, or why not
   abbrev pub AbsorbAllResult
       : List (List ℕ) → List (List ℕ) → List Fact → List Fact → Result (Unit {0}) Fault → Type 0
   AbsorbAllResult names paths old new (Ok u) =
@@ -97,31 +96,31 @@ module _ (octets : List ℕ → Option (List ℕ)) where
   AbsorbAllResult names paths old new (Err f) =
       (before : List (List ℕ)) → AreJoined names before old → IsRefusedAmong (before ++ paths) f
 
-  -- what all files say together, or why one is refused
+  -- the facts of all files together, or why one is refused
   abbrev pub LoadAllResult : List (List ℕ) → Result (List Fact × List (List ℕ)) Fault → Type 0
   LoadAllResult paths (Ok r) = AreJoined r.1 paths r.0
   LoadAllResult paths (Err f) = IsRefusedAmong paths f
 
-  -- the list of what all files say together
+  -- the list of the facts of all files together
   abbrev pub IsListOf : Mode → List (List ℕ) → List Fact → List ℕ → Type 0
   IsListOf mode paths facts text =
       (names : List (List ℕ)) × AreJoined names paths facts × (text ≡ listing names mode facts)
 
 -- ---- the command
 
--- the status of a command that knows these facts: whether a search or an association failed
+-- the status for these facts: whether a search or an association failed
 abbrev pub IsKnownStatus : List Fact → Status → Type 0
 IsKnownStatus known statuses.Failed = HasFailed known
 IsKnownStatus known statuses.Done = HasFailed known → ⊥
 IsKnownStatus known _ = ⊥
 
--- the list is written and the status stands, or a front of it where the stream failed
+-- the list was written, or a front of it if the stream failed
 abbrev pub PutListResult : List ℕ → Status → Device → Device → Result Status Fault → Type 0
 PutListResult text status old new result =
     MatchResult result (λ s. (s ≡ status) × HasGained old new text) (PutFailure old new text)
 
--- What an answer of `join` says of the files at these paths, and of what was written: the list of all of them; a front
--- of it, where the stream failed; nothing, where a file is refused or memory ran out.
+-- the result of `join`: the list was written, a front of it if the stream failed, or nothing if a file is refused
+-- or no memory was found
 abbrev pub JoinResult
     : Mode → (List ℕ → Option (List ℕ)) → List (List ℕ) → Device → Device → Result Status Fault → Type 0
 JoinResult mode octets paths old new (Ok status) = (facts : List Fact) × (text : List ℕ)
@@ -131,7 +130,7 @@ JoinResult mode octets paths old new (Err (Write told)) = (facts : List Fact) ×
 JoinResult mode octets paths old new (Err Memory) = IsUnchanged old new
 JoinResult mode octets paths old new (Err f) = IsRefusedAmong octets paths f × IsUnchanged old new
 
--- what `join` does with the files at these paths: what it writes and tells, and its status
+-- the devices and the status after `join`
 abbrev pub AfterJoin
     : Mode → (List ℕ → Option (List ℕ)) → List (List ℕ) → Device → Device → Device → Device → Status → Type 0
 AfterJoin mode octets paths output printed errors told status = (answer : Result Status Fault)

@@ -1,4 +1,4 @@
--- What `pqf` prints of a text.
+-- What `pqf` prints for a text.
 use Rattle.std.specs.Prelude.{◌≡◌, ◌≤◌, ℕ, List, [], ◌∷◌, ◌++◌, Some, Result, Ok, Err, codes}
 use Rattle.hex.specs.Hex.{encode_lower}
 use Rattle.zber.specs.AsnTags.{context}
@@ -15,29 +15,28 @@ use Rattle.zmeta_commands.specs.declared.fault.Fault.{Fault}
 use Rattle.zmeta_commands.specs.declared.fault.Fault.TheVariants.{Write, Query, Memory}
 use Rattle.zmeta_commands.specs.declared.fault.Status.{Status}
 
--- the element [21] of a SearchRequest around the query's, in hexadecimal
+-- the element [21] of a SearchRequest around the query's element, in hexadecimal
 abbrev pub element_text : Element → List ℕ
 element_text n = encode_lower (canonical (cons (context 21) (n ∷ [])))
 
--- the query of a text, with at most 31 operators above an operand
+-- the text is this query, with at most 31 operators above an operand
 abbrev pub IsQueryOf : List ℕ → RpnQuery → Type 0
 IsQueryOf text q = IsText text q × (height q.root ≤ 32)
 
--- the element stands for the query, and is the one that is made of it
+-- the element encodes the query, and is the one that `zquery::to_node` makes
 abbrev pub IsElementOf : RpnQuery → Element → Type 0
 IsElementOf q n = WritesQuery q n × (query_spelt q ≡ Some n)
 
--- the printed query, and its element
+-- the printed query and its element, on two lines
 unfoldable pub query_lines : RpnQuery → Element → List ℕ
 query_lines q n = query_text q ++ codes "\n" ++ element_text n ++ codes "\n"
 
--- both lines of a query are put, of its own element, or memory was refused
+-- both lines of a query were appended, or no memory was found
 abbrev pub PutBothResult : RpnQuery → List ℕ → List ℕ → Result (Unit {0}) Fault → Type 0
 PutBothResult q old new (Ok _) = (n : Element) × IsElementOf q n × (new ≡ old ++ query_lines q n)
 PutBothResult q old new (Err e) = e ≡ Memory
 
--- what an answer of `pqf` says of the text, and of what was written: each query of a text can be printed, and has an
--- element
+-- both lines of a text's query were appended, or why the text is no query
 abbrev pub PutQueryResult : List ℕ → List ℕ → List ℕ → Result (Unit {0}) Fault → Type 0
 PutQueryResult text old new (Ok _) = (q : RpnQuery) × (n : Element) × IsQueryOf text q × IsElementOf q n
     × (new ≡ old ++ query_lines q n)
@@ -45,11 +44,11 @@ PutQueryResult text old new (Err (Query kind at)) = IsFault text (record { at = 
 PutQueryResult text old new (Err Memory) = Unit {0}
 PutQueryResult text old new (Err _) = ⊥
 
--- the text has a query, and these are its lines
+-- the text is a query, and these are its lines
 abbrev pub AreLinesOf : List ℕ → List ℕ → Type 0
 AreLinesOf text lines = (q : RpnQuery) × (n : Element) × IsQueryOf text q × IsElementOf q n × (lines ≡ query_lines q n)
 
--- what an answer of `pqf` says of the text, and of what was written to a stream
+-- the result of `pqf`, and the stream after it
 abbrev pub PqfResult : List ℕ → Device → Device → Result (Unit {0}) Fault → Type 0
 PqfResult text old new (Ok _) = (lines : List ℕ) × AreLinesOf text lines × HasGained old new lines
 PqfResult text old new (Err (Query kind at)) = IsFault text (record { at = at; kind = kind }) × IsUnchanged old new
@@ -58,7 +57,7 @@ PqfResult text old new (Err (Write path)) =
     (path.now ≡ old.path) × ((lines : List ℕ) × AreLinesOf text lines × HasStopped old new lines)
 PqfResult text old new (Err _) = ⊥
 
--- what `pqf` does: what it writes and tells, and its status
+-- the devices and the status after `pqf`
 abbrev pub AfterPqf : List ℕ → Device → Device → Device → Device → Status → Type 0
 AfterPqf text output printed errors told status =
     (answer : Result (Unit {0}) Fault) × (status ≡ result_status answer) × PqfResult text output printed answer

@@ -1,4 +1,4 @@
--- What `records` writes of saved files, what it tells, and how it ends.
+-- What `records` writes and reports for saved files, and how it ends.
 use Rattle.std.specs.Prelude.{◌≡◌, ◌≢◌, ℕ, Bool, List, [], ◌++◌, Option, Some, None, Result, Ok, Err, codes, nat_lt, if◌then◌else◌}
 use Rattle.std.specs.Fmt.{decimal}
 use Rattle.std.specs.Option.{option_map}
@@ -17,33 +17,34 @@ use Rattle.zmeta_commands.specs.declared.fault.Fault.{Fault}
 use Rattle.zmeta_commands.specs.declared.fault.Fault.TheVariants.{Write, NotOid, Memory}
 use Rattle.zmeta_commands.specs.declared.fault.Status.{Status}
 
--- ---- the syntax that is asked for
+-- ---- the record syntax that is asked for
 
--- the object identifier of the text, where there is one
+-- the object identifier of the text, if there is one
 abbrev pub IsSyntax : Option (List ℕ) → Option (List ℕ) → Type 0
 IsSyntax None None = Unit {0}
 IsSyntax (Some text) (Some oid) = FromDotted text (Ok oid)
 IsSyntax _ _ = ⊥
 
--- the text is that of no object identifier
+-- the text is not an object identifier
 abbrev pub IsNoOid : Option (List ℕ) → List ℕ → Type 0
 IsNoOid None told = ⊥
 IsNoOid (Some text) told = (told ≡ text) × (e : OidError) × (e ≢ oids.Memory) × FromDotted text (Err e)
 
+-- the object identifier of the text, or why it is refused
 abbrev pub SyntaxResult : Option (List ℕ) → Result (Option (List ℕ)) Fault → Type 0
 SyntaxResult text (Ok oid) = IsSyntax text oid
 SyntaxResult text (Err (NotOid told)) = IsNoOid text told.now
 SyntaxResult text (Err Memory) = Unit {0}
 SyntaxResult text (Err _) = ⊥
 
--- ---- what is told
+-- ---- what is reported
 
--- the line of so many of a kind that were left out, where there are any
+-- the line for the things of one kind that were left out, if there are any
 abbrev pub left_line : List ℕ → ℕ → List ℕ
 left_line kind n =
     if nat_lt 0 n then codes "zmeta: " ++ kind ++ codes " left out: " ++ decimal n ++ codes "\n" else []
 
--- the lines of what was left out
+-- the lines for what was left out
 abbrev pub left_text : LeftOut → List ℕ
 left_text left =
     left_line (codes "positions with several records") left.conflicts
@@ -52,15 +53,16 @@ left_text left =
 
 -- ---- the command
 
--- of one syntax, by its text, or of any; and those of positions that have several, or not
+-- the record syntax by its text, or any; and whether all records of a position that has several are written
 pub record Wanted : Type 0 where
   pub syntax : Option (List ℕ)
   pub conflicts : Bool
 
+-- the records that are asked for
 abbrev pub extract : Extract → Wanted
 extract e = record { syntax = option_map (λ text. text.now) e.syntax; conflicts = e.conflicts }
 
--- the octets are written, and the lines are told; or writing failed
+-- the octets were written and the lines reported; or the stream failed
 abbrev pub PutRecordsResult
     : List ℕ → List ℕ → Device → Device → Device → Device → Result (Unit {0}) Fault → Type 0
 PutRecordsResult text lines output printed errors told (Ok u) =
@@ -69,7 +71,7 @@ PutRecordsResult text lines output printed errors told (Err (Write path)) =
     (path.now ≡ output.path) × HasStopped output printed text × (told ≡ errors)
 PutRecordsResult text lines output printed errors told (Err _) = ⊥
 
--- The files at these paths know these facts together, and of these records are taken in a syntax.
+-- the files at these paths have these facts together, and this is the record syntax asked for
 pub record IsExtract
     (octets : List ℕ → Option (List ℕ)) (paths : List (List ℕ)) (e : Wanted) (facts : List Fact)
     (oid : Option (List ℕ))
@@ -78,9 +80,8 @@ pub record IsExtract
   pub joined : AreJoined octets names paths facts
   pub syntax : IsSyntax e.syntax oid
 
--- What an answer of `records` says of the files at these paths, and of what was written and told: the octets of the
--- records of all of them, and what was left out; a front of the octets, where the stream failed; nothing, where a file
--- or the syntax is refused or memory ran out.
+-- The result of `records`: the octets and what was left out, or a front of the octets if the stream failed. Nothing
+-- was written if a file or the record syntax is refused, or no memory was found.
 abbrev pub RecordsResult
     : Wanted → (List ℕ → Option (List ℕ)) → List (List ℕ) → Device → Device → Device → Device
     → Result Status Fault → Type 0
@@ -98,7 +99,7 @@ RecordsResult e octets paths output printed errors told (Err Memory) = IsUnchang
 RecordsResult e octets paths output printed errors told (Err f) =
     IsRefusedAmong octets paths f × IsUnchanged output printed × (told ≡ errors)
 
--- what `records` does with the files at these paths: what it writes and tells, and its status
+-- the devices and the status after `records`
 abbrev pub AfterRecords
     : Wanted → (List ℕ → Option (List ℕ)) → List (List ℕ) → Device → Device → Device → Device → Status → Type 0
 AfterRecords e octets paths output printed errors told status = (answer : Result Status Fault) × (between : Device)

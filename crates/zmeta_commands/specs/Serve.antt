@@ -1,4 +1,4 @@
--- What `serve` does with a world file, what it tells, and how it ends.
+-- What `serve` does with a world file, what it reports, and how it ends.
 use Rattle.std.specs.Prelude.{◌≡◌, ℕ, List, Option, Some, Result, Ok, Err, IfSome}
 use Rattle.zmeta_world.specs.declared.world.World.{World}
 use Rattle.zmeta_world.specs.declared.world.NamedTarget.{NamedTarget}
@@ -10,13 +10,13 @@ use Rattle.zmeta_commands.specs.declared.fault.Fault.{Fault}
 use Rattle.zmeta_commands.specs.declared.fault.Fault.TheVariants.{Read, Line, Serve, Memory}
 use Rattle.zmeta_commands.specs.declared.fault.Status.{Status}
 
--- the file says a world, which has a target of this name
+-- the file has a world with a target of this name
 abbrev pub HasTarget : List ℕ → List ℕ → Type 0
 HasTarget name file =
     (world : World) × (target : NamedTarget) × IsWorld file world × (target_named name world.targets ≡ Some target)
 
--- What an answer of `serve` says of the world file. It cannot serve where the file has no such target, or the network
--- failed.
+-- the result of `serve` for a file: it served the target, or why not; `Serve` if the file has no such target or
+-- the network failed
 abbrev pub ServeResult : List ℕ → List ℕ → Result (Unit {0}) Fault → Type 0
 ServeResult name file (Ok _) = HasTarget name file
 ServeResult name file (Err (Line number)) = IsRefused file number
@@ -25,14 +25,14 @@ ServeResult name file (Err Serve) = (world : World) × IsWorld file world
 ServeResult name file (Err Memory) = Unit {0}
 ServeResult name file (Err _) = ⊥
 
--- what an answer of serving the target of a name says of the world
+-- the result of serving the target of this name in a world
 abbrev pub ServeWorldResult : List ℕ → World → Result (Unit {0}) Fault → Type 0
 ServeWorldResult name world (Ok _) = (target : NamedTarget) × (target_named name world.targets ≡ Some target)
 ServeWorldResult name world (Err Serve) = Unit {0}
 ServeWorldResult name world (Err Memory) = Unit {0}
 ServeWorldResult name world (Err _) = ⊥
 
--- a fault of serving a target of the file at a path
+-- a fault that can end serving a target of the file at a path
 abbrev pub IsOfService : List ℕ → Fault → Type 0
 IsOfService path (Read told) = told.now ≡ path
 IsOfService path (Line number) = Unit {0}
@@ -40,12 +40,12 @@ IsOfService path Serve = Unit {0}
 IsOfService path Memory = Unit {0}
 IsOfService path _ = ⊥
 
--- whether a fault ended it
+-- no fault ended it, or one that can
 abbrev pub IsServiceEnd : List ℕ → Result (Unit {0}) Fault → Type 0
 IsServiceEnd path (Ok _) = Unit {0}
 IsServiceEnd path (Err fault) = IsOfService path fault
 
--- what `serve` does with a target of the world file at a path: what it tells, and its status
+-- the devices and the status after `serve`
 abbrev pub AfterServe : List ℕ → List ℕ → Option (List ℕ) → Device → Device → Status → Type 0
 AfterServe name world file errors told status = (answer : Result (Unit {0}) Fault)
     × (status ≡ result_status answer) × IfSome file (λ octets. ServeResult name octets answer)

@@ -1,4 +1,4 @@
--- What `show` prints of octets, and how it ends.
+-- What `show` prints for octets, and how it ends.
 use Rattle.std.specs.Prelude.{◌≡◌, ℕ, ◌<◌, List, [], ◌++◌, length, Result, Ok, Err, IfSome}
 use Rattle.zber.specs.declared.framer.TheConstants.{MESSAGE_LIMIT}
 use Rattle.zber.specs.declared.fault.FaultKind.{FaultKind}
@@ -18,7 +18,7 @@ use Rattle.zmeta_commands.specs.declared.fault.Fault.{Fault}
 use Rattle.zmeta_commands.specs.declared.fault.Fault.TheVariants.{Read, Write, Hex, Frame, NotApdu, Malformed, Memory}
 use Rattle.zmeta_commands.specs.declared.fault.Status.{Status}
 
--- The octets, the text of the APDUs that they begin with, and how they end: with nothing left, or at a fault.
+-- the text of the APDUs at the front of the octets, and how the octets end: nothing left, or a fault
 pub data ShownText : List ℕ → List ℕ → Result (Unit {0}) Fault → Type 0 where
   nothing_left : ShownText [] [] (Ok tt)
   apdu : {xs rest text : List ℕ} {e : Element} {end : Result (Unit {0}) Fault} (v : Apdu)
@@ -33,21 +33,21 @@ pub data ShownText : List ℕ → List ℕ → Result (Unit {0}) Fault → Type 
       → Begins MESSAGE_LIMIT xs e rest → ((v : Apdu) → Writes v e → ⊥) → IsMalformed kind at e
       → ShownText xs [] (Err (Malformed kind at))
 
--- octets have one text and one end
+-- octets have only one text and one end
 abbrev pub OneShowing : Type 0
 OneShowing = (xs s t : List ℕ) (f g : Result (Unit {0}) Fault) → ShownText xs s f → ShownText xs t g → (s ≡ t) × (f ≡ g)
 
--- the digits' octets are shown
+-- the octets of the digits were shown
 abbrev pub ShowDigitsResult : List ℕ → Device → Device → Result (Unit {0}) Fault → Type 0
 ShowDigitsResult digits old new answer =
     (xs text : List ℕ) × (octets_of digits ≡ Ok xs) × ShownText xs text answer × HasGained old new text
 
--- the digits' octets have a text, and a front of it is written where the stream failed
+-- the stream failed after a front of the text of the digits' octets was written
 abbrev pub HasShownFront : List ℕ → Device → Device → Type 0
 HasShownFront digits old new = (xs text : List ℕ) × (end : Result (Unit {0}) Fault) × (octets_of digits ≡ Ok xs)
     × ShownText xs text end × HasStopped old new text
 
--- what an answer of `show` says of its input, and of what was written
+-- the result of `show`, and the stream after it
 abbrev pub ShowResult : List ℕ → Device → Device → Result (Unit {0}) Fault → Type 0
 ShowResult digits old new (Err Hex) = ((xs : List ℕ) → octets_of digits ≡ Ok xs → ⊥) × IsUnchanged old new
 ShowResult digits old new (Err (Read path)) = IsUnchanged old new
@@ -55,7 +55,7 @@ ShowResult digits old new (Err (Write path)) = HasShownFront digits old new
 ShowResult digits old new (Err Memory) = IsUnchanged old new
 ShowResult digits old new answer = ShowDigitsResult digits old new answer
 
--- what `show` does: of its input from before and after it, of what is written and told, and of its status
+-- the devices and the status after `show`
 abbrev pub AfterShow : Device → Device → Device → Device → Device → Device → Status → Type 0
 AfterShow input rest output printed errors told status = (answer : Result (Unit {0}) Fault)
     × (status ≡ result_status answer) × IfSome input.known (λ digits. ShowResult digits output printed answer)

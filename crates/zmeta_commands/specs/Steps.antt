@@ -1,4 +1,4 @@
--- What the steps of `show` do.
+-- The steps of `show`.
 use Rattle.std.specs.Prelude.{◌≡◌, ◌⊎◌, ℕ, List, [], ◌++◌, Bool, true, false, Result, Ok, Err, MatchResult}
 use Rattle.zber.specs.Elements.{Element}
 use Rattle.zber.specs.Spelling.{Begins}
@@ -13,7 +13,8 @@ use Rattle.zmeta_commands.specs.Devices.{Device, IsUnchanged, HasGained, PutFail
 use Rattle.zmeta_commands.specs.declared.fault.Fault.{Fault}
 use Rattle.zmeta_commands.specs.declared.fault.Fault.TheVariants.{Memory}
 
--- the next message is shown, or there is none yet, or a fault ends the octets; nothing is said where memory ran out
+-- the next message was shown, there is none yet, or a fault ends the octets; nothing is known if no memory was
+-- found
 abbrev pub ShowNextResult : Stream → Stream → List ℕ → List ℕ → Result Bool Fault → Type 0
 ShowNextResult s t old new (Ok true) =
     (e : Element) × (v : Apdu) × Begins MESSAGE_LIMIT s.octets e t.octets × Writes v e
@@ -23,17 +24,17 @@ ShowNextResult s t old new (Ok false) =
 ShowNextResult s t old new (Err Memory) = Unit {0}
 ShowNextResult s t old new (Err f) = ShownText s.octets [] (Err f) × (new ≡ old)
 
--- the octets are shown, and nothing is said where memory ran out
+-- the octets were shown; nothing is known if no memory was found
 abbrev pub ShowOctetsResult : List ℕ → List ℕ → List ℕ → Result (Unit {0}) Fault → Type 0
 ShowOctetsResult xs old new (Err Memory) = Unit {0}
 ShowOctetsResult xs old new answer = (text : List ℕ) × ShownText xs text answer × (new ≡ old ++ text)
 
--- the lines are written and the answer stands, or a front of them where the stream failed
+-- the lines were written and the result is kept; or a front of them if the stream failed
 abbrev pub PutLinesResult : List ℕ → Result (Unit {0}) Fault → Device → Device → Result (Unit {0}) Fault → Type 0
 PutLinesResult lines answer old new result =
     ((result ≡ answer) × HasGained old new lines) ⊎ MatchResult result (λ _. ⊥) (PutFailure old new lines)
 
--- the lines are printed before the answer, and no line where memory ran out
+-- the lines were written before the result, and no line if no memory was found
 abbrev pub PrintLinesResult : List ℕ → Result (Unit {0}) Fault → Device → Device → Result (Unit {0}) Fault → Type 0
 PrintLinesResult lines (Err Memory) old new result = (result ≡ Err Memory) × IsUnchanged old new
 PrintLinesResult lines answer old new result = PutLinesResult lines answer old new result

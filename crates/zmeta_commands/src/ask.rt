@@ -1,4 +1,4 @@
-//! The command `ask`: what hosts answer to the questions of a world file.
+//! The command `ask`: puts the questions of a world file to its hosts.
 
 ghost use Rattle.std.specs.Prelude.{◌≡◌, ◌<◌, ◌^◌, length, IfOk, IfErr, IfSome};
 ghost use Rattle.std.specs.Option.{option_map};
@@ -23,17 +23,17 @@ use std::io::{Read, Write};
 use std::net::Net;
 use std::time::Clock;
 use zknow::Mode;
-use zmeta_world::network::Enquiry;
+use zmeta_world::network::NetworkRun;
 use zoom::{Meta, MetaSettings, Question, Watch, ask, ask_at_once};
 
-/// Puts each question of a world file to its host over TCP, and prints the list of what they answer; tells on standard
-/// error each connection that failed, and saves what is known where that is asked for. Or tells on standard error why
-/// there is no list, or why it was not saved. The hosts are asked one after the other, or at once; and where questions
-/// are picked by their names, the others are left out.
+/// Puts each chosen question of a world file to its host over TCP, and prints the list of the facts. The hosts are
+/// asked at once or one after the other, as `choice` says.
 ///
-/// The status is `Failed` where a search, an association or a connection failed, a host closed a connection, or a
-/// question that was not left out was not asked. While it asks, a line on the screen, where there is one, tells how far
-/// it is.
+/// Writes a line on `errors` for each connection that failed, and saves the facts if a path is given. If there is
+/// no list, or it was not saved, writes the reason on `errors`.
+///
+/// Returns `Failed` if a search, an association or a connection failed, a host closed a connection first, or a
+/// chosen question was not asked. While it asks, it writes its progress on `screen`, if there is one.
 pub fn ask_named<'a, 'o: 'a, S: Folder + Net + Clock, W: Write, E: Write, P: Write + Drop>(
     alloc: Global,
     system: &'a S,
@@ -56,7 +56,7 @@ pub fn ask_named<'a, 'o: 'a, S: Folder + Net + Clock, W: Write, E: Write, P: Wri
     }
 }
 
-/// Asks, prints the list, tells what failed, and saves.
+/// Asks, prints the list, reports the failed connections, and saves.
 fn ask_paths<'a, 'o: 'a, S: Folder + Net + Clock, W: Write, E: Write, P: Write + Drop>(
     alloc: Global,
     system: &'a S,
@@ -99,8 +99,11 @@ fn ask_file<'a, N: Net + Clock, R: Read, P: Write + Drop>(
     ask_network(alloc, net, network, choice, mode, screen)
 }
 
-/// The world of a file, arranged so that its hosts can be asked.
-fn read_network<'a, R: Read>(alloc: Global, file: &mut Input<'a, R>) -> Result<Enquiry, Fault<'a>>
+/// Reads a file, and plans a network run of its world.
+fn read_network<'a, R: Read>(
+    alloc: Global,
+    file: &mut Input<'a, R>,
+) -> Result<NetworkRun, Fault<'a>>
     ensures enquires { IfSome (R.remaining file.old.reader) (λ octets. ReadNetworkResult octets result) }
     ensures fit { IfOk result CanBeAsked }
     ensures path { IfErr result (IsOfWorld file.old.path.now) }
@@ -110,11 +113,11 @@ fn read_network<'a, R: Read>(alloc: Global, file: &mut Input<'a, R>) -> Result<E
     Ok(world.network(alloc, name)?)
 }
 
-/// Asks the hosts of the questions that are chosen, and makes the list of what they answer.
+/// Asks the hosts of the chosen questions, and makes the list.
 fn ask_network<'a, N: Net + Clock, P: Write + Drop>(
     alloc: Global,
     net: &N,
-    network: Enquiry,
+    network: NetworkRun,
     choice: Choice<'a, '_>,
     mode: Mode,
     screen: Option<P>,
@@ -123,7 +126,7 @@ fn ask_network<'a, N: Net + Clock, P: Write + Drop>(
     ensures asked { AskNetworkResult (manner choice.entry) mode network result }
     ensures sound { IfOk result HasNames }
 {
-    let Enquiry {
+    let NetworkRun {
         questions,
         settings,
         addresses,
@@ -143,7 +146,7 @@ fn ask_network<'a, N: Net + Clock, P: Write + Drop>(
     Ok(Finished::new(alloc, meta, names, chosen, mode)?)
 }
 
-/// Asks hosts, and tells meanwhile how far that is.
+/// Asks hosts, and shows the progress meanwhile.
 fn ask_watched<N: Net + Clock, C: Clock, P: Write + Drop>(
     alloc: Global,
     net: &N,
@@ -172,7 +175,7 @@ fn ask_watched<N: Net + Clock, C: Clock, P: Write + Drop>(
     Ok(meta)
 }
 
-/// Asks hosts, one after the other or at once.
+/// Asks hosts at once, or one after the other.
 fn ask_hosts<N: Net + Clock, V: Watch>(
     alloc: Global,
     net: &N,

@@ -1,4 +1,4 @@
-//! Which questions of a world file are asked, and how.
+//! The choice of questions, and how their hosts are asked.
 
 ghost use Rattle.std.specs.Prelude.{◌≡◌, length, Ok, Err, IfOk, MatchResult};
 ghost use Rattle.std.specs.List.{list_any};
@@ -10,37 +10,37 @@ use crate::fault::Fault;
 use bytes::Bytes;
 use std::alloc::{AllocError, Global};
 
-/// How hosts are asked.
+/// Which questions are asked, and how.
 #[derive(Clone, Copy)]
 pub struct Choice<'a, 'w> {
-    /// All at once, and not one after the other.
+    /// Whether all hosts are asked at once. If not, they are asked one after the other.
     pub at_once: bool,
-    /// The names of the questions that are asked: all, where there are none.
+    /// The names of the questions to ask. If there are none, all questions are asked.
     pub only: &'w [&'a str],
 }
 
-/// Whether it is one of the names.
+/// Returns whether the name is among the names.
 fn is_among(names: &[Bytes], name: &[u8]) -> bool
     ensures { result ≡ is_among names.now name.now }
 {
     names.iter().any(|known| known.as_slice() == name)
 }
 
-/// Whether it is one of the texts.
+/// Returns whether the name is among the texts.
 fn is_text(texts: &[&str], name: &[u8]) -> bool
     ensures { result ≡ list_any (λ text. bytes_eq text.now name.now) texts.now }
 {
     texts.iter().any(|text| text.as_bytes() == name)
 }
 
-/// Whether it is one of the names, or there are none.
+/// Returns whether the name is among `only`, or `only` is empty.
 fn is_picked(only: &[&str], name: &[u8]) -> bool
     ensures { result ≡ is_picked (texts_of only.now) name.now }
 {
     only.is_empty() || is_text(only, name)
 }
 
-/// Whether each of the names is one of the questions'.
+/// Checks that each name is that of a question. `NoQuestion` gives the first that is not.
 fn check_names<'a>(only: &[&'a str], names: &[Bytes]) -> Result<(), Fault<'a>>
     ensures { CheckNamesResult (texts_of only.now) names.now result }
 {
@@ -52,7 +52,7 @@ fn check_names<'a>(only: &[&'a str], names: &[Bytes]) -> Result<(), Fault<'a>>
     Ok(())
 }
 
-/// The address, where its question is picked by its name. The octets are shared.
+/// Returns the address if the question's name is chosen, else `None`. It shares the octets.
 fn address_of(only: &[&str], name: &Bytes, address: &Bytes) -> Result<Option<Bytes>, AllocError>
     ensures { IfOk result (λ chosen. chosen ≡ address_if (is_picked (texts_of only.now) name.now) address.now) }
 {
@@ -63,7 +63,7 @@ fn address_of(only: &[&str], name: &Bytes, address: &Bytes) -> Result<Option<Byt
     }
 }
 
-/// The address of each question that is picked by its name, and none for each other.
+/// Returns the address of each chosen question, and `None` for each other question.
 fn pick_addresses(
     alloc: Global,
     only: &[&str],
@@ -80,8 +80,8 @@ fn pick_addresses(
     Ok(chosen)
 }
 
-/// The addresses of the questions that are asked, by the names of all. `NoQuestion` for the first of the names that no
-/// question has.
+/// Returns the address of each chosen question, and `None` for each other question. `NoQuestion` gives the first
+/// name in `only` that no question has.
 pub(crate) fn addresses_of<'a>(
     alloc: Global,
     only: &[&'a str],

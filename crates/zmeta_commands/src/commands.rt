@@ -1,4 +1,4 @@
-//! From the words of the command line to what is done for them.
+//! From the arguments of the command line to the command that they ask for.
 ghost use Rattle.std.specs.Prelude.{◌≡◌, Err, IfErr, IfOk, MatchResult, map, string_bytes};
 ghost use Rattle.zmeta_commands.specs.Devices.{left, output_device};
 ghost use Rattle.zmeta_commands.specs.Arguments.{AfterCall, AfterArguments, AfterUsage, IsWrong};
@@ -25,9 +25,14 @@ use std::net::Net;
 use std::time::Clock;
 use zmeta_args::{Arguments, odd_arguments, parse};
 
-/// Does what the words ask for, the first being the program's name and the second that of the command. Without words
-/// they are not UTF-8, or memory ran out: nothing is read or printed then, and where memory ran out the answer is
-/// `Memory`. While catalogues are asked, the screen, where there is one, is told how far that is.
+/// Runs the command that the arguments ask for: `arguments[0]` is the program's name and `arguments[1]` that of
+/// the command.
+///
+/// `Err` gives the reason that there are no arguments: they are not UTF-8, or no memory was found. Then nothing is
+/// read and nothing is printed on `output`. The result is `Memory` for `ErrorKind::OutOfMemory`, else `Arguments`
+/// or `Memory`.
+///
+/// `ask` writes its progress on `screen`, if there is one.
 pub fn run<'a, S: Folder + Net + Clock, R: Read, W: Write, E: Write, P: Write + Drop>(
     alloc: Global,
     system: &S,
@@ -54,7 +59,7 @@ pub fn run<'a, S: Folder + Net + Clock, R: Read, W: Write, E: Write, P: Write + 
     }
 }
 
-/// Does what words ask for.
+/// Runs the command that the arguments ask for.
 fn run_arguments<'a, S: Folder + Net + Clock, R: Read, W: Write, E: Write, P: Write + Drop>(
     alloc: Global,
     system: &S,
@@ -73,7 +78,7 @@ fn run_arguments<'a, S: Folder + Net + Clock, R: Read, W: Write, E: Write, P: Wr
     answer(alloc, system, asked, input, output, errors, screen)
 }
 
-/// Does what was asked for, or tells why nothing was.
+/// Runs the command that was asked for, or reports why there is none.
 fn answer<'a, S: Folder + Net + Clock, R: Read, W: Write, E: Write, P: Write + Drop>(
     alloc: Global,
     system: &S,
@@ -97,7 +102,7 @@ fn answer<'a, S: Folder + Net + Clock, R: Read, W: Write, E: Write, P: Write + D
     }
 }
 
-/// The status where there are no words: they are not UTF-8, or memory ran out.
+/// Reports why there are no arguments: they are not UTF-8, or no memory was found.
 fn refuse<'a, W: Write, E: Write>(
     alloc: Global,
     kind: ErrorKind,
@@ -117,7 +122,7 @@ fn refuse<'a, W: Write, E: Write>(
     }
 }
 
-/// Does what the words ask for.
+/// Runs a command with its arguments.
 fn call<'a, S: Folder + Net + Clock, R: Read, W: Write, E: Write, P: Write + Drop>(
     alloc: Global,
     system: &S,

@@ -1,11 +1,12 @@
-//! Octets given as hexadecimal text.
+//! Octets written as hexadecimal digits.
 ghost use Rattle.std.specs.Prelude.{◌≡◌, ◌≤◌, ℕ, [], length, IfOk, IfErr, IfSome, IfNone};
 ghost use Rattle.zmeta_commands.specs.Digits.{digits, digit_value, IsOctetOf, HasNoSpaceFirst, HasOctetFirst, HasNoOctets, IsDecoded};
 
 use crate::fault::Fault;
 use std::alloc::Global;
 
-/// The value of each octet as a digit in either case, 16 for ASCII white space and 17 for any other.
+/// The value of each octet as a digit in either case. The value is 16 for ASCII white space, and 17 for any other
+/// octet.
 static VALUES: [u8; 256] = [
     17, 17, 17, 17, 17, 17, 17, 17, 17, 16, 16, 17, 16, 16, 17, 17, 17, 17, 17, 17, 17, 17, 17, 17,
     17, 17, 17, 17, 17, 17, 17, 17, 16, 17, 17, 17, 17, 17, 17, 17, 17, 17, 17, 17, 17, 17, 17, 17,
@@ -27,7 +28,7 @@ fn digit_value(octet: u8) -> u8
     VALUES[octet as usize]
 }
 
-/// The octet of two digits.
+/// Returns the octet that two digits write.
 #[inline]
 fn octet_of(high: u8, low: u8) -> Option<u8>
     ensures some { IfSome result (λ octet. IsOctetOf high low octet) }
@@ -41,7 +42,7 @@ fn octet_of(high: u8, low: u8) -> Option<u8>
     }
 }
 
-/// What is behind the white space at the front.
+/// Returns the text behind the white space at its front.
 fn skip_space(text: &[u8]) -> &[u8]
     ensures same { digits result.now ≡ digits text.now }
     ensures within { length result.now ≤ length text.now }
@@ -57,7 +58,7 @@ fn skip_space(text: &[u8]) -> &[u8]
     rest
 }
 
-/// The first octet and what is behind its digits, or `None` where only white space is left.
+/// Returns the first octet and the text behind its digits, or `None` if only white space is left.
 fn next_apart(text: &[u8]) -> Result<Option<(u8, &[u8])>, Fault<'static>>
     ensures end { IfOk result (λ o. IfNone o (digits text.now ≡ [])) }
     ensures octet { IfOk result (λ o. IfSome o (λ p. HasOctetFirst text.now p.0 p.1.now)) }
@@ -75,7 +76,7 @@ fn next_apart(text: &[u8]) -> Result<Option<(u8, &[u8])>, Fault<'static>>
     }
 }
 
-/// The same; most digits stand side by side.
+/// As `next_apart`, but first tries two digits side by side, as most are.
 #[inline]
 fn next_octet(text: &[u8]) -> Result<Option<(u8, &[u8])>, Fault<'static>>
     ensures end { IfOk result (λ o. IfNone o (digits text.now ≡ [])) }
@@ -90,9 +91,10 @@ fn next_octet(text: &[u8]) -> Result<Option<(u8, &[u8])>, Fault<'static>>
     next_apart(text)
 }
 
-/// The octets whose hexadecimal digits the text has, in either case. ASCII white space (space, tab, line feed, form
-/// feed, carriage return) is ignored wherever it stands. `Hex` where the rest is no even number of digits, else
-/// `Memory`.
+/// Decodes hexadecimal digits in either case. Ignores ASCII white space everywhere: space, tab, line feed, form
+/// feed and carriage return.
+///
+/// `Hex` if the rest of the text is not an even number of digits. `Memory` if no memory is found.
 pub(crate) fn decode(alloc: Global, text: &[u8]) -> Result<Vec<u8>, Fault<'static>>
     ensures { IsDecoded text.now result }
 {

@@ -1,4 +1,4 @@
-//! What is told of connections that failed.
+//! The lines that report failed connections.
 ghost use Rattle.std.specs.Prelude.{◌≡◌, ◌<◌, ◌^◌, ◌++◌, length, OnOk, OnErr, IfOk};
 ghost use Rattle.zmeta_commands.specs.Finished.{failure_line, AreLinesFrom};
 ghost use Rattle.zoom.specs.State.TheVariants as states;
@@ -8,8 +8,8 @@ use std::alloc::{AllocError, Global};
 use zapdu::quote;
 use zoom::{Meta, Reason, State};
 
-/// Appends the line of a connection, where it failed: the name of its target, and why. Where memory runs out nothing is
-/// appended.
+/// Appends the line of a connection if it failed: the name of its target, and the reason. Appends nothing if no
+/// memory is found.
 pub fn put_failure(
     alloc: Global,
     name: &Bytes,
@@ -26,7 +26,7 @@ pub fn put_failure(
     text.extend_from_slice(line.as_slice())
 }
 
-/// The line of a connection that failed.
+/// Returns the line of a failed connection.
 fn line_of(alloc: Global, name: &Bytes, reason: Reason) -> Result<Vec<u8>, AllocError>
     ensures { IfOk result (λ line. line.items ≡ failure_line name.now (states.Failed reason)) }
 {
@@ -39,7 +39,7 @@ fn line_of(alloc: Global, name: &Bytes, reason: Reason) -> Result<Vec<u8>, Alloc
     Ok(line)
 }
 
-/// The lines of the connections that failed, in order, by the names of their targets.
+/// Returns the lines of the failed connections, in order, with the names of their targets.
 pub fn failure_lines(alloc: Global, meta: &Meta, names: &[Bytes]) -> Result<Vec<u8>, AllocError>
     requires few { length meta.now.pool.connections < 2 ^ 32 }
     requires named { length names.now ≡ length meta.now.pool.connections }

@@ -15,23 +15,23 @@ use zmeta_world::world::WorldError;
 use zoom::ServeError;
 use zquery::{BuildError, PqfError, PqfErrorKind, PrintError};
 
-/// How a command ends. Where several hold, `Memory` comes before `Refused`, and that before `Failed`.
+/// How a command ends. If several apply, `Memory` comes before `Refused`, and `Refused` before `Failed`.
 #[derive(Clone, Copy, Debug, PartialEq, Eq)]
 pub enum Status {
-    /// All was done.
+    /// The command did all of its work.
     Done,
-    /// A search, an association or a connection failed, or a question was not asked; the rest was done.
+    /// A search, an association or a connection failed, or a question was not asked. The rest was done.
     Failed,
-    /// The words of the command are wrong.
+    /// The arguments of the command line are wrong.
     Arguments,
-    /// Input was refused, or a file or a stream failed.
+    /// Input was refused, or a file, a stream or a listening socket failed.
     Refused,
-    /// Memory ran out.
+    /// No memory was found.
     Memory,
 }
 
 impl Status {
-    /// The exit status, 0 to 4.
+    /// Returns the exit status, 0 to 4, in the order of the variants.
     pub fn code(self) -> u8
         ensures { result ≡ code_of self }
     {
@@ -48,36 +48,36 @@ impl Status {
 /// Why a command stopped before its end.
 #[derive(Clone, Copy, Debug)]
 pub enum Fault<'a> {
-    /// The file, or for `-` the standard stream, could not be read.
+    /// The file, or the standard stream for `-`, could not be read.
     Read(&'a str),
-    /// The file, or for `-` the standard stream, could not be written.
+    /// The file, or the standard stream for `-`, could not be written.
     Write(&'a str),
-    /// The text is no even number of hexadecimal digits.
+    /// The text is not an even number of hexadecimal digits.
     Hex,
-    /// The octets are no message; the place counts from the message's first octet.
+    /// The octets do not begin with a message. `at` counts octets from the first of the message.
     Frame { kind: FaultKind, at: usize },
-    /// The message is not an APDU that is known.
+    /// The message is not an APDU that the program knows.
     NotApdu,
-    /// The message has an APDU's tag, and is none from this element on.
+    /// The message has the tag of an APDU, but is malformed at this element.
     Malformed { kind: Kind, at: usize },
-    /// The text is no query; the place counts octets from its first.
+    /// The text is not a query. `at` counts octets from the first of the text.
     Query { kind: PqfErrorKind, at: usize },
     /// The query has no text in the prefix notation.
     NotPrintable,
-    /// The element of a saved file with this index is no element, or not one of its place.
+    /// A saved file has no valid element at this index.
     NotKnowledge { at: usize },
-    /// The element of a saved file with this index is not spelled canonically, or out of order.
+    /// A saved file has an element at this index that is not in canonical form, or is out of order.
     NotCanonical { at: usize },
-    /// Two saved files name their targets differently.
+    /// Two saved files have different names for their targets.
     NamesDiffer,
-    /// The line of a world file, from 1, says nothing, or cannot stand where it does, or asks whom the command does
-    /// not.
+    /// The line of a world file, from 1, is refused. It is no valid line, cannot follow the lines before it, or
+    /// asks a target or host that the command does not ask.
     Line(u64),
-    /// There is no question of this name.
+    /// No question has this name.
     NoQuestion(&'a str),
-    /// The text is no object identifier in dotted form.
+    /// The text is not an object identifier in dotted form.
     NotOid(&'a str),
-    /// There is no such target, the address cannot be taken, or no connection can.
+    /// The file has no such target, the program cannot listen at the address, or it cannot take a connection.
     Serve,
     /// No memory was found.
     Memory,
@@ -222,7 +222,7 @@ impl From<ServeError> for Fault<'_> {
 }
 
 impl Fault<'_> {
-    /// The status of a command that the fault stopped.
+    /// Returns the status of a command that this fault stopped.
     fn status(&self) -> Status
         ensures { result ≡ status_of self.now }
     {
@@ -232,8 +232,8 @@ impl Fault<'_> {
         }
     }
 
-    /// Tells the fault in a line after the program's name, and answers its status. A fault that cannot be told keeps
-    /// it.
+    /// Writes the fault as one line on `errors`, and returns its status. The status is the same if the line cannot
+    /// be written.
     pub fn report<E: Write>(&self, errors: &mut Output<'_, E>) -> Status
         ensures status { result ≡ status_of self.now }
         ensures told { AfterTell (output_device E.contents errors.old) (output_device E.contents errors.new) self.now }

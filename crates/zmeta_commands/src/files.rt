@@ -1,4 +1,4 @@
-//! Files by their names. They open when they are first read, so that a file that cannot be opened is one that cannot be
+//! Files by their paths. A file opens at its first read, so a file that cannot be opened is a file that cannot be
 //! read.
 ghost use Rattle.std.specs.Prelude.{◌≡◌, ℕ, List, [], Option, None, IfOk, IfSome};
 ghost use Rattle.zmeta_commands.specs.Files.{opened_left};
@@ -8,20 +8,20 @@ use std::fs::File;
 use std::io;
 use std::io::{ErrorKind, Read, Write};
 
-/// Where files are found by their paths.
+/// The files of a system, by their paths.
 pub trait Folder {
     type File: Read + Drop;
 
     type Made: Write + Drop;
 
-    /// The octets of the file at a path, where they are known.
+    /// The octets of the file at a path, if they are known.
     ghost octets: { Self → List ℕ → Option (List ℕ) } = { λ _ _. None };
 
-    /// Opens the file at a path, at its first octet.
+    /// Opens the file at a path for reading, at its first octet.
     fn open(&self, path: &str) -> io::Result<Self::File>
         ensures { IfOk result (λ file. Self.File.remaining file ≡ octets self.now path.now) };
 
-    /// Makes the file at a path, without an octet.
+    /// Creates an empty file at a path for writing.
     fn create(&self, path: &str) -> io::Result<Self::Made>
         ensures { IfOk result (λ file. IfSome (Self.Made.contents file) (λ octets. octets ≡ [])) };
 }
@@ -71,7 +71,7 @@ impl<F: Folder> Read for NamedFile<'_, F> {
     }
 }
 
-/// The file at a path, as a stream. It is not opened yet.
+/// Returns the file at a path as an `Input`. It is not opened yet.
 pub(crate) fn file_at<'a, F: Folder>(files: &'a F, path: &'a str) -> Input<'a, NamedFile<'a, F>>
     ensures path { result.path ≡ path.entry }
     ensures octets { opened_left F.File.remaining (F.octets result.reader.files.now result.reader.path.now)

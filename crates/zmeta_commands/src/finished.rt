@@ -1,4 +1,4 @@
-//! What is known once all was asked: its list is printed, what failed is told, and it is saved where that is asked for.
+//! The end of a command that asks: prints the list, reports failed connections, and saves the facts.
 
 ghost use Rattle.std.specs.Prelude.{IfOk, IfErr, MatchResult};
 ghost use Rattle.std.specs.Option.{option_map};
@@ -16,30 +16,34 @@ use std::io::Write;
 use zknow::{Mode, Names, SaveError, print_list, save};
 use zoom::Meta;
 
-/// The name that the program asks by.
+/// The program's name as an origin.
 pub(crate) const NAME: &[u8] = b"zmeta";
 
-/// Connections that are finished: what is known then, of whom, and its list.
+/// Finished connections, with their facts and the printed list.
 #[derive(Drop)]
 pub(crate) struct Finished {
+    /// The connections and their facts.
     pub meta: Meta,
+    /// The names of the targets or hosts, one for each connection.
     pub names: Names,
-    /// Of the questions that were put to hosts, at which addresses: none for one that was left out.
+    /// The address of each question to a host, or `None` for a question that was not chosen. Empty if targets in
+    /// memory were asked.
     pub addresses: Vec<Option<Bytes>>,
+    /// The printed list of the facts.
     pub list: Vec<u8>,
 }
 
-/// Where a world file stands, and where what is known is saved, if it is.
+/// The paths of a command that asks.
 #[derive(Clone, Copy)]
 pub struct Paths<'a> {
-    /// The world file.
+    /// The path of the world file.
     pub world: &'a str,
-    /// The file that is written, if one is.
+    /// The path of the saved file, if the facts are to be saved.
     pub saved: Option<&'a str>,
 }
 
 impl Finished {
-    /// Of connections, with the list of what is known.
+    /// Returns finished connections, with the list of their facts.
     pub(crate) fn new(
         alloc: Global,
         meta: Meta,
@@ -60,7 +64,7 @@ impl Finished {
     }
 }
 
-/// Writes the list, and tells which connections failed.
+/// Writes the list, and reports the failed connections.
 fn put_finished<'o, W: Write, E: Write>(
     alloc: Global,
     finished: &Finished,
@@ -73,12 +77,12 @@ fn put_finished<'o, W: Write, E: Write>(
 {
     let lines = failure_lines(alloc, &finished.meta, finished.names.as_slice())?;
     output.put(finished.list.as_slice())?;
-    // What cannot be told is noted of the stream alone.
+    // A failure to write these lines is only recorded in `errors`.
     let _ = errors.put(lines.as_slice());
     Ok(())
 }
 
-/// Saves what is known, where that is asked for.
+/// Saves the facts if a path is given.
 fn save_finished<'a, F: Folder>(
     alloc: Global,
     files: &F,
@@ -97,7 +101,7 @@ fn save_finished<'a, F: Folder>(
     }
 }
 
-/// The saved file of what is known. `Write` of its path where its elements pass their limits.
+/// Returns the octets of the saved file. `Write` with its path if the elements pass their limits.
 fn saved_octets<'a>(alloc: Global, path: &'a str, finished: &Finished) -> Result<Vec<u8>, Fault<'a>>
     ensures { MatchResult result (λ octets. SavedOctetsResult path.entry.now finished.now (Ok octets.items))
         (λ fault. SavedOctetsResult path.entry.now finished.now (Err fault)) }
@@ -115,7 +119,7 @@ fn saved_octets<'a>(alloc: Global, path: &'a str, finished: &Finished) -> Result
     }
 }
 
-/// Prints the list, tells what failed, and saves what is known, where that is asked for.
+/// Prints the list, reports the failed connections, and saves the facts if a path is given.
 pub(crate) fn finish<'a, 'o: 'a, F: Folder, W: Write, E: Write>(
     alloc: Global,
     files: &F,

@@ -1,4 +1,4 @@
-//! Devices that are read to their end.
+//! Streams that are read to their end.
 ghost use Rattle.std.specs.Prelude.{◌≡◌, ◌≤◌, ◌*◌, ◌⊎◌, IfOk, IfSome, IfErr, OnOk, Err, vec_len, true, false};
 ghost use Rattle.std.specs.Io.KnownBytes.{IsAtEnd};
 ghost use Rattle.zmeta_commands.specs.Input.{HasLostFront};
@@ -10,19 +10,19 @@ use std::io::Read;
 /// The most reads of one stream.
 const READS: u32 = 1_000_000;
 
-/// A stream that is read, and whether reading it failed.
+/// A stream that is read, and whether a read of it failed.
 #[derive(Drop)]
 pub struct Input<'a, R> {
-    /// What is told of it: a file's path, `-` for standard input.
+    /// The path in the messages about it: a file's path, or `-` for standard input.
     pub path: &'a str,
-    /// What gives the octets.
+    /// The reader of its octets.
     pub reader: R,
     /// Whether a read failed.
     pub has_failed: bool,
 }
 
 impl<'a, R: Read> Input<'a, R> {
-    /// The stream that a reader gives.
+    /// Returns the stream of a reader. No read of it has failed.
     pub fn new(path: &'a str, reader: R) -> Input<'a, R>
         ensures path { result.path ≡ path.entry }
         ensures reader { result.reader ≡ reader }
@@ -35,10 +35,13 @@ impl<'a, R: Read> Input<'a, R> {
         }
     }
 
-    /// All that the stream has left, read in at most 1,000,000 reads of at most 4,096 octets, the last of which finds
-    /// the end. `Read` of the stream's path where a read fails, or that many find no end; what was read is lost then.
-    /// `Memory` is no failure of the stream, and is not noted as one. Whatever the answer, the stream has an end of
-    /// its octets left.
+    /// Reads all that is left of the stream, in at most 1,000,000 reads of at most 4,096 octets. The last of them
+    /// finds the end.
+    ///
+    /// `Read` with the stream's path if a read fails, or if that many reads find no end. The octets read are lost,
+    /// and `has_failed` is set. `Memory` if no memory is found; `has_failed` is unchanged.
+    ///
+    /// Whatever the result, octets are only taken from the front of the stream.
     pub fn read_all(&mut self, alloc: Global) -> Result<Vec<u8>, Fault<'a>>
         ensures whole { IfOk result (λ v. IfSome (R.remaining self.old.reader) (λ xs. v.items ≡ xs)) }
         ensures end { OnOk result (IsAtEnd (R.remaining self.new.reader)) }
@@ -58,7 +61,7 @@ impl<'a, R: Read> Input<'a, R> {
     }
 }
 
-/// The same of a reader. A read that fails is `Read(path)`, as is one more read.
+/// Reads all that is left of a reader. `Read(path)` if a read fails, or if `READS` reads find no end.
 fn read_pieces<'a, R: Read>(
     alloc: Global,
     reader: &mut R,

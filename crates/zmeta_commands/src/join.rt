@@ -1,4 +1,4 @@
-//! The command `join`: what saved files know together.
+//! The command `join`: the list of the facts of several saved files.
 ghost use Rattle.std.specs.Prelude.{◌≡◌, ◌↔◌, ◌∷◌, IsTrue, IfSome, IfErr, Result};
 ghost use Rattle.zmeta_args.specs.Texts.{texts_of};
 ghost use Rattle.zmeta_commands.specs.Join.{IsKnownStatus, LoadFileResult, LoadNamedResult, LoadAllResult, AbsorbNamedResult, AbsorbAllResult, IsOfFile, PutListResult, JoinResult, AfterJoin};
@@ -14,10 +14,12 @@ use std::alloc::Global;
 use std::io::{Read, Write};
 use zknow::{Knowledge, Mode, Names, load, print_list};
 
-/// Prints the list of what the saved files at these paths know together, or tells on standard error why there is none:
-/// a file is refused, each before the next is opened, or has other names than those before it. Nothing is printed then.
+/// Prints the list of all facts of the saved files at these paths.
 ///
-/// The status is `Failed` where the list has a search or an association that failed.
+/// If a file is refused, or has other names than those before it, writes the reason on `errors` and prints
+/// nothing. Each file is read before the next is opened.
+///
+/// Returns `Failed` if the list has a search or an association that failed.
 pub fn join_named<'a, 'o: 'a, F: Folder, W: Write, E: Write>(
     alloc: Global,
     files: &'a F,
@@ -37,7 +39,7 @@ pub fn join_named<'a, 'o: 'a, F: Folder, W: Write, E: Write>(
     }
 }
 
-/// Prints the list, and answers the status.
+/// Prints the list, and returns the status.
 fn join_files<'a, 'o: 'a, F: Folder, W: Write>(
     alloc: Global,
     files: &'a F,
@@ -58,7 +60,7 @@ fn join_files<'a, 'o: 'a, F: Folder, W: Write>(
     put_list(output, text.as_slice(), status)
 }
 
-/// Writes the list, and answers the status.
+/// Writes the list, and returns the status.
 fn put_list<'o, W: Write>(
     output: &mut Output<'o, W>,
     text: &[u8],
@@ -73,7 +75,7 @@ fn put_list<'o, W: Write>(
     }
 }
 
-/// The status of a command that knows this.
+/// Returns the status for these facts: `Failed` if a search or an association failed, else `Done`.
 pub(crate) fn known_status(knowledge: &Knowledge) -> Status
     ensures { IsKnownStatus knowledge.now result }
 {
@@ -84,7 +86,7 @@ pub(crate) fn known_status(knowledge: &Knowledge) -> Status
     }
 }
 
-/// What the files at all paths say together.
+/// Returns the facts of all files at these paths.
 pub(crate) fn load_all<'a, F: Folder>(
     alloc: Global,
     files: &'a F,
@@ -98,7 +100,7 @@ pub(crate) fn load_all<'a, F: Folder>(
     Ok((knowledge, names))
 }
 
-/// Adds what the files at these paths say, which are to have these names.
+/// Adds the facts of the files at these paths, each of which must have these names.
 fn absorb_all<'a, F: Folder>(
     alloc: Global,
     files: &'a F,
@@ -115,7 +117,7 @@ fn absorb_all<'a, F: Folder>(
     Ok(())
 }
 
-/// Adds what the file at a path says, which is to have these names.
+/// Adds the facts of the file at a path, which must have these names.
 fn absorb_named<'a, F: Folder>(
     alloc: Global,
     files: &'a F,
@@ -137,7 +139,7 @@ fn absorb_named<'a, F: Folder>(
     Ok(())
 }
 
-/// What the file at a path says.
+/// Returns the facts and names of the file at a path.
 fn load_named<'a, F: Folder>(
     alloc: Global,
     files: &'a F,
@@ -149,7 +151,7 @@ fn load_named<'a, F: Folder>(
     load_file(alloc, &mut file)
 }
 
-/// What one file says.
+/// Returns the facts and names of one file.
 fn load_file<'a, R: Read>(
     alloc: Global,
     file: &mut Input<'a, R>,

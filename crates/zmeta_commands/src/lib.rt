@@ -1,4 +1,4 @@
-//! The commands over readers, writers and folders: what they read, print, tell and answer.
+//! The program's commands over any readers, writers, folders and networks.
 #![tactic(auto)]
 
 pub mod ask;

@@ -1,4 +1,4 @@
-//! The command `loop`: what targets in memory answer over TCP on 127.0.0.1 to the questions of a world file.
+//! The command `loop`: as `run`, but over TCP on 127.0.0.1.
 
 ghost use Rattle.std.specs.Prelude.{IfOk, IfErr, IfSome};
 ghost use Rattle.std.specs.Option.{option_map};
@@ -19,11 +19,11 @@ use std::alloc::Global;
 use std::io::{Read, Write};
 use std::net::Net;
 use zknow::Mode;
-use zmeta_world::in_memory::Arrangement;
+use zmeta_world::in_memory::InMemoryRun;
 use zoom::run_loopback;
 
-/// As `run_named`, with both ends of each connection in this process and the octets going over TCP on 127.0.0.1. The
-/// moves of the file are not made.
+/// As `run_named`, but each connection goes over TCP on 127.0.0.1, with both of its ends in this process. The
+/// moves of the file are ignored.
 pub fn loop_named<'a, 'o: 'a, S: Folder + Net, W: Write, E: Write>(
     alloc: Global,
     system: &'a S,
@@ -43,7 +43,7 @@ pub fn loop_named<'a, 'o: 'a, S: Folder + Net, W: Write, E: Write>(
     }
 }
 
-/// Runs the world, prints the list, tells what failed, and saves.
+/// Runs the world, prints the list, reports the failed connections, and saves.
 fn loop_paths<'a, 'o: 'a, S: Folder + Net, W: Write, E: Write>(
     alloc: Global,
     system: &'a S,
@@ -81,11 +81,11 @@ fn loop_file<'a, N: Net, R: Read>(
     loop_in_memory(alloc, net, run, mode)
 }
 
-/// Runs a world, and makes its list.
+/// Runs a planned world, and makes its list.
 fn loop_in_memory<'a, N: Net>(
     alloc: Global,
     net: &N,
-    run: Arrangement,
+    run: InMemoryRun,
     mode: Mode,
 ) -> Result<Finished, Fault<'a>>
     requires { CanBeRun run }
@@ -93,7 +93,7 @@ fn loop_in_memory<'a, N: Net>(
     ensures sound { IfOk result HasNames }
     ensures network { IfErr result IsOfNetwork }
 {
-    let Arrangement {
+    let InMemoryRun {
         questions,
         settings,
         targets,

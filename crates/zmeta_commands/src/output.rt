@@ -1,4 +1,4 @@
-//! Devices that are written.
+//! Streams that are written.
 ghost use Rattle.std.specs.Prelude.{◌≡◌, ◌≤◌, OnOk, IfSome, IfErr, true, false, length};
 ghost use Rattle.std.specs.Io.KnownBytes.{Appends};
 ghost use Rattle.zmeta_commands.specs.Devices.{output_device, WritePiecesResult, PutResult, AfterTell};
@@ -8,19 +8,19 @@ use crate::fault::Fault;
 use std::fmt::Display;
 use std::io::{ErrorKind, Write};
 
-/// A stream that is written, and whether writing it failed.
+/// A stream that is written, and whether a write of it failed.
 #[derive(Drop)]
 pub struct Output<'a, W> {
-    /// What is told of it: a file's path, `-` for a standard stream.
+    /// The path in the messages about it: a file's path, or `-` for a standard stream.
     pub path: &'a str,
-    /// What takes the octets.
+    /// The writer of its octets.
     pub writer: W,
     /// Whether a write failed.
     pub has_failed: bool,
 }
 
 impl<'a, W: Write> Output<'a, W> {
-    /// The stream of a writer.
+    /// Returns the stream of a writer. No write of it has failed.
     pub fn new(path: &'a str, writer: W) -> Output<'a, W>
         ensures path { result.path ≡ path.entry }
         ensures writer { result.writer ≡ writer }
@@ -33,7 +33,8 @@ impl<'a, W: Write> Output<'a, W> {
         }
     }
 
-    /// Writes the whole text, or where the stream fails a front of it: then `Write` of the stream's path.
+    /// Writes the whole text. `Write` with the stream's path if the stream fails: a front of the text is then
+    /// written, and `has_failed` is set.
     pub fn put(&mut self, text: &[u8]) -> Result<(), Fault<'a>>
         ensures { PutResult (output_device W.contents self.old) (output_device W.contents self.new) text.now result }
     {
@@ -44,7 +45,7 @@ impl<'a, W: Write> Output<'a, W> {
         Err(Fault::Write(self.path))
     }
 
-    /// Writes the line that tells of a fault; a failure is noted alone.
+    /// Writes the line that reports a fault. A failure only sets `has_failed`.
     pub fn tell(&mut self, fault: &Fault<'_>)
         ensures { AfterTell (output_device W.contents self.old) (output_device W.contents self.new) fault.now }
     {
@@ -53,7 +54,8 @@ impl<'a, W: Write> Output<'a, W> {
         }
     }
 
-    /// Writes what a value is shown as. Where the stream fails `Write` of its path.
+    /// Writes a value in its displayed form. `Write` with the stream's path if the stream fails; `has_failed` is
+    /// then set.
     pub fn show<D: Display>(&mut self, value: &D) -> Result<(), Fault<'a>>
         ensures path { self.new.path ≡ self.old.path }
         ensures written { OnOk result (IfSome (D.output value.now)
@@ -69,7 +71,7 @@ impl<'a, W: Write> Output<'a, W> {
     }
 }
 
-/// Writes a text in pieces; whether all of it was taken. What was taken is its front.
+/// Writes a text in pieces, and returns whether the writer took all of it. If not, it took a front.
 #[tactic(auto, using(crate::proofs::DeviceSteps::put_front, crate::proofs::DeviceSteps::stopped_front, crate::proofs::DeviceSteps::none_put))]
 fn write_pieces<W: Write>(writer: &mut W, text: &[u8]) -> bool
     ensures { WritePiecesResult (W.contents writer.old) (W.contents writer.new) text.now result }
@@ -87,7 +89,7 @@ fn write_pieces<W: Write>(writer: &mut W, text: &[u8]) -> bool
     false
 }
 
-/// Writes a front of the text, and answers its length: none where the call was interrupted. `None` where it failed.
+/// Writes a front of the text, and returns its length: 0 if the call was interrupted, `None` if it failed.
 #[tactic(auto, using(crate::proofs::DeviceSteps::nothing_put))]
 fn write_piece<W: Write>(writer: &mut W, text: &[u8]) -> Option<usize>
     ensures bound { IfSome result (λ count. count ≤ length text.now) }

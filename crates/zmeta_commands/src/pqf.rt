@@ -1,4 +1,4 @@
-//! The command `pqf`: a query in the prefix notation, as it is understood and as it goes out.
+//! The command `pqf`: a query in the prefix notation, printed with its encoding.
 ghost use Rattle.std.specs.Prelude.{◌≡◌, ℕ, List, ◌++◌, Some, OnOk, IfOk, IfErr};
 ghost use Rattle.zber.specs.Elements.{Element};
 ghost use Rattle.zquery.specs.Notation.Printing.{query_text};
@@ -16,8 +16,10 @@ use zber::{Node, Tag};
 use zquery::laws::{text_printable, text_spellable};
 use zquery::{BuildError, PrintError, Query, parse_pqf, print_pqf, to_node};
 
-/// Prints the query of a text in the prefix notation, and in hexadecimal the element `[21]` that a SearchRequest holds
-/// it in, as `zquery::to_node` makes it; or tells on standard error why the text is no query. Nothing is printed then.
+/// Prints two lines for the query of a text in the prefix notation: the query, and its encoding in hexadecimal.
+/// The encoding is the element `[21]` of a SearchRequest, around the element that `zquery::to_node` makes.
+///
+/// If the text is not a query, prints nothing and writes the reason on `errors`.
 pub fn pqf<W: Write, E: Write>(
     alloc: Global,
     text: &str,
@@ -48,7 +50,7 @@ fn pqf_text<'a, W: Write>(
     }
 }
 
-/// Appends both lines of a text.
+/// Appends both lines for a text.
 fn put_query(alloc: Global, text: &[u8], lines: &mut Vec<u8>) -> Result<(), Fault<'static>>
     ensures { PutQueryResult text.now lines.old.items lines.new.items result }
 {
@@ -58,7 +60,7 @@ fn put_query(alloc: Global, text: &[u8], lines: &mut Vec<u8>) -> Result<(), Faul
     put
 }
 
-/// Appends both lines of a query that a text stands for.
+/// Appends both lines for a query that was read from a text.
 #[tactic(auto, unfolding(crate::specs::Pqf::query_lines))]
 fn put_both(alloc: Global, query: &Query, lines: &mut Vec<u8>) -> Result<(), Fault<'static>>
     requires { (text : List ℕ) × IsQueryOf text query.now }
@@ -72,7 +74,7 @@ fn put_both(alloc: Global, query: &Query, lines: &mut Vec<u8>) -> Result<(), Fau
     Ok(())
 }
 
-/// Appends a query that a text stands for, so that it can be printed.
+/// Appends the printed query. A query that was read from a text can always be printed.
 fn put_text(alloc: Global, query: &Query, lines: &mut Vec<u8>) -> Result<(), PrintError>
     requires { (text : List ℕ) × IsQueryOf text query.now }
     ensures ok { OnOk result (lines.new.items ≡ lines.old.items ++ query_text query.now) }
@@ -82,7 +84,7 @@ fn put_text(alloc: Global, query: &Query, lines: &mut Vec<u8>) -> Result<(), Pri
     print_pqf(alloc, query, lines)
 }
 
-/// The element of a query that a text stands for, so that there is one.
+/// Returns the element of a query. A query that was read from a text always has one.
 fn node_of(alloc: Global, query: &Query) -> Result<Node, BuildError>
     requires { (text : List ℕ) × IsQueryOf text query.now }
     ensures written { IfOk result (WritesQuery query.now) }
@@ -93,7 +95,7 @@ fn node_of(alloc: Global, query: &Query) -> Result<Node, BuildError>
     to_node(alloc, query)
 }
 
-/// Appends the element `[21]` around an element.
+/// Appends the element `[21]` around an element, in hexadecimal.
 fn put_element(alloc: Global, node: Node, lines: &mut Vec<u8>) -> Result<(), AllocError>
     ensures { OnOk result (lines.new.items ≡ lines.old.items ++ element_text node) }
 {

@@ -1,4 +1,4 @@
-//! How far asking is, told on a terminal while it goes on.
+//! The progress of asking, shown on a terminal.
 ghost use Rattle.std.specs.Prelude.{◌<◌, ◌^◌, length};
 
 use crate::trouble::is_asked;
@@ -9,13 +9,13 @@ use std::time::{Clock, Duration, Instant};
 use zapdu::quote;
 use zoom::{Meta, State, Watch};
 
-/// How long a line stands at least, in milliseconds.
+/// The least time between two lines, in milliseconds.
 const PAUSE: u64 = 200;
 
-/// What wipes a line of a terminal.
+/// The codes that clear a line of a terminal.
 const WIPE: &[u8] = b"\r\x1b[K";
 
-/// A line on a terminal, where there is one, that tells how many catalogues are done, how many records have come, and
+/// A progress line on a terminal, if there is one: how many catalogues are done, how many records have come, and
 /// which catalogue is waited for.
 #[derive(Drop)]
 pub(crate) struct Progress<'a, C, P> {
@@ -27,7 +27,7 @@ pub(crate) struct Progress<'a, C, P> {
     shown: Option<Instant>,
 }
 
-/// How many catalogues are asked, how many of them are done, and which is the first that is not.
+/// How many catalogues are asked and how many of them are done, and the first that is not done.
 #[derive(Clone, Copy)]
 struct Standing {
     all: usize,
@@ -35,7 +35,7 @@ struct Standing {
     waits: Option<usize>,
 }
 
-/// Whether a connection is Closed or Failed.
+/// Returns whether a connection is closed or failed.
 fn is_over(state: State) -> bool {
     matches!(state, State::Closed | State::Failed(_))
 }
@@ -52,7 +52,7 @@ impl Standing {
     }
 }
 
-/// How the connections stand that have addresses.
+/// Counts the catalogues whose questions are chosen.
 fn standing_of(meta: &Meta, addresses: &[Option<Bytes>]) -> Standing
     requires { length meta.now.pool.connections < 2 ^ 32 }
 {
@@ -70,7 +70,7 @@ fn standing_of(meta: &Meta, addresses: &[Option<Bytes>]) -> Standing
 }
 
 impl<'a, C: Clock, P: Write + Drop> Progress<'a, C, P> {
-    /// Nothing is told yet.
+    /// Returns a progress line that shows nothing yet.
     pub(crate) fn new(
         alloc: Global,
         clock: &'a C,
@@ -88,7 +88,7 @@ impl<'a, C: Clock, P: Write + Drop> Progress<'a, C, P> {
         }
     }
 
-    /// Whether a new line is due.
+    /// Returns whether a new line is due.
     fn is_due(&mut self) -> bool {
         if self.screen.is_none() {
             return false;
@@ -105,7 +105,7 @@ impl<'a, C: Clock, P: Write + Drop> Progress<'a, C, P> {
         true
     }
 
-    /// The line for connections that stand so.
+    /// Returns the text of the line.
     fn line(&self, meta: &Meta, standing: Standing) -> Result<Vec<u8>, AllocError> {
         let records = meta.knowledge().rows()?.len();
         let mut text = Vec::new(self.alloc);
@@ -125,7 +125,7 @@ impl<'a, C: Clock, P: Write + Drop> Progress<'a, C, P> {
         Ok(text)
     }
 
-    /// Writes on the terminal. What it does not take is nowhere missed.
+    /// Writes on the terminal, and ignores a failure.
     fn put(&mut self, text: &[u8]) {
         if let Some(screen) = &mut self.screen {
             let _ = screen.write_all(text);
@@ -133,7 +133,7 @@ impl<'a, C: Clock, P: Write + Drop> Progress<'a, C, P> {
         }
     }
 
-    /// Wipes the line, where there is one.
+    /// Clears the line if one is shown.
     pub(crate) fn wipe(&mut self) {
         if self.shown.is_some() {
             self.put(WIPE);

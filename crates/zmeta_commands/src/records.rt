@@ -1,4 +1,4 @@
-//! The command `records`: the octets of the records that saved files know.
+//! The command `records`: the octets of the records of saved files.
 
 ghost use Rattle.std.specs.Prelude.{◌≡◌, ◌++◌, ◌∷◌, IfOk, OnOk, Ok, Err};
 ghost use Rattle.std.specs.Option.{option_map};
@@ -20,13 +20,14 @@ use zknow_records::{LeftOut, write_records};
 /// Which records are written.
 #[derive(Clone, Copy)]
 pub struct Extract<'a> {
-    /// The object identifier of their syntax, in dotted form; any, where there is none.
+    /// Their record syntax, as an object identifier in dotted form. If there is none, records of any syntax are
+    /// written.
     pub syntax: Option<&'a str>,
-    /// Whether all records of a position that has several are written, and not none of them.
+    /// Whether all records of a position that has several are written. If not, none of them is.
     pub conflicts: bool,
 }
 
-/// Saved files: the first, and the others.
+/// The paths of saved files.
 #[derive(Clone, Copy)]
 pub struct SavedFiles<'a, 'w> {
     /// The path of the first.
@@ -35,10 +36,13 @@ pub struct SavedFiles<'a, 'w> {
     pub others: &'w [&'a str],
 }
 
-/// Writes the octets of the records that saved files know together, one after the other in the order of the list, and
-/// tells on standard error how many were left out. Or tells why a file is refused, or that the syntax is none.
+/// Writes the octets of the records of saved files, one after the other in the order of the list. Writes on
+/// `errors` how many records were left out.
 ///
-/// The status is that of `join_named`: `Failed` where a search or an association failed.
+/// If a file is refused, or the syntax is not an object identifier, writes the reason on `errors` and nothing
+/// else.
+///
+/// Returns `Failed` if a search or an association of the files failed.
 pub fn records_named<'a, 'o: 'a, F: Folder, W: Write, E: Write>(
     alloc: Global,
     files: &'a F,
@@ -58,7 +62,7 @@ pub fn records_named<'a, 'o: 'a, F: Folder, W: Write, E: Write>(
     }
 }
 
-/// Writes the records, tells what was left out, and answers the status.
+/// Writes the records, reports what was left out, and returns the status.
 fn records_files<'a, 'o: 'a, F: Folder, W: Write, E: Write>(
     alloc: Global,
     files: &'a F,
@@ -83,7 +87,7 @@ fn records_files<'a, 'o: 'a, F: Folder, W: Write, E: Write>(
     Ok(status)
 }
 
-/// The octets of the records, and what was left out.
+/// Returns the octets of the records, and the counts of what was left out.
 fn take_records(
     alloc: Global,
     knowledge: &Knowledge,
@@ -98,7 +102,7 @@ fn take_records(
     Ok((octets, left))
 }
 
-/// The object identifier of a text, where there is a text.
+/// Returns the object identifier of a text, or `None` if there is no text.
 fn syntax_of<'a>(alloc: Global, text: Option<&'a str>) -> Result<Option<Oid>, Fault<'a>>
     ensures { SyntaxResult (option_map (λ text. text.now) text.entry) result }
 {
@@ -112,7 +116,7 @@ fn syntax_of<'a>(alloc: Global, text: Option<&'a str>) -> Result<Option<Oid>, Fa
     }
 }
 
-/// Appends the line of so many of a kind that were left out, where there are any.
+/// Appends the line for the things of one kind that were left out, if there are any.
 fn put_left(alloc: Global, kind: &str, count: u64, text: &mut Vec<u8>) -> Result<(), AllocError>
     ensures { OnOk result (text.new.items ≡ text.old.items ++ left_line kind.now count) }
 {
@@ -127,7 +131,7 @@ fn put_left(alloc: Global, kind: &str, count: u64, text: &mut Vec<u8>) -> Result
     text.extend_from_slice(b"\n")
 }
 
-/// The lines of what was left out.
+/// Returns the lines for what was left out.
 fn left_lines(alloc: Global, left: &LeftOut) -> Result<Vec<u8>, AllocError>
     ensures { IfOk result (λ text. text.items ≡ left_text left.now) }
 {
@@ -143,7 +147,7 @@ fn left_lines(alloc: Global, left: &LeftOut) -> Result<Vec<u8>, AllocError>
     Ok(text)
 }
 
-/// Writes the octets, and tells the lines.
+/// Writes the octets, and the lines on `errors`.
 fn put_records<'o, W: Write, E: Write>(
     octets: &[u8],
     lines: &[u8],
@@ -155,7 +159,7 @@ fn put_records<'o, W: Write, E: Write>(
         (output_device E.contents errors.old) (output_device E.contents errors.new) result }
 {
     output.put(octets)?;
-    // What cannot be told is noted of the stream alone.
+    // A failure to write these lines is only recorded in `errors`.
     let _ = errors.put(lines);
     Ok(())
 }

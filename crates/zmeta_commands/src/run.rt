@@ -1,4 +1,4 @@
-//! The command `run`: what targets in memory answer to the questions of a world file.
+//! The command `run`: puts the questions of a world file to its targets in memory.
 
 ghost use Rattle.std.specs.Prelude.{IfOk, IfErr, IfSome};
 ghost use Rattle.std.specs.Option.{option_map};
@@ -17,14 +17,15 @@ use bytes::Bytes;
 use std::alloc::{AllocError, Global};
 use std::io::{Read, Write};
 use zknow::Mode;
-use zmeta_world::in_memory::Arrangement;
+use zmeta_world::in_memory::InMemoryRun;
 use zoom::run_world;
 
-/// Prints the list of what the targets of a world file answer, tells on standard error each connection that failed, and
-/// saves what is known where that is asked for. Or tells on standard error why there is no list, or why it was not
-/// saved.
+/// Puts the questions of a world file to its targets in memory, and prints the list of the facts.
 ///
-/// The status is `Failed` where a search, an association or a connection failed, a target closed a connection, or a
+/// Writes a line on `errors` for each connection that failed, and saves the facts if a path is given. If there is
+/// no list, or it was not saved, writes the reason on `errors`.
+///
+/// Returns `Failed` if a search, an association or a connection failed, a target closed a connection first, or a
 /// question was not asked.
 pub fn run_named<'a, 'o: 'a, F: Folder, W: Write, E: Write>(
     alloc: Global,
@@ -45,7 +46,7 @@ pub fn run_named<'a, 'o: 'a, F: Folder, W: Write, E: Write>(
     }
 }
 
-/// Runs the world, prints the list, tells what failed, and saves.
+/// Runs the world, prints the list, reports the failed connections, and saves.
 fn run_paths<'a, 'o: 'a, F: Folder, W: Write, E: Write>(
     alloc: Global,
     files: &'a F,
@@ -82,11 +83,11 @@ fn run_file<'a, R: Read>(
     Ok(run_in_memory(alloc, run, mode)?)
 }
 
-/// The world of a file, arranged to be run.
+/// Reads a file, and plans an in-memory run of its world.
 pub(crate) fn read_in_memory<'a, R: Read>(
     alloc: Global,
     file: &mut Input<'a, R>,
-) -> Result<Arrangement, Fault<'a>>
+) -> Result<InMemoryRun, Fault<'a>>
     ensures in_memory_run { IfSome (R.remaining file.old.reader) (λ octets. ReadInMemoryResult octets result) }
     ensures fit { IfOk result CanBeRun }
     ensures path { IfErr result (IsOfWorld file.old.path.now) }
@@ -96,13 +97,13 @@ pub(crate) fn read_in_memory<'a, R: Read>(
     Ok(world.in_memory(alloc, name)?)
 }
 
-/// Runs a world, and makes its list.
-fn run_in_memory(alloc: Global, run: Arrangement, mode: Mode) -> Result<Finished, AllocError>
+/// Runs a planned world, and makes its list.
+fn run_in_memory(alloc: Global, run: InMemoryRun, mode: Mode) -> Result<Finished, AllocError>
     requires { CanBeRun run }
     ensures run { IfOk result (IsCompleteListedRun mode run) }
     ensures sound { IfOk result HasNames }
 {
-    let Arrangement {
+    let InMemoryRun {
         questions,
         settings,
         targets,

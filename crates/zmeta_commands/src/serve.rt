@@ -16,22 +16,23 @@ use std::time::Clock;
 use zmeta_world::world::World;
 use zoom::serve;
 
-/// Which target of which world file is served, at which address, and how many connections are taken.
+/// Which target is served, where, and for how many connections.
 #[derive(Clone, Copy)]
 pub struct Service<'a> {
-    /// `host:port`.
+    /// The address to listen at, as `host:port`.
     pub address: &'a str,
-    /// The target's name.
+    /// The name of the target.
     pub name: &'a str,
-    /// The world file.
+    /// The path of the world file.
     pub world: &'a str,
     /// How many connections are taken, up to 1,000,000.
     pub count: u32,
 }
 
-/// Lets a target of a world file answer so many connections at an address, one after the other, each with a target that
-/// has received nothing yet. A connection that fails costs itself alone. Or tells on standard error why it was not
-/// served.
+/// Serves a target of a world file at an address, for `count` connections one after the other. Each connection
+/// gets a new target. If a connection fails, the next is still served.
+///
+/// If the target was not served, writes the reason on `errors`.
 pub fn serve_named<'a, S: Folder + Net + Clock, E: Write>(
     alloc: Global,
     system: &'a S,

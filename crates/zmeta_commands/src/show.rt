@@ -1,4 +1,4 @@
-//! The command `show`: what the messages say that octets begin with.
+//! The command `show`: the text of the messages in a stream of hexadecimal digits.
 ghost use Rattle.std.specs.Prelude.{◌≡◌, None, IfSome};
 ghost use Rattle.zmeta_commands.specs.Show.{ShowResult, AfterShow, OneShowing};
 ghost use Rattle.zber.specs.declared.framer.TheConstants.{MESSAGE_LIMIT};
@@ -17,8 +17,10 @@ use zapdu_lines::print_apdu;
 use zber::laws::one_answer;
 use zber::{Framer, MESSAGE_LIMIT};
 
-/// Prints each APDU of the octets whose hexadecimal digits the input has, and tells on standard error why it stopped
-/// before their end. What was printed before a fault stands; where memory runs out, nothing is printed.
+/// Prints the APDUs of the octets whose hexadecimal digits the input has. If it stops before the end of the
+/// octets, it writes the fault on `errors`.
+///
+/// The text before a fault is printed. If no memory is found, nothing is printed.
 pub fn show<'a, R: Read, W: Write, E: Write>(
     alloc: Global,
     input: &mut Input<'a, R>,
@@ -35,7 +37,7 @@ pub fn show<'a, R: Read, W: Write, E: Write>(
     }
 }
 
-/// Octets have one text and one end.
+/// Octets have only one text and one end.
 pub fn one_showing()
     ensures { OneShowing }
 {
@@ -61,7 +63,7 @@ fn show_text<'a, R: Read, W: Write>(
     print_lines(output, lines.as_slice(), answer)
 }
 
-/// Writes the lines that come before an answer, but none where memory ran out.
+/// Writes the lines before a result, but nothing if the result is `Memory`.
 fn print_lines<'a, W: Write>(
     output: &mut Output<'a, W>,
     lines: &[u8],
@@ -79,7 +81,7 @@ fn print_lines<'a, W: Write>(
     }
 }
 
-/// Appends the lines of each message in turn, up to the fault that ends them.
+/// Appends the lines of each message, up to the end of the octets or the first fault.
 fn show_octets(alloc: Global, octets: &[u8], text: &mut Vec<u8>) -> Result<(), Fault<'static>>
     ensures { ShowOctetsResult octets.now text.old.items text.new.items result }
 {
@@ -90,7 +92,8 @@ fn show_octets(alloc: Global, octets: &[u8], text: &mut Vec<u8>) -> Result<(), F
     Ok(())
 }
 
-/// Appends the lines of the next message. `false` where no message is whole and no fault is shown.
+/// Appends the lines of the next message. Returns `false` if the octets left are no whole message and show no
+/// fault.
 fn show_next(alloc: Global, framer: &mut Framer, text: &mut Vec<u8>) -> Result<bool, Fault<'static>>
     requires limited { framer.old.stream.limit ≡ MESSAGE_LIMIT }
     requires sound { framer.old.stream.fault ≡ None }

@@ -1,4 +1,4 @@
-//! Whether all that was to be asked was asked and answered.
+//! Whether all chosen questions were asked and answered.
 ghost use Rattle.std.specs.Prelude.{◌≡◌, ◌<◌, ◌^◌, not, ◌||◌, length};
 ghost use Rattle.zoom.specs.Metas.{IsTranscriptValue};
 ghost use Rattle.zmeta_commands.specs.Finished.{is_failed, is_troubled, is_asked, IsTroubledAt, HasTrouble, IsStatusOf, IsFinishedStatus};
@@ -21,7 +21,7 @@ fn is_any(failed: bool, complete: bool, skipped: bool) -> bool
     failed || !complete || skipped
 }
 
-/// Whether a connection failed, its target closed it first, or its question was not asked.
+/// Returns whether a connection failed, its target closed it first, or its question was not asked.
 fn is_troubled(meta: &Meta, c: u32) -> bool
     requires { c < length meta.now.pool.connections }
     ensures { IsTranscriptValue c meta.now is_troubled result }
@@ -34,7 +34,7 @@ fn is_troubled(meta: &Meta, c: u32) -> bool
     is_any(failed, complete, skipped)
 }
 
-/// Whether a question was to be asked: it was not left out of those at addresses.
+/// Returns whether a question is chosen: `addresses` does not have `None` at its index.
 pub(crate) fn is_asked(addresses: &[Option<Bytes>], c: u32) -> bool
     ensures { result ≡ is_asked addresses.now c }
 {
@@ -44,7 +44,7 @@ pub(crate) fn is_asked(addresses: &[Option<Bytes>], c: u32) -> bool
     }
 }
 
-/// Whether a question was to be asked, and its connection has trouble.
+/// Returns whether a question is chosen and its connection has trouble.
 fn is_troubled_at(meta: &Meta, addresses: &[Option<Bytes>], c: u32) -> bool
     requires { c < length meta.now.pool.connections }
     ensures { IsTroubledAt addresses.now c meta.now result }
@@ -56,7 +56,7 @@ fn is_troubled_at(meta: &Meta, addresses: &[Option<Bytes>], c: u32) -> bool
     }
 }
 
-/// Whether some connection has trouble whose question was to be asked.
+/// Returns whether the connection of some chosen question has trouble.
 fn has_trouble(meta: &Meta, addresses: &[Option<Bytes>]) -> bool
     requires { length meta.now.pool.connections < 2 ^ 32 }
     ensures { HasTrouble addresses.now meta.now result }
@@ -69,7 +69,7 @@ fn has_trouble(meta: &Meta, addresses: &[Option<Bytes>]) -> bool
     false
 }
 
-/// The status of a command after which connections stand so, of questions at these addresses.
+/// Returns the status after these connections, for questions at these addresses.
 fn status_of(meta: &Meta, addresses: &[Option<Bytes>]) -> Status
     requires { length meta.now.pool.connections < 2 ^ 32 }
     ensures { IsStatusOf addresses.now meta.now result }
@@ -84,7 +84,7 @@ fn status_of(meta: &Meta, addresses: &[Option<Bytes>]) -> Status
     }
 }
 
-/// The status of a command that finished so.
+/// Returns the status after finished connections.
 pub(crate) fn finished_status(finished: &Finished) -> Status
     requires { length finished.now.meta.pool.connections < 2 ^ 32 }
     ensures { IsFinishedStatus finished.now result }

@@ -1,4 +1,4 @@
-//! What is told where words ask for nothing to be done: why they are wrong, or help.
+//! Help, and why arguments are wrong.
 ghost use Rattle.zmeta_commands.specs.Devices.{output_device};
 ghost use Rattle.zmeta_commands.specs.Arguments.{AfterUsage};
 
@@ -8,7 +8,8 @@ use clap::Error;
 use clap::error::ErrorKind;
 use std::io::Write;
 
-/// Writes the text that words came to, and answers the status: of wrong words to the errors, of help to the output.
+/// Writes `clap`'s text and returns the status. Wrong arguments are reported on `errors`, and help is printed on
+/// `output`.
 pub(crate) fn tell<'a, W: Write, E: Write>(
     error: &Error,
     output: &mut Output<'a, W>,
@@ -21,7 +22,7 @@ pub(crate) fn tell<'a, W: Write, E: Write>(
         return Fault::Memory.report(errors);
     }
     if error.use_stderr() {
-        // Words that cannot be told to be wrong are wrong all the same.
+        // The arguments are wrong even if this cannot be written.
         let _ = errors.show(error);
         return Status::Arguments;
     }

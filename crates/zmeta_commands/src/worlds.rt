@@ -1,4 +1,4 @@
-//! World files, read by the commands.
+//! Reads world files for the commands.
 
 ghost use Rattle.std.specs.Prelude.{IfOk, IfErr, IfSome};
 ghost use Rattle.zmeta_world.specs.InMemoryRuns.{IsFit};
@@ -11,7 +11,7 @@ use std::alloc::Global;
 use std::io::Read;
 use zmeta_world::world::{World, read_world};
 
-/// The world that a file says.
+/// Reads the world of a file.
 pub(crate) fn world_in<'a, R: Read>(
     alloc: Global,
     file: &mut Input<'a, R>,

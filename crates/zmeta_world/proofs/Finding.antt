@@ -1,4 +1,4 @@
--- What is found for the questions of a world, one after the other.
+-- What is found for the questions of a world, in order.
 use Rattle.std.proofs.Common.{◌≡◌, ◌∙◌, sym, ap, ap₂, subst, append_assoc, ℕ, ◌+◌, ◌<◌, ◌^◌, List, [], ◌∷◌, ◌++◌, length, map, take, drop, get_or, Option, Some, Result, Ok, Err, IfErr}
 use Rattle.std.proofs.lemmas.List.{take_more, take-append-drop, map-append, length-map}
 use Rattle.zmeta_world.specs.declared.world.World.{World}
@@ -25,7 +25,7 @@ one_more qs q old new h m = record {
   names = m.names ∙ ap (λ z. z ++ q.name ∷ []) h.names ∙ sym (map-append (λ i. i.name) qs (q ∷ []));
 }
 
--- ---- the first for which nothing is
+-- ---- the first question for which nothing is found
 
 pub first_at_none : {A : Type 0} (find : AskedQuestion → Option A) (qs : List AskedQuestion) (i : ℕ) (q : AskedQuestion) (found : List A) (e : WorldError)
     → i < length qs → q ≡ get_or qs i q → AreFound find (take i qs) found → FindResult find q (Err e) → IsFirstUnfound find qs e
@@ -45,12 +45,12 @@ first_at_none find qs i q found errors.Memory lt is h f = tt
 pub refused_as : {A : Type 0} (P : WorldError → Type 0) (e f : WorldError) (r : Result A WorldError) → r ≡ Err f → f ≡ e → P e → IfErr r P
 refused_as P e f r is of h = rw (is, of) h
 
--- as many as there are questions
+-- as many are found as there are questions
 pub as_many : {A : Type 0} (find : AskedQuestion → Option A) (qs : List AskedQuestion) (found : List A) → AreFound find qs found
     → length found ≡ length (questions_of qs)
 as_many find qs found h =
     sym (length-map found Some) ∙ sym (ap length h) ∙ length-map qs find ∙ sym (length-map qs (λ i. i.question))
 
--- the questions of a world are few
+-- a world that can be planned has fewer than 2 ^ 32 questions
 pub few_questions : (w : World) → IsFit w → length (questions_of w.questions) < 2 ^ 32
 few_questions w fit = subst (λ z. z < 2 ^ 32) (sym (length-map w.questions (λ i. i.question))) fit.few

@@ -1,4 +1,4 @@
--- A world that was read can be run.
+-- A world that was read can be planned.
 use Rattle.std.proofs.Common.{◌≡◌, ◌∙◌, sym, ap, subst, refl, ℕ, ◌+◌, ◌<◌, ◌≤◌, ◌^◌, Bool, true, false, if◌then◌else◌, List, [], ◌∷◌, ◌++◌, length, Option, Some, None, arith}
 use Rattle.std.specs.Option.{option_map}
 use Rattle.zquery.specs.Trees.{RpnQuery}
@@ -18,7 +18,7 @@ use Rattle.zmeta_world.proofs.FitWants.{Fits, mapped}
 use Rattle.zmeta_world.proofs.FitLines.{IsWithin, line_within}
 use Rattle.zmeta_world.proofs.FitLoads.{world_load, small}
 
--- what is asked, and how
+-- the questions, and the settings for them
 record Asked : Type 0 where
   questions : List AskedQuestion
   step : ℕ

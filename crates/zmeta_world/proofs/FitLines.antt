@@ -1,4 +1,4 @@
--- What each line says is within its bounds.
+-- The contents of each line are within their bounds.
 use Rattle.std.proofs.Common.{◌≡◌, subst, ℕ, ◌≤◌, ◌-◌, ◌^◌, pos, List, [], ◌∷◌, Bool, true, false, if◌then◌else◌, Option, Some, None}
 use Rattle.std.specs.Option.{option_map}
 use Rattle.zquery.specs.Notation.Sets.{oid_of}
@@ -33,7 +33,7 @@ window_within (n ∷ []) line e =
     subst IsWithin m.gives (number_within 1 64 m.from n m.is)
 window_within _ line e = absurd (none_some e)
 
--- what a test lets through
+-- a value that passed the test
 allowed : {A : Type 0} (b : Bool) (o : Option A) (y : A) → (if b then o else None) ≡ Some y → o ≡ Some y
 allowed true o y e = e
 allowed false o y e = absurd (none_some e)

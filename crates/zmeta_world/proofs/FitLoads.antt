@@ -1,4 +1,4 @@
--- How much so many octets can put: each question and each record takes one octet at least.
+-- How many questions and records octets can make: each takes one octet at least.
 use Rattle.std.proofs.Common.{◌≡◌, ◌∙◌, sym, ap, subst, refl, ℕ, ◌+◌, ◌<◌, ◌≤◌, ◌^◌, Bool, true, false, if◌then◌else◌, List, [], ◌∷◌, ◌++◌, length, Option, Some, None, arith, length-append}
 use Rattle.std.specs.Option.{option_map}
 use Rattle.zquery.specs.declared.notation.token.Token.{Token}
@@ -25,13 +25,13 @@ size_of d = length d.entries
 abbrev pub entries : NamedTarget → ℕ
 entries t = held size_of t.databases
 
--- how many questions and records there are
+-- the number of questions and records
 abbrev pub load : World → ℕ
 load w = length w.questions + held entries w.targets
 
 -- ---- the last target
 
--- what a test lets through
+-- a value that passed the test
 kept : {A : Type 0} (b : Bool) (x y : A) → (if b then None else Some x) ≡ Some y → x ≡ y
 kept true x y e = absurd (none_some e)
 kept false x y e = some_same x y e
@@ -115,7 +115,7 @@ leaves_load number (lines.Carry way name k) w v h =
     with (is_among name (target_names w.targets)) (load w) (λ c. record w { moves = w.moves ++ move_of way c k ∷ [] }) (place_of name (asked_names w.questions)) v (λ c. refl) h in
     omega (arith, same)
 
--- a line without words leaves all as it was
+-- a line without tokens changes nothing
 idle : (number : ℕ) (line : Line) (w v : World) → line_of (token_texts []) ≡ Some line → AfterLine number line w v → load w ≡ load v
 idle number line w v e h =
     same_load w v (subst (λ z. AfterLine number z w v) (sym (some_same lines.Empty line e)) h)

@@ -1,4 +1,4 @@
--- How much lists hold, and how little a text with tokens can have.
+-- The sizes of lists, and the least size of a text with tokens.
 use Rattle.std.proofs.Common.{◌≡◌, ◌∙◌, sym, ap, subst, ℕ, suc, ◌+◌, ◌<◌, ◌≤◌, Bool, true, false, cond, List, [], ◌∷◌, ◌++◌, length, Option, Some, arith, length-append}
 use Rattle.std.specs.List.{slice_split, onto_first}
 use Rattle.zquery.specs.declared.notation.token.Token.{Token}
@@ -7,7 +7,7 @@ use Rattle.zmeta_world.specs.Worlds.{in_last}
 use Rattle.zmeta_world.proofs.WorldParsing.{none_some}
 use Rattle.zmeta_world.proofs.FitWants.{mapped}
 
--- the sum of what each holds
+-- the sum of the sizes of the items
 abbrev pub held : {A : Type 0} → (A → ℕ) → List A → ℕ
 held size [] = 0
 held size (x ∷ xs) = size x + held size xs
@@ -19,7 +19,7 @@ held_append size (x ∷ xs) ys = omega (arith, held_append size xs ys)
 abbrev pub Grows : {A : Type 0} → (A → ℕ) → ℕ → (A → Option A) → Type 0
 Grows {A = A} size k change = (x y : A) → change x ≡ Some y → size y ≤ size x + k
 
--- the last one grows
+-- the last item grows
 pub last_held : {A : Type 0} (size : A → ℕ) (k : ℕ) (change : A → Option A) (xs ys : List A) → Grows size k change → in_last change xs ≡ Some ys → held size ys ≤ held size xs + k
 last_held size k change [] ys g e = absurd (none_some e)
 last_held size k change (x ∷ []) ys g e =
@@ -31,7 +31,7 @@ last_held size k change (x ∷ y ∷ xs) ys g e =
     let less : held size m.from ≤ held size (y ∷ xs) + k = last_held size k change (y ∷ xs) m.from g m.is in
     subst (λ z. held size z ≤ held size (x ∷ y ∷ xs) + k) m.gives (omega (arith, less))
 
--- how many there are stays
+-- the number of items is unchanged
 pub last_length : {A : Type 0} (change : A → Option A) (xs ys : List A) → in_last change xs ≡ Some ys → length ys ≡ length xs
 last_length change [] ys e = absurd (none_some e)
 last_length change (x ∷ []) ys e =
@@ -46,7 +46,7 @@ onto_held : (x : ℕ) (parts : List (List ℕ)) → held length (onto_first x pa
 onto_held x [] = omega arith
 onto_held x (part ∷ parts) = omega arith
 
--- what stands between cuts is no more than the text
+-- the pieces of a text are together no longer than the text
 pub cut_held : (p : ℕ → Bool) (xs : List ℕ) → held length (slice_split p xs) ≤ length xs
 cut_held p [] = omega arith
 cut_held p (x ∷ xs) =

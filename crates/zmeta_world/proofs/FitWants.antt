@@ -1,4 +1,4 @@
--- What a question of a world file wants can be wanted.
+-- The positions that a question of a world file wants can be wanted.
 use Rattle.std.proofs.Common.{◌≡◌, ap, subst, refl, ℕ, pos, ◌+◌, ◌-◌, ◌≤◌, nat_le, Bool, true, false, ◌&&◌, ◌==◌, if◌then◌else◌, List, [], ◌∷◌, length, map, Option, Some, None, inl, inr, ◌⊎◌, arith, length-append}
 use Rattle.std.specs.List.{slice_split}
 use Rattle.std.specs.Option.{option_map, option_and_then, option_or}
@@ -37,7 +37,7 @@ pub chained : {A B : Type 0} (f : A → Option B) (o : Option A) (y : B) → opt
 chained f None y e = absurd (none_some e)
 chained f (Some x) y e = record { from = x; is = refl; gives = e }
 
--- what a test lets through
+-- a value that passed the test
 pub tested : {A : Type 0} (b : Bool) (x y : A) → (if b then Some x else None) ≡ Some y → (b ≡ true) × (x ≡ y)
 tested true x y e = (refl, some_same x y e)
 tested false x y e = absurd (none_some e)
@@ -117,7 +117,7 @@ ranges_fit low room (text ∷ texts) ranges e =
     let f = ranges_fit (c.from.1 + 2) (room - count c.from) texts m.from m.is in
     subst (Fits low room) m.gives (one_more low room c.from m.from (ends_fit low room text c.from c.is) f)
 
--- ---- so many from 1 on
+-- ---- the positions from 1 on
 
 firsts_at : (n : ℕ) (b : Bool) → (n == 0) ≡ b → n ≤ 1000000 → Fits 1 1000000 (if b then [] else record { start = pos 1; n = pos n } ∷ [])
 firsts_at n true e h = record { apart = tt; bounded = tt; some = omega arith }
@@ -130,7 +130,7 @@ either : {A : Type 0} (a b : Option A) (y : A) → option_or a b ≡ Some y → 
 either None b y e = inr e
 either (Some x) b y e = inl e
 
--- what a text wants can be wanted, and is not too much
+-- the positions of a text can be wanted, and are no more than 1,000,000
 pub wanted_fits : (text : List ℕ) (ranges : List Range) → wanted_of text ≡ Some ranges → Fits 1 1000000 ranges
 unfolding wanted_of
 wanted_fits text ranges e =
@@ -140,7 +140,7 @@ wanted_fits text ranges e =
       | inr r ↦ ranges_fit 1 most_wanted (slice_split is_comma text) ranges r
     ]
 
--- ---- the syntax
+-- ---- the record syntax
 
 branched : {A : Type 0} (b : Bool) (x y : Option A) (z : A) → (if b then x else y) ≡ Some z → (x ≡ Some z) ⊎ (y ≡ Some z)
 branched true x y z e = inl e

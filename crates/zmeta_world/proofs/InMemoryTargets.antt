@@ -30,7 +30,7 @@ pub small_at : (ts : List NamedTarget) (end : End) (t : NamedTarget) → AreSmal
 small_at ts (ends.Target place) t h e = small_place ts place t h (sym e)
 small_at ts (ends.Host place) t h e = absurd (none_some (sym e))
 
--- ---- the target of a name
+-- ---- the target with a name
 
 at_next : (name : List ℕ) (ts : List NamedTarget) (i : ℕ) (t : NamedTarget) → i < length ts → t ≡ get_or ts i t
     → target_named name (drop i ts) ≡ target_named name (t ∷ drop (i + 1) ts)
@@ -62,7 +62,7 @@ pub small_target : (name : List ℕ) (ts all : List NamedTarget) (found : Option
 small_target name ts all None same h e = tt
 small_target name ts all (Some t) same h e = small_named name ts t.now (subst AreSmall (sym same) h) (sym e)
 
--- ---- all of them
+-- ---- all targets
 
 new_of : (all : List NamedTarget) (q : AskedQuestion) (s : TargetState) → target_for all q ≡ Some s → s ≡ new_target s.databases s.settings
 new_of all q s e =

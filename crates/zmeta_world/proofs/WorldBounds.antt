@@ -1,4 +1,4 @@
--- How many questions so many lines can put.
+-- How many questions a number of lines can make.
 use Rattle.std.proofs.Common.{◌≡◌, ◌∙◌, sym, ap, ℕ, ◌≤◌, ◌+◌, List, [], ◌∷◌, ◌++◌, length, Bool, true, false, if◌then◌else◌, Option, Some, None, refl, arith, length-append}
 use Rattle.std.specs.Option.{option_map}
 use Rattle.zmeta_world.specs.Worlds.{AfterLine, AreWorld, none, more, with_targets, new_target, new_host, asked_question, move_of, end_of, is_defined, is_among, place_of, asked_names, target_names}
@@ -10,7 +10,7 @@ use Rattle.zmeta_world.proofs.WorldParsing.{none_some, some_same}
 same_asked : (x v : World) → Some x ≡ Some v → length x.questions ≡ length v.questions
 same_asked x v e = ap (λ z. length z.questions) (some_same x v e)
 
--- what a test lets through
+-- a value that passed the test
 chosen : (b : Bool) (x v : World) → (if b then None else Some x) ≡ Some v → length x.questions ≡ length v.questions
 chosen true x v e = absurd (none_some e)
 chosen false x v e = same_asked x v e
@@ -27,7 +27,7 @@ with : {A : Type 0} (b : Bool) (n : ℕ) (change : A → World) (o : Option A) (
 with true n change o v same e = mapped n change o v same e
 with false n change o v same e = absurd (none_some e)
 
--- a line puts one question at most
+-- a line makes one question at most
 leaves_one : (number : ℕ) (line : Line) (w v : World) → AfterLine number line w v → length v.questions ≤ length w.questions + 1
 leaves_one number lines.Empty w v h = let same : length w.questions ≡ length v.questions = same_asked w v h in omega arith
 leaves_one number (lines.Step n) w v h = let same : length w.questions ≡ length v.questions = same_asked (record w { step = n }) v h in omega arith

@@ -1,4 +1,4 @@
--- The last of a list, changed.
+-- The last item of a list, changed.
 use Rattle.std.proofs.Common.{◌≡◌, ◌∙◌, ap, refl, List, [], ◌∷◌, ◌++◌, Option, Some, None}
 use Rattle.std.specs.Option.{option_map}
 use Rattle.zmeta_world.specs.Worlds.{in_last}

@@ -1,4 +1,4 @@
--- One line after the other.
+-- The lines, one after the other.
 use Rattle.std.proofs.Common.{◌≡◌, ◌∙◌, sym, ap, subst, ℕ, ◌+◌, ◌≤◌, ◌<◌, ◌^◌, ◌==◌, List, [], ◌∷◌, ◌++◌, length, Option, Some, None, Result, Ok, Err, IfErr, refl, arith, append_assoc, length-append}
 use Rattle.std.specs.List.{slice_split}
 use Rattle.std.specs.Option.{IfSome, option_map}
@@ -55,7 +55,7 @@ refused_line file texts text number after r q (errors.Refused line) i f m = reco
 }
 refused_line file texts text number after r q errors.Memory i f m = tt
 
--- how many questions were put, and how many lines were read
+-- the number of questions and of lines that were read
 pub few : (file texts : List ℕ) (number : ℕ) (r : Reader) → IsReading file number (Some texts) r → length file < 2 ^ 32 → length r.questions.items < 2 ^ 32
 few file texts number r i h =
     let fewer : length r.questions.items ≤ length i.front = few_questions i.world in

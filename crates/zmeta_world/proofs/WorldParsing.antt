@@ -1,4 +1,4 @@
--- What a text says, and what is read of it.
+-- The line of a text, and its query.
 use Rattle.std.proofs.Common.{◌≡◌, ◌∙◌, sym, ap, subst, ℕ, List, Option, Some, None, Result, Ok, Err, ◌⊎◌, inl, inr, refl}
 use Rattle.zquery.specs.declared.notation.token.Token.{Token}
 use Rattle.zquery.specs.declared.notation.error.PqfError.{PqfError}
@@ -27,7 +27,7 @@ or_value x (Some y) = y
 pub some_same : {A : Type 0} (x y : A) → Some x ≡ Some y → x ≡ y
 some_same x y e = ap (or_value x) e
 
--- a text whose tokens are known says what these say
+-- a text whose tokens are known is the line of these tokens
 pub parsed_of : (text : List ℕ) (ts : List Token) (r : Result Line LineFault) → OneLexing → AreTokens ts text → LineResult (line_of (token_texts ts)) r → ParseResult text r
 parsed_of text ts (Ok line) law lexed meaning = record {
   tokens = ts;
@@ -44,7 +44,7 @@ memory_refused e = absurd (Prim.cc e)
 memory_is : (e : PqfError) → e ≡ memory → fault_of e.kind ≡ faults.Refused → ⊥
 memory_is e m f = memory_refused (ap (λ z. fault_of z.kind) (sym m) ∙ f)
 
--- a text in which a quote stays open says nothing
+-- a text with an open quote is no line
 not_lexed : (text : List ℕ) (e : PqfError) (f : LineFault) → fault_of e.kind ≡ f → OneLexing → (e ≡ memory) ⊎ ((e.kind ≡ kind.OpenQuote) × IsOpenAt e.at text) → ParseResult text (Err f)
 not_lexed text e faults.Memory q law h = tt
 not_lexed text e faults.Refused q law h = elim h [
@@ -55,7 +55,7 @@ not_lexed text e faults.Refused q law h = elim h [
 pub unparsed : (text : List ℕ) (e : PqfError) → OneLexing → (e ≡ memory) ⊎ ((e.kind ≡ kind.OpenQuote) × IsOpenAt e.at text) → ParseResult text (Err (fault_of e.kind))
 unparsed text e law h = not_lexed text e (fault_of e.kind) refl law h
 
--- a text at fault has no query
+-- a text at fault is no query
 no_query : (text : List ℕ) (e : PqfError) (f : LineFault) → fault_of e.kind ≡ f → OneAnswer → (e ≡ memory) ⊎ IsFault text e → HasQuery text (Err f)
 no_query text e faults.Memory q law h = tt
 no_query text e faults.Refused q law h = elim h [
@@ -66,7 +66,7 @@ no_query text e faults.Refused q law h = elim h [
 pub unasked : (text : List ℕ) (e : PqfError) → OneAnswer → (e ≡ memory) ⊎ IsFault text e → HasQuery text (Err (fault_of e.kind))
 unasked text e law h = no_query text e (fault_of e.kind) refl law h
 
--- what a text says makes what its line leaves
+-- the line of a text makes the world that the reader has
 pub made : (number : ℕ) (text : List ℕ) (line : Line) (w : World) (r : Reader) (e : Result Unit LineFault) → IsOnlyLine text line → AddLineResult number line w r e → ReadResult number text w r e
 made number text line w r (Ok _) s f = (f.0, record { tokens = s.tokens; line = line; lexed = s.lexed; meaning = s.meaning; effect = f.1 })
 made number text line w r (Err faults.Refused) s f = λ v m. f v (subst (λ z. AfterLine number z w v) (sym (s.only m.tokens m.line m.lexed m.meaning)) m.effect)

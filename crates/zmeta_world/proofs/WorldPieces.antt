@@ -1,4 +1,4 @@
--- Texts that are cut at an octet.
+-- Texts that are split at an octet.
 use Rattle.std.proofs.Common.{◌≡◌, ◌≢◌, ◌∙◌, ap, refl, ℕ, List, [], ◌∷◌, ◌++◌, false, ◌==◌, Option, Some, None, append-nil, All, sym, ◌<◌, length, arith}
 use Rattle.std.specs.List.{slice_split}
 use Rattle.std.proofs.lemmas.Bool.{ne_eqb, eq-eqb}

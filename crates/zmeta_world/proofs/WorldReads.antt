@@ -1,4 +1,4 @@
--- What each line adds, and that names stay known.
+-- What each line adds, and that the sets of names stay correct.
 use Rattle.std.proofs.Common.{◌≡◌, ◌∙◌, sym, ap, subst, ℕ, List, [], ◌∷◌, ◌++◌, map, Bool, true, false, if◌then◌else◌, Option, Some, None, Result, Err, refl}
 use Rattle.std.specs.Option.{option_map}
 use Rattle.ztarget.specs.declared.database.Database.{Database}
@@ -29,7 +29,7 @@ rest_named : {A : Type 0} (name : A → List ℕ) (t : A) (xs : List A) (o : Opt
 rest_named name t xs None ys k e = absurd (none_some e)
 rest_named name t xs (Some zs) ys k e = ap (λ z. name t ∷ z) (k zs refl) ∙ ap (map name) (some_same (t ∷ zs) ys e)
 
--- names stay
+-- the names are unchanged
 stay : {A : Type 0} (name : A → List ℕ) (change : A → Option A) (xs ys : List A) → ((t u : A) → change t ≡ Some u → name t ≡ name u) → in_last change xs ≡ Some ys → map name xs ≡ map name ys
 stay name change [] ys k e = absurd (none_some e)
 stay name change (x ∷ []) ys k e = last_named name x (change x) ys (k x) e
@@ -48,7 +48,7 @@ with_entries (Some xs) d u e = ap (λ z. z.name) (some_same (record d { entries 
 pub database_stays : (change : List Entry → Option (List Entry)) (d u : Database) → in_database change d ≡ Some u → d.name ≡ u.name
 database_stays change d u e = with_entries (change d.entries) d u e
 
--- where the databases of the last target cannot be changed, it cannot
+-- if the databases of the last target cannot be changed, the target cannot be changed
 last_kept : (change : Database → Option Database) (before : List NamedTarget) (t : NamedTarget) → in_last change t.databases ≡ None → in_last (in_target change) (before ++ t ∷ []) ≡ None
 last_kept change before t e =
     in_last_end (in_target change) before t ∙ ap (λ z. option_map (λ y. before ++ y ∷ []) (option_map (λ databases. record t { databases = databases }) z)) e

@@ -1,4 +1,4 @@
--- Worlds that can be run: what is asked, and of which targets.
+-- Plans for runs in memory: which questions are asked, and of which targets.
 use Rattle.std.specs.Prelude.{◌≡◌, ℕ, ◌<◌, ◌≤◌, ◌^◌, List, [], ◌∷◌, length, slice_get, find, Option, None}
 use Rattle.std.specs.Option.{option_map}
 use Rattle.std.specs.Str.{bytes_eq}
@@ -17,16 +17,16 @@ use Rattle.zmeta_world.specs.Worlds.{asked_names}
 use Rattle.zoom_questions.specs.NewTargets.{AreNew}
 use Rattle.zmeta_world.specs.Finding.{questions_of, AreFound, IsFirstUnfoundLine, IsFirstUnfound}
 
--- the settings of one who asks by this name
+-- the settings of an origin with this name
 abbrev pub settings_by : List ℕ → World → MetaSettings
 settings_by name w = record { name = name; step = w.step; window = w.window }
 
--- each target has fewer than 2 ^ 32 entries
+-- each target has fewer than 2 ^ 32 records
 abbrev pub AreSmall : List NamedTarget → Type 0
 AreSmall [] = Unit {0}
 AreSmall (t ∷ ts) = (length (entries_in t.databases) < 2 ^ 32) × AreSmall ts
 
--- The world can be run: its questions can be asked by anyone whose name is short enough, and its targets can be made.
+-- the world can be planned: its questions can be asked under any short enough name, and its targets can be made
 pub record IsFit (w : World) : Type 0 where
   pub few : length w.questions < 2 ^ 32
   pub askable : AreAskable (questions_of w.questions)
@@ -35,25 +35,24 @@ pub record IsFit (w : World) : Type 0 where
 
 -- ---- which targets are asked
 
--- the target that stands there, where it is one in memory
+-- the target in memory at this end, if it is one
 abbrev pub target_at : List NamedTarget → End → Option NamedTarget
 target_at targets (ends.Target place) = slice_get targets place
 target_at targets (ends.Host place) = None
 
--- it has received nothing yet
+-- the target has received nothing yet
 abbrev pub state_of : NamedTarget → TargetState
 state_of t = new_target t.databases t.settings
 
--- the target for a question, where it is put to one in memory
+-- the target for a question, if the question goes to a target in memory
 abbrev pub target_for : List NamedTarget → AskedQuestion → Option TargetState
 target_for targets i = option_map state_of (target_at targets i.end)
 
--- the target of this name
+-- the target with this name
 abbrev pub target_named : List ℕ → List NamedTarget → Option NamedTarget
 target_named name targets = find (λ t. bytes_eq name t.name) targets
 
--- The world is arranged to be run by one of this name: each question, its target and its name, in the order of the
--- questions.
+-- a plan for a run in memory by an origin with this name: each question, its target and its name, in order
 pub record IsInMemoryRun (name : List ℕ) (w : World) (a : InMemoryRun) : Type 0 where
   pub questions : a.questions ≡ questions_of w.questions
   pub settings : a.settings ≡ settings_by name w
@@ -66,15 +65,16 @@ pub record IsInMemoryRun (name : List ℕ) (w : World) (a : InMemoryRun) : Type 
   pub equal : length a.targets ≡ length a.questions
   pub fresh : AreNew a.targets
 
--- some world is arranged so, for one of some name
+-- some origin has this plan for some world
 abbrev pub CanBeRun : InMemoryRun → Type 0
 CanBeRun a = (name : List ℕ) × (w : World) × IsInMemoryRun name w a
 
 -- ---- a question to a host
 
--- the line is that of the first of the questions that is put to no target in memory
+-- the line is that of the first question that goes to no target in memory
 abbrev pub IsFirstHostLine : List NamedTarget → List AskedQuestion → ℕ → Type 0
 IsFirstHostLine targets asked_questions line = IsFirstUnfoundLine (target_for targets) asked_questions line
 
+-- a refusal gives the line of the first question that goes to a host
 abbrev pub IsPutToHost : World → WorldError → Type 0
 IsPutToHost w e = IsFirstUnfound (target_for w.targets) w.questions e

@@ -1,4 +1,4 @@
--- Worlds whose hosts can be asked: what is asked, and at which addresses.
+-- Plans for runs over the network: which questions are asked, and at which addresses.
 use Rattle.std.specs.Prelude.{◌≡◌, ℕ, ◌<◌, ◌^◌, List, length, slice_get, Option, None}
 use Rattle.std.specs.Option.{option_map}
 use Rattle.zoom_questions.specs.Askable.{AreAskable, AreFit}
@@ -13,17 +13,16 @@ use Rattle.zmeta_world.specs.Worlds.{asked_names}
 use Rattle.zmeta_world.specs.Finding.{questions_of, AreFound, IsFirstUnfoundLine, IsFirstUnfound}
 use Rattle.zmeta_world.specs.InMemoryRuns.{settings_by}
 
--- the host that stands there, where it is one at an address
+-- the host at this end, if it is one
 abbrev pub host_at : List NamedHost → End → Option NamedHost
 host_at hosts (ends.Host place) = slice_get hosts place
 host_at hosts (ends.Target place) = None
 
--- the address for a question, where it is put to a host
+-- the address for a question, if the question goes to a host
 abbrev pub address_for : List NamedHost → AskedQuestion → Option (List ℕ)
 address_for hosts i = option_map (λ h. h.address) (host_at hosts i.end)
 
--- The hosts of the world are asked by one of this name: each question, its address and its name, in the order of the
--- questions.
+-- a plan for a run over the network by an origin with this name: each question, its address and its name, in order
 pub record IsNetworkRun (name : List ℕ) (w : World) (e : NetworkRun) : Type 0 where
   pub questions : e.questions ≡ questions_of w.questions
   pub settings : e.settings ≡ settings_by name w
@@ -34,9 +33,10 @@ pub record IsNetworkRun (name : List ℕ) (w : World) (e : NetworkRun) : Type 0 
   pub fit : AreFit e.settings
   pub equal : length e.addresses ≡ length e.questions
 
--- the line is that of the first of the questions that is put to no host
+-- the line is that of the first question that goes to no host
 abbrev pub IsFirstTargetLine : List NamedHost → List AskedQuestion → ℕ → Type 0
 IsFirstTargetLine hosts asked_questions line = IsFirstUnfoundLine (address_for hosts) asked_questions line
 
+-- a refusal gives the line of the first question that goes to a target in memory
 abbrev pub IsPutToTarget : World → WorldError → Type 0
 IsPutToTarget w e = IsFirstUnfound (address_for w.hosts) w.questions e

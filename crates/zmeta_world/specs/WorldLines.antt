@@ -1,4 +1,4 @@
--- The lines of a world file, and what each says by itself.
+-- The lines of a world file, and the contents of each by itself.
 use Rattle.std.specs.Prelude.{ℕ, ◌^◌, ◌-◌, pos, Bool, ◌==◌, ◌&&◌, ◌||◌, not, nat_le, if◌then◌else◌, List, [], ◌∷◌, length, map, codes, Option, Some, None}
 use Rattle.std.specs.List.{slice_split, list_all, list_any}
 use Rattle.std.specs.Option.{option_map, option_and_then}
@@ -15,8 +15,9 @@ use Rattle.zmeta_world.specs.declared.world.line.Line.TheVariants as lines
 use Rattle.zmeta_world.specs.declared.world.line.Way.{Way}
 use Rattle.zmeta_world.specs.declared.world.line.Way.TheVariants as ways
 
--- ---- lines and words
+-- ---- lines and tokens
 
+-- the octet is a line feed
 abbrev pub is_feed : ℕ → Bool
 is_feed b = b == 10
 
@@ -24,10 +25,11 @@ is_feed b = b == 10
 abbrev pub lines_of : List ℕ → List (List ℕ)
 lines_of text = slice_split is_feed text
 
--- the words of a line: its tokens, quoted or not
+-- the texts of the tokens of a line, quoted or not
 abbrev pub token_texts : List Token → List (List ℕ)
 token_texts ts = map (λ t. t.text) ts
 
+-- the keyword that a token is
 unfoldable pub keyword_of : List ℕ → Option Keyword
 keyword_of w =
     if bytes_eq w (codes "step") then Some keys.Step
@@ -43,7 +45,7 @@ keyword_of w =
     else if bytes_eq w (codes "from") then Some keys.From
     else None
 
--- ---- what stands behind the keyword
+-- ---- what follows the keyword
 
 -- step N: 1 to 1,000
 abbrev pub step_line : List (List ℕ) → Option Line
@@ -55,16 +57,19 @@ abbrev pub window_line : List (List ℕ) → Option Line
 window_line (n ∷ []) = option_map lines.Window (number_in 1 64 n)
 window_line _ = None
 
--- c is for concurrent operations, n for named result sets, r for a target that refuses; - for none of them
+-- c: concurrent operations; n: named result sets; r: a target that refuses the association; - for none of them
 abbrev pub is_flag : ℕ → Bool
 is_flag b = (b == 99) || (b == 110) || (b == 114)
 
+-- the text is a list of flags, or -
 abbrev pub are_flags : List ℕ → Bool
 are_flags text = bytes_eq text (codes "-") || (not (length text == 0) && list_all is_flag text)
 
+-- the flag is in the text
 abbrev pub has_flag : ℕ → List ℕ → Bool
 has_flag flag text = list_any (λ b. b == flag) text
 
+-- the settings of a target with these flags and this size
 abbrev pub settings : List ℕ → ℕ → TargetSettings
 settings flags size = record {
   size = pos size;
@@ -73,7 +78,7 @@ settings flags size = record {
   refuse = has_flag 114 flags;
 }
 
--- target NAME SIZE FLAGS: from one octet on
+-- target NAME SIZE FLAGS: records of 1 to 2 ^ 63 - 1 octets in one response
 abbrev pub target_line : List (List ℕ) → Option Line
 target_line (name ∷ size ∷ flags ∷ []) =
     if are_flags flags
@@ -104,10 +109,11 @@ field_line (attr ∷ text ∷ []) =
     (number_in 0 (2 ^ 63 - 1) attr)
 field_line _ = None
 
--- a syntax of 1,000 arcs at most, or - for none
+-- a record syntax of at most 1,000 arcs
 abbrev pub short : List ℕ → Option (Option (List ℕ))
 short oid = if nat_le (length oid) 1000 then Some (Some oid) else None
 
+-- a record syntax, or - for none
 unfoldable pub syntax_of : List ℕ → Option (Option (List ℕ))
 syntax_of text = if bytes_eq text (codes "-") then Some None else option_and_then short (oid_of text)
 
@@ -126,6 +132,7 @@ abbrev pub carry_line : Way → List (List ℕ) → Option Line
 carry_line way (name ∷ k ∷ []) = option_map (λ n. lines.Carry way name n) (number_in 0 (2 ^ 32 - 1) k)
 carry_line way _ = None
 
+-- the contents of a line with this keyword
 abbrev pub line_by : Keyword → List (List ℕ) → Option Line
 line_by keys.Step = step_line
 line_by keys.Window = window_line
@@ -139,7 +146,7 @@ line_by keys.To = carry_line ways.To
 line_by keys.Release = carry_line ways.Release
 line_by keys.From = carry_line ways.From
 
--- what the words of a line say, if anything; a line may be empty
+-- the contents of a line with these tokens; a line may be empty
 abbrev pub line_of : List (List ℕ) → Option Line
 line_of [] = Some lines.Empty
 line_of (word ∷ others) = option_and_then (λ key. line_by key others) (keyword_of word)

@@ -11,7 +11,9 @@ use zoom_questions::Question;
 /// The questions, and the names of the targets or hosts that they go to, in the same order.
 #[derive(Drop)]
 pub(crate) struct Parts {
+    /// The questions.
     pub questions: Vec<Question>,
+    /// The name of the target or host of each question.
     pub names: Vec<Bytes>,
 }
 

@@ -31,7 +31,7 @@ use ztarget::{Database, TargetSettings};
 pub struct NamedTarget {
     /// The name. No other target and no host has it.
     pub name: Bytes,
-    /// The services that the target supports, and the size of its largest reply in octets.
+    /// The services that the target offers, and how many octets the records of one response may have together.
     pub settings: TargetSettings,
     /// Its databases, in the order of the file.
     pub databases: Seq<Database>,

@@ -22,7 +22,7 @@ on_trans f g a b d l l2 l3 k k2 k3 one two = record {
   writer = two.writer ∙ one.writer;
 }
 
--- memory is wanting behind what went on
+-- No memory is found after an exchange that went on.
 starves_after : (f g : ℕ → ℕ) (a b d : HostState) (l l2 l3 k k2 k3 : DeviceState) → ExchangeStep f a b l l2 k k2
     → StarvedStep g b d l2 l3 k2 k3 → StarvedStep (λ n. g (f n)) a d l l3 k k3
 starves_after f g a b d l l2 l3 k k2 k3 one two = record {
@@ -32,7 +32,7 @@ starves_after f g a b d l l2 l3 k k2 k3 one two = record {
   writer = two.writer ∙ one.writer;
 }
 
--- an exchange that begins
+-- An exchange begins, without events.
 pub from_start : (holdings : Holdings) (events : List HostEvent) (h : HostState) (source sink : DeviceState)
     → HostAfter holdings events h → Exchange holdings events 0 h source source sink sink
 from_start holdings events h source sink a = record {
@@ -89,7 +89,7 @@ serves_release E k true old new r = release_one k old new r.1
 serves_release E k false old new (inl none) = subst (AfterRelease old) (sym none.1) (serves_same old)
 serves_release E k false old new (inr long) = lose_one k old new long.1
 
--- memory was wanting for a reply, behind others
+-- No memory is found for a reply, after others were released.
 pub serves_none : (E : Type 0) (e : E) (k : ℕ) (old mid new : HostState) → AfterRelease old mid
     → ReleaseResult {E = E} k (Err e) mid new → AfterReleaseAll {E = E} (Err e) old new
 serves_none E e k old mid new one r l m =
@@ -107,7 +107,7 @@ serves_none E e k old mid new one r l m =
       writer = refl;
     })
 
--- for what was to be handed out
+-- No memory is found for handing out.
 pub starves_unhanded : (old new : HostState) (k : DeviceState) → new ≡ old
     → (l : DeviceState) → StarvedStep same old new l l k k
 starves_unhanded old new k e l = record {
@@ -143,7 +143,7 @@ on_fed old new piece l l2 k u consumed sound some few = record {
   writer = refl;
 }
 
--- memory was wanting for it
+-- No memory is found for a piece.
 pub starves_unfed : (old new : HostState) (piece : List ℕ) (l l2 k : DeviceState) → HostRecorded (HostFedPart piece) old new
     → new.stopped ≡ true → Consumes l.octets l2.octets piece → HasNoFailure l l2 → 0 < length piece
     → length piece ≤ 4096 → StarvedStep suc old new l l2 k k
@@ -161,7 +161,7 @@ starves_unfed old new piece l l2 k u stopped consumed sound some few = record {
   writer = refl;
 }
 
--- and for a reply
+-- No memory is found for a reply to the piece.
 pub starves_unserved : (E : Type 0) (e : E) (old mid new : HostState) (l l2 k : DeviceState)
     → ExchangeStep suc old mid l l2 k k → AfterReleaseAll {E = E} (Err e) mid new → StarvedStep suc old new l l2 k k
 starves_unserved E e old mid new l l2 k one off = starves_after suc same old mid new l l2 l2 k k k one (off l2 k)
@@ -182,7 +182,7 @@ on_handed old new octets l k k2 u appended sound = record {
   writer = sound;
 }
 
--- a write failed behind what went on
+-- A write fails after an exchange that went on.
 pub on_unwritten : (old mid new : HostState) (l l2 k k2 k3 : DeviceState) → ExchangeStep suc old mid l l2 k k2
     → UnwrittenReplies mid new k2 k3 → FailedPiece old new l l2 k k3
 on_unwritten old mid new l l2 k k2 k3 one u = record {
@@ -196,7 +196,7 @@ on_unwritten old mid new l l2 k k2 k3 one u = record {
   failed = subst (λ z. HasFailed z k3.failures) one.writer u.failed;
 }
 
--- a write failed, or memory was wanting
+-- A write fails, or no memory is found.
 pub piece_failed : (e : AnswerError) (old mid new : HostState) (l l2 k k2 k3 : DeviceState)
     → ExchangeStep suc old mid l l2 k k2 → AfterWriteReplies (Err e) mid new k2 k3 → AfterAnswerPiece (Err e) old new l l2 k k3
 piece_failed errors.Read old mid new l l2 k k2 k3 one h = absurd h
@@ -207,7 +207,7 @@ piece_failed errors.Memory old mid new l l2 k k2 k3 one h =
 
 -- ---- from the start
 
--- after each history that can have left the host, there is an exchange of so many reads
+-- After every history that can have left the serving end, there is an exchange with n reads.
 pub record Begun (n : ℕ) (old new : HostState) (source left sink held : DeviceState) : Type 0 where
   pub on : (holdings : Holdings) (events : List HostEvent) → HostAfter holdings events old
       → Exchange holdings events n new source left sink held
@@ -229,7 +229,7 @@ begun_on n f a b d l l2 l3 k k2 k3 one two = record {
   writer = two.writer ∙ one.writer;
 }
 
--- a piece was read and answered
+-- A piece was read and answered.
 pub piece_on : (n : ℕ) (a b d : HostState) (l l2 l3 k k2 k3 : DeviceState) → Begun n a b l l2 k k2
     → (r : Bool) → AfterAnswerPiece (Ok r) b d l2 l3 k2 k3 → r ≡ true → Begun (n + 1) a d l l3 k k3
 piece_on n a b d l l2 l3 k k2 k3 one true p e =
@@ -239,7 +239,7 @@ piece_on n a b d l l2 l3 k k2 k3 one false p e = absurd (true≢false (sym e))
 
 -- ---- how it ends
 
--- the input ended
+-- The input ends.
 pub answers_end : (n reads : ℕ) (a b d : HostState) (l l2 l3 k k2 k3 : DeviceState) → n < reads → Begun n a b l l2 k k2
     → (r : Bool) → AfterAnswerPiece (Ok r) b d l2 l3 k2 k3 → r ≡ false → AfterAnswer reads (Ok tt) a d l l3 k k3
 answers_end n reads a b d l l2 l3 k k2 k3 few one true p e = absurd (true≢false e)
@@ -276,7 +276,7 @@ module _ (n reads : ℕ) (old new : HostState) (l l2 k k2 : DeviceState) (one : 
         end = (goes_on.0, goes_on.1, one.reader, one.writer);
       }
 
-  -- a device failed behind it
+  -- A read of nothing more, with a failing device.
   unread : (l3 : DeviceState) → Keeps l2.octets l3.octets → (holdings : Holdings) (events : List HostEvent)
       → HostAfter holdings events old → Exchange holdings events n new l l3 k k2
   unread l3 still holdings events a =

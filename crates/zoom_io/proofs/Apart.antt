@@ -1,4 +1,4 @@
--- Histories that tell the same of each connection, and a history in which one connection's deeds come first.
+-- Histories with the same events on each connection, and a history in which one connection's events come last.
 use Rattle.std.proofs.Common.{◌≡◌, ◌∙◌, sym, ap, subst, ℕ, ◌==◌, Bool, true, false, cond, List, [], ◌∷◌, ◌++◌, refl, append-nil, arith}
 use Rattle.std.proofs.lemmas.Bool.Decides.{nat_tests}
 use Rattle.zorigin.specs.Standings.{Call}
@@ -14,17 +14,17 @@ use Rattle.zoom_pool.specs.Metas.{MetaLinks, MetaAfter, call_events, settings_of
 use Rattle.zoom_pool.proofs.Pools.{only_same, only_other, only_append}
 use Rattle.zoom_io.specs.TalkTraces.{Stage, TalkTrace, beginning, due_sent, message_taken, none_taken, stop_taken, piece_read, input_end, IsIdle, IsAllHandedOut, IsNextStep, IsStoppedAt}
 
--- ---- deeds of one connection
+-- ---- events of one connection
 
--- the same deeds behind others
+-- The same events after either history.
 pub behind : (c : ℕ) (more h k : History) → events_on c h ≡ events_on c k → events_on c (more ++ h) ≡ events_on c (more ++ k)
 behind c more h k e = only_append c more h ∙ ap (λ z. events_on c more ++ z) e ∙ sym (only_append c more k)
 
--- one deed more
+-- One event more.
 pub one_more : (c : ℕ) (event : Event) (h k : History) → events_on c h ≡ events_on c k → events_on c ((c, event) ∷ h) ≡ events_on c ((c, event) ∷ k)
 one_more c event h k e = only_same c event h ∙ ap (λ z. event ∷ z) e ∙ sym (only_same c event k)
 
--- where none befell it, what it heard is the same
+-- A connection without new events has the same transcript.
 pub none_before : (i : ℕ) (a b : History) → events_on i a ≡ [] → events_on i (a ++ b) ≡ events_on i b
 none_before i a b p = only_append i a b ∙ rw p refl
 
@@ -35,7 +35,7 @@ pub others_made : (c i : ℕ) (calls : List Call) → (c == i) ≡ false → eve
 others_made c i [] far = refl
 others_made c i (call ∷ calls) far = only_other c i (Called call) (call_events c calls) far ∙ others_made c i calls far
 
--- the deeds of a talk are none of another connection's
+-- The events of a talk are on no other connection.
 pub others_follow : {q : List Question} {s : MetaSettings} {c : ℕ} {h more : History} {read written : List ℕ} {n : ℕ}
     {stage : Stage} (i : ℕ) → TalkTrace q s c h more read written n stage → (c == i) ≡ false → events_on i more ≡ []
 others_follow i beginning far = refl
@@ -52,7 +52,7 @@ others_follow {c = c} i (input_end {more = more} f) far =
 
 -- ---- histories alike
 
--- they tell the same of each connection
+-- The two histories have the same events on each connection.
 abbrev pub AreAlike : History → History → Type 0
 AreAlike h k = (c : ℕ) → events_on c h ≡ events_on c k
 
@@ -71,7 +71,7 @@ pool_alike settings h k pool alike a = record {
   lawful = a.lawful;
 }
 
--- what one can have left, the other can
+-- What one history can have left, the other can.
 pub after_alike : (q : List Question) (s : MetaSettings) (h k : History) (meta : MetaLinks) → AreAlike h k
     → MetaAfter q s h meta → MetaAfter q s k meta
 after_alike q s h k meta alike a = record {
@@ -100,7 +100,7 @@ next_alike s c h k step e next p transcript = next p (transcript_alike (settings
 pub over_alike : (s : MetaSettings) (c : ℕ) (h k : History) → events_on c h ≡ events_on c k → IsStoppedAt s c h → IsStoppedAt s c k
 over_alike s c h k e over p transcript = over p (transcript_alike (settings_of s) c h k p e transcript)
 
--- deeds that follow the one follow the other
+-- A trace after one history is a trace after the other.
 pub follows_alike : {q : List Question} {s : MetaSettings} {c : ℕ} {h more : History} {read written : List ℕ} {n : ℕ}
     {stage : Stage} (k : History) → events_on c h ≡ events_on c k → TalkTrace q s c h more read written n stage
     → TalkTrace q s c k more read written n stage
@@ -119,7 +119,7 @@ follows_alike k e (stop_taken f) = stop_taken (follows_alike k e f)
 follows_alike k e (piece_read piece f some few) = piece_read piece (follows_alike k e f) some few
 follows_alike k e (input_end f) = input_end (follows_alike k e f)
 
--- ---- the deeds of the others now, behind them those that a connection had
+-- ---- the events of the others now, after the events that a connection had before
 
 abbrev others : ℕ → History → History
 others c [] = []
@@ -175,12 +175,12 @@ rest_theirs c i now h far =
     ∙ ap (λ z. events_on i (others c now) ++ z) (own_theirs c i (events_on c h) far)
     ∙ append-nil (events_on i (others c now)) ∙ others_theirs c i now far
 
--- deeds of the connection before those: the others have theirs still
+-- Events of this connection leave the events of the others unchanged.
 pub before_rest : (c i : ℕ) (more now h : History) → (c == i) ≡ false → events_on i more ≡ []
     → events_on i (more ++ rest c now h) ≡ events_on i now
 before_rest c i more now h far none = none_before i more (rest c now h) none ∙ rest_theirs c i now h far
 
--- a history in which the deeds that are all that befell the connection come last
+-- The history can be reordered, so that the new events of the connection come last.
 pub reordered : (c : ℕ) (more now h : History) → events_on c now ≡ events_on c (more ++ h)
     → ((i : ℕ) → (c == i) ≡ false → events_on i more ≡ []) → AreAlike now (more ++ rest c now h)
 reordered c more now h mine none i = by (c == i) refl

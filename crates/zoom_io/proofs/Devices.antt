@@ -7,9 +7,9 @@ use Rattle.zoom_io.specs.Devices.{DeviceState, AfterWrite}
 
 -- ---- failures
 
--- ---- octets that are written in several calls
+-- ---- octets written in several calls
 
--- a front is written, and the rest is not
+-- A front of the octets is written, and the rest is not.
 pub record HasWritten (old now : DeviceState) (all rest : List ℕ) : Type 0 where
   pub front : List ℕ
   pub cut : all ≡ front ++ rest
@@ -27,7 +27,7 @@ more_written E old now then all rest n h w = record {
   failures = w.count ∙ h.failures;
 }
 
--- ---- calls that are made again
+-- ---- interrupted calls that are repeated
 
 pub keeps_consumes : (a b c : Option (List ℕ)) (xs : List ℕ) → Keeps a b → Consumes b c xs → Consumes a c xs
 keeps_consumes None b c xs p q = tt

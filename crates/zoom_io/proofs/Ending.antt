@@ -28,7 +28,7 @@ use Rattle.zoom_io.specs.Talking.{IsWellEnded, AfterSettle, AfterListen, AfterFi
 use Rattle.zoom_io.proofs.Taking.{ends_stopped}
 use Rattle.zoom_io.proofs.Sending.{Begun, begun_on}
 
--- the same, of a reader that gave nothing more
+-- The same talk, with a reader that gave nothing more.
 kept : (c n : ℕ) (stage : Stage) (a b : MetaLinks) (l l2 l3 k k2 : DeviceState)
     → Begun c n stage a b l l2 k k2 → Keeps l2.octets l3.octets
     → (q : List Question) (s : MetaSettings) (h : History) → MetaAfter q s h a → Talk q s c h n stage b l l3 k k2
@@ -45,7 +45,7 @@ kept c n stage a b l l2 l3 k k2 one still q s h x =
       appended = t.appended;
     }
 
--- octets were read and fed
+-- Octets were read and fed.
 pub fed_on : (c : ℕ) (old new : MetaLinks) (piece : List ℕ) (l l2 : DeviceState) → MetaRecorded c (Fed piece) old new
     → Consumes l.octets l2.octets piece → l2.failures ≡ l.failures → 0 < length piece → length piece ≤ 4096
     → (held : DeviceState) → TalkStep c Waiting Due suc old new l l2 held held
@@ -66,7 +66,7 @@ fed_on c old new piece l l2 befell consumed sound some few held = record {
 
 -- ---- how it ends
 
--- the connection was stopped by its messages
+-- The connection is Closed or Failed after taking a message.
 pub ends_over : (c n turns : ℕ) (a b d : MetaLinks) (l l2 k k2 k3 : DeviceState) → n ≤ turns
     → Begun c n Due a b l l2 k k2 → (r : Bool) → AfterSettle c (Ok r) b d k2 k3 → r ≡ true
     → AfterTalk c turns (Ok tt) a d l l2 k k3
@@ -79,14 +79,14 @@ ends_over c n turns a b d l l2 k k2 k3 few one true s e = record {
 }
 ends_over c n turns a b d l l2 k k2 k3 few one false s e = absurd (true≢false (sym e))
 
--- no message is there
+-- No message is waiting.
 pub waits_on : (c n : ℕ) (a b d : MetaLinks) (l l2 k k2 k3 : DeviceState) → Begun c n Due a b l l2 k k2
     → (r : Bool) → AfterSettle c (Ok r) b d k2 k3 → r ≡ false → Begun c n Waiting a d l l2 k k3
 waits_on c n a b d l l2 k k2 k3 one true s e = absurd (true≢false e)
 waits_on c n a b d l l2 k k2 k3 one false s e =
     begun_on c n Due Waiting same a b d l l2 l2 k k2 k3 one (s l2)
 
--- a write failed, or memory was wanting
+-- A write failed, or no memory was found.
 pub ends_unsettled : (c n turns : ℕ) (a b d : MetaLinks) (l l2 k k2 k3 : DeviceState) → n ≤ turns
     → Begun c n Due a b l l2 k k2 → (e : PushError) → AfterSettle c (Err e) b d k2 k3 → IsBroken {A = Bool} c (Err e) d
     → AfterTalk c turns (Err (talk_error e)) a d l l2 k k3
@@ -110,7 +110,7 @@ stopped_by c n stage reason a b d l l2 k k2 talk befell q s h x =
     let t = talk q s h x in
     record { meta = b; talk = t; after = befell q s (t.more ++ h) t.after }
 
--- as many reads gave octets as may be made
+-- As many reads gave octets as the limit allows.
 pub ends_at_limit : (c n : ℕ) (a b d : MetaLinks) (l l2 k k2 : DeviceState) → Begun c n Waiting a b l l2 k k2
     → MetaRecorded c (Stopped reasons.Turns) b d → stop_at d.pool c ≡ Some (states.Failed reasons.Turns)
     → AfterTalk c n (Err errors.Turns) a d l l2 k k2
@@ -120,7 +120,7 @@ ends_at_limit c n a b d l l2 k k2 one befell is = record {
   stopped = is;
 }
 
--- a read failed, or memory was wanting
+-- A read failed, or no memory was found.
 pub ends_unread : (c n turns : ℕ) (a b d : MetaLinks) (l l2 l3 k k2 : DeviceState) → n < turns
     → Begun c n Waiting a b l l2 k k2 → (e : TalkError) → AfterListen c (Err e) b d l2 l3
     → AfterTalk c turns (Err e) a d l l3 k k2
@@ -142,7 +142,7 @@ ends_unread c n turns a b d l l2 l3 k k2 few one errors.Memory h = record {
   stopped = tt;
 }
 
--- octets were read
+-- Octets were read.
 pub listened_on : (c n : ℕ) (a b d : MetaLinks) (l l2 l3 k k2 : DeviceState) → Begun c n Waiting a b l l2 k k2
     → (r : Bool) → AfterListen c (Ok r) b d l2 l3 → r ≡ true → Begun c (n + 1) Due a d l l3 k k2
 listened_on c n a b d l l2 l3 k k2 one true h e =
@@ -150,7 +150,7 @@ listened_on c n a b d l l2 l3 k k2 one true h e =
     subst (λ z. Begun c z Due a d l l3 k k2) one_more (begun_on c n Waiting Due suc a b d l l2 l3 k k2 k2 one (h k2))
 listened_on c n a b d l l2 l3 k k2 one false h e = absurd (true≢false (sym e))
 
--- ended, and that for the end of its input
+-- A stopped connection that did not end well has failed for `Ended`.
 pub cut_off : (state : State) → is_stopped state ≡ true → ended_well state ≡ false → state ≡ states.Failed reasons.Ended
 cut_off states.Fresh over e = absurd (true≢false (sym over))
 cut_off states.Initialising over e = absurd (true≢false (sym over))
@@ -167,7 +167,7 @@ cut_off (states.Failed reasons.Write) over e = absurd (true≢false e)
 cut_off (states.Failed reasons.Turns) over e = absurd (true≢false e)
 cut_off (states.Failed reasons.Memory) over e = absurd (true≢false e)
 
--- the input ended
+-- The input ended.
 module _ (c n turns : ℕ) (a b : MetaLinks) (l l2 l3 k k2 : DeviceState) (few : n < turns)
     (one : Begun c n Waiting a b l l2 k k2) (still : IsUntouched l2 l3) (end : IsAtEnd l3.octets)
   where
@@ -219,7 +219,7 @@ ends_finished c n turns a b d g l l2 l3 k k2 few one true h e f fin = absurd (tr
 ends_finished c n turns a b d g l l2 l3 k k2 few one false h e f fin =
     finished c n turns a b l l2 l3 k k2 few one h.1 h.2 g f (subst (λ z. AfterFinish c f z g) h.0 fin)
 
--- memory was wanting, and the connection was stopped for that
+-- No memory was found, and the connection was stopped for `Memory`.
 pub ends_starved : (c turns : ℕ) (a b d : MetaLinks) (l l2 k k2 : DeviceState)
     → AfterTalk c turns (Err errors.Memory) a b l l2 k k2 → d.pool.knowledge ≡ b.pool.knowledge
     → SameOthers c b.pool d.pool → d.drivers ≡ b.drivers → AfterTalk c turns (Err errors.Memory) a d l l2 k k2
@@ -239,7 +239,7 @@ ends_starved c turns a b d l l2 k k2 t same_known stay same_drivers = record {
 
 -- ---- the end of the input
 
--- what was left of it was taken
+-- What was left of the input was taken.
 pub goes_ended : UpToLaw → OneInput → (c : ℕ) (old mid new : MetaLinks) → MetaRecorded c InputEnded old mid
     → MetaTakeStep c mid new → TalkStepAlone c Waiting Ended old new
 goes_ended law meeting c old mid new befell took left held = record {
@@ -268,7 +268,7 @@ goes_ended law meeting c old mid new befell took left held = record {
       size = a.size;
     }
 
--- what is told of the connection's state
+-- What the state of the connection says of how it ended.
 pub well_tells : UpToLaw → OneTranscript → (c : ℕ) (meta : MetaLinks) (state : State) (well : Bool)
     → c < length meta.pool.connections → IsStateAt c meta.pool state → ended_well state ≡ well → IsWellEnded c meta well
 well_tells law hearing c meta state well lt is e q s h p a transcript =

@@ -42,7 +42,7 @@ risen_none count = inl (omega arith)
 
 -- ---- connections that are over
 
--- its host stopped it
+-- The caller stopped the connection.
 pub stopped_over : (s : MetaSettings) (c : ℕ) (reason : Reason) (h : History) → IsStoppedAt s c ((c, Stopped reason) ∷ h)
 stopped_over s c reason h p transcript = at (subst (λ z. IsTranscript (settings_of s) z p) (only_same c (Stopped reason) h) transcript)
   where
@@ -61,7 +61,7 @@ record AfterTalkStepAmong
   pub stands : IsAtStage stage s c later
   pub others : (i : ℕ) → (c == i) ≡ false → events_on i later ≡ events_on i now
 
--- the talk with its deeds last
+-- The talk, with its events last in the history.
 talk_last : (q : List Question) (s : MetaSettings) (c : ℕ) (h now : History) (reads : ℕ) (stage : Stage)
     (first last : View) (old : MetaLinks) → ((k : History) → IsAtStage stage s c k)
     → MetaAfter q s now old → TalkAmong q s c h now reads stage first last
@@ -102,7 +102,7 @@ goes_among q s c h now reads from to f first before last old new stands goes a t
       others = λ i far. before_rest c i next.more now h far (others_follow i next.trace far);
     }
 
--- a talk whose reader gave nothing more
+-- The same talk, with a reader that gave nothing more.
 kept : (q : List Question) (s : MetaSettings) (c : ℕ) (h now : History) (reads : ℕ) (stage : Stage)
     (first before last : View) → Keeps before.source.octets last.source.octets → last.sink ≡ before.sink
     → TalkAmong q s c h now reads stage first before → TalkAmong q s c h now reads stage first last
@@ -116,7 +116,7 @@ kept q s c h now reads stage first before last still same t = record {
   appended = subst (λ z. Appends first.sink.octets z.octets t.written) (sym same) t.appended;
 }
 
--- and then its host stopped the connection
+-- The caller then stopped the connection.
 stopped : (q : List Question) (s : MetaSettings) (c : ℕ) (h now : History) (reads : ℕ) (stage : Stage)
     (reason : Reason) (first last : View) → TalkAmong q s c h now reads stage first last
     → StoppedTalkAmong q s c h ((c, Stopped reason) ∷ now) reads stage reason first last
@@ -132,7 +132,7 @@ stopped q s c h now reads stage reason first last t = record {
 
 -- ---- steps
 
--- the same, seen at another phase
+-- The same view, in another phase.
 abbrev pub at_phase : View → TalkPhase → View
 at_phase before phase =
     record { source = before.source; polls = before.polls; sink = before.sink; phase = phase }
@@ -143,7 +143,7 @@ with_sink before held phase = record { source = before.source; polls = before.po
 abbrev pub with_source : View → DeviceState → ℕ → TalkPhase → View
 with_source before left polls phase = record { source = left; polls = polls; sink = before.sink; phase = phase }
 
--- what a phase says, where it is known
+-- What the known phase of a view says.
 as_phase : (phase : TalkPhase) (q : List Question) (s : MetaSettings) (c : ℕ) (h now : History) (n turns : ℕ)
     (first last : View) → last.phase ≡ phase → IsAmong q s c h now n turns first last
     → PhaseAmong phase q s c h now n turns first last
@@ -328,7 +328,7 @@ module _ (c n turns : ℕ) (lt : n < turns) (old new : MetaLinks) (before : View
           };
     }
 
-    -- a poll failed
+    -- The poll failed.
     pub polled_failure : MetaRecorded c (Stopped reasons.Read) old new → Keeps before.source.octets left.octets
         → HasFailed before.source.failures left.failures
         → StepAmong c n (n + 1) turns old new before (with_source before left polls phases.Over)
@@ -357,7 +357,7 @@ module _ (c n turns : ℕ) (lt : n < turns) (old new : MetaLinks) (before : View
           };
     }
 
-    -- the input ended
+    -- The input ended.
     pub polled_end : IsUntouched before.source left → IsAtEnd left.octets → AfterDrain c old new
         → StepAmong c n (n + 1) turns old new before (with_source before left polls phases.Over)
     polled_end rests end (inl f) = record {
@@ -428,7 +428,7 @@ module _ (c n turns : ℕ) (lt : n < turns) (old new : MetaLinks) (before : View
           };
     }
 
-    -- what one poll came to
+    -- What each result of a poll says.
     pub arrived_octets : (arrival : Arrival) → AfterArrive c arrival old new before.source left → arrival ≡ arrivals.Octets
         → StepAmong c n (n + 1) turns old new before (with_source before left polls phases.Due)
     arrived_octets arrivals.Octets a e = polled_octets a

@@ -1,4 +1,4 @@
--- What making the calls that are due, and writing what waits, does to a talk; and talks that go on.
+-- What making the due calls, and writing what waits, do to a talk; and talks that go on.
 use Rattle.std.proofs.Common.{◌≡◌, ◌∙◌, sym, ap, subst, ℕ, ◌<◌, false, List, [], ◌∷◌, ◌++◌, length, Result, Ok, Err, refl, append_assoc}
 use Rattle.std.specs.Io.KnownBytes.{Appends}
 use Rattle.std.proofs.KnownBytes.{Appends-trans, Appends-nil, Consumes-nil}
@@ -24,9 +24,9 @@ use Rattle.zoom_io.specs.Talking.{AfterSettle}
 use Rattle.zoom_io.specs.TalkSteps.{WriteFailureStep, HaltStepAlone, AfterSendDue, AfterTakeMessage, AfterSendAndTake}
 use Rattle.zoom_io.proofs.Apart.{none_both, others_made, others_follow}
 
--- ---- speaking
+-- ---- sending
 
--- handing out what waits hands out the last of what was sent
+-- Handing out what waits leaves everything sent handed out.
 pub all_handed_out : OneTranscript → (q : List Question) (s : MetaSettings) (c : ℕ) (h : History) (meta : MetaLinks)
     → c < length meta.pool.connections → MetaAfter q s h meta → IsAllHandedOut s c ((c, HandedOut (waiting_at meta.pool c)) ∷ h)
 all_handed_out hearing q s c h meta lt a p transcript kept =
@@ -43,7 +43,7 @@ all_handed_out hearing q s c h meta lt a p transcript kept =
 module _ (hearing : OneTranscript) (E : Type 0) (c n : ℕ) (old mid new : MetaLinks) (lt : c < length mid.pool.connections)
     (drove : DriveResult {E = E} c (Ok n) old mid)
   where
-    -- the history with the calls and what was handed out
+    -- The history with the calls and the octets handed out.
     spoken : (q : List Question) (s : MetaSettings) (h more : History) (calls : List Call) (octets : List ℕ)
         → MetaAfter q s ((c, HandedOut octets) ∷ (call_events c calls ++ (more ++ h))) new
         → MetaAfter q s ((c, HandedOut octets) ∷ (call_events c calls ++ more) ++ h) new
@@ -103,9 +103,9 @@ module _ (hearing : OneTranscript) (E : Type 0) (c n : ℕ) (old mid new : MetaL
       failed = failed;
     }
 
--- ---- memory is wanting
+-- ---- no memory is found
 
--- nothing was done
+-- Nothing was done.
 pub halts_same : UpToLaw → (c : ℕ) (from : Stage) (old new : MetaLinks) → new ≡ old → HaltStepAlone c from old new
 halts_same law c from old new e held q s h n source left sink t = record {
   more = t.more;
@@ -113,7 +113,7 @@ halts_same law c from old new e held q s h n source left sink t = record {
   after = up_to_meta law q s c (t.more ++ h) new (subst (MetaAfter q s (t.more ++ h)) (sym e) t.after);
 }
 
--- a take was not done
+-- A take was not completed.
 pub halts_keeps : UpToLaw → (c : ℕ) (from : Stage) (old new : MetaLinks) → MetaIncompleteTake c old new
     → HaltStepAlone c from old new
 halts_keeps law c from old new keeps held q s h n source left sink t = record {
@@ -122,7 +122,7 @@ halts_keeps law c from old new keeps held q s h n source left sink t = record {
   after = keeps q s (t.more ++ h) (up_to_meta law q s c (t.more ++ h) old t.after);
 }
 
--- nor one behind the end of the input
+-- A take after the end of the input was not completed.
 pub halts_ended : UpToLaw → (c : ℕ) (from : Stage) (old mid new : MetaLinks) → MetaRecorded c InputEnded old mid
     → MetaIncompleteTake c mid new → HaltStepAlone c from old new
 halts_ended law c from old mid new befell keeps held q s h n source left sink t = record {
@@ -132,7 +132,7 @@ halts_ended law c from old mid new befell keeps held q s h n source left sink t 
       (up_to_meta law q s c ((c, InputEnded) ∷ (t.more ++ h)) mid (befell q s (t.more ++ h) t.after));
 }
 
--- calls were made
+-- Calls were made.
 halts_made : UpToLaw → (c : ℕ) (from : Stage) (old new : MetaLinks)
     → ((q : List Question) (s : MetaSettings) (h : History) → MetaAfter q s h old → (m : ℕ) × Progress q s c h m new)
     → HaltStepAlone c from old new
@@ -146,19 +146,19 @@ halts_made law c from old new drove held q s h n source left sink t =
           (subst (λ z. MetaAfter q s z new) (sym (append_assoc (call_events c d.calls) t.more h)) d.after);
     }
 
--- not all that are due
+-- Not all due calls were made.
 pub halts_driven : UpToLaw → (E : Type 0) (e : E) (c : ℕ) (old new : MetaLinks) → DriveResult {E = E} c (Err e) old new
     → HaltStepAlone c Due old new
 halts_driven law E e c old new drove = halts_made law c Due old new (λ q s h a. drove q s h a)
 
--- all that are due, and what waits was not handed out
+-- All due calls were made, and what waits was not handed out.
 halts_unsaid : UpToLaw → (E : Type 0) (c n : ℕ) (old mid new : MetaLinks) → DriveResult {E = E} c (Ok n) old mid
     → new ≡ mid → HaltStepAlone c Due old new
 halts_unsaid law E c n old mid new drove e =
     halts_made law c Due old new
     (λ q s h a. (n, subst (λ z. Progress q s c h n z) (sym e) (drove q s h a).progress))
 
--- behind what went on
+-- The talk halts after steps that went on.
 pub halts_after : (c : ℕ) (from mid : Stage) (f : ℕ → ℕ) (a b d : MetaLinks) (k k2 : DeviceState)
     → ((left : DeviceState) → TalkStep c from mid f a b left left k k2) → HaltStep c mid b d k2 → HaltStep c from a d k
 halts_after c from mid f a b d k k2 one off q s h n source left sink t =
@@ -190,7 +190,7 @@ breaks_after c from a b d k k2 k3 one off = record {
 
 -- ---- from the start
 
--- after each history that can have left the connections, there is a talk
+-- After every history that can have left the connections, there is a talk with n reads.
 pub record Begun
     (c reads : ℕ) (stage : Stage) (old new : MetaLinks) (source left sink held : DeviceState)
     : Type 0 where
@@ -225,12 +225,12 @@ begun_on c n from to f a b d l l2 l3 k k2 k3 one two = record {
 
 -- ---- the functions
 
--- what waited was handed out, and a write failed
+-- What waited was handed out, and a write failed.
 pub write_failed_after : (c : ℕ) (octets : List ℕ) (old mid new : MetaLinks) → MetaRecorded c (HandedOut octets) old mid
     → MetaRecorded c (Stopped reasons.Write) mid new → MetaWriteFailed c octets old new
 write_failed_after c octets old mid new one two q s h a = two q s ((c, HandedOut octets) ∷ h) (one q s h a)
 
--- calls were made, and what waited was written or not
+-- Calls were made, and what waited was written or not.
 pub sent_by : UpToLaw → OneTranscript → (E : Type 0) (c n : ℕ) (old mid new : MetaLinks) (sink held : DeviceState)
     (r : Result (Unit {0}) PushError) → c < length mid.pool.connections
     → DriveResult {E = E} c (Ok n) old mid → AfterPush c r mid new sink held → AfterSendDue c r old new sink held
@@ -241,7 +241,7 @@ sent_by law hearing E c n old mid new sink held (Err pushes.Write) lt d p =
 sent_by law hearing E c n old mid new sink held (Err pushes.Memory) lt d p =
     halts_unsaid law E c n old mid new d p.0 sink
 
--- and then a message was taken
+-- And then a message was taken.
 pub sent_and_taken : (c : ℕ) (receipt : Receipt) (old mid new : MetaLinks) (sink held : DeviceState)
     → ((left : DeviceState) → TalkStep c Due Listening same old mid left left sink held) → AfterTakeMessage c receipt mid new
     → AfterSendAndTake c (Ok receipt) old new sink held
@@ -252,7 +252,7 @@ sent_and_taken c receipts.Nothing old mid new sink held one two = λ left.
 sent_and_taken c receipts.Over old mid new sink held one two = λ left.
     goes_trans c Due Listening Over same same old mid new left left left sink held held (one left) (two left held)
 
--- a turn failed behind others
+-- Sending fails after steps that went on.
 pub unsettled : (c : ℕ) (e : PushError) (old mid new : MetaLinks) (sink held then_held : DeviceState)
     → ((left : DeviceState) → TalkStep c Due Due same old mid left left sink held)
     → AfterSendAndTake c (Err e) mid new held then_held → AfterSettle c (Err e) old new sink then_held

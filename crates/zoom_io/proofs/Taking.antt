@@ -27,7 +27,7 @@ use Rattle.zoom_io.specs.declared.talk_steps.Receipt.TheVariants as receipts
 use Rattle.zoom_io.specs.TalkTraces.{Stage, Due, Listening, Waiting, Over, IsAtStage, IsNextStep, IsStoppedAt, TalkTrace, beginning, due_sent, message_taken, none_taken, stop_taken, piece_read, input_end}
 use Rattle.zoom_io.specs.TalkSteps.{AfterTakeMessage, TalkStepAlone, receipt_of}
 
--- ---- answers after which the connection is stopped
+-- ---- steps after which the connection is Closed or Failed
 
 abbrev IsLast : Result Step TakeError → Type 0
 IsLast (Ok steps.Ended) = Unit {0}
@@ -66,7 +66,7 @@ take_last p (Fault kind at) m l = refl
 take_last p (Rest n) m l = rest_last p n p.ended l
 take_last p Nothing m l = none_last p p.ended l
 
--- ---- the end of the input, where no message is there
+-- ---- the end of the input, when no message is waiting
 
 abbrev IsNothing : Result Step TakeError → Type 0
 IsNothing (Ok steps.Nothing) = Unit {0}
@@ -90,7 +90,7 @@ none_kept : (p : Transcript) (b : Bool) → IsNothing (Ok (cond b steps.Ended st
 none_kept p true l = absurd l
 none_kept p false l = refl
 
--- a Take that answered Nothing changed nothing
+-- A take that returned `Nothing` changed nothing.
 take_none : (p : Transcript) (input : Input) → IsNothing (answer_to p input) → after_take p input ≡ p
 take_none p AlreadyStopped l = absurd l
 take_none p (Message v) l = absurd (outcome_some (verdict (standing (past_of p)) v) l)
@@ -102,7 +102,7 @@ take_none p Nothing l = none_kept p p.ended l
 abbrev ended_at : Transcript → Transcript
 ended_at p = record p { ended = true }
 
--- the next Take, where the input ended since, stops the connection
+-- The next take stops the connection, if the input has ended since.
 dry_last : OneInput → (p : Transcript) (m n : Input) → NextInput p m → IsNothing (answer_to p m) → NextInput (ended_at p) n
     → is_stopped (state_at (after_take (ended_at p) n)) ≡ true
 dry_last meeting p m AlreadyStopped at l then = then
@@ -136,7 +136,7 @@ dry_stopped meeting s c h next p transcript =
         subst (λ z. is_stopped (state_at z) ≡ true) (sym (then.2 ∙ ap (λ z. after_take z then.0) same))
         (dry_last meeting was took.0 then.0 took.1 nothing (subst (λ z. NextInput z then.0) same then.1))
 
--- a talk at which no message was there
+-- A talk in which no message was waiting.
 pub ends_stopped : OneInput → {q : List Question} {s : MetaSettings} {c : ℕ} {h more : History}
     {read written : List ℕ} {n : ℕ} {stage : Stage} → TalkTrace q s c h more read written n stage → stage ≡ Waiting
     → IsStoppedAt s c ((c, Took) ∷ (c, InputEnded) ∷ (more ++ h))
@@ -148,7 +148,7 @@ ends_stopped meeting (stop_taken f) is = absurd cc
 ends_stopped meeting (piece_read piece f some few) is = absurd cc
 ends_stopped meeting (input_end f) is = absurd cc
 
--- ---- what is answered
+-- ---- what a take returns
 
 module _ (law : UpToLaw) (hearing : OneTranscript) (meeting : OneInput) (c : ℕ) (old new : MetaLinks)
     (lt : c < length old.pool.connections) (answer : Result Step TakeError) (done : IsDone answer)
@@ -210,7 +210,7 @@ module _ (law : UpToLaw) (hearing : OneTranscript) (meeting : OneInput) (c : ℕ
     nothing is = goes Waiting (λ q s h a. tt)
         (λ q s h more read written reads a f. none_taken f (next_step steps.Nothing is q s (more ++ h) a))
 
--- a Take that was answered
+-- A take that returned a step.
 pub taken_step : UpToLaw → OneTranscript → OneInput → (c : ℕ) (old new : MetaLinks) → c < length old.pool.connections
     → (step : Step) → IsTakeResult c old.pool (Ok step) → MetaTakeStep c old new → AfterTakeMessage c (receipt_of step) old new
 taken_step law hearing meeting c old new lt steps.Opened a t =
@@ -228,7 +228,7 @@ taken_step law hearing meeting c old new lt steps.Ended a t =
 taken_step law hearing meeting c old new lt steps.Stopped a t =
     over law hearing meeting c old new lt (Ok steps.Stopped) tt a t tt
 
--- one that was refused, memory aside
+-- A take that was refused, except for `Memory`.
 pub taken_refusal : UpToLaw → OneTranscript → OneInput → (c : ℕ) (old new : MetaLinks) → c < length old.pool.connections
     → (e : TakeError) → IsDone {A = Step} (Err e) → IsTakeResult c old.pool (Err e) → MetaTakeStep c old new
     → AfterTakeMessage c receipts.Over old new

@@ -21,7 +21,7 @@ use Rattle.zoom_io.specs.AtOnce.{IsTalkDone, AfterTalkAtOnce}
 use Rattle.zoom_io.proofs.Apart.{over_alike}
 use Rattle.zoom_io.proofs.Joining.{risen_none}
 
--- ---- histories that tell the same of a connection
+-- ---- histories with the same events on a connection
 
 module _ (q : List Question) (s : MetaSettings) (c : ℕ) (h now later : History) (first last : View)
     (e : events_on c later ≡ events_on c now)
@@ -130,7 +130,7 @@ module _ {E : Type 0} (view : E → View) (q : List Question) (s : MetaSettings)
   among_same c n turns now later None (Some y) e a = absurd a
   among_same c n turns now later (Some x) None e a = absurd a
 
-  -- where there are no ends, the count says nothing
+  -- Without devices, the count of polls says nothing.
   among_none : (c n m turns : ℕ) (now : History) (first : Option E) → IsAmongIf view q s c h now n turns first None
       → IsAmongIf view q s c h now m turns first None
   among_none c n m turns now None a = a
@@ -248,7 +248,7 @@ below_others n c i far = grind (arith, nat_tests)
 below_all : (n i c : ℕ) → c < i → one_more_below i n c ≡ n + 1
 below_all n i c lt = grind (arith, nat_tests)
 
--- one connection takes part
+-- One connection takes part.
 pub round_goes : {E : Type 0} (view : E → View) (c n turns : ℕ) (x halves : List (Option E)) (before last : Option E)
     (a b d : MetaLinks) → c < length halves → slice_get halves c ≡ Some before
     → RoundStep view (for_each n) (one_more_below c n) turns x halves a b → OptionStep view c n (n + 1) turns before last b d
@@ -258,7 +258,7 @@ round_goes view c n turns x halves before last a b d lt is goes steps =
     (goes_step view c n (n + 1) (one_more_below c n) (one_more_below (c + 1) n) turns halves before last b d lt is
     (below_here n c) (below_next n c) (below_others n c) steps)
 
--- each took part
+-- Each connection took part.
 pub round_ends : {E : Type 0} (view : E → View) (i n turns : ℕ) (x halves : List (Option E)) (a b : MetaLinks)
     → length halves ≤ i → RoundStep view (for_each n) (one_more_below i n) turns x halves a b
     → RoundStep view (for_each n) (for_each (n + 1)) turns x halves a b
@@ -282,7 +282,7 @@ round_ends {E = E} view i n turns x halves a b le goes = goes_trans view (for_ea
         (among_none view q s h c (one_more_below i n c) (n + 1) turns all.now (halves_at first c)
         (subst (λ z. IsAmongIf view q s c h all.now (one_more_below i n c) turns (halves_at first c) z) none (all.each c)))
 
--- one connection takes leave
+-- One connection takes leave.
 pub leave_goes : {E : Type 0} (view : E → View) (c n : ℕ) (x halves : List (Option E)) (before last : Option E)
     (a b d : MetaLinks) → c < length halves → slice_get halves c ≡ Some before
     → RoundStep view (for_each n) (for_each n) n x halves a b → OptionStep view c n n n before last b d
@@ -291,13 +291,13 @@ leave_goes view c n x halves before last a b d lt is goes steps =
     goes_trans view (for_each n) (for_each n) (for_each n) n x halves (slice_set halves c last) a b d goes
     (goes_step view c n n (for_each n) (for_each n) n halves before last b d lt is refl refl (λ i far. refl) steps)
 
--- rounds, and one more
+-- Rounds, and one more.
 pub rounds_go : {E : Type 0} (view : E → View) (n turns : ℕ) (x y z : List (Option E)) (a b d : MetaLinks)
     → AfterRounds view n turns x y a b → RoundStep view (for_each n) (for_each (n + 1)) turns y z b d
     → AfterRounds view (n + 1) turns x z a d
 rounds_go view n turns x y z a b d one two = record { on = λ q s h after. two.on q s h x (one.on q s h after) }
 
--- ---- where each talk stands
+-- ---- the phase of each talk
 
 module _ {R W : Type 0} (state : R → DeviceState) (polls : R → ℕ) (held : W → DeviceState) where
   begun_at : (q : List Question) (s : MetaSettings) (h : History) (c turns : ℕ) (halves : Option (Halves R W))
@@ -322,7 +322,7 @@ module _ {R W : Type 0} (state : R → DeviceState) (polls : R → ℕ) (held : 
         writer = refl;
       })
 
-  -- before the first round
+  -- Before the first round.
   pub rounds_begin : (turns : ℕ) (halves : List (Option (Halves R W))) (meta : MetaLinks) → AreAtPhase phases.Due halves
       → AfterRounds (view_of state polls held) 0 turns halves halves meta meta
   rounds_begin turns halves meta at = record {
@@ -333,7 +333,7 @@ module _ {R W : Type 0} (state : R → DeviceState) (polls : R → ℕ) (held : 
     };
   }
 
-  -- where it is over, the count says nothing
+  -- Of a talk that is over, the count of polls says nothing.
   done_at : (q : List Question) (s : MetaSettings) (h now : History) (c n turns : ℕ) (first last : Option (Halves R W))
       → IsAtPhase phases.Over last → IsAmongIf (view_of state polls held) q s c h now n turns first last
       → IsTalkDone (view_of state polls held) q s c h now turns first last
@@ -352,7 +352,7 @@ module _ {R W : Type 0} (state : R → DeviceState) (polls : R → ℕ) (held : 
   among_done q s h now c n turns None (Some y) at done = absurd done
   among_done q s h now c n turns (Some x) None at done = absurd done
 
-  -- where each is over, as many rounds as may be were as good
+  -- If every talk is over, fewer rounds do as well as `turns` rounds.
   pub rounds_over : (n m turns : ℕ) (x y : List (Option (Halves R W))) (a b : MetaLinks) → AreAtPhase phases.Over y
       → AfterRounds (view_of state polls held) n turns x y a b → AfterRounds (view_of state polls held) m turns x y a b
   rounds_over n m turns x y a b over rounds = record {
@@ -367,7 +367,7 @@ module _ {R W : Type 0} (state : R → DeviceState) (polls : R → ℕ) (held : 
         };
   }
 
-  -- and then the rest take leave
+  -- Then the other connections take leave.
   pub talks_done : (turns : ℕ) (x y z : List (Option (Halves R W))) (a b d : MetaLinks)
       → AfterRounds (view_of state polls held) turns turns x y a b
       → RoundStep (view_of state polls held) (for_each turns) (for_each turns) turns y z b d → AreAtPhase phases.Over z
@@ -383,7 +383,7 @@ module _ {R W : Type 0} (state : R → DeviceState) (polls : R → ℕ) (held : 
         };
   }
 
-  -- below a number, one more
+  -- All below a number, and one more.
   pub over_more : (halves : List (Option (Halves R W))) (c : ℕ) (last : Option (Halves R W)) → c < length halves
       → IsAtPhase phases.Over last → ((i : ℕ) → i < c → IsAtPhase phases.Over (halves_at halves i))
       → (i : ℕ) → i < c + 1 → IsAtPhase phases.Over (halves_at (slice_set halves c last) i)
@@ -398,7 +398,7 @@ module _ {R W : Type 0} (state : R → DeviceState) (polls : R → ℕ) (held : 
           let before : i < c = grind (arith, nat_tests) in
           subst (IsAtPhase phases.Over) (sym (ap flat (set_other halves c i last e))) (below i before)
 
--- each below a number that is the length
+-- All below the length are all.
 pub over_all : {R W : Type 0} (halves : List (Option (Halves R W))) (n : ℕ) → length halves ≤ n
     → ((i : ℕ) → i < n → IsAtPhase phases.Over (halves_at halves i)) → AreAtPhase phases.Over halves
 over_all halves n le below c = by (cases_lt c n)
@@ -408,7 +408,7 @@ over_all halves n le below c = by (cases_lt c n)
     by (inr past) =
         subst (IsAtPhase phases.Over) (sym (ap flat (slice_get_past halves c (omega (arith, le, past))))) tt
 
--- ---- what is told where memory was found
+-- ---- on success
 
 pub ok_both : {X E A B C : Type 0} (r : Result X E) → (A → B → C) → OnOk r A → OnOk r B → OnOk r C
 ok_both (Ok x) f a b = f a b

@@ -1,4 +1,4 @@
--- A target in memory that answers over devices: what it was fed, and what it handed out (Z39.50-2003, 3.2).
+-- A target in memory answers over devices: what it is fed, and what it hands out (Z39.50-2003, 3.2).
 use Rattle.std.specs.Prelude.{◌≡◌, ◌⊎◌, ℕ, suc, ◌<◌, ◌≤◌, Bool, true, false, List, [], ◌∷◌, ◌++◌, length, Result, Ok, Err}
 use Rattle.std.specs.Io.KnownBytes.{Keeps, Appends, Consumes, IsAtEnd}
 use Rattle.zoom_pool.specs.Hosts.{HostState, HostAfter, Holdings, HostEvent, HostFed, HostFedPart, Released, Lost, HostHandedOut}
@@ -7,8 +7,8 @@ use Rattle.zoom_io.specs.declared.replies.AnswerError.TheVariants as errors
 use Rattle.zoom_io.specs.Devices.{DeviceState, HasAppendedFront, HasFailed, HasNoFailure}
 use Rattle.zoom_io.specs.TalkTraces.{same}
 
--- Events of a host, the newest first: the octets that it was fed, joined; those that it handed out; and in how many
--- pieces it was fed, each of as many octets as one read gives.
+-- Events of a serving end, the newest first, with the octets fed to it, the octets it handed out, and the number of
+-- pieces fed. Each piece has as many octets as one read gives: 1 to 4,096.
 pub data Exchanges : List HostEvent → List ℕ → List ℕ → ℕ → Type 0 where
   nothing : Exchanges [] [] [] 0
   fed : {more : List HostEvent} {read written : List ℕ} {reads : ℕ} (piece : List ℕ)
@@ -21,7 +21,8 @@ pub data Exchanges : List HostEvent → List ℕ → List ℕ → ℕ → Type 0
   handed : {more : List HostEvent} {read written : List ℕ} {reads : ℕ} (octets : List ℕ)
       → Exchanges more read written reads → Exchanges (HostHandedOut octets ∷ more) read (written ++ octets) reads
 
--- An exchange so far, of so many reads: what was read is what the host was fed, and what it handed out was written.
+-- An exchange so far, with this number of reads: the octets read are those fed, and the octets handed out are those
+-- written.
 pub record Exchange
     (holdings : Holdings) (events : List HostEvent) (reads : ℕ) (host : HostState) (source left sink held : DeviceState)
     : Type 0 where
@@ -33,7 +34,7 @@ pub record Exchange
   pub consumed : Consumes source.octets left.octets read
   pub appended : Appends sink.octets held.octets written
 
--- an exchange goes on so, whatever went before, and no device fails
+-- The exchange goes on, from every exchange that leads to the old state, and no device fails.
 pub record ExchangeStep (more : ℕ → ℕ) (old new : HostState)
     (left then_left held then_held : DeviceState) : Type 0 where
   pub on : (holdings : Holdings) (events : List HostEvent) (reads : ℕ) (source sink : DeviceState)
@@ -42,10 +43,10 @@ pub record ExchangeStep (more : ℕ → ℕ) (old new : HostState)
   pub reader : HasNoFailure left then_left
   pub writer : HasNoFailure held then_held
 
--- ---- memory is wanting
+-- ---- no memory is found
 
--- Events of a host, the newest first, until memory was wanting: for what was to be handed out, of which nothing was
--- then; or for a piece or a reply, and the host stopped.
+-- Events of a serving end, the newest first, until no memory is found. If it was for handing out, nothing more is
+-- handed out; if it was for a piece or a reply, the serving end has stopped.
 pub data StarvedEvents (host : HostState) : List HostEvent → List ℕ → List ℕ → ℕ → Type 0 where
   unhanded : {more : List HostEvent} {read written : List ℕ} {reads : ℕ}
       → Exchanges more read written reads → StarvedEvents host more read written reads
@@ -55,7 +56,7 @@ pub data StarvedEvents (host : HostState) : List HostEvent → List ℕ → List
   unreleased : {more : List HostEvent} {read written : List ℕ} {reads : ℕ} (k : ℕ)
       → Exchanges more read written reads → host.stopped ≡ true → StarvedEvents host (Lost k ∷ more) read written reads
 
--- an exchange of so many reads, until memory was wanting
+-- An exchange with this number of reads, until no memory is found.
 pub record StarvedExchange
     (holdings : Holdings) (events : List HostEvent) (reads : ℕ) (host : HostState) (source left sink held : DeviceState)
     : Type 0 where
@@ -67,7 +68,7 @@ pub record StarvedExchange
   pub consumed : Consumes source.octets left.octets read
   pub appended : Appends sink.octets held.octets written
 
--- memory is wanting so, whatever went before, and no device fails
+-- No memory is found, after every exchange that leads to the old state, and no device fails.
 pub record StarvedStep (more : ℕ → ℕ) (old new : HostState) (left then_left held then_held : DeviceState) : Type 0 where
   pub on : (holdings : Holdings) (events : List HostEvent) (reads : ℕ) (source sink : DeviceState)
       → Exchange holdings events reads old source left sink held
@@ -77,16 +78,16 @@ pub record StarvedStep (more : ℕ → ℕ) (old new : HostState) (left then_lef
 
 -- ---- what is written
 
--- replies were released, and the devices rest
+-- Replies were released, and the devices are unchanged.
 abbrev pub AfterRelease : HostState → HostState → Type 0
 AfterRelease old new = (left held : DeviceState) → ExchangeStep same old new left left held held
 
--- all were, or memory was wanting for one
+-- All replies were released, or no memory was found for one.
 abbrev pub AfterReleaseAll : {E : Type 0} → Result (Unit {0}) E → HostState → HostState → Type 0
 AfterReleaseAll (Ok _) old new = AfterRelease old new
 AfterReleaseAll (Err _) old new = (left held : DeviceState) → StarvedStep same old new left left held held
 
--- a write failed: of the octets that were handed out then, a front went
+-- A write failed: a front of the octets handed out last was written.
 pub record UnwrittenReplies (old new : HostState) (sink held : DeviceState) : Type 0 where
   pub octets : List ℕ
   pub on : (holdings : Holdings) (events : List HostEvent)
@@ -94,7 +95,7 @@ pub record UnwrittenReplies (old new : HostState) (sink held : DeviceState) : Ty
   pub front : HasAppendedFront sink.octets held.octets octets
   pub failed : HasFailed sink.failures held.failures
 
--- what writing the replies did
+-- After writing the replies: all were written, a write failed, or no memory was found.
 abbrev pub AfterWriteReplies : Result (Unit {0}) AnswerError → HostState → HostState → DeviceState → DeviceState
     → Type 0
 AfterWriteReplies (Ok _) old new sink held = (left : DeviceState) → ExchangeStep same old new left left sink held
@@ -103,7 +104,7 @@ AfterWriteReplies (Err errors.Memory) old new sink held = (left : DeviceState)
     → StarvedStep same old new left left sink held
 AfterWriteReplies (Err _) old new sink held = ⊥
 
--- An exchange of so many reads, and then a write failed.
+-- An exchange with this number of reads, and then a write failed.
 pub record InterruptedExchange
     (holdings : Holdings) (events : List HostEvent) (reads : ℕ) (new : HostState) (source left sink held : DeviceState)
     : Type 0 where
@@ -112,7 +113,7 @@ pub record InterruptedExchange
   pub exchange : Exchange holdings events reads host source left sink before
   pub unwritten : UnwrittenReplies host new before held
 
--- what reading a piece and answering it did: octets were read; none are left; a device failed; memory was wanting
+-- A piece was read, and writing its replies failed.
 pub record FailedPiece (old new : HostState) (left then_left held then_held : DeviceState) : Type 0 where
   pub on : (holdings : Holdings) (events : List HostEvent) (reads : ℕ) (source sink : DeviceState)
       → Exchange holdings events reads old source left sink held
@@ -120,6 +121,7 @@ pub record FailedPiece (old new : HostState) (left then_left held then_held : De
   pub reader : HasNoFailure left then_left
   pub failed : HasFailed held.failures then_held.failures
 
+-- After answering a piece: it was answered; the input has ended; a device failed; or no memory was found.
 abbrev pub AfterAnswerPiece
     : Result Bool AnswerError → HostState → HostState → DeviceState → DeviceState → DeviceState → DeviceState → Type 0
 AfterAnswerPiece (Ok true) old new source left sink held = ExchangeStep suc old new source left sink held
@@ -133,21 +135,21 @@ AfterAnswerPiece (Err errors.Turns) old new source left sink held = ⊥
 
 -- ---- how it ends
 
--- the host's Close was put, or the host stopped
+-- The serving end stopped, or put its Close out.
 abbrev pub IsServed : HostState → Type 0
 IsServed host = (host.stopped ≡ true) ⊎ (host.closed ≡ true)
 
--- the input ended, the host's Close was put, or the host stopped
+-- The input ended, or the serving end stopped or put its Close out.
 abbrev pub IsServedOrEnded : HostState → DeviceState → Type 0
 IsServedOrEnded host left = IsAtEnd left.octets ⊎ IsServed host
 
--- after so many reads that gave octets, of at most so many: one read more gave none, since the input ended; or the
--- host's Close was put, or it stopped
+-- How answering ended after n reads that gave octets, of at most `reads`. Either one read more found the end of the
+-- input, or the serving end stopped or put its Close out.
 abbrev pub IsEndAfter : ℕ → ℕ → HostState → DeviceState → Type 0
 IsEndAfter n reads host left = ((n < reads) × IsAtEnd left.octets) ⊎ ((n ≤ reads) × IsServed host)
 
--- What answering, of at most so many reads, did to each exchange so far, after how many reads that gave octets. Where
--- memory was wanting, the host stands where what it was fed, and what it released and handed out, have left it.
+-- What a result says of each exchange, and of the number of reads that gave octets. After `Memory`, the state is what
+-- the octets fed, the replies released and the octets handed out have left.
 abbrev pub ExchangeResult
     : Holdings → List HostEvent → ℕ → Result (Unit {0}) AnswerError → HostState
     → DeviceState → DeviceState → DeviceState → DeviceState → Type 0
@@ -162,7 +164,7 @@ ExchangeResult holdings events reads (Err errors.Turns) new source left sink hel
 ExchangeResult holdings events reads (Err errors.Memory) new source left sink held =
     (n : ℕ) × (n ≤ reads) × StarvedExchange holdings events n new source left sink held
 
--- and what its end tells; where a device failed, one call of it did, and none of the other
+-- What a result says of the end. If a device failed, one call of it failed, and none of the other device.
 abbrev pub IsExchangeEnd
     : Result (Unit {0}) AnswerError → HostState → DeviceState → DeviceState → DeviceState → DeviceState → Type 0
 IsExchangeEnd (Ok _) new source left sink held =
@@ -175,6 +177,7 @@ IsExchangeEnd (Err errors.Turns) new source left sink held =
     (new.stopped ≡ false) × (new.closed ≡ false) × HasNoFailure source left × HasNoFailure sink held
 IsExchangeEnd (Err errors.Memory) new source left sink held = HasNoFailure source left × HasNoFailure sink held
 
+-- What answering with at most `reads` reads does, after every history of the serving end.
 pub record AfterAnswer
     (reads : ℕ) (answer : Result (Unit {0}) AnswerError) (old new : HostState) (source left sink held : DeviceState)
     : Type 0 where

@@ -1,4 +1,4 @@
--- What one poll of a connection's source did.
+-- What one poll of a connection's source does.
 use Rattle.std.specs.Prelude.{◌≡◌, ◌⊎◌, ℕ, suc, Ok, Err}
 use Rattle.std.specs.Io.KnownBytes.{Keeps, IsAtEnd}
 use Rattle.zoom_pool.specs.declared.state.Reason.TheVariants as reasons
@@ -11,7 +11,8 @@ use Rattle.zoom_io.specs.TalkTraces.{Due, Waiting, TalkStep}
 use Rattle.zoom_io.specs.Talking.{AfterFinish}
 use Rattle.zoom_io.specs.declared.conversation.TalkError.TheVariants as errors
 
--- octets came and were fed; none came yet; none are left; the poll failed, for which the connection was stopped
+-- Octets came and were fed; none have come yet; the input has ended; or the poll failed, and the connection was
+-- stopped.
 abbrev pub AfterArrive : ℕ → Arrival → MetaLinks → MetaLinks → DeviceState → DeviceState → Type 0
 AfterArrive c arrivals.Octets old new source left =
     (held : DeviceState) → TalkStep c Waiting Due suc old new source left held held
@@ -21,6 +22,6 @@ AfterArrive c arrivals.Failure old new source left =
     MetaRecorded c (Stopped reasons.Read) old new × Keeps source.octets left.octets
     × HasFailed source.failures left.failures
 
--- the input ended, and what was left of it was taken: the connection ended otherwise; or it was not Closing
+-- The input ended, and what was left of it was taken: the connection ended otherwise, or it was not Closing.
 abbrev pub AfterDrain : ℕ → MetaLinks → MetaLinks → Type 0
 AfterDrain c old new = AfterFinish c (Ok tt) old new ⊎ AfterFinish c (Err errors.Ended) old new

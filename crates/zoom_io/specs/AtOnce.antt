@@ -1,4 +1,4 @@
--- What a talk with all hosts at once did (Z39.50-2003, 3.2).
+-- What a talk on many connections at once does (Z39.50-2003, 3.2).
 use Rattle.std.specs.Prelude.{◌≡◌, ℕ, List, Option, None, Some}
 use Rattle.zoom_questions.specs.declared.question.Question.{Question}
 use Rattle.zoom_questions.specs.declared.question.MetaSettings.{MetaSettings}
@@ -6,14 +6,14 @@ use Rattle.zoom_pool.specs.History.{History, events_on}
 use Rattle.zoom_pool.specs.Metas.{MetaLinks, MetaAfter}
 use Rattle.zoom_io.specs.TalksAmong.{View, IsDoneAmong, halves_at}
 
--- Where a connection had ends its talk is done, and it has them still; else nothing befell it.
+-- If a connection has devices, its talk is done and it still has them; if not, it has no new events.
 abbrev pub IsTalkDone : {E : Type 0} → (E → View) → List Question → MetaSettings → ℕ → History → History → ℕ
     → Option E → Option E → Type 0
 IsTalkDone view q s c h now turns None None = events_on c now ≡ events_on c h
 IsTalkDone view q s c h now turns (Some first) (Some last) = IsDoneAmong q s c h now turns (view first) (view last)
 IsTalkDone view q s c h now turns _ _ = ⊥
 
--- Some history left the connections, in which each talk is done.
+-- Some history has left the connections, in which each talk is done.
 pub record AreTalksDone {E : Type 0}
     (view : E → View) (questions : List Question) (s : MetaSettings) (h : History) (turns : ℕ)
     (first last : List (Option E)) (new : MetaLinks)
@@ -22,7 +22,7 @@ pub record AreTalksDone {E : Type 0}
   pub after : MetaAfter questions s now new
   pub each : (c : ℕ) → IsTalkDone view questions s c h now turns (halves_at first c) (halves_at last c)
 
--- What a talk with all hosts at once did, each polled at most so many times, whatever befell the connections before.
+-- What `talk_at_once` does after every history before it, with at most `turns` polls of each source.
 pub record AfterTalkAtOnce {E : Type 0}
     (view : E → View) (turns : ℕ) (first last : List (Option E)) (old new : MetaLinks)
     : Type 0 where

@@ -1,4 +1,4 @@
--- What rounds do, in which each connection that is not over is polled once.
+-- What rounds do: each polls the source of each connection once, unless it is over.
 use Rattle.std.specs.Prelude.{◌≡◌, ◌+◌, ◌<◌, ℕ, nat_lt, if◌then◌else◌, List, Option, None, Some}
 use Rattle.zoom_questions.specs.declared.question.Question.{Question}
 use Rattle.zoom_questions.specs.declared.question.MetaSettings.{MetaSettings}
@@ -6,14 +6,14 @@ use Rattle.zoom_pool.specs.History.{History, events_on}
 use Rattle.zoom_pool.specs.Metas.{MetaLinks, MetaAfter}
 use Rattle.zoom_io.specs.TalksAmong.{View, IsAmong, StepAmong, halves_at}
 
--- what befell a connection with ends, and one without
+-- A connection with devices is among the talks; one without has no new events.
 abbrev pub IsAmongIf : {E : Type 0} → (E → View) → List Question → MetaSettings → ℕ → History → History → ℕ → ℕ
     → Option E → Option E → Type 0
 IsAmongIf view q s c h now n turns None None = events_on c now ≡ events_on c h
 IsAmongIf view q s c h now n turns (Some first) (Some last) = IsAmong q s c h now n turns (view first) (view last)
 IsAmongIf view q s c h now n turns _ _ = ⊥
 
--- some history left the connections, each polled so many times
+-- Some history left the connections, after n c polls of each connection c.
 pub record AreAmong {E : Type 0}
     (view : E → View) (q : List Question) (s : MetaSettings) (h : History) (n : ℕ → ℕ) (turns : ℕ)
     (first last : List (Option E)) (new : MetaLinks)
@@ -22,41 +22,41 @@ pub record AreAmong {E : Type 0}
   pub after : MetaAfter q s now new
   pub each : (c : ℕ) → IsAmongIf view q s c h now (n c) turns (halves_at first c) (halves_at last c)
 
--- the same number for each connection
+-- The same number for each connection.
 abbrev pub for_each : ℕ → ℕ → ℕ
 for_each n c = n
 
--- one poll more for those below a number
+-- One poll more for the connections below i.
 abbrev pub one_more_below : ℕ → ℕ → ℕ → ℕ
 one_more_below i n c = if nat_lt c i then n + 1 else n
 
--- a step of a connection, where it has ends
+-- A step of a connection if it has devices; otherwise nothing changes.
 abbrev pub OptionStep : {E : Type 0} → (E → View) → (c n m turns : ℕ) → Option E → Option E
     → MetaLinks → MetaLinks → Type 0
 OptionStep view c n m turns None None old new = new ≡ old
 OptionStep view c n m turns (Some before) (Some last) old new = StepAmong c n m turns old new (view before) (view last)
 OptionStep view c n m turns _ _ old new = ⊥
 
--- Whatever befell the connections before, they go from so many polls each to so many.
+-- The connections go from n c to m c polls each, for every history before.
 pub record RoundStep {E : Type 0}
     (view : E → View) (n m : ℕ → ℕ) (turns : ℕ) (before last : List (Option E)) (old new : MetaLinks)
     : Type 0 where
   pub on : (q : List Question) (s : MetaSettings) (h : History) (first : List (Option E))
       → AreAmong view q s h n turns first before old → AreAmong view q s h m turns first last new
 
--- one round of at most so many, whatever went before
+-- After one round, of at most `turns`: each connection goes from n polls to n + 1.
 abbrev pub AfterRound : {E : Type 0} → (E → View) → List (Option E) → List (Option E) → MetaLinks → MetaLinks → Type 0
 AfterRound view before last old new =
     (n turns : ℕ) → n < turns → RoundStep view (for_each n) (for_each (n + 1)) turns before last old new
 
--- rounds from the start on
+-- After rounds that begin with the talks: each connection has n polls.
 pub record AfterRounds {E : Type 0}
     (view : E → View) (n turns : ℕ) (first last : List (Option E)) (old new : MetaLinks)
     : Type 0 where
   pub on : (q : List Question) (s : MetaSettings) (h : History) → MetaAfter q s h old
       → AreAmong view q s h (for_each n) turns first last new
 
--- the connections that are not over are stopped, after as many polls as each may have
+-- After all have taken leave: each connection that was not over is stopped, at the limit on reads.
 abbrev pub AfterLeaveAll : {E : Type 0} → (E → View) → List (Option E) → List (Option E) → MetaLinks → MetaLinks
     → Type 0
 AfterLeaveAll view before last old new = (n : ℕ) → RoundStep view (for_each n) (for_each n) n before last old new

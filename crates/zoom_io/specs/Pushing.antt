@@ -1,4 +1,4 @@
--- Octets that wait to go out on a connection are written to a device (Z39.50-2003, 3.2).
+-- Octets that wait on a connection are written to a device (Z39.50-2003, 3.2).
 use Rattle.std.specs.Prelude.{◌≡◌, ℕ, List, ◌∷◌, Some, Result, Ok, Err}
 use Rattle.zoom_questions.specs.declared.question.Question.{Question}
 use Rattle.zoom_questions.specs.declared.question.MetaSettings.{MetaSettings}
@@ -13,13 +13,14 @@ use Rattle.zoom_io.specs.declared.outgoing.PushError.{PushError}
 use Rattle.zoom_io.specs.declared.outgoing.PushError.TheVariants as errors
 use Rattle.std.specs.Io.KnownBytes.{Appends}
 
--- octets were handed out, and a write failed: the connection was stopped for that
+-- Octets were handed out, a write failed, and the connection was stopped for `Write`.
 abbrev pub MetaWriteFailed : ℕ → List ℕ → MetaLinks → MetaLinks → Type 0
 MetaWriteFailed c octets old new =
     (questions : List Question) (s : MetaSettings) (h : History) → MetaAfter questions s h old
     → MetaAfter questions s ((c, Stopped reasons.Write) ∷ (c, HandedOut octets) ∷ h) new
 
--- Whether all that waited was written; a front of it, where a write failed; nothing, where memory was wanting.
+-- After a push: all that waited was written; a write failed after a front of it; or no memory was found, and nothing
+-- changed.
 abbrev pub AfterPush : ℕ → Result (Unit {0}) PushError → MetaLinks → MetaLinks → DeviceState → DeviceState → Type 0
 AfterPush c (Ok _) old new sink held =
     MetaRecorded c (HandedOut (waiting_at old.pool c)) old new
@@ -29,7 +30,7 @@ AfterPush c (Err errors.Write) old new sink held =
     × HasAppendedFront sink.octets held.octets (waiting_at old.pool c) × HasFailed sink.failures held.failures
 AfterPush c (Err errors.Memory) old new sink held = (new ≡ old) × (held ≡ sink)
 
--- where a write failed, the connection was stopped for that
+-- If a write failed, the connection has failed for `Write`.
 abbrev pub IsBroken : {A : Type 0} → ℕ → Result A PushError → MetaLinks → Type 0
 IsBroken c (Err errors.Write) new = stop_at new.pool c ≡ Some (states.Failed reasons.Write)
 IsBroken c _ new = Unit {0}

@@ -1,4 +1,4 @@
--- What the turns of a talk do.
+-- What the steps of a talk do.
 use Rattle.std.specs.Prelude.{ℕ, List, Result, Ok, Err}
 use Rattle.zoom_questions.specs.declared.question.Question.{Question}
 use Rattle.zoom_questions.specs.declared.question.MetaSettings.{MetaSettings}
@@ -13,6 +13,7 @@ use Rattle.zoom_io.specs.declared.outgoing.PushError.TheVariants as errors
 use Rattle.zoom_io.specs.Devices.{DeviceState, HasFailed}
 use Rattle.zoom_io.specs.TalkTraces.{Stage, Due, Listening, Waiting, Over, Talk, TalkStep, HaltStep, BrokenTalk, same}
 
+-- The receipt of a take that returned this step.
 abbrev pub receipt_of : Step → Receipt
 receipt_of steps.Opened = receipts.Message
 receipt_of steps.Rejected = receipts.Message
@@ -22,35 +23,35 @@ receipt_of steps.Nothing = receipts.Nothing
 receipt_of steps.Ended = receipts.Over
 receipt_of steps.Stopped = receipts.Over
 
--- a talk goes on, and its devices rest
+-- The talk goes on, and its devices are unchanged.
 abbrev pub TalkStepAlone : ℕ → Stage → Stage → MetaLinks → MetaLinks → Type 0
 TalkStepAlone c from to old new = (left held : DeviceState) → TalkStep c from to same old new left left held held
 
--- memory was wanting, whatever the devices
+-- No memory is found, with every device.
 abbrev pub HaltStepAlone : ℕ → Stage → MetaLinks → MetaLinks → Type 0
 HaltStepAlone c from old new = (held : DeviceState) → HaltStep c from old new held
 
--- what taking a message did
+-- After taking a message: one was accepted, none is waiting, or the connection is Closed or Failed.
 abbrev pub AfterTakeMessage : ℕ → Receipt → MetaLinks → MetaLinks → Type 0
 AfterTakeMessage c receipts.Message old new = TalkStepAlone c Listening Due old new
 AfterTakeMessage c receipts.Nothing old new = TalkStepAlone c Listening Waiting old new
 AfterTakeMessage c receipts.Over old new = TalkStepAlone c Listening Over old new
 
--- a write failed
+-- A write failed, after every talk that leads to the old state.
 pub record WriteFailureStep (c : ℕ) (from : Stage) (old new : MetaLinks) (sink held : DeviceState) : Type 0 where
   pub on : (questions : List Question) (s : MetaSettings) (h : History) (reads : ℕ) (source left first : DeviceState)
       → Talk questions s c h reads from old source left first sink
       → BrokenTalk questions s c h reads new source left first held
   pub failed : HasFailed sink.failures held.failures
 
--- what making the calls that are due, and writing what waits, did
+-- After making the calls that are due, and writing what waits.
 abbrev pub AfterSendDue : ℕ → Result (Unit {0}) PushError → MetaLinks → MetaLinks → DeviceState → DeviceState → Type 0
 AfterSendDue c (Ok _) old new sink held =
     (left : DeviceState) → TalkStep c Due Listening same old new left left sink held
 AfterSendDue c (Err errors.Write) old new sink held = WriteFailureStep c Due old new sink held
 AfterSendDue c (Err errors.Memory) old new sink held = HaltStep c Due old new sink
 
--- what both did, one after the other: a message was taken; none is there; the connection was stopped; a write failed
+-- After both: a message was accepted, none is waiting, the connection is Closed or Failed, or sending failed.
 abbrev pub AfterSendAndTake : ℕ → Result Receipt PushError → MetaLinks → MetaLinks → DeviceState → DeviceState → Type 0
 AfterSendAndTake c (Ok receipts.Message) old new sink held =
     (left : DeviceState) → TalkStep c Due Due same old new left left sink held

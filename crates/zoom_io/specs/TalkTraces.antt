@@ -1,5 +1,4 @@
--- A connection that is driven over devices: in which order its deeds follow one another, and what was read and written
--- (Z39.50-2003, 3.2).
+-- A connection is driven over devices: the order of its events, and the octets read and written (Z39.50-2003, 3.2).
 use Rattle.std.specs.Prelude.{◌≡◌, ℕ, suc, ◌<◌, ◌≤◌, ◌==◌, Bool, true, false, List, [], ◌∷◌, ◌++◌, length, slice_get, Some, Result, Ok, Err}
 use Rattle.std.specs.Io.KnownBytes.{Appends, Consumes, IsAtEnd}
 use Rattle.zorigin.specs.Standings.{Call}
@@ -22,8 +21,9 @@ use Rattle.zoom_io.specs.Devices.{DeviceState, HasAppendedFront, HasFailed, HasN
 use Rattle.zoom_io.specs.declared.conversation.TalkError.{TalkError}
 use Rattle.zoom_io.specs.declared.conversation.TalkError.TheVariants as errors
 
--- Where a talk stands: calls that are due are made next, and what waits is written; a message is taken next; none is
--- there, and octets are read next; the connection was stopped; the input ended, and what was left of it was taken.
+-- The stages of a talk. Due: calls are made and waiting octets written next. Listening: a message is taken next.
+-- Waiting: no message is waiting, and octets are read next. Over: the connection is Closed or Failed. Ended: the
+-- input ended, and what was left of it was taken.
 pub data Stage : Type 0 where
   Due : Stage
   Listening : Stage
@@ -31,54 +31,55 @@ pub data Stage : Type 0 where
   Over : Stage
   Ended : Stage
 
--- no call of the connection is next, and no search was passed over
+-- No call of the connection is next; if the association was accepted, its search was admitted or skipped.
 abbrev pub IsIdle : List Question → MetaSettings → ℕ → History → Type 0
 IsIdle questions s c h =
     (question : Question) (p : Transcript) → slice_get questions c ≡ Some question
     → IsTranscript (settings_of s) (events_on c h) p
     → NoneIsNext (errand_of s question) p × WasTried p
 
--- all that was sent on the connection was handed out, unless a write had failed before
+-- Everything sent on the connection was handed out, unless a write failed before.
 abbrev pub IsAllHandedOut : MetaSettings → ℕ → History → Type 0
 IsAllHandedOut s c h =
     (p : Transcript) → IsTranscript (settings_of s) (events_on c h) p → is_lost (events_on c h) ≡ false
     → given (events_on c h) ≡ sent (past_of p)
 
--- the next Take of the connection answers this
+-- The next take of the connection returns this step.
 abbrev pub IsNextStep : MetaSettings → ℕ → History → Step → Type 0
 IsNextStep s c h step =
     (p : Transcript) → IsTranscript (settings_of s) (events_on c h) p → (input : Input) × NextInput p input
     × (answer_to p input ≡ Ok step)
 
--- each thing that the deeds of the connection amount to has it Closed or Failed
+-- The events of the connection leave it Closed or Failed.
 abbrev pub IsStoppedAt : MetaSettings → ℕ → History → Type 0
 IsStoppedAt s c h = (p : Transcript) → IsTranscript (settings_of s) (events_on c h) p → is_stopped (state_at p) ≡ true
 
--- the connection ended, and not for the end of its input
+-- The connection ended for a reason other than the end of its input.
 abbrev pub ended_well : State → Bool
 ended_well states.Closed = true
 ended_well (states.Failed reasons.Ended) = false
 ended_well (states.Failed reason) = true
 ended_well _ = false
 
--- each of those has it so
+-- The events of the connection leave it well ended.
 abbrev pub HasEndedWell : MetaSettings → ℕ → History → Type 0
 HasEndedWell s c h = (p : Transcript) → IsTranscript (settings_of s) (events_on c h) p → ended_well (state_at p) ≡ true
 
--- each has it Failed, for the end of its input: it was not Closing, and no part of a message was left
+-- The events of the connection leave it Failed for `Ended`: it was not Closing, and no part of a message was left.
 abbrev pub IsCutOff : MetaSettings → ℕ → History → Type 0
 IsCutOff s c h =
     (p : Transcript) → IsTranscript (settings_of s) (events_on c h) p → state_at p ≡ states.Failed reasons.Ended
 
--- what a stage says of the connection
+-- At the stages Over and Ended, the connection is Closed or Failed.
 abbrev pub IsAtStage : Stage → MetaSettings → ℕ → History → Type 0
 IsAtStage Over s c h = IsStoppedAt s c h
 IsAtStage Ended s c h = IsStoppedAt s c h
 IsAtStage _ s c h = Unit {0}
 
--- These deeds of the connection, the newest first, follow the history in this order: what is due is called and all that
--- waits is handed out to be written, first and after each message; a piece is read only where no message was there; the
--- input ends only there. What was read, what was written, how many reads gave octets, and where it stands then.
+-- The new events of the connection, the newest first, in the order of a talk. First and after each message, the due
+-- calls are made and everything that waits is handed out to be written. A piece is read, and the input ends, only
+-- when no message is waiting. With the octets read, the octets written, the number of reads that gave octets, and the
+-- stage.
 pub data TalkTrace (questions : List Question) (s : MetaSettings) (c : ℕ) (h : History)
     : History → List ℕ → List ℕ → ℕ → Stage → Type 0 where
   beginning : TalkTrace questions s c h [] [] [] 0 Due
@@ -105,7 +106,7 @@ pub data TalkTrace (questions : List Question) (s : MetaSettings) (c : ℕ) (h :
       → TalkTrace questions s c h more read written reads Waiting
       → TalkTrace questions s c h ((c, Took) ∷ (c, InputEnded) ∷ more) read written reads Ended
 
--- A talk so far: deeds that follow the history, what its devices gave and took, and what can be left.
+-- A talk so far: its trace after a history, what its devices gave and took, and the pool it has left.
 pub record Talk
     (questions : List Question) (s : MetaSettings) (c : ℕ) (h : History) (reads : ℕ) (stage : Stage)
     (meta : MetaLinks) (source left sink held : DeviceState)
@@ -119,7 +120,7 @@ pub record Talk
   pub consumed : Consumes source.octets left.octets read
   pub appended : Appends sink.octets held.octets written
 
--- a talk goes on so, from one stage to another, whatever went before, and no device fails
+-- The talk goes from one stage to another, from every talk that leads to the old state, and no device fails.
 pub record TalkStep
     (c : ℕ) (from to : Stage) (more : ℕ → ℕ) (old new : MetaLinks) (left then_left held then_held : DeviceState)
     : Type 0 where
@@ -129,26 +130,27 @@ pub record TalkStep
   pub reader : then_left.failures ≡ left.failures
   pub writer : then_held.failures ≡ held.failures
 
+-- The number of reads is unchanged.
 abbrev pub same : ℕ → ℕ
 same n = n
 
--- ---- memory is wanting
+-- ---- no memory is found
 
--- Deeds of this connection alone followed the history, and of what its next take makes known a part may be known.
+-- This connection alone had new events, and a part of what its next take makes known may be known.
 pub record HaltedTalk (questions : List Question) (s : MetaSettings) (c : ℕ) (h : History)
     (new : MetaLinks) : Type 0 where
   pub more : History
   pub others : (i : ℕ) → (c == i) ≡ false → events_on i more ≡ []
   pub after : MetaAfterUpTo questions s c (more ++ h) new
 
--- so, behind any talk at this stage that wrote to this device
+-- The talk halts, after every talk at this stage that wrote to this device.
 abbrev pub HaltStep : ℕ → Stage → MetaLinks → MetaLinks → DeviceState → Type 0
 HaltStep c from old new held =
     (questions : List Question) (s : MetaSettings) (h : History) (reads : ℕ) (source left sink : DeviceState)
     → Talk questions s c h reads from old source left sink held → HaltedTalk questions s c h new
 
--- memory was wanting, and the host then stopped the connection: no more and no less is known for that, and the others
--- are as they were
+-- No memory was found, and the caller then stopped the connection. What is known is unchanged by that, and so are the
+-- other connections.
 pub record OutOfMemory
     (questions : List Question) (s : MetaSettings) (c : ℕ) (h : History) (new : MetaLinks)
     : Type 0 where
@@ -160,7 +162,7 @@ pub record OutOfMemory
 
 -- ---- how it ends
 
--- a talk came to this stage, and its host then stopped the connection
+-- The talk reached this stage, and the caller then stopped the connection for this reason.
 pub record StoppedTalk
     (questions : List Question) (s : MetaSettings) (c : ℕ) (h : History) (reads : ℕ) (stage : Stage) (reason : Reason)
     (new : MetaLinks) (source left sink held : DeviceState)
@@ -169,7 +171,7 @@ pub record StoppedTalk
   pub talk : Talk questions s c h reads stage meta source left sink held
   pub after : MetaAfter questions s ((c, Stopped reason) ∷ (talk.more ++ h)) new
 
--- A write failed: of the octets that were to go out then, a front went.
+-- A write failed: a front of the octets handed out last was written, and the connection was stopped for `Write`.
 pub record BrokenTalk
     (questions : List Question) (s : MetaSettings) (c : ℕ) (h : History) (reads : ℕ) (new : MetaLinks)
     (source left sink held : DeviceState)
@@ -185,14 +187,14 @@ pub record BrokenTalk
   pub appended : Appends sink.octets before.octets written
   pub front : HasAppendedFront before.octets held.octets octets
 
--- how it ended by itself, after so many reads that gave octets, of at most so many: the connection was stopped by its
--- messages, or before; or one read more gave none, since the input ended, and the connection ended otherwise
+-- How a talk ended by itself after n reads that gave octets, of at most `turns`. Over: the connection is Closed or
+-- Failed. Ended: one read more found the end of the input, and the connection ended for another reason.
 abbrev pub IsEndAt : Stage → ℕ → ℕ → MetaSettings → ℕ → History → DeviceState → Type 0
 IsEndAt Over n turns s c h left = n ≤ turns
 IsEndAt Ended n turns s c h left = (n < turns) × IsAtEnd left.octets × HasEndedWell s c h
 IsEndAt _ n turns s c h left = ⊥
 
--- it ended by itself: the connection was stopped, or its input ended
+-- The talk ended by itself: the connection is Closed or Failed.
 pub record EndedTalk
     (questions : List Question) (s : MetaSettings) (c : ℕ) (h : History) (turns : ℕ) (meta : MetaLinks)
     (source left sink held : DeviceState)
@@ -203,8 +205,8 @@ pub record EndedTalk
   pub at : IsEndAt stage reads turns s c (talk.more ++ h) left
   pub over : IsStoppedAt s c (talk.more ++ h)
 
--- the input ended, after fewer reads than may be made, and the connection with it: it was not Closing, and no part of a
--- message was left
+-- The input ended after fewer than `turns` reads, and cut the connection off: it was not Closing, and no part of a
+-- message was left.
 pub record CutTalk
     (questions : List Question) (s : MetaSettings) (c : ℕ) (h : History) (turns : ℕ) (new : MetaLinks)
     (source left sink held : DeviceState)
@@ -214,10 +216,10 @@ pub record CutTalk
   pub stopped : StoppedTalk questions s c h reads Ended reasons.Ended new source left sink held
   pub cut : IsCutOff s c (stopped.talk.more ++ h)
 
--- What a talk did after each history that can have left the connections before it: it ended by itself; a read or a
--- write failed; the input ended and the connection was not Closing; so many reads gave octets, and the connection was
--- not stopped after them. No more reads are made than that. Where memory was wanting, nothing else befell the other
--- connections, and what is known is what the deeds of this one, and perhaps a part of its next take, have made known.
+-- What each result of a talk says, for a history that can have left the connections before it. `Read`, `Write`: a
+-- read or a write failed. `Ended`: the input ended, and the connection was not Closing. `Turns`: `turns` reads gave
+-- octets, and the connection did not end after them. `Memory`: no memory was found; what is known is what the events,
+-- and perhaps a part of the next take, make known.
 abbrev pub TalkResult
     : List Question → MetaSettings → ℕ → History → ℕ → Result (Unit {0}) TalkError → MetaLinks
     → DeviceState → DeviceState → DeviceState → DeviceState → Type 0
@@ -233,8 +235,8 @@ TalkResult questions s c h turns (Err errors.Turns) new source left sink held =
     StoppedTalk questions s c h turns Waiting reasons.Turns new source left sink held
 TalkResult questions s c h turns (Err errors.Memory) new source left sink held = OutOfMemory questions s c h new
 
--- What a talk tells of the devices: one call of the one that is blamed failed, and none of the other; else none did,
--- and the reader has no octet left where the input ended.
+-- What each result, except `Memory`, says of the devices. If one is blamed, one call of it failed and none of the
+-- other; if none is blamed, no call failed. After `Ended`, the source has no octets left.
 abbrev pub IsBlamed : Result (Unit {0}) TalkError → DeviceState → DeviceState → DeviceState → DeviceState → Type 0
 IsBlamed (Ok _) source left sink held = HasNoFailure source left × HasNoFailure sink held
 IsBlamed (Err errors.Read) source left sink held =
@@ -246,7 +248,7 @@ IsBlamed (Err errors.Ended) source left sink held =
 IsBlamed (Err errors.Turns) source left sink held = HasNoFailure source left × HasNoFailure sink held
 IsBlamed (Err errors.Memory) source left sink held = Unit {0}
 
--- the reason that a refusal leaves the connection failed with
+-- The reason that a refusal leaves the connection failed for.
 abbrev pub reason_of : TalkError → Reason
 reason_of errors.Read = reasons.Read
 reason_of errors.Write = reasons.Write
@@ -254,13 +256,13 @@ reason_of errors.Ended = reasons.Ended
 reason_of errors.Turns = reasons.Turns
 reason_of errors.Memory = reasons.Memory
 
--- memory aside, a refusal leaves the connection failed for its reason
+-- Each refusal, except `Memory`, leaves the connection failed for its reason.
 abbrev pub IsStoppedFor : ℕ → Result (Unit {0}) TalkError → MetaLinks → Type 0
 IsStoppedFor c (Ok _) new = Unit {0}
 IsStoppedFor c (Err errors.Memory) new = Unit {0}
 IsStoppedFor c (Err e) new = stop_at new.pool c ≡ Some (states.Failed (reason_of e))
 
--- What a talk of at most so many reads did.
+-- What a talk with at most `turns` reads does, after every history before it.
 pub record AfterTalk
     (c turns : ℕ) (answer : Result (Unit {0}) TalkError) (old new : MetaLinks) (source left sink held : DeviceState)
     : Type 0 where

@@ -1,4 +1,4 @@
--- What the steps of a talk do.
+-- What the parts of a talk do.
 use Rattle.std.specs.Prelude.{◌≡◌, ℕ, suc, Bool, true, false, Some, Result, Ok, Err}
 use Rattle.std.specs.Io.KnownBytes.{Keeps, IsAtEnd}
 use Rattle.zoom_pool.specs.declared.state.State.TheVariants as states
@@ -14,11 +14,12 @@ use Rattle.zoom_io.specs.Devices.{DeviceState, HasFailed, IsUntouched}
 use Rattle.zoom_io.specs.TalkTraces.{Due, Waiting, Over, Ended, TalkStep, HaltStep, ended_well, same}
 use Rattle.zoom_io.specs.TalkSteps.{TalkStepAlone, HaltStepAlone, WriteFailureStep}
 
+-- The refusal of a talk for the refusal of a push.
 abbrev pub talk_error : PushError → TalkError
 talk_error pushes.Write = errors.Write
 talk_error pushes.Memory = errors.Memory
 
--- what settling did: the connection was stopped; no message is there; a write failed
+-- After settling: the connection is Closed or Failed; no message is waiting; a write failed; or no memory was found.
 abbrev pub AfterSettle : ℕ → Result Bool PushError → MetaLinks → MetaLinks → DeviceState → DeviceState → Type 0
 AfterSettle c (Ok true) old new sink held = (left : DeviceState) → TalkStep c Due Over same old new left left sink held
 AfterSettle c (Ok false) old new sink held =
@@ -26,7 +27,7 @@ AfterSettle c (Ok false) old new sink held =
 AfterSettle c (Err pushes.Write) old new sink held = WriteFailureStep c Due old new sink held
 AfterSettle c (Err pushes.Memory) old new sink held = HaltStep c Due old new sink
 
--- what listening did: octets were read and fed; none are left; reading failed; memory was wanting
+-- After listening: octets were read and fed; the input has ended; a read failed; or no memory was found.
 abbrev pub AfterListen : ℕ → Result Bool TalkError → MetaLinks → MetaLinks → DeviceState → DeviceState → Type 0
 AfterListen c (Ok true) old new source left =
     (held : DeviceState) → TalkStep c Waiting Due suc old new source left held held
@@ -37,11 +38,11 @@ AfterListen c (Err errors.Read) old new source left =
 AfterListen c (Err errors.Memory) old new source left = HaltStepAlone c Waiting old new
 AfterListen c (Err _) old new source left = ⊥
 
--- whether each history that can have left the connection has it ended, and not for the end of its input
+-- Whether every history that can have left the connection leaves it well ended.
 abbrev pub IsWellEnded : ℕ → MetaLinks → Bool → Type 0
 IsWellEnded c meta well = IsTranscriptValue c meta (λ p. ended_well (state_at p)) well
 
--- what the end of the input did: the connection ended otherwise; or it was not Closing
+-- After the end of the input: the connection ended otherwise; it was not Closing; or no memory was found.
 abbrev pub AfterFinish : ℕ → Result (Unit {0}) TalkError → MetaLinks → MetaLinks → Type 0
 AfterFinish c (Ok _) old new = TalkStepAlone c Waiting Ended old new × IsWellEnded c new true
 AfterFinish c (Err errors.Ended) old new =

@@ -1,5 +1,5 @@
--- Talks that go on at once: the deeds of each connection follow one another as in a talk alone, among those of the
--- others (Z39.50-2003, 3.2).
+-- Talks that go on at once: among the events of all connections, those of each are in the order of a talk
+-- (Z39.50-2003, 3.2).
 use Rattle.std.specs.Prelude.{◌≡◌, ◌≤◌, ◌==◌, ℕ, false, List, ◌∷◌, ◌++◌, slice_get, Option, None, Some}
 use Rattle.std.specs.Io.KnownBytes.{Appends, Consumes, IsAtEnd}
 use Rattle.zoom_questions.specs.declared.question.Question.{Question}
@@ -15,20 +15,21 @@ use Rattle.zoom_io.specs.declared.among.TalkPhase.TheVariants as phases
 use Rattle.zoom_io.specs.Devices.{DeviceState, HasAppendedFront, HasFailed, HasRisen, HasNoFailure}
 use Rattle.zoom_io.specs.TalkTraces.{Stage, Due, Listening, Waiting, Over, Ended, TalkTrace, IsStoppedAt, HasEndedWell, IsCutOff}
 
--- What is seen of the devices of a connection, and where its talk stands.
+-- The devices of a connection as a contract sees them, and the phase of its talk.
 pub record View : Type 0 where
   pub source : DeviceState
   pub polls : ℕ
   pub sink : DeviceState
   pub phase : TalkPhase
 
+-- The view of two devices and a phase.
 abbrev pub view_of : {R W : Type 0} → (R → DeviceState) → (R → ℕ) → (W → DeviceState) → Halves R W → View
 view_of state polls held halves =
     record { source = state halves.source; polls = polls halves.source; sink = held halves.sink; phase = halves.phase }
 
 -- ---- one connection
 
--- A talk so far: deeds that follow the history before it, what its devices gave and took, and that nothing else befell
+-- A talk so far: its trace after the history before it, what its devices gave and took, and no other new events of
 -- the connection.
 pub record TalkAmong
     (questions : List Question) (s : MetaSettings) (c : ℕ) (h now : History) (reads : ℕ) (stage : Stage)
@@ -42,7 +43,7 @@ pub record TalkAmong
   pub consumed : Consumes first.source.octets last.source.octets read
   pub appended : Appends first.sink.octets last.sink.octets written
 
--- a talk goes on: its source was polled so many times, and no device failed
+-- The talk goes on: its source was polled n times, and no device failed.
 pub record OngoingTalkAmong
     (questions : List Question) (s : MetaSettings) (c : ℕ) (h now : History) (n : ℕ) (stage : Stage)
     (first last : View)
@@ -54,7 +55,7 @@ pub record OngoingTalkAmong
   pub reader : last.source.failures ≡ first.source.failures
   pub writer : last.sink.failures ≡ first.sink.failures
 
--- a talk came to this stage, and its host then stopped the connection
+-- The talk reached this stage, and the caller then stopped the connection for this reason.
 pub record StoppedTalkAmong
     (questions : List Question) (s : MetaSettings) (c : ℕ) (h now : History) (reads : ℕ) (stage : Stage)
     (reason : Reason) (first last : View)
@@ -67,7 +68,7 @@ pub record StoppedTalkAmong
   pub consumed : Consumes first.source.octets last.source.octets read
   pub appended : Appends first.sink.octets last.sink.octets written
 
--- A write failed: of the octets that were to go out then, a front went.
+-- A write failed: a front of the octets handed out last was written, and the connection was stopped for `Write`.
 pub record BrokenTalkAmong
     (questions : List Question) (s : MetaSettings) (c : ℕ) (h now : History) (reads : ℕ) (first last : View)
     : Type 0 where
@@ -82,15 +83,15 @@ pub record BrokenTalkAmong
   pub appended : Appends first.sink.octets before.octets written
   pub front : HasAppendedFront before.octets last.sink.octets octets
 
--- no call of its devices failed
+-- No call of the devices failed.
 pub record AreSound (first last : View) : Type 0 where
   pub reader : HasNoFailure first.source last.source
   pub writer : HasNoFailure first.sink last.sink
 
--- How a talk ended, after so many reads that gave octets: the connection was stopped by its messages, or before; the
--- input ended, and the connection otherwise; one read or one write failed; the input ended, and the connection with it,
--- since it was not Closing and no part of a message was left; the source was polled as many times as it may be, and the
--- connection was not stopped.
+-- How a talk ended, after `reads` reads that gave octets. The connection was Closed or Failed by itself; the input
+-- ended, and the connection ended for another reason; one read failed; or one write failed. Or the input ended and
+-- cut the connection off: it was not Closing, and no part of a message was left. Or the source was polled `turns`
+-- times before the connection ended.
 pub data TalkEndAmong
     (questions : List Question) (s : MetaSettings) (c : ℕ) (h now : History) (reads turns : ℕ) (first last : View)
     : Type 0 where
@@ -111,8 +112,8 @@ pub data TalkEndAmong
       → HasRisen turns first.polls last.polls → AreSound first last
       → TalkEndAmong questions s c h now reads turns first last
 
--- A talk ended, and the connection is Closed or Failed; its source was polled no more often than it may be, and no more
--- reads gave octets than there were polls.
+-- The talk ended, and the connection is Closed or Failed. Its source was polled at most `turns` times, and no more
+-- reads gave octets than polls were made.
 pub record IsDoneAmong
     (questions : List Question) (s : MetaSettings) (c : ℕ) (h now : History) (turns : ℕ) (first last : View)
     : Type 0 where
@@ -124,19 +125,20 @@ pub record IsDoneAmong
   pub ended : TalkEndAmong questions s c h now reads turns first last
   pub over : IsStoppedAt s c now
 
--- what a phase says, after so many polls, of a talk that may take so many
+-- What a phase says of a talk after n polls, of at most `turns`.
 abbrev pub PhaseAmong
     : TalkPhase → List Question → MetaSettings → ℕ → History → History → ℕ → ℕ → View → View → Type 0
 PhaseAmong phases.Due q s c h now n turns first last = OngoingTalkAmong q s c h now n Due first last
 PhaseAmong phases.Waiting q s c h now n turns first last = OngoingTalkAmong q s c h now n Waiting first last
 PhaseAmong phases.Over q s c h now n turns first last = IsDoneAmong q s c h now turns first last
 
+-- The talk is among the others, as its phase says.
 abbrev pub IsAmong : List Question → MetaSettings → ℕ → History → History → ℕ → ℕ → View → View → Type 0
 IsAmong q s c h now n turns first last = PhaseAmong last.phase q s c h now n turns first last
 
 -- ---- a step of one connection
 
--- the connection goes on so, and nothing befell the others
+-- The talk of this connection goes on, and the other connections have no new events.
 pub record AfterStepAmong
     (q : List Question) (s : MetaSettings) (c : ℕ) (h now : History) (n turns : ℕ) (first last : View)
     (new : MetaLinks)
@@ -146,7 +148,7 @@ pub record AfterStepAmong
   pub among : IsAmong q s c h later n turns first last
   pub others : (i : ℕ) → (c == i) ≡ false → events_on i later ≡ events_on i now
 
--- whatever befell the connections before, it goes from so many polls to so many
+-- The connection goes from n to m polls, for every history before.
 pub record StepAmong (c n m turns : ℕ) (old new : MetaLinks) (before last : View) : Type 0 where
   pub on : (q : List Question) (s : MetaSettings) (h now : History) (first : View)
       → MetaAfter q s now old → IsAmong q s c h now n turns first before
@@ -154,19 +156,20 @@ pub record StepAmong (c n m turns : ℕ) (old new : MetaLinks) (before last : Vi
 
 -- ---- all connections
 
+-- The entry that is there, if any.
 abbrev pub flat : {E : Type 0} → Option (Option E) → Option E
 flat None = None
 flat (Some halves) = halves
 
--- the ends of a connection, where it has any
+-- The devices of a connection, if it has any.
 abbrev pub halves_at : {E : Type 0} → List (Option E) → ℕ → Option E
 halves_at halves c = flat (slice_get halves c)
 
--- where there are ends, the talk stands so
+-- If there are devices, their talk is in this phase.
 abbrev pub IsAtPhase : {R W : Type 0} → TalkPhase → Option (Halves R W) → Type 0
 IsAtPhase phase None = Unit {0}
 IsAtPhase phase (Some halves) = halves.phase ≡ phase
 
--- each talk stands so
+-- Each talk is in this phase.
 abbrev pub AreAtPhase : {R W : Type 0} → TalkPhase → List (Option (Halves R W)) → Type 0
 AreAtPhase phase halves = (c : ℕ) → IsAtPhase phase (halves_at halves c)

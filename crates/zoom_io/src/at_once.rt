@@ -18,9 +18,8 @@ use zoom_pool::Meta;
 ///
 /// On success each connection with devices is Closed or Failed. Its messages, its calls or the end of its input ended
 /// it, or it failed for `Read`, `Write` or `Ended`, as in `talk`. Or its source was polled `turns` times, and it
-/// failed for `Turns`. Each source is polled at most `turns` times, and no more reads of it than polls give octets.
-/// At most one call of a connection's devices fails, and that ends its own connection alone. A connection without
-/// devices is unchanged.
+/// failed for `Turns`. Each source is polled at most `turns` times. At most one call of a connection's devices fails,
+/// and that ends its own connection alone. A connection without devices is unchanged.
 ///
 /// `halves` holds an entry for each connection, of which there are fewer than 2^32; each talk is in phase `Due`.
 ///

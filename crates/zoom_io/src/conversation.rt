@@ -151,7 +151,8 @@ pub(crate) fn finish(meta: &mut Meta, c: u32) -> Result<(), TalkError>
     Err(TalkError::Ended)
 }
 
-/// Drives a connection over its devices until it ends or a device, the limit on reads or memory fails it.
+/// Drives a connection over its devices until it ends, a device fails, the limit on reads is reached, or no memory is
+/// found.
 fn converse<R: Source, W: Sink>(
     alloc: Global,
     meta: &mut Meta,

@@ -1,4 +1,5 @@
--- What an origin sends its target takes, and what the target owes to that the origin takes (Z39.50-2003, 3.2 and 3.4).
+-- An origin and a target in conversation: the target takes each request, and the origin accepts each reply that the
+-- target owes (Z39.50-2003, 3.2 and 3.4).
 use Rattle.std.specs.Prelude.{◌≡◌, ◌≢◌, false, List, [], ◌∷◌, ◌++◌, reverse, None, Some, Ok, Contains, IsPermutation}
 use Rattle.zapdu.specs.declared.apdu.Apdu.{Apdu}
 use Rattle.zapdu.specs.declared.apdu.Apdu.TheVariants as apdus
@@ -22,24 +23,25 @@ use Rattle.ztarget.specs.Replies.{Answer, owed, replies}
 abbrev pub requests : Settings → Log → List Apdu
 requests settings log = reverse (past settings log).sent
 
--- a target takes each of these, the newest first, after those before it
+-- the target takes each of these requests, listed with the newest first, after those before it
 abbrev pub AreTaken : List Database → TargetSettings → List Apdu → Type 0
 AreTaken databases target [] = Unit {0}
 AreTaken databases target (v ∷ received) =
     ((a : Answer) × (owed databases target received v ≡ Ok a)) × AreTaken databases target received
 
--- the replies that such a target owes to what was sent, in the order of the requests
+-- the replies that the target owes to the requests that were sent, in their order
 abbrev pub replies_due : List Database → TargetSettings → Settings → Log → List Apdu
 replies_due databases target settings log = replies databases target (requests settings log)
 
--- The origin took from this target alone: each reply that it accepted is owed to what it sent; it refused none.
+-- The origin conversed with this target alone: each reply that it accepted is owed to its requests, and it refused no
+-- reply.
 pub record IsConversation (databases : List Database) (target : TargetSettings) (settings : Settings) (log : Log)
     : Type 0 where
   pub owed : (x : Accepted) → Contains (past settings log).accepted x
       → Contains (replies_due databases target settings log) x.reply
   pub sound : (past settings log).fault ≡ None
 
--- no reply with its reference id was accepted
+-- no reply with this reply's reference id was accepted
 abbrev pub IsUnanswered : Settings → Log → Apdu → Type 0
 IsUnanswered settings log reply =
     (x : Accepted) → Contains (past settings log).accepted x → id_of x.reply ≢ id_of reply
@@ -49,7 +51,7 @@ pub record IsReplyTo (settings : Settings) (log : Log) (reply : Apdu) (q : Asked
   pub asked : Contains (asked (past settings log)) q
   pub id : id_of reply ≡ Some (reference_id q.op)
 
--- the target's Close ends the association; another reply answers the operation with its reference id
+-- the target's Close ends the association; any other reply answers the operation with its reference id
 abbrev pub IsTakenAs : Settings → Log → Apdu → Taken → Type 0
 IsTakenAs settings log (apdus.Close c) x = x ≡ taken.Closed
 IsTakenAs settings log reply x =
@@ -57,13 +59,13 @@ IsTakenAs settings log reply x =
 
 -- ---- the laws
 
--- each request is taken
+-- the target takes each request
 abbrev pub TakenLaw : Type 0
 TakenLaw =
     (databases : List Database) (target : TargetSettings) (settings : Settings) (log : Log)
     → IsConversation databases target settings log → AreTaken databases target (requests settings log)
 
--- each reply that is owed and was not accepted yet is accepted, until a Close is
+-- until a Close is accepted, the origin accepts each owed reply that it has not accepted yet
 abbrev pub AcceptanceLaw : Type 0
 AcceptanceLaw =
     (databases : List Database) (target : TargetSettings) (settings : Settings) (log : Log) (reply : Apdu)
@@ -79,7 +81,7 @@ UnansweredLaw =
     → Contains (replies_due databases target settings log) (apdus.Close close)
     → IsUnanswered settings log (apdus.Close close)
 
--- no two replies that are owed have one reference id: what was handed out has not that of what was not
+-- of the replies that are owed, no reply that was released has the reference id of one that is pending
 abbrev pub ApartLaw : Type 0
 ApartLaw =
     (databases : List Database) (target : TargetSettings) (settings : Settings) (log : Log)
@@ -95,7 +97,7 @@ OwedReplyLaw =
     → (reply : Apdu) × Contains (replies_due databases target settings log) reply
     × (id_of reply ≡ Some (reference_id q.op))
 
--- where Close was admitted, a Close is owed behind all other replies
+-- if Close was admitted, a Close is owed behind all other replies
 abbrev pub OwedCloseLaw : Type 0
 OwedCloseLaw =
     (databases : List Database) (target : TargetSettings) (settings : Settings) (log : Log)
@@ -109,6 +111,7 @@ FittingLaw =
     (databases : List Database) (target : TargetSettings) (settings : Settings) (log : Log) (q : Asked) (reply : Apdu)
     → Contains (replies_due databases target settings log) reply → IsReplyTo settings log reply q → Fits q.what reply
 
+-- the laws of a conversation
 pub record AccordLaws : Type 0 where
   pub taken : TakenLaw
   pub accepts : AcceptanceLaw

@@ -1,5 +1,5 @@
--- What a question brings from a target: its catalogue's answer, with no message and no protocol in it; and that this is
--- what a complete exchange with the target makes known (Z39.50-2003, 3.2.1.1, 3.2.2.1 and 3.2.3.1).
+-- The facts that a question brings from a target's catalogue, with no message and no protocol in them. A complete
+-- exchange with the target makes exactly these known (Z39.50-2003, 3.2.1.1, 3.2.2.1 and 3.2.3.1).
 use Rattle.std.specs.Prelude.{◌≡◌, ◌↔◌, ◌⊎◌, ℕ, pos, ◌≤◌, true, false, if◌then◌else◌, List, [], ◌∷◌, map, reverse, length, slice_get, Option, None, Some, Contains}
 use Rattle.std.specs.Int.{int_min}
 use Rattle.std.specs.List.{flat_map}
@@ -25,36 +25,37 @@ use Rattle.zoom_pool.specs.History.{History, events_on, accepted, facts_at}
 use Rattle.zoom_pool.specs.Metas.{MetaLinks, MetaAfter, settings_of}
 use Rattle.zoom_laws.specs.Schedules.{IsCompleteTranscript}
 
--- ---- the catalogue's answer
+-- ---- the facts of the catalogue
 
 -- the entries that the question finds
 abbrev pub entries_for : Question → List Database → List Found
 entries_for q databases = result_set databases q.databases q.query.root
 
--- the wanted positions, as far as there are so many entries
+-- the wanted positions, up to the number of entries found
 abbrev pub positions_due : Question → List Found → List ℕ
 positions_due q found = up_to (length found) (positions q.wanted)
 
--- the entry at a position of set 1, as it is shown: its record, or a diagnostic where another syntax is asked for
+-- the entry at a position of set 1 as it is shown: its record, or a diagnostic if the question asks for another syntax
 abbrev pub shown_at : ℕ → Question → List Found → ℕ → List Fact
 shown_at target q found p =
     map (λ f. Seen target 1 (pos p) (in_syntax q.syntax f)) (at_positions found (p ∷ []))
 
--- how many entries there are, and the record at each wanted position
+-- the number of entries found, and the record at each wanted position
 abbrev pub found_facts : ℕ → Question → List Found → List Fact
 found_facts target q found =
     Count target 1 (pos (length found)) ∷ flat_map (shown_at target q found) (positions_due q found)
 
--- why the search cannot be done
+-- the search failed, and a diagnostic says why
 abbrev pub fault_facts : ℕ → Reason → List Fact
 fault_facts target reason = Failed target 1 ∷ Diag target 1 (pos 0) (Default (diagnostic reason)) ∷ []
 
+-- what the question finds, or the reason why its search fails
 abbrev pub facts_for_question : ℕ → Question → List Found → Option Reason → List Fact
 facts_for_question target q found None = found_facts target q found
 facts_for_question target q found (Some reason) = fault_facts target reason
 
--- What a question brings from the target of this number that has these databases and settings: that it refuses
--- associations; or what of the question it does not support; or what it finds.
+-- The facts that a question brings from target number `target`, with these databases and settings. The target refuses
+-- associations, or it does not support the search, or it finds entries.
 abbrev pub catalogue : ℕ → Question → List Database → TargetSettings → List Fact
 catalogue target q databases settings =
     if settings.refuse
@@ -63,12 +64,12 @@ catalogue target q databases settings =
 
 -- ---- an exchange with the target
 
--- each reply that was accepted is one that such a target owes to the requests that were sent
+-- each accepted reply is one that such a target owes to the requests that were sent
 abbrev pub AreOwed : List Database → TargetSettings → Transcript → Type 0
 AreOwed databases settings p =
     (x : Answer) → Contains (accepted p) x → Contains (replies databases settings (reverse (past_of p).sent)) x.reply
 
--- how many octets a record may have alone: what the target allows, and Init asks for
+-- the most octets that one record may have: what the target allows, and at most what Init asks for
 abbrev pub size_given : TargetSettings → ℕ
 size_given settings = natural (int_min settings.size (pos 1048576))
 
@@ -84,7 +85,7 @@ abbrev pub CanAsk : Question → TargetSettings → Type 0
 CanAsk q settings =
     (settings.refuse ≡ true) ⊎ (is_unsendable (search_request settings.named 1 1 (ask_of q)) ≡ false)
 
--- a connection that was driven to its end, and that heard this target alone, knows exactly the catalogue's answer
+-- a complete connection that accepted this target's replies alone knows exactly the facts of the catalogue
 abbrev pub CatalogueLaw : Type 0
 CatalogueLaw =
     (questions : List Question) (s : MetaSettings) (h : History) (meta : MetaLinks) (c : ℕ) (q : Question)
@@ -94,7 +95,7 @@ CatalogueLaw =
     → IsCompleteTranscript p → AreOwed databases settings p → CanAsk q settings → HasFittingRecords q databases settings
     → (f : Fact) → Contains (facts_at c p) f ↔ Contains (catalogue c q databases settings) f
 
--- one to which the search could not be sent knows nothing
+-- if the search cannot be sent to a target that accepts associations, the connection knows nothing
 abbrev pub UnaskedLaw : Type 0
 UnaskedLaw =
     (questions : List Question) (s : MetaSettings) (h : History) (meta : MetaLinks) (c : ℕ) (q : Question)
@@ -105,6 +106,7 @@ UnaskedLaw =
     → is_unsendable (search_request settings.named 1 1 (ask_of q)) ≡ true
     → (f : Fact) → Contains (facts_at c p) f → ⊥
 
+-- the laws of what a question brings
 pub record CatalogueLaws : Type 0 where
   pub answers : CatalogueLaw
   pub unasked : UnaskedLaw

@@ -1,4 +1,4 @@
--- A connection and a target that hear each other alone: what came to either is the front of what the other sent
+-- A connection and a target that exchange octets with each other alone: each received the front of what the other sent
 -- (Z39.50-2003, 3.2 and 3.4).
 use Rattle.std.specs.Prelude.{◌≡◌, ◌≢◌, ℕ, ◌*◌, ◌≤◌, true, false, List, [], ◌∷◌, ◌++◌, length, take, slice_get, None, Some, Contains, IsPermutation}
 use Rattle.std.specs.List.{flat_map}
@@ -15,7 +15,6 @@ use Rattle.zoom_questions.specs.declared.question.MetaSettings.{MetaSettings}
 use Rattle.zoom_pool.specs.declared.state.State.TheVariants as states
 use Rattle.zoom_pool.specs.States.{is_stopped}
 use Rattle.zoom_pool.specs.Inputs.{Input, IsBehind}
-use Rattle.zber.specs.declared.framer.TheConstants.{MESSAGE_LIMIT}
 use Rattle.zoom_pool.specs.Transcripts.{Event, Called, Fed, Took, HandedOut, Transcript, IsTranscript, NextInput, empty_transcript, past_of, state_at, sent, after_take, after_call, after_feed}
 use Rattle.zoom_pool.specs.Steering.{errand_of, complete_in, is_rejected, IsTried}
 use Rattle.zoom_pool.specs.Hosts.{HostState, Holdings, HostAfter, HostTranscript, IsHostTranscript, HostEvent, HostFed, HostFedPart, Released, HostHandedOut, handed_out, replies_to}
@@ -24,18 +23,18 @@ use Rattle.zoom_pool.specs.Connections.{AreReadBack}
 use Rattle.zoom_pool.specs.Metas.{MetaLinks, MetaAfter, NoneIsNext, settings_of}
 use Rattle.zoom_laws.specs.Accord.{requests, IsConversation}
 
--- the octets that came to a host, joined
+-- the octets that were fed to the serving end, joined
 abbrev pub fed_to : List HostEvent → List ℕ
 fed_to [] = []
-fed_to (HostFed piece ∷ events) = fed_to events ++ piece
-fed_to (HostFedPart piece ∷ events) = fed_to events ++ piece
-fed_to (_ ∷ events) = fed_to events
+fed_to (HostFed piece ∷ host_events) = fed_to host_events ++ piece
+fed_to (HostFedPart piece ∷ host_events) = fed_to host_events ++ piece
+fed_to (_ ∷ host_events) = fed_to host_events
 
--- memory was not wanting for any piece
+-- each piece was fed whole: memory was found for all of it
 abbrev pub ArePlain : List HostEvent → Type 0
 ArePlain [] = Unit {0}
-ArePlain (HostFedPart piece ∷ events) = ⊥
-ArePlain (_ ∷ events) = ArePlain events
+ArePlain (HostFedPart piece ∷ host_events) = ⊥
+ArePlain (_ ∷ host_events) = ArePlain host_events
 
 -- the APDUs that the log's entries got, the oldest first
 abbrev pub got_in : Log → List Apdu
@@ -43,137 +42,139 @@ got_in [] = []
 got_in (Got v ∷ log) = got_in log ++ v ∷ []
 got_in (Made call ∷ log) = got_in log
 
--- The octets that came to either are the front of what the other sent; neither failed; and what the connection took are
--- the replies that the host put, in order, up to those that are coming.
-pub record IsSoundExchange (holdings : Holdings) (settings : Settings) (deeds : List Event) (p : Transcript)
-    (events : List HostEvent)
+-- Each end received the front of what the other sent, and neither failed. The messages that the connection took are the
+-- replies that the serving end sent, in order, up to those that are still coming.
+pub record IsSoundExchange (holdings : Holdings) (settings : Settings) (events : List Event) (p : Transcript)
+    (host_events : List HostEvent)
     (host : HostState) : Type 0 where
-  -- what the deeds and the events amount to
-  pub transcript : IsTranscript settings deeds p
-  pub served : HostAfter holdings events host
-  pub plain : ArePlain events
-  -- octets on their way to the host
+  -- the transcript of the connection's host_events, and the state after those of the serving end
+  pub transcript : IsTranscript settings events p
+  pub served : HostAfter holdings host_events host
+  pub plain : ArePlain host_events
+  -- octets on their way to the serving end
   pub to : List ℕ
-  pub sends : fed_to events ++ to ≡ sent (past_of p)
+  pub sends : fed_to host_events ++ to ≡ sent (past_of p)
   -- octets on their way to the connection
   pub from : List ℕ
-  pub comes : p.stream ++ from ≡ handed_out events
+  pub comes : p.stream ++ from ≡ handed_out host_events
   -- the connection was not stopped, its input did not end, and it refused no reply
   pub goes : p.stop ≡ None
   pub goes_on : p.ended ≡ false
   pub sound : (past_of p).fault ≡ None
-  -- the host did not stop
+  -- the serving end did not stop
   pub serving : served.served.stopped ≡ false
-  -- the replies put that were not taken yet
+  -- the replies that were sent and not taken yet
   pub coming : List Apdu
   pub got : served.served.sent ≡ got_in p.log ++ coming
   pub count : length (got_in p.log) ≡ p.taken
-  -- what either sent is read back
+  -- what each end sent is read back from its octets
   pub asks : AreReadBack (past_of p).sent
   pub answers : AreReadBack served.served.sent
 
--- ---- what keeps it
+-- ---- what keeps an exchange sound
 
--- events with no want of memory amount to one thing
+-- if each piece was fed whole, the host_events of a serving end have one transcript
 abbrev pub OneServedLaw : Type 0
 OneServedLaw =
-    (holdings : Holdings) (events : List HostEvent) (p q : HostTranscript)
-    → ArePlain events → IsHostTranscript holdings events p → IsHostTranscript holdings events q → p ≡ q
+    (holdings : Holdings) (host_events : List HostEvent) (p q : HostTranscript)
+    → ArePlain host_events → IsHostTranscript holdings host_events p → IsHostTranscript holdings host_events q → p ≡ q
 
--- nothing was done
+-- an exchange without host_events is sound
 abbrev pub StartLaw : Type 0
 StartLaw =
     (holdings : Holdings) (settings : Settings) (host : HostState)
     → HostAfter holdings [] host → IsSoundExchange holdings settings [] (empty_transcript settings) [] host
 
--- a call was made, and what was sent is read back
+-- a call keeps it sound, if all that was sent is read back
 abbrev pub CallLaw : Type 0
 CallLaw =
-    (holdings : Holdings) (settings : Settings) (deeds : List Event) (p : Transcript) (events : List HostEvent)
+    (holdings : Holdings) (settings : Settings) (events : List Event) (p : Transcript) (host_events : List HostEvent)
     (host : HostState)
     (call : Call)
-    → IsSoundExchange holdings settings deeds p events host → AreReadBack (past_of (after_call p call)).sent
-    → IsSoundExchange holdings settings (Called call ∷ deeds) (after_call p call) events host
+    → IsSoundExchange holdings settings events p host_events host → AreReadBack (past_of (after_call p call)).sent
+    → IsSoundExchange holdings settings (Called call ∷ events) (after_call p call) host_events host
 
--- octets were handed out by the connection
+-- it stays sound when the connection hands octets out
 abbrev pub HandedOutLaw : Type 0
 HandedOutLaw =
-    (holdings : Holdings) (settings : Settings) (deeds : List Event) (p : Transcript) (events : List HostEvent)
+    (holdings : Holdings) (settings : Settings) (events : List Event) (p : Transcript) (host_events : List HostEvent)
     (host : HostState)
     (octets : List ℕ)
-    → IsSoundExchange holdings settings deeds p events host
-    → IsSoundExchange holdings settings (HandedOut octets ∷ deeds) p events host
+    → IsSoundExchange holdings settings events p host_events host
+    → IsSoundExchange holdings settings (HandedOut octets ∷ events) p host_events host
 
--- a piece of what was sent came to the host
+-- it stays sound when a piece of the octets on their way is fed to the serving end
 abbrev pub HostFedLaw : Type 0
 HostFedLaw =
-    (holdings : Holdings) (settings : Settings) (deeds : List Event) (p : Transcript) (events : List HostEvent)
-    (host later : HostState) (piece rest : List ℕ) (s : IsSoundExchange holdings settings deeds p events host)
-    → s.to ≡ piece ++ rest → HostAfter holdings (HostFed piece ∷ events) later
-    → IsSoundExchange holdings settings deeds p (HostFed piece ∷ events) later
+    (holdings : Holdings) (settings : Settings) (events : List Event) (p : Transcript) (host_events : List HostEvent)
+    (host later : HostState) (piece rest : List ℕ) (s : IsSoundExchange holdings settings events p host_events host)
+    → s.to ≡ piece ++ rest → HostAfter holdings (HostFed piece ∷ host_events) later
+    → IsSoundExchange holdings settings events p (HostFed piece ∷ host_events) later
 
--- the host handed out what waited
+-- it stays sound when the serving end hands out what waits
 abbrev pub HostHandedOutLaw : Type 0
 HostHandedOutLaw =
-    (holdings : Holdings) (settings : Settings) (deeds : List Event) (p : Transcript) (events : List HostEvent)
+    (holdings : Holdings) (settings : Settings) (events : List Event) (p : Transcript) (host_events : List HostEvent)
     (host later : HostState)
-    → IsSoundExchange holdings settings deeds p events host
-    → HostAfter holdings (HostHandedOut host.waiting ∷ events) later
-    → IsSoundExchange holdings settings deeds p (HostHandedOut host.waiting ∷ events) later
+    → IsSoundExchange holdings settings events p host_events host
+    → HostAfter holdings (HostHandedOut host.waiting ∷ host_events) later
+    → IsSoundExchange holdings settings events p (HostHandedOut host.waiting ∷ host_events) later
 
--- a piece of what was handed out came to the connection
+-- it stays sound when a piece of the octets on their way is fed to the connection
 abbrev pub FedLaw : Type 0
 FedLaw =
-    (holdings : Holdings) (settings : Settings) (deeds : List Event) (p : Transcript) (events : List HostEvent)
+    (holdings : Holdings) (settings : Settings) (events : List Event) (p : Transcript) (host_events : List HostEvent)
     (host : HostState)
-    (piece rest : List ℕ) (s : IsSoundExchange holdings settings deeds p events host)
-    → s.from ≡ piece ++ rest → IsSoundExchange holdings settings (Fed piece ∷ deeds) (after_feed p piece) events host
+    (piece rest : List ℕ) (s : IsSoundExchange holdings settings events p host_events host)
+    → s.from ≡ piece ++ rest → IsSoundExchange holdings settings (Fed piece ∷ events)
+    (after_feed p piece) host_events host
 
--- the connection took what it met
+-- it stays sound when the connection takes its next input
 abbrev pub TakeStepLaw : Type 0
 TakeStepLaw =
-    (holdings : Holdings) (settings : Settings) (deeds : List Event) (p : Transcript) (events : List HostEvent)
+    (holdings : Holdings) (settings : Settings) (events : List Event) (p : Transcript) (host_events : List HostEvent)
     (host : HostState)
     (input : Input)
-    → IsSoundExchange holdings settings deeds p events host → NextInput p input
-    → IsSoundExchange holdings settings (Took ∷ deeds) (after_take p input) events host
+    → IsSoundExchange holdings settings events p host_events host → NextInput p input
+    → IsSoundExchange holdings settings (Took ∷ events) (after_take p input) host_events host
 
--- pending reply k was put
+-- it stays sound when pending reply k is released
 abbrev pub ReleasedLaw : Type 0
 ReleasedLaw =
-    (holdings : Holdings) (settings : Settings) (deeds : List Event) (p : Transcript) (events : List HostEvent)
+    (holdings : Holdings) (settings : Settings) (events : List Event) (p : Transcript) (host_events : List HostEvent)
     (host later : HostState) (k : ℕ)
-    → IsSoundExchange holdings settings deeds p events host
-    → HostAfter holdings (Released k ∷ events) later
-    → IsSoundExchange holdings settings deeds p (Released k ∷ events) later
+    → IsSoundExchange holdings settings events p host_events host
+    → HostAfter holdings (Released k ∷ host_events) later
+    → IsSoundExchange holdings settings events p (Released k ∷ host_events) later
 
--- ---- where it leads
+-- ---- what follows
 
--- what was taken are the replies that were put, as many as were taken
+-- the connection got the first of the replies that were sent, as many as it took messages
 abbrev pub TakenRepliesLaw : Type 0
 TakenRepliesLaw =
-    (holdings : Holdings) (settings : Settings) (deeds : List Event) (p : Transcript) (events : List HostEvent)
+    (holdings : Holdings) (settings : Settings) (events : List Event) (p : Transcript) (host_events : List HostEvent)
     (host : HostState)
-    (s : IsSoundExchange holdings settings deeds p events host)
+    (s : IsSoundExchange holdings settings events p host_events host)
     → got_in p.log ≡ take p.taken s.served.served.sent
 
--- the origin took what this target owes to what it sent, and nothing else
+-- the origin conversed with this target alone
 abbrev pub ConversationLaw : Type 0
 ConversationLaw =
-    (holdings : Holdings) (settings : Settings) (deeds : List Event) (p : Transcript) (events : List HostEvent)
+    (holdings : Holdings) (settings : Settings) (events : List Event) (p : Transcript) (host_events : List HostEvent)
     (host : HostState)
-    → IsSoundExchange holdings settings deeds p events host
+    → IsSoundExchange holdings settings events p host_events host
     → IsConversation holdings.databases holdings.settings p.settings p.log
 
 -- a connection that is over was rejected, or sent its Close
 abbrev pub CompletenessLaw : Type 0
 CompletenessLaw =
-    (holdings : Holdings) (settings : Settings) (deeds : List Event) (p : Transcript) (events : List HostEvent)
+    (holdings : Holdings) (settings : Settings) (events : List Event) (p : Transcript) (host_events : List HostEvent)
     (host : HostState)
-    → IsSoundExchange holdings settings deeds p events host → is_stopped (state_at p) ≡ true → complete_in (past_of p)
+    → IsSoundExchange holdings settings events p host_events host → is_stopped (state_at p) ≡ true
+    → complete_in (past_of p)
     ≡ true
 
--- The replies that were put are all that are owed to what was sent; they came; and none is waited for.
+-- The replies are all that are owed to the requests, their octets all came, and no reply is waited for.
 pub record IsSettled (holdings : Holdings) (p : Transcript) (replies : List Apdu) : Type 0 where
   pub answered : IsPermutation (replies_to holdings (requests p.settings p.log)) replies
   pub stream : p.stream ≡ flat_map encoding_of replies
@@ -181,65 +182,65 @@ pub record IsSettled (holdings : Holdings) (p : Transcript) (replies : List Apdu
   pub begun : state_at p ≢ states.Initialising
   pub closed : state_at p ≢ states.Closing
 
--- behind the messages taken the octets begin with no message
+-- the octets behind the messages taken begin with no whole message
 abbrev pub HasTakenAll : Transcript → Type 0
 HasTakenAll p = (rest : List ℕ) × IsBehind p.stream p.taken rest × IsUnfinished MESSAGE_LIMIT rest
 
--- nothing is on its way, nothing waits to go out, no reply is pending, and the connection took all messages
+-- if no octets are on their way or wait, no reply is pending and all messages were taken, the exchange is settled
 abbrev pub SettledLaw : Type 0
 SettledLaw =
-    (holdings : Holdings) (settings : Settings) (deeds : List Event) (p : Transcript) (events : List HostEvent)
+    (holdings : Holdings) (settings : Settings) (events : List Event) (p : Transcript) (host_events : List HostEvent)
     (host : HostState)
-    (s : IsSoundExchange holdings settings deeds p events host)
+    (s : IsSoundExchange holdings settings events p host_events host)
     → s.to ≡ [] → s.from ≡ [] → host.waiting ≡ [] → host.target.pending ≡ [] → HasTakenAll p
     → IsSettled holdings p s.served.served.sent
 
 -- ---- what is owed, and how much
 
--- a reply that is pending is owed to what was sent
+-- a pending reply is owed to what was sent
 abbrev pub PendingLaw : Type 0
 PendingLaw =
-    (holdings : Holdings) (settings : Settings) (deeds : List Event) (p : Transcript) (events : List HostEvent)
+    (holdings : Holdings) (settings : Settings) (events : List Event) (p : Transcript) (host_events : List HostEvent)
     (host : HostState)
-    → IsSoundExchange holdings settings deeds p events host → (v : Apdu) → Contains host.target.pending v
+    → IsSoundExchange holdings settings events p host_events host → (v : Apdu) → Contains host.target.pending v
     → Contains (replies_to holdings (requests p.settings p.log)) v
 
--- a reply that is owed to what a log sent is owed to what a longer one sent
+-- a reply that is owed to the requests of a log is owed to those of a longer log
 abbrev pub LongerLaw : Type 0
 LongerLaw =
     (holdings : Holdings) (settings : Settings) (more log : Log) (v : Apdu)
     → Contains (replies_to holdings (requests settings log)) v
     → Contains (replies_to holdings (requests settings (more ++ log))) v
 
--- as many replies as requests at most were taken, and put
+-- no more replies than requests were taken, and no more were sent
 abbrev pub CountLaw : Type 0
 CountLaw =
-    (holdings : Holdings) (settings : Settings) (deeds : List Event) (p : Transcript) (events : List HostEvent)
+    (holdings : Holdings) (settings : Settings) (events : List Event) (p : Transcript) (host_events : List HostEvent)
     (host : HostState)
-    (s : IsSoundExchange holdings settings deeds p events host)
+    (s : IsSoundExchange holdings settings events p host_events host)
     → (p.taken ≤ length (past_of p).sent) × (length s.served.served.sent ≤ length (past_of p).sent)
 
--- where the first pending reply may not go out, none is pending: a Close is the last
+-- if the first pending reply may not be released, none is pending: a Close is the last
 abbrev pub EmptyLaw : Type 0
 EmptyLaw =
-    (holdings : Holdings) (settings : Settings) (deeds : List Event) (p : Transcript) (events : List HostEvent)
+    (holdings : Holdings) (settings : Settings) (events : List Event) (p : Transcript) (host_events : List HostEvent)
     (host : HostState)
-    → IsSoundExchange holdings settings deeds p events host → may_release host.target.pending 0 ≡ false
+    → IsSoundExchange holdings settings events p host_events host → may_release host.target.pending 0 ≡ false
     → host.target.pending ≡ []
 
--- once a connection is over, the replies that were put are all that are owed to what was sent, and they came
+-- once a connection is over, the replies sent are all that are owed to its requests, and their octets all came
 abbrev pub OverLaw : Type 0
 OverLaw =
-    (holdings : Holdings) (settings : Settings) (deeds : List Event) (p : Transcript) (events : List HostEvent)
+    (holdings : Holdings) (settings : Settings) (events : List Event) (p : Transcript) (host_events : List HostEvent)
     (host : HostState)
-    (s : IsSoundExchange holdings settings deeds p events host)
+    (s : IsSoundExchange holdings settings events p host_events host)
     → is_stopped (state_at p) ≡ true
     → IsPermutation (replies_to holdings (requests p.settings p.log)) s.served.served.sent
     × (p.stream ≡ flat_map encoding_of s.served.served.sent)
 
 -- ---- connections that are driven
 
--- where no call is next and no reply is waited for, the connection is over
+-- if no call is next, no reply is waited for and nothing stopped it, the connection is over
 abbrev pub EndedLaw : Type 0
 EndedLaw =
     (questions : List Question) (s : MetaSettings) (h : History) (meta : MetaLinks) (c : ℕ) (q : Question)
@@ -248,7 +249,7 @@ EndedLaw =
     → NoneIsNext (errand_of s q) p → p.stop ≡ None → outstanding (past_of p) ≡ []
     → state_at p ≢ states.Initialising → state_at p ≢ states.Closing → is_stopped (state_at p) ≡ true
 
--- one that is complete and was not rejected tried its search: it was admitted, or skipped
+-- a complete connection that was not rejected tried its search: the search was admitted or skipped
 abbrev pub TriedLaw : Type 0
 TriedLaw =
     (questions : List Question) (s : MetaSettings) (h : History) (meta : MetaLinks) (c : ℕ) (q : Question)
@@ -256,7 +257,7 @@ TriedLaw =
     → MetaAfter questions s h meta → slice_get questions c ≡ Some q → IsTranscript (settings_of s) (events_on c h) p
     → complete_in (past_of p) ≡ true → is_rejected (opening (past_of p)) ≡ false → IsTried p.settings p.log
 
--- so many requests are sent at most, and so many octets
+-- at most 1,000,003 requests are sent, and at most 1,000,003 times MESSAGE_LIMIT octets
 abbrev pub FewLaw : Type 0
 FewLaw =
     (questions : List Question) (s : MetaSettings) (h : History) (meta : MetaLinks) (c : ℕ) (q : Question)
@@ -264,6 +265,7 @@ FewLaw =
     → MetaAfter questions s h meta → slice_get questions c ≡ Some q → IsTranscript (settings_of s) (events_on c h) p
     → (length (past_of p).sent ≤ 1000003) × (length (sent (past_of p)) ≤ 1000003 * MESSAGE_LIMIT)
 
+-- the laws of an exchange
 pub record ExchangeLaws : Type 0 where
   pub one_served : OneServedLaw
   pub starts : StartLaw

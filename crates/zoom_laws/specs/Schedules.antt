@@ -1,5 +1,4 @@
--- Connections that were driven to their end: what is known of their targets does not depend on the schedule
--- (Z39.50-2003, 3.2).
+-- Complete connections: what is known of their targets does not depend on the schedule (Z39.50-2003, 3.2).
 use Rattle.std.specs.Prelude.{◌≡◌, ℕ, ◌<◌, true, List, length, slice_get, Some, Contains}
 use Rattle.zplan.specs.Plan.{Operation, Replies, IsAsked, replies_in}
 use Rattle.zorigin.specs.declared.answer.Answer.{Answer}
@@ -17,17 +16,18 @@ use Rattle.zoom_pool.specs.Metas.{MetaLinks, MetaAfter, settings_of}
 abbrev pub IsCompleteTranscript : Transcript → Type 0
 IsCompleteTranscript p = complete_in (past_of p) ≡ true
 
--- the replies that a connection had, as far as they decide what is asked
+-- the part of the connection's replies that decides which operations are asked
 abbrev pub replies_of : Question → Transcript → Replies
 replies_of q p = replies_in (events_of (ask_of q) p.settings p.log)
 
--- exactly the operations were answered that are asked, for the replies that the connection had
+-- exactly the operations that are asked for the connection's replies were answered
 pub record HasExactAnswers (q : Question) (step : ℕ) (p : Transcript) : Type 0 where
-  pub events_on : (x : Answer) → Contains (accepted p) x
+  pub no_others : (x : Answer) → Contains (accepted p) x
       → IsAsked (positions q.wanted) step (replies_of q p) (operation_for x.asked.what)
   pub all : (a : Operation) → IsAsked (positions q.wanted) step (replies_of q p) a
       → (x : Answer) × Contains (accepted p) x × (operation_for x.asked.what ≡ a)
 
+-- on each complete connection, exactly the operations that are asked were answered
 abbrev pub AskedLaw : Type 0
 AskedLaw =
     (questions : List Question) (s : MetaSettings) (h : History) (meta : MetaLinks) (c : ℕ) (q : Question)
@@ -41,15 +41,15 @@ HaveEqualReplies one other =
     (x y : Answer) → Contains (accepted one) x → Contains (accepted other) y
     → operation_for x.asked.what ≡ operation_for y.asked.what → plain x.reply ≡ plain y.reply
 
--- each accepted answer of the one has one of the other, to the same operation, with the same reply, reference ids aside
+-- each answer of the one has an answer of the other: to the same operation, with the same reply, reference ids aside
 abbrev pub AreAnsweredAlike : Transcript → Transcript → Type 0
 AreAnsweredAlike one other =
     (x : Answer) → Contains (accepted one) x
     → (y : Answer) × Contains (accepted other) y
     × (operation_for x.asked.what ≡ operation_for y.asked.what) × (plain x.reply ≡ plain y.reply)
 
--- two runs of the same questions, by the same step, in each of which each connection is complete, and equal operations
--- had equal replies
+-- two runs with the same questions and step: each connection of both is complete, and equal operations had equal
+-- replies
 pub record AreAlike
     (questions : List Question) (s t : MetaSettings) (one other : ℕ → Transcript)
     : Type 0 where
@@ -58,6 +58,7 @@ pub record AreAlike
   pub second : (c : ℕ) → c < length questions → IsCompleteTranscript (other c)
   pub equal : (c : ℕ) → HaveEqualReplies (one c) (other c)
 
+-- two runs that are alike have their operations answered alike, and know the same
 abbrev pub SameListLaw : Type 0
 SameListLaw =
     (questions : List Question) (s t : MetaSettings) (g h : History) (one other : MetaLinks)
@@ -66,6 +67,7 @@ SameListLaw =
     → ((c : ℕ) → AreAnsweredAlike (a.pool.transcript c) (b.pool.transcript c))
     × ((c : ℕ) → AreAnsweredAlike (b.pool.transcript c) (a.pool.transcript c)) × SameKnowledge one.pool other.pool
 
+-- the laws of complete connections
 pub record ScheduleLaws : Type 0 where
   pub asked : AskedLaw
   pub same : SameListLaw

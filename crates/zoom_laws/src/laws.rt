@@ -1,4 +1,4 @@
-//! Laws of the definitions, each the contract of a function that does nothing.
+//! Laws about the definitions; each is the contract of a function that does nothing.
 ghost use Rattle.zoom_laws.specs.Accord.{AccordLaws};
 ghost use Rattle.zoom_laws.specs.Catalogue.{CatalogueLaws};
 ghost use Rattle.zoom_laws.specs.Exchange.{ExchangeLaws};
@@ -10,19 +10,25 @@ use zorigin::laws::{accepted_replies, orderly_logs};
 use zplan::laws::{agenda_laws, next_laws, shown_laws};
 use ztarget::laws::{kept_sets, what_fits};
 
-/// Where an origin accepted nothing but what a target owes to the requests that its calls sent, and refused nothing:
-/// the target takes each of these requests, and owes one reply to each operation that was admitted, and a Close behind
-/// all others to Close. No two of these replies have one reference id, each fits the operation that has its own, and in
-/// whatever order they come, the origin accepts each that it did not accept before, until it takes the Close.
+/// The laws of an origin that accepted only what one target owes to its requests, and that refused nothing
+/// (Z39.50-2003, 3.2 and 3.4).
+///
+/// - The target takes each request.
+/// - It owes a reply to each operation that was admitted; if Close was admitted, it owes a Close behind all others.
+/// - No two owed replies have one reference id, and the reply with an operation's reference id fits the operation.
+/// - Until the origin accepts a Close, it accepts each owed reply that it did not accept before, in any order.
 pub fn accord_laws()
     ensures { AccordLaws }
 {}
 
-/// A connection and a target that hear each other alone keep sound: whatever is called, carried, cut, taken and
-/// released, the target takes each message that came to it, and the connection each reply; where nothing is left to be
-/// carried, taken or released, each request was answered, and the answers were taken. Once the connection is over, so
-/// it is too. At most one reply is put for each request, and a connection that is driven for a question sends few
-/// requests; where no call is next on it, and no reply is waited for, it is over.
+/// The laws of a connection and a target that exchange octets with each other alone (Z39.50-2003, 3.2 and 3.4).
+///
+/// - Their exchange stays sound, whatever is called, carried, taken and released, in pieces of any size.
+/// - If nothing is left to be carried, taken or released, each request was answered and each reply was taken.
+/// - Once the connection is over, each owed reply was sent and came to it.
+/// - At most one reply is sent for each request.
+/// - A connection that is driven for a question sends at most 1,000,003 requests. If no call is next on it, no reply is
+///   waited for and nothing stopped it, it is over.
 pub fn exchange_laws()
     ensures { ExchangeLaws }
 {
@@ -34,10 +40,12 @@ pub fn exchange_laws()
     meta_laws();
 }
 
-/// On a connection that was rejected, or that sent its Close, exactly what is asked was answered, for the replies that
-/// it had. And where two runs of the same questions with the same step were driven to their ends, and equal operations
-/// had equal replies, reference ids aside, the same operations were answered in both, and they know the same and print
-/// the same list: whatever their windows, the order of their events, and the cutting of their streams.
+/// The laws of complete connections: their association was rejected, or their Close was sent (Z39.50-2003, 3.2).
+///
+/// - Exactly the operations that are asked for the connection's replies were answered.
+/// - Two runs that are alike had the same operations answered, know the same and print the same list. They are alike if
+///   they have the same questions and step, each connection of both is complete, and equal operations had equal
+///   replies, reference ids aside. Windows, the order of events and the cutting of streams may differ.
 pub fn schedule_laws()
     ensures { ScheduleLaws }
 {
@@ -45,8 +53,11 @@ pub fn schedule_laws()
     accepted_replies();
 }
 
-/// What a connection knows that was driven to its end, and heard one target alone, is what the target's catalogue
-/// answers to the question. Where the search could not be sent, it knows nothing.
+/// The laws of a complete connection that accepted one target's replies alone.
+///
+/// - It knows exactly the facts that the question brings from the target's catalogue. The premises: the search can be
+///   sent or the target refuses associations, and each record that is due fits.
+/// - If the search cannot be sent to a target that accepts associations, the connection knows nothing.
 pub fn catalogue_laws()
     ensures { CatalogueLaws }
 {

@@ -32,12 +32,12 @@ use Rattle.zoom_pool.specs.Drivers.{DriverState, IsDriver, SameDriver, IsOffer, 
 use Rattle.zoom_pool.specs.Metas.{MetaLinks, settings_of, AreDriven, MetaAfter, MetaAfterUpTo, call_events, Progress, CompleteDrive}
 use Rattle.zoom_pool.specs.Metas.{left_of, left_at, IsGivenCall, AdvanceResultAt, AdvanceResult, IssueResult, DriveResult}
 use Rattle.zoom_pool.specs.Metas.{IsTranscriptValue, IsTranscriptValueUpTo, is_skipped, is_complete, IsFinished, IsFinishedUpTo}
-use Rattle.zoom_pool.specs.declared.meta.Turn.{Advance}
-use Rattle.zoom_pool.specs.declared.meta.Turn.TheVariants as stages
+use Rattle.zoom_pool.specs.declared.meta.Advance.{Advance}
+use Rattle.zoom_pool.specs.declared.meta.Advance.TheVariants as stages
 use Rattle.zoom_pool.proofs.Pools.{only_same, after_up_to, got, get_same}
 use Rattle.zoom_pool.proofs.Metas.{goes, driven_more, heard_at, get_other, slice_some}
 
--- ---- calls as deeds
+-- ---- calls as events
 
 only_made : (c : ℕ) (cs : List Call) (h : History) → events_on c (call_events c cs ++ h) ≡ map (λ call. Called call) cs ++ events_on c h
 only_made c [] h = refl
@@ -65,7 +65,7 @@ progress_none hearing questions s c h new a = record {
       let m : length (past_of q).admitted ≡ length (past_of p).admitted + 0 = omega (arith, n) in m;
 }
 
--- as many as the origin admitted
+-- as many calls as the origin admitted
 abbrev pub so_many : Option CallRefused → ℕ
 so_many None = 1
 so_many (Some reason) = 0
@@ -123,7 +123,7 @@ drives_join questions s c h n m mid new x y = record {
       (subst (λ l. IsTranscript (settings_of s) (events_on c l) q) (made_more c y.progress.calls x.calls h) transcript);
 }
 
--- ---- what a call answered
+-- ---- the result of a call
 
 ok_call : (p : Transcript) (call : Call) → p.stop ≡ None → Ok tt ≡ connection_call_result p call → refusal (standing (past_of p)) call ≡ None
 ok_call p call none e = by (refusal (standing (past_of p)) call) (request_of (standing (past_of p)) call)
@@ -153,7 +153,7 @@ err_call law p call reason none e = by (refusal (standing (past_of p)) call) ref
 
 -- ---- a call that was made
 
--- what drives c then
+-- the driver of connection `c` after the call
 set_is : (ds : List DriverState) (c : ℕ) (was x d : DriverState) → slice_get ds c ≡ Some was
     → slice_get (slice_set ds c x) c ≡ Some d → x ≡ d
 set_is ds c was x d at e = same_Some x d (sym (get_same ds c x (slice_get_within ds c was at)) ∙ e)
@@ -182,12 +182,12 @@ call_after questions s h old new c call r was x a gave so befell at knows ds siz
   size = size ∙ a.size;
 }
 
--- what drives a connection, by an index
+-- the driver of a connection, by index
 pub driver_at : (ds : List DriverState) (cs : List Link) (c : ℕ) (d was : DriverState) → length ds ≡ length cs
     → c < length cs → was ≡ get_or ds c d → slice_get ds c ≡ Some was
 driver_at ds cs c d was n lt e = got ds c d was (let le : c < length ds = omega (arith, n, lt) in le) e
 
--- how few calls are left
+-- how many calls are left
 left_then : (ds es : List DriverState) (c : ℕ) (was x : DriverState) → slice_get ds c ≡ Some was
     → es ≡ slice_set ds c x → x.left < was.left → left_of (slice_get es c) < left_of (slice_get ds c)
 left_then ds es c was x at e lt =
@@ -207,7 +207,7 @@ heard_now : (questions : List Question) (s : MetaSettings) (h : History) (meta :
     → IsTranscript (settings_of s) (events_on c h) (a.pool.transcript c)
 heard_now questions s h meta c a lt = heard_at (settings_of s) h a.pool.transcript meta.pool.connections c a.pool.stands lt
 
--- what it answers, where all that is known is what was accepted
+-- the result of a call, if only facts of accepted replies are known
 answered_call : (settings : Settings) (h : History) (pool : Links) (c : ℕ) (call : Call)
     (answer : Result (Unit {0}) CallRefused) (a : After settings h pool) → IsCallResult c call pool answer
     → IsCalled answer → answer ≡ connection_call_result (a.transcript c) call
@@ -280,7 +280,7 @@ refused_to E hearing law c call reason old new was x other lt befell answer at k
         → IsOffer (errand_of s q) p.settings p.log was call
     offers q p asked transcript = (gave q was p asked at transcript).1
 
--- want of memory: nothing was done
+-- no memory was found: nothing changed
 pub kept_to : (E : Type 0) → OneTranscript → (c : ℕ) (call : Call) (old new : MetaLinks) (error : E) → new ≡ old
     → IssueResult c call (Err error) old new
 kept_to E hearing c call old new error same questions s h a gave =
@@ -333,9 +333,9 @@ origin_state : (settings : Settings) (events : List Event) (p : Transcript) → 
     → is_stopped (state_at p) ≡ false → state_at p ≡ state_as (state_of (past_of p))
 origin_state settings events p transcript f = ap (or_else (state_as (state_of (past_of p)))) (goes settings events p transcript f)
 
--- a connection that was stopped
+-- a connection that is stopped
 pub stopped_to : (E : Type 0) → OneTranscript → (c : ℕ) (old : MetaLinks) (state : State) → c < length old.pool.connections
-    → IsStateAt c old.pool state → is_stopped state ≡ true → AdvanceResult {E = E} c (Ok stages.Rests) old old
+    → IsStateAt c old.pool state → is_stopped state ≡ true → AdvanceResult {E = E} c (Ok stages.Idle) old old
 unfolding progress_none
 stopped_to E hearing c old state lt is stopped questions s h a = record {
   progress = progress_none hearing questions s c h old a;
@@ -347,11 +347,11 @@ stopped_to E hearing c old state lt is stopped questions s h a = record {
       absurd (true≢false (sym stopped ∙ ap is_stopped e ∙ f));
 }
 
--- none was given
+-- the driver gave no call
 pub idle_to : (E : Type 0) → OneTranscript → (c : ℕ) (old new : MetaLinks) (state : State) (was x : DriverState)
     → c < length old.pool.connections → IsStateAt c old.pool state → new.pool ≡ old.pool
     → slice_get old.drivers c ≡ Some was → new.drivers ≡ slice_set old.drivers c x → SameDriver was x
-    → NextCallResult state None x → AdvanceResult {E = E} c (Ok stages.Rests) old new
+    → NextCallResult state None x → AdvanceResult {E = E} c (Ok stages.Idle) old new
 unfolding progress_none
 idle_to E hearing c old new state was x lt is pool at ds stays gives questions s h a =
     let b = stays_after questions s h old new c was x a pool at ds stays in
@@ -370,7 +370,7 @@ idle_to E hearing c old new state was x lt is pool at ds stays gives questions s
           (sym (ap is_stopped (origin_state (settings_of s) (events_on c h) p transcript f)) ∙ f) o;
     }
 
--- memory was wanting
+-- no memory was found
 pub wanting_to : (E : Type 0) → OneTranscript → (c : ℕ) (old new : MetaLinks) (error : E) (was x : DriverState)
     → new.pool ≡ old.pool → slice_get old.drivers c ≡ Some was → new.drivers ≡ slice_set old.drivers c x → SameDriver was x
     → AdvanceResult c (Err error) old new
@@ -382,10 +382,10 @@ advances_from : (E : Type 0) → (questions : List Question) (s : MetaSettings) 
     → AdvanceResultAt questions s c h answer old new
 advances_from E questions s c h (Ok stages.Admitted) old mid new e p = (p.0, subst (λ n. left_at new c < n) e p.1)
 advances_from E questions s c h (Ok stages.Skipped) old mid new e p = (p.0, subst (λ n. left_at new c < n) e p.1)
-advances_from E questions s c h (Ok stages.Rests) old mid new e p = p
+advances_from E questions s c h (Ok stages.Idle) old mid new e p = p
 advances_from E questions s c h (Err error) old mid new e p = p
 
--- one was given, and made
+-- the driver gave a call, and it was made
 pub issued_to : (E : Type 0) → OneTranscript → (c : ℕ) (old mid new : MetaLinks) (state : State) (was x : DriverState) (call : RustCall)
     (answer : Result Advance E) → c < length old.pool.connections → IsStateAt c old.pool state
     → is_stopped state ≡ false → mid.pool ≡ old.pool → slice_get old.drivers c ≡ Some was
@@ -408,7 +408,7 @@ issued_to E hearing c old mid new state was x call answer lt is going pool at ds
 
 -- ---- driving
 
--- so many were admitted in so many turns
+-- `n` calls were admitted, and at least `k` fewer are left
 abbrev pub Drove : ℕ → ℕ → ℕ → MetaLinks → MetaLinks → Type 0
 Drove c n k old now =
     (questions : List Question) (s : MetaSettings) (h : History) → MetaAfter questions s h old
@@ -432,7 +432,7 @@ drove_skipped E c n k old mid new d adv questions s h a =
     )
 
 pub drove_rests : (E : Type 0) → (c n k : ℕ) (old mid new : MetaLinks) → Drove c n k old mid
-    → AdvanceResult {E = E} c (Ok stages.Rests) mid new → DriveResult {E = E} c (Ok n) old new
+    → AdvanceResult {E = E} c (Ok stages.Idle) mid new → DriveResult {E = E} c (Ok n) old new
 drove_rests E c n k old mid new d adv questions s h a =
     let x = d questions s h a in
     let y = adv questions s (call_events c x.0.calls ++ h) x.0.after in
@@ -444,7 +444,7 @@ few_in : (e : Errand) (settings : Settings) (log : Log) (o : Option DriverState)
 few_in e settings log None each = omega arith
 few_in e settings log (Some d) each = (each d refl).few
 
--- there are no more turns than that
+-- fewer than 68 calls are left at any time
 pub drove_all : (E : Type 0) → (c n k : ℕ) (old new : MetaLinks) → Drove c n k old new → c < length old.pool.connections → 68 ≤ k
     → DriveResult {E = E} c (Ok n) old new
 drove_all E c n k old new d lt many questions s h a =
@@ -456,7 +456,7 @@ drove_all E c n k old new d lt many questions s h a =
     let wide = a.fit.widest in
     absurd (omega (arith, x.1, few, wide, many))
 
--- ---- what is told
+-- ---- results about one connection
 
 pub finished_meta : OneTranscript → (meta : MetaLinks) (answer : Bool) → IsPoolFinished meta.pool answer
     → IsFinishedUpTo meta answer
@@ -491,7 +491,7 @@ complete_tells meta c d lt at questions s i h p a transcript =
     let q = asked_at questions s i h meta c a lt in
     (a.driven.each c q.0 d p q.1 at transcript).complete
 
--- ---- where no Take found no memory
+-- ---- if every Take found memory
 
 meta_up_to : (questions : List Question) (s : MetaSettings) (d : ℕ) (h : History) (meta : MetaLinks)
     → MetaAfter questions s h meta → MetaAfterUpTo questions s d h meta
@@ -511,7 +511,7 @@ tells_after c meta value answer t questions s h p a transcript =
 pub finished_after : (meta : MetaLinks) (answer : Bool) → IsFinishedUpTo meta answer → IsFinished meta answer
 finished_after meta answer f questions s h a = f questions s 0 h (meta_up_to questions s 0 h meta a)
 
--- ---- want of memory, as `?` answers it
+-- ---- missing memory, as `?` returns it
 
 pub wanting_any : (E F : Type 0) → OneTranscript → (c : ℕ) (old new : MetaLinks) (answer : Result Advance F) → IsErr answer
     → (was x : DriverState) → new.pool ≡ old.pool → slice_get old.drivers c ≡ Some was

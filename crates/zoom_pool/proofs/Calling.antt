@@ -1,4 +1,4 @@
--- One call more.
+-- A connection after one more call.
 use Rattle.std.proofs.Common.{◌≡◌, ℕ, false, List, [], ◌∷◌, ◌++◌, Option, None, Some, Ok}
 use Rattle.std.proofs.Common.{Err, refl, sym, ap, subst, ◌∙◌, append_assoc, append-nil}
 use Rattle.std.specs.Prelude.{is_some}
@@ -52,7 +52,7 @@ grown_read : (p : Past) (call : Call) (x : Sent) (r : Option CallRefused) → Ar
 grown_read p call x (Some reason) a b q = absurd (no_err q)
 grown_read p call x None a b q = requested_read p.sent x (request_of (standing p) call) a b q
 
--- a call that was admitted
+-- the origin admitted the call
 pub called : (settings : Settings) (events : List Event) (p : Transcript) (c d : Link) (call : Call) (x : Sent)
     → ConnectionAfter settings events p c → is_some c.stop ≡ false → IsReadBack x
     → Ok x ≡ call_answer (standing (past_of p)) call

@@ -1,4 +1,4 @@
--- Whether Close was admitted, and where an association stands that was accepted.
+-- Whether the origin admitted Close, and the state of an accepted association.
 use Rattle.std.proofs.Common.{◌≡◌, Bool, true, false, cond, not, List, [], ◌∷◌, Option, None, Some, Result, Ok, Err}
 use Rattle.std.proofs.Common.{refl, sym, subst, ◌∙◌, true≢false}
 use Rattle.std.specs.Prelude.{◌||◌}
@@ -74,7 +74,7 @@ closing_got ask settings log reply (Err reason) e =
     elim (is_open (state_of p)) as (λ b. list_any is_close_call (cond b (record p { fault = Some reason }) p).admitted
     ≡ list_any is_close_call p.admitted) [ true ↦ refl | false ↦ refl ] ∙ e
 
--- the events tell whether it was admitted
+-- the events show whether Close was admitted
 pub closing_known : (ask : Ask) (settings : Settings) (log : Log)
     → list_any is_close_call (past settings log).admitted ≡ closes_in (events_of ask settings log)
 closing_known ask settings [] = refl
@@ -107,7 +107,7 @@ ready_from (Some reason) closed begun answer f = absurd (true≢false f)
 ready_from None true begun answer f = absurd (true≢false f)
 ready_from None false begun answer f = ready_by answer.reply f
 
--- once the association was answered, and neither stopped nor closed, it is Ready
+-- an association that was answered, and is neither stopped nor closed, is Ready
 pub open_ready : (p : Past) → HasOpening p → list_any is_close_call p.admitted ≡ false
     → is_stopped (state_as (state_of p)) ≡ false → is_ready (state_of p) ≡ true
 open_ready p o c =
@@ -140,7 +140,7 @@ rejected_from (Some reason) closed closing begun (Some answer) t = refl
 rejected_from None true closing begun (Some answer) t = refl
 rejected_from None false closing begun (Some answer) t = rejected_by closing answer.reply t
 
--- once it was rejected it is stopped
+-- a rejected association is stopped
 pub rejected_stopped : (p : Past) → is_rejected (opening p) ≡ true → is_stopped (state_as (state_of p)) ≡ true
 rejected_stopped p t = rejected_from p.fault p.closed (list_any is_close_call p.admitted)
     (list_any is_init_call p.admitted) (opening p) t

@@ -37,7 +37,7 @@ in_front x y [] i = absurd i
 in_front x y (z ∷ xs) (inl e) = inl e
 in_front x y (z ∷ xs) (inr i) = inr (in_front x y xs i)
 
--- ---- one call more
+-- ---- one more call
 
 pub asked_more : (p : Past) (call : Call) → asked (admit_unless p call None) ≡ asked p ++ operation_of call
 asked_more p call = flat_map-append operation_of p.admitted (call ∷ []) ∙ ap (λ l. asked p ++ l) (append-nil (operation_of call))
@@ -78,7 +78,7 @@ count_call (Search op set ask) events = let e : suc (length (asked_in events)) �
 count_call (Present op set ranges) events = let e : suc (length (asked_in events)) ≡ length (asked_in events) + 1 = omega arith in e
 count_call Close events = let e : length (asked_in events) ≡ length (asked_in events) + 0 = omega arith in e
 
--- ---- one reply more
+-- ---- one more reply
 
 pub same_asked : (p : Past) (v : Result Taken Refused) → asked (after_verdict p v) ≡ asked p
 same_asked p (Ok (taken.Opened a)) = refl
@@ -94,7 +94,7 @@ same_events ask p (Ok (taken.Answered a)) events = refl
 same_events ask p (Ok taken.Closed) events = refl
 same_events ask p (Err r) events = refl
 
--- the answer that brought a reply
+-- an accepted answer is to this operation
 abbrev pub IsBy : List Answer → Operation → Type 0
 IsBy accepted a = (x : Answer) × IsIn x accepted × (operation_for x.asked.what ≡ a)
 
@@ -118,7 +118,7 @@ by_verdict ask q p (Ok taken.Closed) events a r old e = old e
 by_verdict ask q p (Err reason) events a r old e =
     elim (is_open (state_of p)) as (λ b. IsBy (cond b (record p { fault = Some reason }) p).accepted a) [ true ↦ old e | false ↦ old e ]
 
--- ---- numbers differ
+-- ---- operations with different numbers
 
 all_last : (k : ℕ) (xs : List Answer) (x : Answer) → AllByRecursion (λ j. nat_eq k j ≡ false) (map answered_op (xs ++ x ∷ [])) → nat_eq k (answered_op x) ≡ false
 all_last k [] x h = h.0
@@ -134,7 +134,7 @@ differ (z ∷ xs) x y d (inr i) = differ xs x y (IsDistinct-tail nat_eq (answere
 -- ---- logs
 
 module _ (ask : Ask) (settings : Settings) where
-  -- what was admitted was sent
+  -- each admitted call is a request that was sent
   pub sent_known : (log : Log) (q : Asked) → IsIn q (asked (past settings log)) → IsIn (operation_for q.what) (asked_in (events_of ask settings log))
   sent_known [] q i = absurd i
   sent_known (Made call ∷ log) q i = call_events (sent_known log q) (refusal (standing (past settings log)) call) i
@@ -151,7 +151,7 @@ module _ (ask : Ask) (settings : Settings) where
       subst (IsIn (operation_for q.what)) (sym (same_events ask (past settings (Got reply ∷ log)) v (events_of ask settings log)))
       (sent_known log q (subst (IsIn q) (same_asked (past settings log) v) i))
 
-  -- a reply came with an accepted answer
+  -- each operation with a reply has an accepted answer
   pub replied : (log : Log) (a : Operation) (r : Reply) → replies_in (events_of ask settings log) a ≡ Some r → IsBy (past settings log).accepted a
   replied [] a r e = absurd (cc)
   replied (Made call ∷ log) a r e = call_events (replied log a r) (refusal (standing (past settings log)) call) e
@@ -163,7 +163,7 @@ module _ (ask : Ask) (settings : Settings) where
   replied (Got reply ∷ log) a r e =
       by_verdict ask (past settings (Got reply ∷ log)) (past settings log) (verdict (standing (past settings log)) reply) (events_of ask settings log) a r (replied log a r) e
 
-  -- as many were sent as were admitted
+  -- as many requests were sent as calls were admitted
   sent_count : (log : Log) → length (asked (past settings log)) ≡ length (asked_in (events_of ask settings log))
   sent_count [] = refl
   sent_count (Made call ∷ log) = call_events (sent_count log) (refusal (standing (past settings log)) call)
@@ -180,7 +180,7 @@ module _ (ask : Ask) (settings : Settings) where
       ∙ ap length (sym (same_events ask (past settings (Got reply ∷ log)) v (events_of ask settings log)))
 
   module _ (wanted : List ℕ) (step : ℕ) where
-    -- the number of an operation is that of the plan
+    -- an operation has the number that the plan gives it
     pub numbered : (log : Log) → IsDrivenLog ask wanted step settings log → (q : Asked) → IsIn q (asked (past settings log)) → q.op ≡ number (operation_for q.what)
     numbered [] d q i = absurd i
     numbered (Made call ∷ log) d q i = call_events (numbered log d.1 q) (refusal (standing (past settings log)) call) d.0 i
@@ -195,7 +195,7 @@ module _ (ask : Ask) (settings : Settings) where
         ]
     numbered (Got reply ∷ log) d q i = numbered log d q (subst (IsIn q) (same_asked (past settings log) (verdict (standing (past settings log)) reply)) i)
 
-    -- an accepted answer is the first to what was sent
+    -- an accepted answer is the first to its request
     pub fresh : (log : Log) → ((s : Settings) (l : Log) → IsOrderly (past s l)) → IsDrivenLog ask wanted step settings log → (x : Answer) → IsOrderly (accept (past settings log) x)
         → IsIn (operation_for x.asked.what) (asked_in (events_of ask settings log)) × (replies_in (events_of ask settings log) (operation_for x.asked.what) ≡ None)
     fresh log orderly d x o = (sent_known log x.asked there, unanswered (replies_in (events_of ask settings log) (operation_for x.asked.what)) refl)
@@ -213,7 +213,7 @@ module _ (ask : Ask) (settings : Settings) where
             let t : nat_eq (answered_op b.0) (answered_op x) ≡ true = grind (arith, nat_tests, n) in
             absurd (true≢false (sym t ∙ f))
 
-    -- its number is that of what it answers
+    -- an answer has the number of its request
     pub answered_number : (log : Log) → ((s : Settings) (l : Log) → IsOrderly (past s l)) → IsDrivenLog ask wanted step settings log → (x : Answer)
         → IsOrderly (accept (past settings log) x) → x.asked.op ≡ number (operation_for x.asked.what)
     answered_number log orderly d x o =

@@ -1,4 +1,4 @@
--- The origin admits what is due.
+-- The origin admits the calls that are due.
 use Rattle.std.proofs.Common.{◌≡◌, inl, inr, ℕ, ◌≤◌, Bool, true, false, cond, not, List, [], ◌∷◌, map, length, Option, None, Some, Result, Ok, Err, refl, sym, ap, subst, ◌∙◌, arith, true≢false}
 use Rattle.std.proofs.lemmas.Bool.Decides.{nat_tests}
 use Rattle.std.specs.Prelude.{ℤ, pos, ◌||◌, ◌&&◌, ◌==◌, nat_eq, nat_le, int_lt, is_none, is_some, slice_get, ◌-◌}
@@ -47,7 +47,7 @@ use Rattle.zoom_pool.proofs.Nexts.{unfresh_at, unready_at}
 no_some : {A : Type 0} {x : A} → Some x ≡ None → ⊥
 no_some e = cc
 
--- ---- what a log keeps
+-- ---- what every log keeps
 
 -- the origin's own settings
 pub past_settings : (settings : Settings) (log : Log) → (past settings log).settings ≡ settings
@@ -72,22 +72,22 @@ past_settings settings (Got reply ∷ log) =
 
 -- ---- what was answered
 
--- the count of a list that is asked
+-- a list is asked for once the search was answered with a count
 count_of : (wanted : List ℕ) (step : ℕ) (replies : Replies) (l : List ℕ)
     → IsAsked wanted step replies (plan.Present l) → (count : ℕ) × (replies plan.Search ≡ Some (Finds (Some count)))
 count_of wanted step replies l (cut three count i m a o h lt x) = (count, h)
 count_of wanted step replies l (rest m k a h lo hi) = count_of wanted step replies m a
 
--- a search is asked once the association was accepted
+-- a search is asked for once the association was accepted
 pub opened_of : (wanted : List ℕ) (step : ℕ) (replies : Replies) → IsAsked wanted step replies plan.Search
     → (three : Bool) × (replies plan.Init ≡ Some (Opens true three))
 opened_of wanted step replies (search three a e) = (three, e)
 
--- once the association was accepted calls are made in Ready
+-- once the association was accepted, calls are made in the state Ready
 ready_at : (p : Past) → HasOpening p → may_call (state_of p) ≡ true → is_ready (state_of p) ≡ true
 ready_at p o h = sym (ap (λ b. b || is_ready (state_of p)) (unfresh_at p o)) ∙ h
 
--- the search that was found, as it is filed
+-- the search that was found, as the origin files it
 abbrev found_search : Ask → ℤ → Searched
 found_search ask n = record (unanswered 1 1 ask) { outcome = Some (outcomes.Found n) }
 
@@ -113,14 +113,14 @@ module _ (orderly : (s : Settings) (l : Log) → IsOrderly (past s l)) (laws : D
   driven : IsDriven e.wanted e.step events
   driven = laws.driven e.ask e.wanted e.step settings log k.driven
 
-  -- the number of an operation is that of the plan
+  -- an operation has the number that the plan gives it
   number_of : (q : Asked) → IsIn q (asked p) → q.op ≡ number (operation_for q.what)
   number_of q i = drivings.numbered e.ask settings e.wanted e.step log k.driven q i
 
   sent_of : (q : Asked) → IsIn q (asked p) → IsIn (operation_for q.what) (asked_in events)
   sent_of q i = sent_known e.ask settings log q i
 
-  -- where all that was sent was answered, nothing is outstanding
+  -- if each operation was answered, none is outstanding
   answered : AllAnswered events → outstanding p ≡ []
   answered all = none_left p (asked p) (λ q i. by q i (replies_in events (operation_for q.what)) refl)
     where
@@ -192,7 +192,7 @@ module _ (orderly : (s : Settings) (l : Log) → IsOrderly (past s l)) (laws : D
     unsent : IsIn plan.Search (asked_in events) → ⊥
     unsent i = elim (subst (λ ev. IsIn plan.Search (asked_in ev)) a.events i) [ inl q ↦ absurd (cc) | inr j ↦ j ]
 
-    -- Init alone was called
+    -- Init is the only call that was made
     one_unused : list_any (nat_eq 1) (map op_of (asked p)) ≡ false
     one_unused = unused 1 (asked p) (λ q i z. let none : ⊥ =
         elim (subst (λ ev. IsIn (operation_for q.what) (asked_in ev)) a.events (sent_of q i)) [
@@ -230,7 +230,7 @@ module _ (orderly : (s : Settings) (l : Log) → IsOrderly (past s l)) (laws : D
         → refusal (standing p) (Search 1 1 e.ask) ≡ Some reason → is_skip (Some reason) (Search 1 1 e.ask) ≡ true
     search_skips reason ready q = refuses_search (standing p) 1 1 e.ask reason (search_early ready) q
 
-  -- it is next once the association was accepted, and only where the origin admits it
+  -- the search is next once the association was accepted, but only if the origin admits it
   module _ (op set : ℕ) (ask : Ask) (n : IsNextCall e settings log (Search op set ask)) where
     accepted : (three : Bool) × (replies_in events plan.Init ≡ Some (Opens true three))
     accepted = opened_of e.wanted e.step (replies_in events) n.next.0.0
@@ -266,7 +266,7 @@ module _ (orderly : (s : Settings) (l : Log) → IsOrderly (past s l)) (laws : D
 
   -- ---- a Present
 
-  -- what is known where one is next
+  -- what is known if a Present is next
   record HasSet : Type 0 where
     three : Bool
     count : ℕ

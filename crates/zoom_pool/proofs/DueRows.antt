@@ -1,4 +1,4 @@
--- The rows of the table of calls, none of which holds of a call that is due.
+-- The rows of the table of calls: none of them refuses a call that is due.
 use Rattle.std.proofs.Common.{◌≡◌, inl, inr, ℕ, ◌≤◌, Bool, true, false, cond, not, List, [], ◌∷◌, map, None, Some, refl, sym, ap, subst, ◌∙◌, arith, true≢false}
 use Rattle.std.proofs.lemmas.Bool.Decides.{nat_tests}
 use Rattle.std.proofs.lemmas.Int.{ints}
@@ -42,13 +42,13 @@ any_in f (y ∷ xs) x (inr i) t =
     let later = any_in f xs x i t in
     elim (f y) as (λ b. (b || list_any f xs) ≡ true) [ true ↦ refl | false ↦ later ]
 
--- ---- the rows but that of the request
+-- ---- all rows but that of the request
 
 pub init_rows : (ready used : Bool) → ready ≡ true → used ≡ false
     → cond (not ready) (Some reasons.WrongState) (cond used (Some reasons.OpUsed) None) ≡ None
 init_rows ready used r u = rw (r, u) refl
 
--- of a search the row of the option may hold
+-- for a search, the row of the option may hold
 pub search_rows : (ready offered used set beyond busy : Bool)
     → ready ≡ true → used ≡ false → set ≡ false → beyond ≡ false → busy ≡ false
     → cond (not ready) (Some reasons.WrongState) (cond (not offered) (Some reasons.NotOffered)
@@ -89,7 +89,7 @@ admits_present s op set r rs found known early sends =
     (Some reasons.Unsendable) None) known
     ∙ ap (λ b. cond b (Some reasons.Unsendable) None) sends
 
--- a search is refused for the option, or since it cannot be sent
+-- a search is refused because it is not offered or because it cannot be sent
 pub refuses_search : (s : Standing) (op set : ℕ) (ask : Ask) (reason : CallRefused)
     → early_refusal s (Search op set ask) ≡ cond (not s.force.search) (Some reasons.NotOffered) None
     → refusal s (Search op set ask) ≡ Some reason → is_skip (Some reason) (Search op set ask) ≡ true
@@ -107,7 +107,7 @@ refuses_search s op set ask reason early q =
 
 -- ---- numbers
 
--- no operation with the number was admitted
+-- no operation with this number was admitted
 pub unused : (k : ℕ) (qs : List Asked) → ((q : Asked) → IsIn q qs → q.op ≡ k → ⊥)
     → list_any (nat_eq k) (map op_of qs) ≡ false
 unused k [] h = refl
@@ -125,7 +125,7 @@ number_init (plan.Present l) e = absurd (omega (arith, e))
 
 -- ---- the count
 
--- positions that the search found are not past its count
+-- positions that the search found are not above its count
 pub none_past : (n : ℤ) (count : ℕ) (ps : List ℕ) → natural n ≡ count
     → ((p : ℕ) → IsIn p ps → (1 ≤ p) × (p ≤ count)) → is_past n ps ≡ false
 none_past n count [] e h = refl
@@ -137,7 +137,7 @@ none_past n count (p ∷ ps) e h =
     here (pos m) e lo hi = let le : p ≤ m = omega (arith, e, hi) in grind (arith, ints, le)
     here (negsuc m) e lo hi = absurd (omega (arith, e, lo, hi))
 
--- ---- what is outstanding
+-- ---- outstanding operations
 
 pub none_left : (p : Past) (qs : List Asked) → ((q : Asked) → IsIn q qs → is_answered p q.op ≡ true)
     → filter (λ (q : Asked). not (is_answered p q.op)) qs ≡ []

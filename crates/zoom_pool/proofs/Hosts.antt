@@ -1,4 +1,4 @@
--- What a host receives and puts, step by step.
+-- What a serving end receives and puts, step by step.
 use Rattle.std.proofs.Common.{◌≡◌, ◌≢◌, ◌⊎◌, inl, inr, ℕ, ◌<◌, ◌≤◌, Bool, true, false, List, [], ◌∷◌, ◌++◌, length, None, Some, Result, Ok, Err, refl, sym, ap, subst, ◌∙◌, append_assoc, length-append, true≢false, arith}
 use Rattle.zber.specs.declared.fault.FaultKind.{FaultKind}
 use Rattle.zber.specs.declared.fault.FrameError.{FrameError}
@@ -22,7 +22,7 @@ use Rattle.zoom_pool.specs.Inputs.{Input, Message, Foreign, Fault, Rest, Nothing
 use Rattle.zber.specs.declared.framer.TheConstants.{MESSAGE_LIMIT}
 use Rattle.zoom_pool.specs.Hosts.{HostState, IsLong, IsShort, Holdings, AreReceived, nothing, message, ArePutLast, IsFramerAt, replies_to}
 use Rattle.zoom_pool.specs.HostSteps.{ReceiptStep, IsFollowing, IsFollowingPiece, IsReceiptEnd, AnyRest, ApduReceipt, MessageRefusal, ReceiveApduResult, ReceiveNextResult, IsReceptionOf, MessageReceipt, ReceiveMessageResult, ReceiveAllResult, SameOutput, ReceivePieceResult}
-use Rattle.zoom_pool.specs.declared.receiving.Turn.{Reception}
+use Rattle.zoom_pool.specs.declared.receiving.Reception.{Reception}
 use Rattle.zoom_pool.proofs.Streams.{begins_longer}
 use Rattle.zoom_pool.proofs.Taking.{foreign}
 
@@ -31,7 +31,7 @@ pub messages_longer : {holdings : Holdings} {stream : List ℕ} {received : List
 messages_longer piece nothing = nothing
 messages_longer piece (message {rest = rest} {last = last} {e = e} r b w t) = message (messages_longer piece r) (begins_longer rest last piece e b) w t
 
--- the reply to one APDU more is put last
+-- the reply to one more APDU is put last
 one_put : (holdings : Holdings) (received pending now then later : List Apdu) (v : Apdu) → ArePutLast holdings received pending now then
     → IsAnswered holdings.databases holdings.settings now v then later → ArePutLast holdings received pending (v ∷ now) later
 one_put holdings received pending now then later v p a = record {
@@ -48,7 +48,7 @@ met_message xs rest e (Fault kind at) b r = absurd r
 met_message xs rest e (Rest n) b r = absurd r
 met_message xs rest e Nothing b r = absurd r
 
--- a message whose APDU was received, or not taken
+-- a message whose APDU the target took or refused
 pub message_received : {E : Type 0} (n : Element) (v : Apdu) (r : Result Bool E) (old new : TargetState) → Writes v n → ReceiveApduResult v r old new → ReceiveMessageResult n r old new
 message_received n v (Ok true) old new w t = (v, w, t)
 message_received n v (Ok false) old new w t = (t.0, λ holdings received released a. (Message v, w, t.1 holdings received released a))
@@ -81,7 +81,7 @@ module _ (framer later : Stream) (e : Element) (old new : TargetState) where
         then = record { rest_is = refl; limited = ap (λ z. z.limit) a.2 ∙ r.then.limited; sound = ap (λ z. z.fault) a.2 ∙ r.then.sound };
       }
 
-  -- a message was not taken, and so stops the host
+  -- a message was not taken, so it stops the serving end
   pub next_stopped : Answers framer (Ok (Some e)) later → MessageRefusal e old new → ReceiptStep (IsFollowing framer) (IsReceiptEnd later true) old new
   next_stopped a s holdings stream released received pending r =
       let same = s.0 in
@@ -96,7 +96,7 @@ module _ (framer later : Stream) (e : Element) (old new : TargetState) where
         then = (is.0, met_message r.rest later.octets e is.0 begins is.1, is.2);
       }
 
--- what is reached leads to the same, where something else is behind it
+-- what was reached with `Before` is reached with `Behind`, if `Behind` follows from it
 led : (Before Behind : Holdings → List Apdu → List ℕ → Type 0) (target : TargetState)
     → ((holdings : Holdings) (received : List Apdu) (rest : List ℕ) → Before holdings received rest → Behind holdings received rest) → ReceiptStep Before Behind target target
 led Before Behind target f holdings stream released received pending r = record {
@@ -108,7 +108,7 @@ led Before Behind target f holdings stream released received pending r = record 
   then = f holdings r.now r.rest r.then;
 }
 
--- no message is whole
+-- no whole message follows
 pub next_waits : (framer later : Stream) (target : TargetState) → Answers framer (Ok None) later → ReceiptStep (IsFollowing framer) (IsReceiptEnd later false) target target
 next_waits framer later target a = led (IsFollowing framer) (IsReceiptEnd later false) target (λ holdings received rest at. (
   record { rest_is = at.rest_is ∙ sym (ap (λ z. z.octets) a.2); limited = ap (λ z. z.limit) a.2 ∙ at.limited; sound = ap (λ z. z.fault) a.2 ∙ at.sound },
@@ -129,7 +129,7 @@ next_fault framer later target kind at a = led (IsFollowing framer) (IsReceiptEn
 pub next_memory : (framer : Stream) (target : TargetState) → ReceiptStep (IsFollowing framer) AnyRest target target
 next_memory framer target = led (IsFollowing framer) AnyRest target (λ holdings received rest is. tt)
 
--- the framer answered an error
+-- the framer returned an error
 pub next_error : (E : Type 0) (framer later : Stream) (target : TargetState) (error : FrameError) (stage : Result Reception E)
     → Answers framer (Err error) later → IsReceptionOf error stage → ReceiveNextResult stage framer later target target
 next_error E framer later target (frames.Fault kind at) (Ok stage) a is =
@@ -138,13 +138,13 @@ next_error E framer later target (frames.Fault kind at) (Err e) a is = absurd is
 next_error E framer later target frames.Memory (Ok stage) a is = absurd is
 next_error E framer later target frames.Memory (Err e) a is = next_memory framer target
 
--- a message takes octets away
+-- a message removes octets from the framer
 pub next_shorter : (framer later : Stream) (e : Element) → Answers framer (Ok (Some e)) later → length later.octets < length framer.octets
 next_shorter framer later e a = omega (arith, spells_some a.1.is.spelled, ap length a.1.cut, length-append a.1.message later.octets)
 
 -- ---- a piece
 
--- what a framer is that was fed a piece
+-- the framer after a piece was fed
 abbrev pub IsFedTo : Stream → List ℕ → Stream → Type 0
 IsFedTo framer piece fed = framer.fault ≡ None → (fed.octets ≡ framer.octets ++ piece) × (fed.limit ≡ framer.limit) × (fed.fault ≡ framer.fault)
 

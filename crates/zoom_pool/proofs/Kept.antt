@@ -1,4 +1,4 @@
--- What drives a connection still knows its log, once an entry more came.
+-- The driver of a connection still agrees with its log after one more entry.
 use Rattle.std.proofs.Common.{◌≡◌, ◌≢◌, inl, inr, ℕ, ◌+◌, ◌-◌, ◌<◌, ◌≤◌, Bool, true, false, cond, List, [], ◌∷◌, ◌++◌, map, length, Option, None, Some, Ok, Err, refl, sym, ap, subst, ◌∙◌, arith, true≢false, append-nil}
 use Rattle.std.specs.Prelude.{◌||◌, is_none}
 use Rattle.std.specs.List.{list_any, find, flat_map}
@@ -39,7 +39,7 @@ use Rattle.zoom_pool.proofs.Drivings.{sent_known}
 no_some : {A : Type 0} {x : A} → Some x ≡ None → ⊥
 no_some e = cc
 
--- ---- the same log, and another schedule
+-- ---- the same log, and another agenda
 
 module _ (laws : AgendaLaws) (e : Errand) (settings : Settings) (log : Log) (w : IsWanted e.wanted) (lo : 0 < e.step) where
   whole : IsDriven e.wanted e.step (events_at e settings log) → (three : Bool) (count : ℕ) → AtCounted e settings log three count
@@ -123,7 +123,7 @@ same_at laws e settings log w lo (phases.Asking a) phases.Closed p k = absurd p
 same_at laws e settings log w lo phases.Done new p a = subst (IsAtPhase e settings log) (sym p) a
 same_at laws e settings log w lo phases.Closed new p a = subst (IsAtPhase e settings log) (sym p) a
 
--- a schedule was made, and what stands first of it was cut off
+-- an agenda was made, and what is due first was cut off: the driver still agrees with the log
 pub stays : AgendaLaws → DrivenLaws → (old mid new : DriverState) → PrepareStep old mid → IsSamePhase mid.phase new.phase
     → new.errand ≡ mid.errand → new.skipped ≡ mid.skipped → new.complete ≡ mid.complete
     → mid.left ≡ left_in mid.errand.window mid.phase → new.left ≡ left_in new.errand.window new.phase → SameDriver old new
@@ -151,9 +151,9 @@ stays laws driven old mid new p s er sk co l m =
       left,
     )
 
--- ---- an entry more that changes little
+-- ---- one more entry that changes little
 
--- the same befell, and calls can be made no more than before
+-- the events are the same, and no more calls can be made than before
 record Moved (e : Errand) (settings : Settings) (log more : Log) : Type 0 where
   events : events_at e settings more ≡ events_at e settings log
   admitted : (past settings more).admitted ≡ (past settings log).admitted
@@ -178,7 +178,7 @@ same_version p q three o h = ap (λ a. (force_after a).v3) o ∙ h
 pub same_sending : (ask : Ask) (p q : Past) → opening q ≡ opening p → CanBeSent ask p → CanBeSent ask q
 same_sending ask p q o h = subst (λ a. is_unsendable (search_request (force_after a).named 1 1 ask) ≡ false) (sym o) h
 
--- what was found stays, while no search more is admitted
+-- what the search found is unchanged while no other search is admitted
 pub same_found : (ask : Ask) (p q : Past) (three : Bool) (count : ℕ) → flat_map search_in q.admitted ≡ flat_map search_in p.admitted
     → (x : Answer) → find (answers 1) q.accepted ≡ Some x → (h : HasFound ask p three count) → x ≡ h.answer
     → opening q ≡ opening p → HasFound ask q three count
@@ -313,7 +313,7 @@ skip_made : (settings : Settings) (log : Log) (call : origin.Call) → (r : Opti
 skip_made settings log call r q t = ap (λ z. is_skip z call || skipped_in settings log) q
     ∙ ap (λ b. b || skipped_in settings log) t
 
--- the search was refused: nothing is left to ask for
+-- the search was refused: nothing more can be asked for
 refused_search : (e : Errand) (settings : Settings) (log : Log) (call : origin.Call) (reason : CallRefused)
     (present three : Bool) → refusal (standing (past settings log)) call ≡ Some reason → is_skip (Some reason) call ≡ true
     → refusal (standing (past settings log)) (origin.Search 1 1 e.ask) ≡ Some reason
@@ -378,7 +378,7 @@ unskipped_close reasons.Busy = refl
 unskipped_close reasons.Unsendable = refl
 unskipped_close reasons.Memory = refl
 
--- the search was refused
+-- the origin refused the search
 skipped_by : (op set : ℕ) (ask : Ask) (reason : CallRefused) (old new : DriverState) → new.errand ≡ old.errand → new.phase ≡ phases.Done
     → new.skipped ≡ (is_skip (Some reason) (origin.Search op set ask) || old.skipped) → new.complete ≡ old.complete
     → new.left ≡ left_in new.errand.window new.phase → (e : Errand) (settings : Settings) (log : Log)
@@ -403,7 +403,7 @@ skipped_by op set ask reason old new er ph sk co l e settings log o q t =
     search_same : (op set : ℕ) (a b : Ask) → op ≡ 1 → set ≡ 1 → a ≡ b → origin.Search op set a ≡ origin.Search 1 1 b
     search_same op set a b p q r = cc
 
--- the origin refused the call: it was the search
+-- the origin refused the call, so it was the search
 pub knows_refused : (old new : DriverState) → new.errand ≡ old.errand → new.phase ≡ phases.Done → new.skipped ≡ true
     → new.complete ≡ old.complete → new.left ≡ left_in new.errand.window new.phase → NoteRefusedStep old new
 knows_refused old new er ph sk co l e settings log call reason o q = by call o q (subst (λ r. IsSteeredCall e settings log r call) q o.steers).0
@@ -561,7 +561,7 @@ some_more : {A : Type 0} (xs ys : List A) → xs ≢ [] → xs ++ ys ≢ []
 some_more [] ys some = absurd (some refl)
 some_more (x ∷ xs) ys some = λ none. absurd (cc)
 
--- what was tried stays so
+-- a search that was tried is still tried
 sent_tried : (settings : Settings) (log : Log) (call : origin.Call) → refusal (standing (past settings log)) call ≡ None
     → IsTried settings log → IsTried settings (Made call ∷ log)
 sent_tried settings log call q (inl some) =
@@ -570,7 +570,7 @@ sent_tried settings log call q (inl some) =
 sent_tried settings log call q (inr t) =
     inr (or_more (is_skip (refusal (standing (past settings log)) call) call) (skipped_in settings log) t)
 
--- while the search was not sent there is none
+-- there is no search before one was sent
 pub unsearched : (ask : Ask) (settings : Settings) (log : Log) → (IsIn plan.Search (asked_in (events_of ask settings log)) → ⊥)
     → flat_map search_in (past settings log).admitted ≡ []
 unsearched ask settings log unsent = none (past settings log).admitted (λ q i. sent_known ask settings log q i)
@@ -583,7 +583,7 @@ unsearched ask settings log unsent = none (past settings log).admitted (λ q i. 
     none (origin.Present op set ranges ∷ calls) h = none calls (λ q i. h q (inr i))
     none (origin.Close ∷ calls) h = none calls h
 
--- what stands first is what is next
+-- the first list of the agenda is next
 first_is : (e : Errand) (events : List Event) (a b : Agenda) (l : List ℕ) → IsAgenda e.wanted e.step events a → (s : IsSent a b)
     → IsDue e.wanted e.step events (plan.Present l)
     → ((o : Operation) → IsDue e.wanted e.step events o → first_of l ≤ start_of o) → l ≡ s.list
@@ -629,7 +629,7 @@ sent_asking laws number e settings log a b op set ranges w lo driven q n s k =
       opening = (k.opening.0, sent_opening settings log (origin.Present op set ranges) q ∙ k.opening.1);
     }
 
--- all was answered, with nothing outstanding
+-- each operation was answered if none is outstanding
 pub idle_answered : (e : Errand) (settings : Settings) (log : Log) (a : Agenda) → AtAsking e settings log a → outstanding_in (events_at e settings log) ≡ 0
     → AllAnswered (events_at e settings log)
 idle_answered e settings log a k z plan.Init i q = k.opened q
@@ -660,7 +660,7 @@ sent_closed e settings log q o all tried =
     last true = refl
     last false = refl
 
--- every operation that is asked was answered
+-- each operation that was asked for has a reply
 answered_whole : (e : Errand) (events : List Event) → ((b : Operation) → IsDue e.wanted e.step events b → ⊥) → AllAnswered events
     → IsDueEvent e.ask e.wanted e.step events Closes
 answered_whole e events none all a asked = by (replies_in events a) refl
@@ -679,7 +679,7 @@ sent_close e settings log old new o q ph er sk co l op all tried lt =
     sent_driver e settings log origin.Close old new o q n (answered_whole e (events_at e settings log) n.next.0 all) er sk co l (omega (arith, z, lt))
     (subst (IsAtPhase e settings (Made origin.Close ∷ log)) (sym ph) (sent_closed e settings log q op all tried))
 
--- the request of a search that was admitted can be sent
+-- the request for an admitted search can be sent
 sent_sendable : (s : Standing) (op set : ℕ) (ask : Ask) → refusal s (origin.Search op set ask) ≡ None
     → is_unsendable (search_request s.force.named op set ask) ≡ false
 unfolding refusal

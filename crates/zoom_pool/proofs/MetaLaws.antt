@@ -1,4 +1,4 @@
--- How much is asked of a connection that is driven follows from its log.
+-- The log of a driven connection bounds how many requests it sends.
 use Rattle.std.proofs.Common.{◌≡◌, ℕ, zero, suc, List, [], ◌∷◌, length, slice_get, Some, refl}
 use Rattle.zplan.specs.Ranges.{positions}
 use Rattle.zoom_questions.specs.declared.question.Question.{Question}
@@ -9,7 +9,7 @@ use Rattle.zoom_pool.specs.Laws.{OrderLaw}
 use Rattle.zoom_pool.specs.Metas.{settings_of}
 use Rattle.zoom_pool.specs.MetaLaws.{FewRequests, SameList}
 
--- each question has what drives its connection
+-- each question has the driver of its connection
 pub driver_of : (qs : List Question) (ds : List DriverState) (c : ℕ) (q : Question) → length ds ≡ length qs
     → slice_get qs c ≡ Some q → (d : DriverState) × (slice_get ds c ≡ Some d)
 driver_of [] ds c q e at = absurd (cc)

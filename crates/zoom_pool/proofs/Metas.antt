@@ -1,4 +1,4 @@
--- One event more of connections that are driven.
+-- Driven connections after one more event.
 use Rattle.std.proofs.Common.{◌≡◌, ℕ, zero, suc, ◌<◌, ◌≤◌, ◌==◌, Bool, true, false, cond}
 use Rattle.std.proofs.Common.{List, [], ◌∷◌, ◌++◌, length, slice_get, slice_set, Option, None, Some}
 use Rattle.std.proofs.Common.{Result, Ok, Err, refl, sym, ap, subst, ◌∙◌, arith, true≢false}
@@ -81,7 +81,7 @@ stop_stands : (settings : Settings) (events : List Event) (p : Transcript) → I
 stop_stands settings [] p e = subst (λ z. IsStop z.stop) (sym e) tt
 stop_stands settings (event ∷ events) p e = stops_more event e.0 p e.2 (stop_stands settings events e.0 e.1)
 
--- a connection that goes on was stopped by nothing
+-- nothing stopped a connection that goes on
 pub goes : (settings : Settings) (events : List Event) (p : Transcript) → IsTranscript settings events p
     → is_stopped (state_at p) ≡ false → p.stop ≡ None
 goes settings events p transcript s = by p.stop refl
@@ -93,7 +93,7 @@ goes settings events p transcript s = by p.stop refl
         let f : is_stopped state ≡ false = subst (λ z. is_stopped (or_else (state_as (state_of (past_of p))) z) ≡ false) e s in
         absurd (true≢false (sym t ∙ f))
 
--- ---- a deed more
+-- ---- one more event
 
 pub driven_more : (questions : List Question) (s : MetaSettings) (h : History) (old new : List DriverState) (c : ℕ)
     (event : Event) → AreDriven questions s h old → length new ≡ length old
@@ -123,7 +123,7 @@ driven_more questions s h old new c event a size same here = record {
     by i q d r asked drives transcript false f = a.each i q d r asked (sym (same i f) ∙ drives)
         (subst (λ l. IsTranscript (settings_of s) l r) (only_other c i event h f) transcript)
 
--- what a deed leaves of the log, where it makes no call and takes nothing
+-- the event makes no call and takes nothing, so the log is unchanged
 abbrev pub IsQuiet : Event → Type 0
 IsQuiet (Called call) = ⊥
 IsQuiet Took = ⊥
@@ -202,7 +202,7 @@ knows_taken taken old new k = λ e p input is answer.
 abbrev IsOther : Result Outcome TakeError → Type 0
 IsOther answer = (taken : Taken) → answer ≡ Ok (outcome.Took taken) → ⊥
 
--- nothing was taken, or what was taken was refused
+-- nothing was taken, or the origin refused the reply
 pub knows_other : RefusedLaw → (answer : Result Outcome TakeError) (d : DriverState) → IsOther answer → DriverTakeStep answer d d
 knows_other law answer d other e p AlreadyStopped is t = is
 knows_other law answer d other e p (Message v) is t = by (verdict (standing (past_of p)) v) refl t
@@ -222,7 +222,7 @@ knows_other law answer d other e p (Rest n) is t = elim p.ended as
 knows_other law answer d other e p Nothing is t = elim p.ended as
     (λ b. IsDriver e (cond b (end_by p) p).settings (cond b (end_by p) p).log d) [ true ↦ is | false ↦ is ]
 
--- what was told
+-- the driver notes the outcome
 pub learns : RefusedLaw → (x : Outcome) (old new : DriverState) → NoteTakeStep x old new → DriverTakeStep (Ok x) old new
 learns law (outcome.Took taken) old new k = knows_taken taken old new k
 learns law outcome.Nothing old new k = subst (DriverTakeStep (Ok outcome.Nothing) old) (sym k)
@@ -241,7 +241,7 @@ pub heard_at : (settings : Settings) (h : History) (transcript : ℕ → Transcr
     → AreTranscripts settings h transcript cs → c < length cs → IsTranscript settings (events_on c h) (transcript c)
 heard_at settings h transcript cs c s lt = let k = slice_some cs c lt in (s.each c k.0 k.1).transcript
 
--- what a history can have left, it can have left up to the connection's next take
+-- what a history can have left, it can have left up to the next Take of the connection
 pub up_to_meta : UpToLaw → (q : List Question) (s : MetaSettings) (c : ℕ) (h : History) (meta : MetaLinks)
     → MetaAfter q s h meta → MetaAfterUpTo q s c h meta
 up_to_meta law q s c h meta a = record {
@@ -252,7 +252,7 @@ up_to_meta law q s c h meta a = record {
   size = a.size;
 }
 
--- what the state of a connection tells
+-- a value of the connection's state is a value of its transcript
 pub state_tells : UpToLaw → OneTranscript → (value : State → Bool) (c : ℕ) (meta : MetaLinks) (state : State)
     → c < length meta.pool.connections → IsStateAt c meta.pool state
     → IsTranscriptValue c meta (λ p. value (state_at p)) (value state)
@@ -271,7 +271,7 @@ get_other (y ∷ xs) zero (suc i) x f = refl
 get_other (y ∷ xs) (suc c) zero x f = refl
 get_other (y ∷ xs) (suc c) (suc i) x f = get_other xs c i x (let g : (c == i) ≡ false = grind (arith, nat_tests) in g)
 
--- a Take that was answered so
+-- a Take with this outcome
 pub taken_more : OneInput → OneTranscript → (questions : List Question) (s : MetaSettings) (h : History) (old : MetaLinks)
     (drivers : List DriverState) (c : ℕ) (answer : Result Outcome TakeError)
     → MetaAfterUpTo questions s c h old → IsTakeOutcome c old.pool answer → IsDone answer
@@ -313,7 +313,7 @@ took_meta meeting hearing c old new was x answer outcome done took lt at knows d
       size = size ∙ a.size;
     }
 
--- a Take that was refused
+-- a Take whose reply the origin refused
 pub refused_meta : OneInput → OneTranscript → RefusedLaw → (c : ℕ) (old new : MetaLinks) (error : TakeError)
     → IsTakeOutcome c old.pool (Err error) → IsDone {A = Outcome} (Err error) → TakeStep c old.pool new.pool
     → c < length old.pool.connections → new.drivers ≡ old.drivers
@@ -329,7 +329,7 @@ refused_meta meeting hearing law c old new error outcome done took lt ds size =
       size = size ∙ a.size;
     }
 
--- ---- at first
+-- ---- before any event
 
 pub askable_at : (xs : List Question) (q : Question) (ys : List Question) → AreAskable (xs ++ q ∷ ys) → IsAskable q
 askable_at [] q ys a = a.0

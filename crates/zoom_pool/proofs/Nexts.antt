@@ -1,4 +1,4 @@
--- What drives a connection gives the call that is next, and none where none is.
+-- The driver of a connection gives the call that is next, and none if none is.
 use Rattle.std.proofs.Common.{◌≡◌, inl, inr, ℕ, ◌+◌, ◌<◌, ◌≤◌, Bool, true, false, cond, List, [], ◌∷◌, length, Option, None, Some, refl, sym, ap, subst, ◌∙◌, arith, true≢false}
 use Rattle.std.specs.Prelude.{◌||◌, is_none}
 use Rattle.std.specs.List.{list_any, flat_map}
@@ -128,7 +128,7 @@ offer_search due e settings log d k present three is a rd = record {
     by None q = search_next e settings log present three k.room a (sym (a.can rd) ∙ ap is_none q) rd
     by (Some reason) q = (due.skips e settings log d present three reason k is rd q, (refl, refl), refl)
 
--- with nothing due nothing but Close is next, and that only with nothing outstanding
+-- if nothing is due, only Close is next, and only if no operation is outstanding
 unsent_next : (e : Errand) (settings : Settings) (log : Log) → ((b : Operation) → IsDue e.wanted e.step (events_at e settings log) b → ⊥)
     → (outstanding_in (events_at e settings log) ≡ 0 → ⊥) → (call : origin.Call) → IsNextCall e settings log call → ⊥
 unsent_next e settings log none some call n =
@@ -151,7 +151,7 @@ searching_none e settings log present three a = unsent_next e settings log
     (none_due e.wanted e.step (Sends plan.Search ∷ opened_events true three) (inr (inl refl)) (λ t q. inl refl) (λ c q. absurd (cc)) (λ l m q. absurd (cc))))
     (λ z. let o : 1 ≡ 0 = sym (ap outstanding_in a.events) ∙ z in absurd (omega (arith, o)))
 
--- ---- while records are asked for
+-- ---- while Presents are asked for
 
 none_asked : (e : Errand) (settings : Settings) (log : Log) (a : Agenda) → AtAsking e settings log a → a.due ≡ []
     → (b : Operation) → IsDue e.wanted e.step (events_at e settings log) b → ⊥
@@ -180,7 +180,7 @@ present_next next e settings log a room call w lo driven k rd r x = record {
 }
 
 module _ (next : NextLaws) (laws : DrivenLaws) (due : DueLaws) (bounds : BoundLaws) where
-  -- its ranges can be asked for
+  -- the ranges of the Present can be asked for
   asks_ranges : (e : Errand) (settings : Settings) (log : Log) (d : DriverState) → IsDriver e settings log d → (a : Agenda) (room : ℕ)
       → AtAsking e settings log a → (call : origin.Call) (x : IsFirstPresent room a call)
       → IsNextCall e settings log (origin.Present (first_of (positions x.ranges) + 1) 1 x.ranges)
@@ -230,17 +230,17 @@ pub found_some : (ask : Ask) (p : Past) (three : Bool) (count : ℕ) → HasFoun
     → flat_map search_in p.admitted ≡ [] → ⊥
 found_some ask p three count h none = no_list (sym h.asked ∙ none)
 
--- once the search was tried, it rests where none is next
+-- if the search was tried and no call is next, the driver gives none
 tried_rests : (e : Errand) (settings : Settings) (log : Log) → IsTried settings log
     → ((call : origin.Call) → IsNextCall e settings log call → ⊥) → HasNoNextCall e settings log
 tried_rests e settings log tried none = record { none = none; tried = λ f o. tried }
 
--- before the association was answered
+-- before Init was answered
 unopened_rests : (e : Errand) (settings : Settings) (log : Log) → opening (past settings log) ≡ None
     → ((call : origin.Call) → IsNextCall e settings log call → ⊥) → HasNoNextCall e settings log
 unopened_rests e settings log n none = record { none = none; tried = λ f o. absurd (no_some (sym o.1 ∙ n)) }
 
--- where the search is next, it rests in no connection that goes on
+-- if the search is next but no call can be made, the driver gives none
 opened_rests : (e : Errand) (settings : Settings) (log : Log) (present three : Bool)
     → (a : AtOpened e settings log present three)
     → has_room (room_for e.window (state_as (state_of (past settings log)))) ≡ false → HasNoNextCall e settings log
@@ -315,7 +315,7 @@ given_in next laws due bounds e settings log d k phases.Done is a (Some call) g 
 given_in next laws due bounds e settings log d k phases.Closed is a None g = closed_rests e settings log a
 given_in next laws due bounds e settings log d k phases.Closed is a (Some call) g = absurd (no_some g)
 
--- what is given at the phase is next
+-- the call that is given at the phase is next
 pub gives : NextLaws → DrivenLaws → DueLaws → BoundLaws → (d : DriverState) (state : State) (g : Option Call) → GiveResult d.errand.ask d.errand.window state d.phase g
     → NextCallResult state g d
 gives next laws due bounds d state None x = λ e settings log k s. given_in next laws due bounds e settings log d k d.phase refl k.at None

@@ -1,4 +1,4 @@
--- Equal accepted replies make equal facts known.
+-- If accepted replies are equal, the facts known are equal.
 use Rattle.std.proofs.Common.{◌≡◌, ⊎_elim, ℕ, List, [], ◌∷◌, refl, sym, ap, subst, ◌∙◌}
 use Rattle.std.specs.Prelude.{Contains}
 use Rattle.std.specs.List.{flat_map}
@@ -18,7 +18,7 @@ use Rattle.zoom_pool.specs.Links.{Links}
 use Rattle.zoom_pool.specs.History.{History, accepted, After}
 use Rattle.zoom_pool.specs.Laws.{plain, plain_answer, AreAmong, AreSameAccepted, OrderLaw}
 
--- facts read no reference id
+-- facts do not depend on the reference id
 facts_plain : (target set : ℕ) (w : What) (reply : Apdu) → facts_by target set w reply
     ≡ facts_by target set w (plain reply)
 facts_plain target set what.Init (apdus.InitRequest v) = refl

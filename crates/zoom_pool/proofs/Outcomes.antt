@@ -1,4 +1,4 @@
--- What a caller is told of a Take.
+-- The result of a Take that a caller sees.
 use Rattle.std.proofs.Common.{◌≡◌, ℕ, true, false, Result, Ok, Err, refl, ap, ◌∙◌, cond}
 use Rattle.zber.specs.declared.fault.FaultKind.TheVariants as kinds
 use Rattle.zorigin.specs.declared.answer.Taken.{Taken}

@@ -1,4 +1,4 @@
--- What a log says at each phase of what drives a connection.
+-- The log of a connection at each phase of its driver.
 use Rattle.std.proofs.Common.{◌≡◌, inl, inr, ℕ, suc, ◌+◌, ◌<◌, ◌≤◌, Bool, true, false, cond, List, [], ◌∷◌, ◌++◌, length, Option, None, Some, refl, sym, ap, ◌∙◌, arith, true≢false}
 use Rattle.std.specs.Prelude.{◌||◌, nat_lt}
 use Rattle.std.specs.List.{list_any}
@@ -77,7 +77,7 @@ concurrent_by None false closing true None v3 c n e = absurd (cc)
 concurrent_by None false closing false None v3 c n e = absurd (cc)
 concurrent_by None false closing begun (Some answer) v3 c n e = force_ready closing answer.reply v3 c n e
 
--- where there is room calls can be made
+-- if there is room, calls can be made
 pub room_ready : (window : ℕ) (s : State) (room : ℕ) → room_for window (state_as s) ≡ Some room
     → (v3 : Bool) × (c : Bool) × (n : Bool) × (s ≡ origins.Ready v3 c n) × (cond c window 1 ≡ room)
 room_ready window origins.Fresh room e = absurd (cc)
@@ -135,21 +135,21 @@ none_due wanted step events i s c n b h = by b h.0 h.1
     by (plan.Present l) (cut three count i m a o e lt x) not = c count e
     by (plan.Present l) (rest m k a e lo hi) not = n m k e
 
--- with nothing due, and something outstanding, nothing is next
+-- if nothing is due and an operation is outstanding, nothing is next
 pub none_next : (wanted : List ℕ) (step window : ℕ) (events : List Event) → ((b : Operation) → IsDue wanted step events b → ⊥)
     → (outstanding_in events ≡ 0 → ⊥) → (event : Event) → IsNext wanted step window events event → ⊥
 none_next wanted step window events none some (Sends a) n = none a n.0
 none_next wanted step window events none some (Receives a r) n = n
 none_next wanted step window events none some Closes n = some n.1
 
--- with no room nothing is next
+-- if there is no room, nothing is next
 pub full_next : (wanted : List ℕ) (step window : ℕ) (events : List Event) → 0 < window → window ≤ outstanding_in events
     → (event : Event) → IsNext wanted step window events event → ⊥
 full_next wanted step window events lo full (Sends a) n = let lt = n.1 in absurd (omega (arith, lt, full))
 full_next wanted step window events lo full (Receives a r) n = n
 full_next wanted step window events lo full Closes n = let z = n.1 in absurd (omega (arith, z, full, lo))
 
--- ---- lists that wait
+-- ---- lists that wait for their replies
 
 pub length_put : (l : List ℕ) (ms : List (List ℕ)) → length (put_list l ms) ≡ length ms + 1
 length_put l [] = refl

@@ -1,4 +1,4 @@
--- One event more of a pool.
+-- A pool after one more event.
 use Rattle.std.proofs.Common.{◌≡◌, ◌⊎◌, ◌↔◌, inl, inr, ⊎_elim, ℕ, zero, suc, ◌+◌, ◌<◌, ◌≤◌, ◌==◌, true, false, cond}
 use Rattle.std.proofs.Common.{List, [], ◌∷◌, ◌++◌, length, slice_get, slice_set, get_or, Option, None, Some}
 use Rattle.std.proofs.Common.{Result, Ok, Err, refl, sym, ap, subst, ◌∙◌, append-nil, arith, true≢false}
@@ -50,7 +50,7 @@ only_other c d event h e = rw e refl
 pub only_append : (c : ℕ) (more h : History) → events_on c (more ++ h) ≡ events_on c more ++ events_on c h
 only_append c more h = simp (filter-append, map-append)
 
--- one connection heard more
+-- one connection has a new transcript
 abbrev pub changed : ℕ → Transcript → (ℕ → Transcript) → ℕ → Transcript
 changed c p transcript d = cond (c == d) p (transcript d)
 
@@ -79,7 +79,7 @@ apart : (cs : List Link) (c d : ℕ) (new : Link) → c < length cs → length (
 apart cs c d new lt le = let le' : length cs ≤ d = subst (λ n. n ≤ d) (length_set cs c new) le in
     grind (arith, nat_tests)
 
--- a deed more of one connection
+-- one connection has one more event
 pub stands_more : (settings : Settings) (h : History) (transcript : ℕ → Transcript) (cs : List Link) (c : ℕ) (event : Event)
     (p : Transcript) (new : Link) → c < length cs → AreTranscripts settings h transcript cs → ConnectionAfter settings (event ∷ events_on c h) p new
     → AreTranscripts settings ((c, event) ∷ h) (changed c p transcript) (slice_set cs c new)
@@ -158,7 +158,7 @@ known_same transcript c p e q = (
       | false ↦ λ f. refl
     ] refl
 
--- a deed that accepts nothing
+-- an event that accepts no reply
 pub after_more : (settings : Settings) (h : History) (old new : Links) (c : ℕ) (event : Event) (p : Transcript) (x : Link)
     → c < length old.connections → (a : After settings h old) → ConnectionAfter settings (event ∷ events_on c h) p x
     → accepted p ≡ accepted (a.transcript c) → new.connections ≡ slice_set old.connections c x
@@ -184,13 +184,13 @@ gained c event change old new d was x lt is gains same cs k =
     (gains settings (events_on c h) (a.transcript c) (at_index settings h a.transcript old.connections c d was lt a.stands is))
     (same (a.transcript c)) cs k
 
--- what was put into a list stands there
+-- a list has the item that was put into it, at its index
 pub get_same : {X : Type 0} (xs : List X) (c : ℕ) (x : X) → c < length xs → slice_get (slice_set xs c x) c ≡ Some x
 get_same [] c x lt = absurd (omega arith)
 get_same (y ∷ xs) zero x lt = refl
 get_same (y ∷ xs) (suc c) x lt = get_same xs c x (omega arith)
 
--- what waits on the connection that was put, and what stopped it
+-- the octets that wait on the connection that was put, and what stopped it
 pub waits_put : (old new : Links) (c : ℕ) (x : Link) → c < length old.connections
     → new.connections ≡ slice_set old.connections c x → waiting_at new c ≡ x.waiting
 waits_put old new c x lt cs = ap waiting_in (ap (λ z. slice_get z c) cs ∙ get_same old.connections c x lt)
@@ -199,7 +199,7 @@ pub stops_put : (old new : Links) (c : ℕ) (x : Link) → c < length old.connec
     → new.connections ≡ slice_set old.connections c x → stop_at new c ≡ x.stop
 stops_put old new c x lt cs = ap stop_in (ap (λ z. slice_get z c) cs ∙ get_same old.connections c x lt)
 
--- where nothing waits all was handed out
+-- if no octets wait, all were handed out
 pub given_all : (c : ℕ) (old new : Links) (x : Link) → c < length old.connections
     → new.connections ≡ slice_set old.connections c x → x.waiting ≡ [] → HasHandedOutAll c new
 given_all c old new x lt cs none =
@@ -232,7 +232,7 @@ heed_past : (p : Transcript) (v : Result Taken Refused) → past_of (after_reply
 heed_past p (Ok x) = refl
 heed_past p (Err r) = refl
 
--- a Take adds its news to the facts of its connection
+-- a Take adds its facts to those of its connection
 take_facts : (c : ℕ) (p : Transcript) (m : Input) → facts_at c (after_take p m) ≡ facts_at c p ++ news_at c p m
 take_facts c p AlreadyStopped = sym (append-nil (facts_at c p))
 take_facts c p (Message v) =
@@ -254,7 +254,7 @@ same_verdict p (Ok taken.Closed) = refl
 same_verdict p (Err r) = elim (is_open (state_of p)) as (λ b. (cond b (record p { fault = Some r }) p).sent ≡ p.sent)
     [ true ↦ refl | false ↦ refl ]
 
--- and sends nothing
+-- a Take sends nothing
 take_sent : (p : Transcript) (m : Input) → (past_of (after_take p m)).sent ≡ (past_of p).sent
 take_sent p AlreadyStopped = refl
 take_sent p (Message v) = ap (λ (z : Past). z.sent) (heed_past (record p { taken = suc p.taken; log = Got v ∷ p.log })
@@ -373,7 +373,7 @@ pub accepts_feed : (p : Transcript) (piece : List ℕ) → accepted (after_feed 
 accepts_feed p piece = elim (is_stopped (state_at p) || p.ended) as
     (λ b. accepted (cond b p (record p { stream = p.stream ++ piece })) ≡ accepted p) [ true ↦ refl | false ↦ refl ]
 
--- ---- no event yet
+-- ---- before any event
 
 abbrev pub AreFresh : Settings → List Link → Type 0
 AreFresh settings cs = (i : ℕ) (x : Link) → slice_get cs i ≡ Some x → ConnectionAfter settings [] (empty_transcript settings) x
@@ -402,9 +402,9 @@ after_none settings pool f k lawful = record {
   lawful = lawful;
 }
 
--- ---- whether all are stopped
+-- ---- whether all connections are stopped
 
--- the first ones are stopped
+-- the first connections are stopped
 abbrev pub AllStopped : ℕ → List Link → Type 0
 AllStopped n cs =
     (i : ℕ) (k : Link) (p : Transcript) → i < n → slice_get cs i ≡ Some k → AreConsistent p k → is_stopped (state_at p) ≡ true

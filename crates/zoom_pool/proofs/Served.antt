@@ -1,4 +1,4 @@
--- What a host served, with one event more.
+-- The transcript of a serving end after one more event.
 use Rattle.std.proofs.Common.{◌≡◌, inr, ℕ, Bool, true, false, List, [], ◌∷◌, ◌++◌, None, Some, Result, Ok, Err, refl, sym, ap, subst, ◌∙◌, append_assoc, append-nil, true≢false}
 use Rattle.std.proofs.Math.Bool.{or-false}
 use Rattle.std.specs.Prelude.{remove, not, ◌&&◌, ◌||◌}
@@ -48,7 +48,7 @@ at_of framer false holdings received rest r g = r.0
 at_of framer true holdings received rest r g = absurd (true≢false g)
 
 module _ (holdings : Holdings) (events : List HostEvent) (old new : HostState) (a : HostAfter holdings events old) where
-  -- what is reached before a piece is received
+  -- what holds before a piece is received
   pub before_piece : (piece : List ℕ) → old.stopped ≡ false
       → Receipt holdings (a.served.stream ++ piece) a.served.released a.served.received a.served.pending old.target (IsFollowingPiece old.framer piece)
   before_piece piece going =
@@ -65,7 +65,7 @@ module _ (holdings : Holdings) (events : List HostEvent) (old new : HostState) (
   waits_still : new.waiting ≡ old.waiting → handed_out events ++ new.waiting ≡ flat_map encoding_of a.served.sent
   waits_still same = ap (λ z. handed_out events ++ z) same ∙ a.waiting
 
-  -- one reply more was put
+  -- one more reply was put
   closed_more : (reply : Apdu) → new.closed ≡ (old.closed || is_close reply)
       → new.closed ≡ list_any is_close (a.served.sent ++ reply ∷ [])
   closed_more reply is = is ∙ ap (λ z. z || is_close reply) a.closed
@@ -98,7 +98,7 @@ module _ (holdings : Holdings) (events : List HostEvent) (old new : HostState) (
         framer = λ g. (r.rest, r.messages, at_of new.framer b holdings r.now r.rest r.then g);
       }
 
-  -- memory was wanting
+  -- no memory was found
   pub piece_part : (piece : List ℕ) → old.stopped ≡ false → new.stopped ≡ true → SameOutput old new
       → Receipt holdings (a.served.stream ++ piece) a.served.released a.served.received a.served.pending new.target AnyRest
       → HostAfter holdings (HostFedPart piece ∷ events) new
@@ -198,7 +198,7 @@ fed_by piece b old new going stopped same l holdings events a =
     piece_received holdings events old new a piece b going stopped same
     (l holdings (a.served.stream ++ piece) a.served.released a.served.received a.served.pending (before_piece holdings events old new a piece going))
 
--- memory was wanting
+-- no memory was found
 pub part_by : (piece : List ℕ) (old new : HostState) → old.stopped ≡ false → new.stopped ≡ true → SameOutput old new
     → ReceiptStep (IsFollowingPiece old.framer piece) AnyRest old.target new.target → HostRecorded (HostFedPart piece) old new
 part_by piece old new going stopped same l holdings events a =

@@ -1,4 +1,4 @@
--- What drives a connection that is Fresh.
+-- The driver of a connection that is Fresh.
 use Rattle.std.proofs.Common.{◌≡◌, ℕ, ◌<◌, ◌≤◌, false, List, [], length, map, refl, ap, subst, ◌∙◌, arith}
 use Rattle.zplan.specs.Positions.{IsWanted}
 use Rattle.zplan.specs.Ranges.{AreWanted, positions}

@@ -1,4 +1,4 @@
--- When a Take answers Nothing, and when Stopped.
+-- When a Take returns Nothing, and when it returns Stopped.
 use Rattle.std.proofs.Common.{◌≡◌, ◌⊎◌, inl, inr, ℕ, ◌<◌, Bool, true, false, cond, List, [], ◌∷◌, length, Result, Ok, Err, refl, ap, subst, arith}
 use Rattle.zber.specs.declared.fault.FaultKind.TheVariants as kinds
 use Rattle.zber.specs.Spelling.{Begins}

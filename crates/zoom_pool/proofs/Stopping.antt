@@ -1,4 +1,4 @@
--- A connection that its host stopped.
+-- A connection that its caller stopped.
 use Rattle.std.proofs.Common.{◌≡◌, Bool, true, false, ◌||◌, List, ◌∷◌, Some, refl}
 use Rattle.zorigin.specs.declared.settings.Settings.{Settings}
 use Rattle.zoom_pool.specs.declared.state.Reason.{Reason}

@@ -1,4 +1,4 @@
--- The stream, and what of it was taken.
+-- The stream, and the part of it that was taken.
 use Rattle.std.proofs.Common.{◌≡◌, ℕ, Bool, true, false, not, List, ◌∷◌, ◌++◌, Option, None, Some, refl, sym, ap, subst, ◌∙◌, append_assoc}
 use Rattle.zber.specs.Elements.{Element}
 use Rattle.zber.specs.Spelling.{Begins}
@@ -51,7 +51,7 @@ pub heard_piece : (p : Transcript) (piece : List ℕ) → is_stopped (state_at p
     → after_feed p piece ≡ record p { stream = p.stream ++ piece }
 heard_piece p piece s e = rw (s, e) refl
 
--- a piece was fed to a connection that goes on
+-- a piece was fed to a connection that is not stopped
 pub fed : (laws : StreamLaws) (settings : Settings) (events : List Event) (p : Transcript) (c : Link) (t : Stream)
     (piece : List ℕ) (b : Bool) → ConnectionAfter settings events p c
     → is_stopped (state_at p) ≡ false → c.ended ≡ false → (c.framer.fault ≡ None

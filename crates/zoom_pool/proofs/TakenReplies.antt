@@ -1,4 +1,4 @@
--- What drives a connection knows what a reply told.
+-- The driver of a connection agrees with its log after a reply.
 use Rattle.std.proofs.Common.{◌≡◌, ◌⊎◌, inl, inr, ℕ, suc, ◌+◌, ◌-◌, ◌<◌, ◌≤◌, Bool, true, false, cond, not, List, [], ◌∷◌, ◌++◌, length, Option, None, Some, Result, Ok, Err, refl, sym, ap, subst, ◌∙◌, arith, true≢false}
 use Rattle.std.proofs.lemmas.Bool.Decides.{nat_tests}
 use Rattle.std.proofs.lemmas.Map.Keys.{IsDistinct-tail}
@@ -52,7 +52,7 @@ no_list e = cc
 no_err : {A E : Type 0} {x : A} {e : E} → Err e ≡ Ok x → ⊥
 no_err e = cc
 
--- ---- what was taken
+-- ---- what the origin took
 
 abbrev IsTakenOf : Taken → Apdu → Type 0
 IsTakenOf (taken.Opened a) reply = (v : InitResponse) × (a.reply ≡ apdus.InitResponse v) × (v.result ≡ true) × (a.asked.what ≡ what.Init)
@@ -154,7 +154,7 @@ find_kept f (x ∷ xs) ys y e =
       | false ↦ λ q. find_kept f xs ys y q
     ] e
 
--- the first answer to an operation, where it is new
+-- the first answer to an operation, if it is new
 find_new : (xs : List Answer) (a : Answer) (op : ℕ) → a.asked.op ≡ op → IsDistinct nat_eq (map answered_op (xs ++ a ∷ []))
     → find (answers op) (xs ++ a ∷ []) ≡ Some a
 find_new [] a op is d =
@@ -171,7 +171,7 @@ counted_some true true n count q = (refl, refl, (let e : natural n ≡ count = c
 counted_some true false n count q = absurd (no_some (sym q))
 counted_some false present n count q = absurd (no_some (sym q))
 
--- ---- which phase it was
+-- ---- the phase before the reply
 
 init_phase : (e : Errand) (settings : Settings) (log : Log) (ph : Phase) → IsAtPhase e settings log ph → IsIn plan.Init (asked_in (events_at e settings log))
     → replies_in (events_at e settings log) plan.Init ≡ None → ph ≡ phases.Opening
@@ -315,7 +315,7 @@ module _ (laws : AgendaLaws) (driven : DrivenLaws) (numbers : NumberLaw) (orderl
         at = at;
       }
 
-  -- the association was accepted
+  -- the target accepted the association
   opened_at : (a : Answer) (v : InitResponse) → Accepted a → a.reply ≡ apdus.InitResponse v → v.result ≡ true → a.asked.what ≡ what.Init
       → AtOpening e settings log → AtOpened e settings (Got reply ∷ log) (force_in v).present (force_in v).v3
   opened_at a v acc r t w k =
@@ -335,7 +335,7 @@ module _ (laws : AgendaLaws) (driven : DrivenLaws) (numbers : NumberLaw) (orderl
             ∙ ap (λ b. (cond b (force_in v) nothing_in_force).v3) t;
       }
 
-  -- it was rejected
+  -- the target rejected the association
   rejected_at : (a : Answer) (v : InitResponse) → Accepted a → a.reply ≡ apdus.InitResponse v → v.result ≡ false → a.asked.what ≡ what.Init
       → AtOpening e settings log → AtClosed e settings (Got reply ∷ log)
   rejected_at a v acc r f w k =
@@ -462,7 +462,7 @@ module _ (laws : AgendaLaws) (driven : DrivenLaws) (numbers : NumberLaw) (orderl
         opening = (k.opening.0, opn ∙ k.opening.1);
       }
 
--- ---- what is told
+-- ---- the outcome of the reply
 
 few_left : (window : ℕ) (ph : Phase) → left_in window ph ≤ 3 + window
 few_left window phases.Fresh = omega arith
@@ -474,7 +474,7 @@ few_left window (phases.Asking agenda) = omega arith
 few_left window phases.Done = omega arith
 few_left window phases.Closed = omega arith
 
--- an answer that is not to Init completes nothing
+-- an answer to another request than Init completes nothing
 other_complete : (p q : Past) (a : Answer) → q ≡ accept p a → opens a ≡ false → complete_in q ≡ complete_in p
 other_complete p q a s f = ap complete_in s ∙ ap (λ o. is_rejected o || list_any is_close_call p.admitted) (find_other p.accepted a f)
 

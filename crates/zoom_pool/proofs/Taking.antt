@@ -1,4 +1,4 @@
--- One Take more.
+-- A connection after one more Take.
 use Rattle.std.proofs.Common.{◌≡◌, ◌≢◌, ℕ, suc, ◌+◌, ◌<◌, true, false, cond, List, [], ◌∷◌, ◌++◌, length, Option, None, Some, Result, Ok, Err, refl, sym, ap, subst, ◌∙◌, length-append, true≢false, arith}
 use Rattle.std.specs.Prelude.{Contains}
 use Rattle.zber.specs.declared.fault.FaultKind.{FaultKind}
@@ -72,7 +72,7 @@ foreign e decode.NotApdu other d = d
 foreign e (decode.Malformed kind at) other d = d
 foreign e decode.Memory other d = absurd (other refl)
 
--- a message that is no APDU
+-- a message that is no APDU, or is malformed
 pub heeds_foreign : (target : ℕ) (p : Transcript) (e : Element) (error : ApduError) (o : Standing) (ks : List Fact)
     → error ≢ decode.Memory → Decodes e (Err error) → OriginAfter p.settings p.log o
     → MessageStep target p e (Err (errors.Decode error)) o ks ks
@@ -94,7 +94,7 @@ frames_stopped p reason held t f = record {
   sound = λ g. absurd (true≢false (sym g));
 }
 
--- the message is kept only where it was not taken
+-- a message that was taken is not kept
 pub held_done : (answer : Result Outcome TakeError) (e : Element) (old : Option Element) → IsDone answer
     → held_after answer e old ≡ old
 held_done (Ok x) e old d = refl
@@ -125,7 +125,7 @@ heed_matches q (Err reason) c o f e s = record {
   stop = s;
 }
 
--- one message more was taken of the stream
+-- one more message of the stream was taken
 taken_more : (laws : StreamLaws) (p q : Transcript) (e : Element) (t : Stream) → is_stopped (state_at p) ≡ false
     → q.stream ≡ p.stream → q.taken ≡ suc p.taken → FramerAfter p (Some e) t → FramerAfter q None t
 taken_more laws p q e t s same more f = record {
@@ -201,7 +201,7 @@ took laws target p e answer c old new s f none h ended stop = record {
   union = h.input_step.union;
 }
 
--- what a part of the message's facts is a part of
+-- a part of the message's facts is a part of the Take's facts
 pub news_told : (target : ℕ) (p : Transcript) (e : Element) (t : Stream) (old new : List Fact)
     → is_stopped (state_at p) ≡ false → FramerAfter p (Some e) t → IsPartOfUnion (Contains old) (IsNewsIn target p e)
     (Contains new) → IsPartOfUnion (Contains old) (IsNews target p) (Contains new)
@@ -258,7 +258,7 @@ idle_at p c (x ∷ xs) m s b u e = record {
 kept_none : (rest octets : List ℕ) (held : Option Element) → held ≡ None → IsKept rest held octets → rest ≡ octets
 kept_none rest octets held none k = subst (λ z. IsKept rest z octets) none k
 
--- no octet is there, or no whole message, and more may come
+-- no octets, or no whole message, follow, and more may come
 pub idle : (p : Transcript) (c : Link) → AreConsistent p c → is_stopped (state_at p) ≡ false → c.held ≡ None
     → IsUnfinished MESSAGE_LIMIT c.framer.octets → c.ended ≡ false → EmptyTake p (Ok outcome.Nothing) c
 idle p c m s none u e = idle_at p c m.frames.rest m s m.frames.behind
@@ -296,7 +296,7 @@ truncated_so p c n m s b some is u e =
       silent = λ t. refl;
     }
 
--- the input ended within a message
+-- the input ended inside a message
 pub truncated_at : (p : Transcript) (c : Link) (kind : FaultKind) (at : ℕ) → AreConsistent p c → is_stopped (state_at p) ≡ false
     → c.held ≡ None → c.framer.asked ≡ true → c.framer.fault ≡ None → IsUnfinished MESSAGE_LIMIT c.framer.octets
     → c.ended ≡ true

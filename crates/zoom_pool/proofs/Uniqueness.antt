@@ -1,4 +1,4 @@
--- A Take meets one thing, and deeds amount to one.
+-- A Take has one input, and events have one transcript.
 use Rattle.std.proofs.Common.{◌≡◌, ◌⊎◌, inl, inr, length-append, ℕ, ◌<◌, true, false, List, [], ◌∷◌, length, refl, sym, ap, subst, ◌∙◌, true≢false, arith}
 use Rattle.zber.specs.declared.fault.FaultKind.{FaultKind}
 use Rattle.zber.specs.Elements.{Element}
@@ -18,7 +18,7 @@ use Rattle.zoom_pool.specs.Transcripts.{Event, Called, Fed, Took, InputEnded, Ha
 use Rattle.zoom_pool.specs.States.{is_stopped}
 use Rattle.zoom_pool.specs.Laws.{OneInput}
 
--- what the laws below say
+-- the statements of the laws below
 pub record Laws : Type 0 where
   pub answer : OneAnswer
   pub value : (v w : Apdu) (e : Element) → Writes v e → Writes w e → v ≡ w
@@ -70,7 +70,7 @@ read_once l e (Foreign a) (Fault k at) x y = absurd y
 read_once l e (Foreign a) (Rest k) x y = absurd y
 read_once l e (Foreign a) Nothing x y = absurd y
 
--- octets that begin with no message
+-- the octets begin with no message
 data Halts (xs : List ℕ) : Input → Type 0 where
   at_fault : {k : FaultKind} {at : ℕ} → Shows MESSAGE_LIMIT xs k at → Halts xs (Fault k at)
   inside : {n : ℕ} → 0 < length xs → n ≡ length xs → IsUnfinished MESSAGE_LIMIT xs → Halts xs (Rest n)
@@ -100,7 +100,7 @@ halts_once l xs m n (at_end q) (at_fault f) = absurd (omega (arith, f.some, ap l
 halts_once l xs m n (at_end q) (inside some is u) = absurd (omega (arith, some, ap length q))
 halts_once l xs m n (at_end q) (at_end r) = refl
 
--- a message has octets, so nothing begins with one at the end
+-- if `Halts` holds, the octets begin with no message, because a message has octets
 never : (l : Laws) (xs : List ℕ) (m : Input) (e : Element) (rest : List ℕ)
     → ((d : Element) (other : List ℕ) → Begins MESSAGE_LIMIT [] d other → ⊥) → Begins MESSAGE_LIMIT xs e rest → Halts xs m → ⊥
 never l xs m e rest none b (at_fault {k = k} {at = at} f) = l.answer.either MESSAGE_LIMIT xs e rest k at b f
@@ -144,7 +144,7 @@ one_met l p m n a b = by (meets_so p m a) (meets_so p n b)
         let same = behind_once l p.stream x.1 y.1 p.taken x.2 y.2 in
         shape_once l y.1 m n none_begins (shape y.1 m (subst (λ z. AreInput z m) same x.3)) (shape y.1 n y.3)
 
--- ---- deeds
+-- ---- events
 
 hears_once : (meeting : OneInput) (event : Event) (p q r s : Transcript) → p ≡ q → EventStep event p r → EventStep event q s → r ≡ s
 hears_once meeting (Called call) p q r s e a b = a ∙ ap (λ z. after_call z call) e ∙ sym b

@@ -1,4 +1,4 @@
--- Ranges of a question, and of its schedule.
+-- The ranges of a question, and of its agenda.
 use Rattle.std.proofs.Common.{◌≡◌, ℕ, zero, suc, ◌+◌, ◌<◌, ◌≤◌, List, [], ◌∷◌, ◌++◌, map, refl, sym, ap, subst, ◌∙◌, arith, length-append}
 use Rattle.std.proofs.lemmas.List.{length-map}
 use Rattle.std.proofs.lemmas.List.FromFn.{length-range_with_len}
@@ -35,7 +35,7 @@ pub first_is : (list : List Range) (d : Range) → CanBeAsked list
 first_is [] d a = absurd (a.some refl)
 first_is (r ∷ rs) d a = (sym (first_at r rs a.order.1), let b = a.bounded.0 in omega (arith, b))
 
--- ---- ranges that can be asked
+-- ---- ranges that can be asked for
 
 -- a range of a plan, as the origin tests it
 range_good : (r : Range) → 1 ≤ natural r.start → 0 < natural r.n
@@ -49,7 +49,7 @@ range_good r low some high = by r.start r.n low some high
     by (pos s) (negsuc n) low some high = absurd (omega arith)
     by (negsuc s) n low some high = absurd (omega arith)
 
--- the range begins after what came before, and ends before what comes
+-- the range begins at `low` or later; its last position is its start plus its length, less 1
 range_follows : (low : ℕ) (r : Range) → low ≤ natural r.start → 1 ≤ low → 0 < natural r.n
     → (int_lt (pos low -ℤ pos 1) r.start ≡ true)
     × (last_of r ≡ pos (natural r.start + natural r.n) -ℤ pos 1)
@@ -75,7 +75,7 @@ follow_back low (r ∷ rs) one order bounded =
     ∙ ap (λ b. b && follow (last_of r) rs) f.0
     ∙ ap (λ z. follow z rs) f.1 ∙ later
 
--- ranges that a schedule gives are ranges that the origin asks for
+-- the origin accepts the ranges that an agenda gives
 pub asked_ranges : (rs : List Range) → CanBeAsked rs → are_ranges rs ≡ true
 asked_ranges [] a = absurd (a.some refl)
 asked_ranges (r ∷ rs) a = follow_back 1 (r ∷ rs) (omega arith) a.order a.bounded

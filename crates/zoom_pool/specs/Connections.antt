@@ -1,4 +1,4 @@
--- The deeds that can have left a connection.
+-- The events that can have left a connection as it is.
 use Rattle.std.specs.Prelude.{◌≡◌, true, false, ℕ, List, [], ◌∷◌, ◌++◌, Option, None, Some}
 use Rattle.zber.specs.Elements.{Element}
 use Rattle.zber.specs.Spelling.{Begins}
@@ -13,12 +13,13 @@ use Rattle.zber.specs.declared.framer.TheConstants.{MESSAGE_LIMIT}
 use Rattle.zoom_pool.specs.Transcripts.{Transcript, Event, IsTranscript, past_of, given, is_lost, sent}
 use Rattle.zoom_pool.specs.Links.{Link}
 
--- what is to be taken: the message that is kept, and then what the framer has
+-- the octets not yet taken begin with the message kept, if there is one; the framer has those that follow
 abbrev pub IsKept : List ℕ → Option Element → List ℕ → Type 0
 IsKept rest None octets = rest ≡ octets
 IsKept rest (Some e) octets = Begins MESSAGE_LIMIT rest e octets
 
--- The framer has what follows the messages taken.
+-- The framer has the octets that follow the messages taken and the message kept. It has no fault if the connection
+-- was not stopped.
 pub record FramerAfter (p : Transcript) (held : Option Element) (framer : Stream) : Type 0 where
   pub rest : List ℕ
   pub behind : IsBehind p.stream p.taken rest
@@ -26,26 +27,26 @@ pub record FramerAfter (p : Transcript) (held : Option Element) (framer : Stream
   pub limited : framer.limit ≡ MESSAGE_LIMIT
   pub sound : is_going p.stop ≡ true → framer.fault ≡ None
 
--- What was heard can have left this connection.
+-- The transcript agrees with this connection.
 pub record AreConsistent (p : Transcript) (c : Link) : Type 0 where
   pub origin : OriginAfter p.settings p.log c.origin
   pub frames : FramerAfter p c.held c.framer
   pub ended : c.ended ≡ p.ended
   pub stop : c.stop ≡ p.stop
 
--- what was handed out and what waits is what was sent
+-- unless a write failed, the octets handed out, then those that wait, are the octets sent
 abbrev pub WaitingAfter : List Event → Transcript → List ℕ → Type 0
 WaitingAfter events p waiting = is_lost events ≡ false → given events ++ waiting ≡ sent (past_of p)
 
--- each is read back from its encoding, whatever follows it
+-- each is read back from its encoding, whatever octets follow
 abbrev pub AreReadBack : List Apdu → Type 0
 AreReadBack [] = Unit {0}
 AreReadBack (v ∷ vs) = IsReadBack (sent_of v) × AreReadBack vs
 
--- The deeds can have left this connection.
+-- These events can have left this connection, and `p` is their transcript.
 pub record ConnectionAfter (settings : Settings) (events : List Event) (p : Transcript) (c : Link) : Type 0 where
   pub transcript : IsTranscript settings events p
   pub matches : AreConsistent p c
   pub waiting : WaitingAfter events p c.waiting
-  -- what was sent is read back
+  -- each request sent is read back from its encoding
   pub reads : AreReadBack (past_of p).sent

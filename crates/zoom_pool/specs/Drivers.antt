@@ -1,4 +1,4 @@
--- What drives one connection for its question.
+-- The driver of one connection: it gives the calls for the connection's question.
 use Rattle.std.specs.Prelude.{◌≡◌, ◌⊎◌, ℕ, ℤ, ◌+◌, ◌-◌, ◌<◌, ◌≤◌, Bool, true, false, ◌&&◌, if◌then◌else◌, List, [], ◌∷◌, length, Option, None, Some, Ok, Err}
 use Rattle.std.specs.List.{find, flat_map}
 use Rattle.zapdu.specs.declared.apdu.Apdu.{Apdu}
@@ -36,8 +36,8 @@ use Rattle.zoom_pool.specs.States.{state_as, is_stopped}
 use Rattle.zoom_pool.specs.Driving.{can_search, can_present, counted, events_of, IsDrivenLog}
 use Rattle.zoom_pool.specs.Steering.{Errand, IsFitErrand, IsNextCall, IsSteered, IsSteeredCall, may_call, skipped_in, complete_in, is_rejected, IsTried}
 
--- The errand; how far it is; how many calls can at most be made before a reply comes; whether the question was skipped;
--- whether the association was rejected or closed.
+-- A driver: its errand; its phase; the most calls that can be made before a reply comes; whether the search was
+-- skipped; whether the association was rejected or closed.
 pub record DriverState : Type 0 where
   pub errand : Errand
   pub phase : Phase
@@ -45,7 +45,7 @@ pub record DriverState : Type 0 where
   pub skipped : Bool
   pub complete : Bool
 
--- how many calls can at most be made before a reply comes
+-- the most calls that can be made before a reply comes
 abbrev pub left_in : ℕ → Phase → ℕ
 left_in window phases.Fresh = 1
 left_in window phases.Opening = 0
@@ -58,27 +58,32 @@ left_in window phases.Closed = 0
 
 -- ---- what the log says at each phase
 
+-- the events once Init was answered
 abbrev pub opened_events : Bool → Bool → List Event
 opened_events search three = Receives plan.Init (Opens search three) ∷ Sends plan.Init ∷ []
 
+-- the events once the search was sent
 abbrev pub searched_events : Bool → List Event
 searched_events three = Sends plan.Search ∷ opened_events true three
 
+-- the events once the search was answered with this count
 abbrev pub found_events : Bool → ℕ → List Event
 found_events three count = Receives plan.Search (Finds (Some count)) ∷ searched_events three
 
+-- there is an answer to Init
 abbrev pub HasOpening : Past → Type 0
 HasOpening p = (answer : Answer) × (opening p ≡ Some answer)
 
--- no two of the lists begin at one position
+-- none of the lists begins at this position
 abbrev pub IsFreeStart : ℕ → List (List ℕ) → Type 0
 IsFreeStart first ls = (l : List ℕ) → IsIn l ls → first_of l ≡ first → ⊥
 
+-- no two of the lists begin at the same position
 abbrev pub HaveApartStarts : List (List ℕ) → Type 0
 HaveApartStarts [] = Unit {0}
 HaveApartStarts (l ∷ ls) = IsFreeStart (first_of l) ls × HaveApartStarts ls
 
--- all that was sent was answered
+-- each operation that was sent has a reply
 abbrev pub AllAnswered : List Event → Type 0
 AllAnswered events = (a : Operation) → IsIn a (asked_in events) → replies_in events a ≡ None → ⊥
 
@@ -86,11 +91,11 @@ AllAnswered events = (a : Operation) → IsIn a (asked_in events) → replies_in
 abbrev pub CanBeSent : Ask → Past → Type 0
 CanBeSent ask p = is_unsendable (search_request (force_after (opening p)).named 1 1 ask) ≡ false
 
--- version 3 is in force, or not
+-- `three` says whether version 3 is in force
 abbrev pub HasVersion : Past → Bool → Type 0
 HasVersion p three = (force_after (opening p)).v3 ≡ three
 
--- The search is the only one, and it found so many records, which can be asked for.
+-- There is one search; it found `count` records, and Presents can ask for them.
 pub record HasFound (ask : Ask) (p : Past) (three : Bool) (count : ℕ) : Type 0 where
   pub asked : flat_map search_in p.admitted ≡ unanswered 1 1 ask ∷ []
   pub answer : Answer
@@ -103,17 +108,21 @@ pub record HasFound (ask : Ask) (p : Past) (three : Bool) (count : ℕ) : Type 0
   pub sendable : CanBeSent ask p
 
 module _ (e : Errand) (settings : Settings) (log : Log) where
+  -- the log as events of the plan
   abbrev pub events_at : List Event
   events_at = events_of e.ask settings log
 
+  -- nothing was sent, and Init has no answer
   pub record AtFresh : Type 0 where
     pub events : events_at ≡ []
     pub opening : opening (past settings log) ≡ None
 
+  -- Init was sent, and has no answer
   pub record AtOpening : Type 0 where
     pub events : events_at ≡ Sends plan.Init ∷ []
     pub opening : opening (past settings log) ≡ None
 
+  -- Init was answered, and the search was not sent
   pub record AtOpened (present three : Bool) : Type 0 where
     pub search : Bool
     pub events : events_at ≡ opened_events search three
@@ -122,6 +131,7 @@ module _ (e : Errand) (settings : Settings) (log : Log) where
     pub shows : can_present (past settings log) ≡ present
     pub version : HasVersion (past settings log) three
 
+  -- the search was sent, and has no answer
   pub record AtSearching (present three : Bool) : Type 0 where
     pub events : events_at ≡ searched_events three
     pub opening : HasOpening (past settings log)
@@ -130,11 +140,13 @@ module _ (e : Errand) (settings : Settings) (log : Log) where
     pub sendable : CanBeSent e.ask (past settings log)
     pub search : flat_map search_in (past settings log).admitted ≡ unanswered 1 1 e.ask ∷ []
 
+  -- the search was answered with this count, and nothing was sent since
   pub record AtCounted (three : Bool) (count : ℕ) : Type 0 where
     pub events : events_at ≡ found_events three count
     pub opening : HasOpening (past settings log)
     pub set : HasFound e.ask (past settings log) three count
 
+  -- the agenda is that of the events; Init and the search were answered
   pub record AtAsking (a : Agenda) : Type 0 where
     pub agenda : IsAgenda e.wanted e.step events_at a
     pub init : IsIn plan.Init (asked_in events_at)
@@ -147,6 +159,7 @@ module _ (e : Errand) (settings : Settings) (log : Log) where
     pub apart : HaveApartStarts a.waiting
     pub opening : HasOpening (past settings log)
 
+  -- nothing is due, and each operation was answered; the search was tried
   pub record AtDone : Type 0 where
     pub none : (b : Operation) → IsDue e.wanted e.step events_at b → ⊥
     pub all : AllAnswered events_at
@@ -154,12 +167,14 @@ module _ (e : Errand) (settings : Settings) (log : Log) where
     pub opening : HasOpening (past settings log)
     pub tried : IsTried settings log
 
+  -- each operation was answered, and no call can be made
   pub record AtClosed : Type 0 where
     pub all : AllAnswered events_at
     pub closed : may_call (state_of (past settings log)) ≡ false
     pub tried : is_rejected (opening (past settings log)) ≡ false → IsTried settings log
     pub opening : HasOpening (past settings log)
 
+  -- the log agrees with this phase
   abbrev pub IsAtPhase : Phase → Type 0
   IsAtPhase phases.Fresh = AtFresh
   IsAtPhase phases.Opening = AtOpening
@@ -170,7 +185,7 @@ module _ (e : Errand) (settings : Settings) (log : Log) where
   IsAtPhase phases.Done = AtDone
   IsAtPhase phases.Closed = AtClosed
 
--- Each call of the log was the next one at its moment, and the driver knows what it amounts to.
+-- Each call of the log was next when it was made, or was the skipped search; the driver agrees with the log.
 pub record IsDriver (e : Errand) (settings : Settings) (log : Log) (d : DriverState) : Type 0 where
   pub steered : IsSteered e settings log
   pub driven : IsDrivenLog e.ask e.wanted e.step settings log
@@ -185,14 +200,15 @@ pub record IsDriver (e : Errand) (settings : Settings) (log : Log) (d : DriverSt
   pub few : d.left ≤ 3 + e.window
   pub at : IsAtPhase e settings log d.phase
 
--- ---- clauses, for each log that the driver can know
+-- ---- clauses, each for every log that agrees with the driver
 
+-- each log that agrees with the old driver agrees with the new one; `left` is unchanged
 abbrev pub SameDriver : DriverState → DriverState → Type 0
 SameDriver old new =
     ((e : Errand) (settings : Settings) (log : Log) → IsDriver e settings log old → IsDriver e settings log new)
     × (new.left ≡ old.left)
 
--- how far the driver is where it gives the call
+-- the phase at which the driver gives this call, and what holds then
 abbrev pub IsOffered : Errand → Settings → Log → Phase → origin.Call → Type 0
 IsOffered e settings log phase origin.Init = (phase ≡ phases.Fresh) × IsNextCall e settings log origin.Init
 IsOffered e settings log phase (origin.Search op set ask) =
@@ -204,19 +220,19 @@ IsOffered e settings log phase (origin.Present op set ranges) =
 IsOffered e settings log phase origin.Close =
     ((phase ≡ phases.Done) ⊎ ((a : Agenda) × (phase ≡ phases.Asking a))) × IsNextCall e settings log origin.Close
 
--- The driver gave the call: the origin admits it, and it is the next one; or it is the search, which is skipped.
+-- The driver gave this call: it is next and the origin admits it, or it is the search, which is skipped.
 pub record IsOffer (e : Errand) (settings : Settings) (log : Log) (d : DriverState) (call : origin.Call) : Type 0 where
   pub knows : IsDriver e settings log d
   pub steers : IsSteeredCall e settings log (refusal (standing (past settings log)) call) call
   pub offered : IsOffered e settings log d.phase call
 
--- None is next; and the search was tried, once the association was accepted.
+-- No call is next; once the association was accepted, the search was tried.
 pub record HasNoNextCall (e : Errand) (settings : Settings) (log : Log) : Type 0 where
   pub none : (call : origin.Call) → IsNextCall e settings log call → ⊥
   pub tried : is_stopped (state_as (state_of (past settings log))) ≡ false → HasOpening (past settings log)
       → IsTried settings log
 
--- what it gives in this state: a call; or none, where it rests
+-- the call that the driver gives in this state; if it gives none, no call is next
 abbrev pub NextCallResult : State → Option Call → DriverState → Type 0
 NextCallResult state None d =
     (e : Errand) (settings : Settings) (log : Log) → IsDriver e settings log d
@@ -225,21 +241,22 @@ NextCallResult state (Some call) d =
     (e : Errand) (settings : Settings) (log : Log) → IsDriver e settings log d
     → state ≡ state_as (state_of (past settings log)) → IsOffer e settings log d (call_of call)
 
--- the origin admitted the call
+-- the origin admitted the call: the driver agrees with the longer log, and fewer calls are left
 abbrev pub NoteSentStep : origin.Call → DriverState → DriverState → Type 0
 NoteSentStep call old new =
     (e : Errand) (settings : Settings) (log : Log) → IsOffer e settings log old call
     → refusal (standing (past settings log)) call ≡ None
     → IsDriver e settings (Made call ∷ log) new × (new.left < old.left)
 
--- the origin refused the call: another may be next
+-- the origin refused the call: the driver agrees with the longer log, and fewer calls are left; another may be
+-- next
 abbrev pub NoteRefusedStep : DriverState → DriverState → Type 0
 NoteRefusedStep old new =
     (e : Errand) (settings : Settings) (log : Log) (call : origin.Call) (reason : CallRefused)
     → IsOffer e settings log old call → refusal (standing (past settings log)) call ≡ Some reason
     → IsDriver e settings (Made call ∷ log) new × (new.left < old.left)
 
--- the origin took a reply
+-- the origin accepted a reply: the driver agrees with the longer log
 abbrev pub NoteReplyStep : Taken → DriverState → DriverState → Type 0
 NoteReplyStep taken old new =
     (e : Errand) (settings : Settings) (log : Log) (reply : Apdu) → IsDriver e settings log old
@@ -252,68 +269,74 @@ RefusedLaw =
     → IsDriver e settings log d → verdict (standing (past settings log)) reply ≡ Err reason
     → IsDriver e settings (Got reply ∷ log) d
 
--- ---- what the parts do
+-- ---- the driver's parts
 
+-- the reply rejected the association
 abbrev pub is_rejection_of : Taken → Bool
 is_rejection_of (taken.Rejected answer) = true
 is_rejection_of _ = false
 
--- the Present for the ranges of a plan
+-- the Present of set 1 for these ranges; its operation has the number of its first position plus 1
 abbrev pub IsRangesCall : List Range → origin.Call → Type 0
 IsRangesCall list call =
     (call ≡ origin.Present (first_of (positions list) + 1) 1 list) × (are_ranges list ≡ true)
 
--- no schedule is to be made
+-- the phase is not Counted, so no schedule has to be made
 abbrev pub IsScheduled : Phase → Type 0
 IsScheduled (phases.Counted three count) = ⊥
 IsScheduled _ = Unit {0}
 
--- so many Presents may wait, where calls can be made
+-- how many Presents may be outstanding; none if no call can be made
 abbrev pub room_for : ℕ → State → Option ℕ
 room_for window (states.Ready v3 concurrent named) = Some (if concurrent then window else 1)
 room_for window _ = None
 
+-- the state is Fresh
 abbrev pub is_fresh_state : State → Bool
 is_fresh_state states.Fresh = true
 is_fresh_state _ = false
 
--- the Present of what stands first, where there is room
+-- The call is the Present that is due first, and there is room for it.
 pub record IsFirstPresent (room : ℕ) (a : Agenda) (call : origin.Call) : Type 0 where
   pub ranges : List Range
   pub others : List (List ℕ)
   pub is : call ≡ origin.Present (first_of (positions ranges) + 1) 1 ranges
   pub due : a.due ≡ positions ranges ∷ others
   pub asked : are_ranges ranges ≡ true
-  -- one range, where version 3 is not in force
+  -- one range, if version 3 is not in force
   pub single : a.three ≡ false → length ranges ≡ 1
   pub ready : a.ready ≡ true
   pub fits : length a.waiting < room
 
--- with nothing due and nothing waiting
+-- The call is Close; no Present is due and none is outstanding.
 pub record IsIdleClose (a : Agenda) (call : origin.Call) : Type 0 where
   pub is : call ≡ origin.Close
   pub none : a.due ≡ []
   pub idle : length a.waiting ≡ 0
 
+-- the next call while Presents are asked for; none if there is no room, or nothing is due and a reply is awaited
 abbrev pub NextAskedResult : ℕ → Agenda → Option Call → Type 0
 NextAskedResult room a None = (room ≤ length a.waiting) ⊎ ((a.due ≡ []) × (0 < length a.waiting))
 NextAskedResult room a (Some call) = IsFirstPresent room a (call_of call) ⊎ IsIdleClose a (call_of call)
 
+-- this call is given if the condition holds, and none if it does not
 abbrev pub IsGivenIf : Bool → origin.Call → Option Call → Type 0
 IsGivenIf true call None = ⊥
 IsGivenIf true call (Some given) = call_of given ≡ call
 IsGivenIf false call None = Unit {0}
 IsGivenIf false call (Some given) = ⊥
 
+-- calls can be made
 abbrev pub has_room : Option ℕ → Bool
 has_room None = false
 has_room (Some room) = true
 
+-- the next call while Presents are asked for; none if no call can be made
 abbrev pub IsGivenInRoom : Option ℕ → Agenda → Option Call → Type 0
 IsGivenInRoom None a given = given ≡ None
 IsGivenInRoom (Some room) a given = NextAskedResult room a given
 
--- what is given at a phase
+-- the call that is given at a phase
 abbrev pub GiveResult : Ask → ℕ → State → Phase → Option Call → Type 0
 GiveResult ask window state phases.Fresh given = IsGivenIf (is_fresh_state state) origin.Init given
 GiveResult ask window state phases.Opening given = given ≡ None
@@ -325,18 +348,19 @@ GiveResult ask window state (phases.Asking a) given = IsGivenInRoom (room_for wi
 GiveResult ask window state phases.Done given = IsGivenIf (has_room (room_for window state)) origin.Close given
 GiveResult ask window state phases.Closed given = given ≡ None
 
--- the same phase, up to what is cut off of a schedule
+-- the same phase; of two agendas, the lists that are due and the lists that wait are the same
 abbrev pub IsSamePhase : Phase → Phase → Type 0
 IsSamePhase (phases.Asking a) (phases.Asking b) = SameAgenda a b
 IsSamePhase (phases.Asking a) _ = ⊥
 IsSamePhase old new = new ≡ old
 
--- once the count is known a schedule is made
+-- once the count is known, the agenda of all wanted positions up to it is made; any other phase is unchanged
 abbrev pub IsPrepared : List ℕ → ℕ → Phase → Phase → Type 0
 IsPrepared wanted step (phases.Counted three count) new =
     new ≡ phases.Asking (whole_agenda three step (up_to count wanted))
 IsPrepared wanted step old new = new ≡ old
 
+-- The agenda is made if it is due; the rest is unchanged.
 pub record PrepareStep (old new : DriverState) : Type 0 where
   pub phase : IsPrepared old.errand.wanted old.errand.step old.phase new.phase
   pub errand : new.errand ≡ old.errand
@@ -344,13 +368,13 @@ pub record PrepareStep (old new : DriverState) : Type 0 where
   pub skipped : new.skipped ≡ old.skipped
   pub complete : new.complete ≡ old.complete
 
--- the Present was sent
+-- the Present that was ready was sent
 abbrev pub IsSentAgenda : Bool → Agenda → Phase → Type 0
 IsSentAgenda true a (phases.Asking b) = IsSent a b
 IsSentAgenda true a _ = ⊥
 IsSentAgenda false a new = Unit {0}
 
--- the phase after an admitted call that was given at the phase before
+-- the phase after a call that the driver gave and the origin admitted
 abbrev pub SendStep : origin.Call → Phase → Phase → Type 0
 SendStep origin.Init old new = new ≡ phases.Opening
 SendStep (origin.Search op set ask) (phases.Opened present three) new = new ≡ phases.Searching present three
@@ -360,20 +384,22 @@ SendStep _ old new = Unit {0}
 
 -- ---- replies
 
+-- the phase after the Init response
 abbrev pub opened_phase : Apdu → Phase
 opened_phase (apdus.InitResponse v) = phases.Opened (force_in v).present (force_in v).v3
 opened_phase _ = phases.Closed
 
+-- the phase after the search response: Done if there is no count
 abbrev pub counted_phase : Bool → Option ℕ → Phase
 counted_phase three None = phases.Done
 counted_phase three (Some count) = phases.Counted three count
 
--- a list that waits was answered
+-- if a list that begins at `first` is awaited, it was answered with so many records
 abbrev pub IsAnsweredAgenda : ℕ → ℕ → Agenda → Phase → Type 0
 IsAnsweredAgenda first records a (phases.Asking b) = HasWaiting first a → IsAnswered first records a b
 IsAnsweredAgenda first records a _ = ⊥
 
--- the number of an operation is that of its first position, and 1 more
+-- the phase after a response; the number of a Present's operation is its first position plus 1
 abbrev pub AnswerStep : ℕ → Apdu → Phase → Phase → Type 0
 AnswerStep op (apdus.SearchResponse v) (phases.Searching present three) new =
     new ≡ counted_phase three (counted (v.search_status && present) v.result_count)
@@ -381,6 +407,7 @@ AnswerStep op (apdus.PresentResponse v) (phases.Asking a) new =
     IsAnsweredAgenda (op - 1) (length (records_in v.records)) a new
 AnswerStep op _ old new = Unit {0}
 
+-- the phase after the origin accepted a reply
 abbrev pub TakenStep : Taken → Phase → Phase → Type 0
 TakenStep (taken.Opened answer) old new = new ≡ opened_phase answer.reply
 TakenStep (taken.Rejected answer) old new = new ≡ phases.Closed

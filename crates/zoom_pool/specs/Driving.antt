@@ -1,4 +1,4 @@
--- A connection that is driven for one question: what its origin's log says of the plan, and which calls are due.
+-- A connection that is driven for one question: the events of the plan in its log, and which calls are due.
 use Rattle.std.specs.Prelude.{◌≡◌, ℕ, ℤ, ◌<◌, ◌≤◌, ◌+◌, is_none, Bool, true, false, ◌&&◌, List, [], ◌∷◌, length, Option, None, Some, Result, Ok, Err}
 use Rattle.zapdu.specs.declared.apdu.Apdu.{Apdu}
 use Rattle.zapdu.specs.declared.apdu.Apdu.TheVariants as apdus
@@ -22,16 +22,16 @@ use Rattle.zorigin.specs.Replies.{verdict}
 use Rattle.zorigin.specs.Log.{Log, Made, Got, Past, past, standing, opening, force_after, asked}
 use Rattle.zoom_pool.specs.Transcripts.{answer_in}
 
--- ---- what the log says of the plan
+-- ---- the log as events of the plan
 
--- a call as an event
+-- a call as an event of the plan
 abbrev pub plan_of : Call → Event
 plan_of Init = Sends plan.Init
 plan_of (Search op set ask) = Sends plan.Search
 plan_of (Present op set ranges) = Sends (plan.Present (positions ranges))
 plan_of Close = Closes
 
--- the operation that asks for it
+-- the operation of the plan that a request is for
 abbrev pub operation_for : What → Operation
 operation_for what.Init = plan.Init
 operation_for what.Search = plan.Search
@@ -41,36 +41,39 @@ operation_for (what.Present ranges) = plan.Present (positions ranges)
 abbrev pub can_search : Ask → Past → Bool
 can_search ask p = is_none (refusal (standing p) (Search 1 1 ask))
 
--- records can be asked for
+-- Presents can ask for records
 abbrev pub can_present : Past → Bool
 can_present p = (force_after (opening p)).present
 
--- the count, where it counts
+-- the count, if the condition holds
 abbrev pub counted : Bool → ℤ → Option ℕ
 counted false n = None
 counted true n = Some (natural n)
 
--- a reply as far as it decides what is asked next, once it was accepted
+-- an accepted reply, reduced to what decides the next request
 abbrev pub reply_for : Ask → Past → Apdu → Reply
 reply_for ask p (apdus.InitResponse v) = Opens (v.result && can_search ask p) (force_in v).v3
 reply_for ask p (apdus.SearchResponse v) = Finds (counted (v.search_status && can_present p) v.result_count)
 reply_for ask p (apdus.PresentResponse v) = Shows (length (records_in v.records))
 reply_for ask p _ = Shows 0
 
--- an admitted call, an accepted reply; other entries of the log are no events
+-- an admitted call is an event, a refused call is none
 abbrev pub made_event : Option CallRefused → Call → List Event → List Event
 made_event None call events = plan_of call ∷ events
 made_event (Some reason) call events = events
 
+-- an answer is an event
 abbrev pub answer_event : Ask → Past → Option Answer → List Event → List Event
 answer_event ask p None events = events
 answer_event ask p (Some answer) events =
     Receives (operation_for answer.asked.what) (reply_for ask p answer.reply) ∷ events
 
+-- an accepted reply with an answer is an event, a refused reply is none
 abbrev pub got_event : Ask → Past → Result Taken Refused → List Event → List Event
 got_event ask p (Ok taken) events = answer_event ask p (answer_in taken) events
 got_event ask p (Err reason) events = events
 
+-- the events of the plan in this log, newest first
 abbrev pub events_of : Ask → Settings → Log → List Event
 events_of ask settings [] = []
 events_of ask settings (Made call ∷ log) =
@@ -81,25 +84,25 @@ events_of ask settings (Got reply ∷ log) =
 
 -- ---- which calls are due
 
--- the number of a call's operation is that of the plan
+-- the call's operation has the number that the plan gives it
 abbrev pub IsNumbered : Call → Type 0
 IsNumbered (Search op set ask) = op ≡ number plan.Search
 IsNumbered (Present op set ranges) = op ≡ number (plan.Present (positions ranges))
 IsNumbered _ = Unit {0}
 
 module _ (ask : Ask) (wanted : List ℕ) (step : ℕ) where
-  -- what is sent is due; Close is sent once all that is asked was answered
+  -- a request is due by the plan; Close is due once all that the plan asks for was answered
   abbrev pub IsDueEvent : List Event → Event → Type 0
   IsDueEvent events (Sends a) = IsDue wanted step events a
   IsDueEvent events (Receives a r) = ⊥
   IsDueEvent events Closes = IsAnsweredWhole wanted step events
 
-  -- a call that the origin refuses sends nothing
+  -- an admitted call is numbered and due; a refused call sends nothing
   abbrev pub IsDueCall : List Event → Option CallRefused → Call → Type 0
   IsDueCall events None call = IsNumbered call × IsDueEvent events (plan_of call)
   IsDueCall events (Some reason) call = Unit {0}
 
-  -- each admitted call was due
+  -- each admitted call was due when it was made
   abbrev pub IsDrivenLog : Settings → Log → Type 0
   IsDrivenLog settings [] = Unit {0}
   IsDrivenLog settings (Made call ∷ log) =
@@ -107,8 +110,8 @@ module _ (ask : Ask) (wanted : List ℕ) (step : ℕ) where
       × IsDrivenLog settings log
   IsDrivenLog settings (Got reply ∷ log) = IsDrivenLog settings log
 
--- Of a log in which each admitted call was due: each reply that it accepted answers what was sent, once; and at most
--- two requests, and one for each wanted position up to the count, were sent, Close aside.
+-- If each admitted call of a log was due, each accepted reply answers a request that was sent, once. Besides
+-- Close, at most two requests were sent, and one for each wanted position up to the count.
 pub record DrivenLaws : Type 0 where
   pub driven : (ask : Ask) (wanted : List ℕ) (step : ℕ) (settings : Settings) (log : Log)
       → IsDrivenLog ask wanted step settings log → plan.IsDriven wanted step (events_of ask settings log)

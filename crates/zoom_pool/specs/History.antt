@@ -1,4 +1,4 @@
--- A history of a pool, and what it amounts to.
+-- The history of a pool, and what it amounts to.
 use Rattle.std.specs.Prelude.{◌≡◌, ◌⊎◌, ◌↔◌, ℕ, ◌≤◌, ◌==◌, List, [], map, filter, length, slice_get, Some, Contains}
 use Rattle.std.specs.List.{flat_map}
 use Rattle.zknow.specs.declared.fact.Fact.{Fact}
@@ -10,40 +10,41 @@ use Rattle.zoom_pool.specs.Transcripts.{Event, Transcript, empty_transcript, pas
 use Rattle.zoom_pool.specs.Connections.{ConnectionAfter}
 use Rattle.zoom_pool.specs.Links.{Link, Links}
 
--- deeds with their connections, the newest first
+-- events with the numbers of their connections, newest first
 abbrev pub History : Type 0
 History = List (ℕ × Event)
 
--- the deeds of one connection
+-- the events of connection `c`, newest first
 abbrev pub events_on : ℕ → History → List Event
 events_on c h = map (λ e. e.1) (filter (λ e. e.0 == c) h)
 
--- the replies accepted on a connection, and their facts, each read against its own request
+-- the answers of a connection
 abbrev pub accepted : Transcript → List Answer
 accepted p = (past_of p).accepted
 
+-- the facts of its answers, each reply read against its own request
 abbrev pub facts_at : ℕ → Transcript → List Fact
 facts_at c p = flat_map (facts_of c) (accepted p)
 
--- the union over all connections
+-- an answer of some connection has this fact
 abbrev pub IsKnown : (ℕ → Transcript) → Fact → Type 0
 IsKnown transcript q = (c : ℕ) × Contains (facts_at c (transcript c)) q
 
--- what each connection heard can have left it, by its own part of the history
+-- each connection can have been left by its own events, with this transcript; no other number has events
 pub record AreTranscripts (settings : Settings) (h : History) (transcript : ℕ → Transcript)
     (connections : List Link) : Type 0 where
   pub each : (c : ℕ) (k : Link) → slice_get connections c ≡ Some k
       → ConnectionAfter settings (events_on c h) (transcript c) k
   pub others : (c : ℕ) → length connections ≤ c → (events_on c h ≡ []) × (transcript c ≡ empty_transcript settings)
 
--- The history can have left this pool: what is known is the union of the facts of the accepted replies.
+-- The history can have left this pool; the facts known are exactly those of the answers.
 pub record After (settings : Settings) (h : History) (pool : Links) : Type 0 where
   pub transcript : ℕ → Transcript
   pub stands : AreTranscripts settings h transcript pool.connections
   pub known : (q : Fact) → Contains pool.knowledge q ↔ IsKnown transcript q
   pub lawful : AreFacts pool.knowledge
 
--- The same, but of what the next Take of c makes known a part may be known.
+-- The same, but some facts that the next Take of `c` adds may be known already.
 pub record AfterUpTo (settings : Settings) (c : ℕ) (h : History) (pool : Links) : Type 0 where
   pub transcript : ℕ → Transcript
   pub stands : AreTranscripts settings h transcript pool.connections

@@ -1,4 +1,4 @@
--- What the steps of receiving and of putting a reply do.
+-- What the steps do that receive messages and put replies.
 use Rattle.std.specs.Prelude.{◌≡◌, ℕ, ◌<◌, Bool, true, false, not, List, ◌∷◌, ◌++◌, length, Option, None, Some, Result, Ok, Err}
 use Rattle.zber.specs.declared.fault.FrameError.{FrameError}
 use Rattle.zber.specs.declared.fault.FrameError.TheVariants as frames
@@ -13,12 +13,12 @@ use Rattle.ztarget.specs.Receiving.{TargetState, IsAnswered, After as TargetAfte
 use Rattle.zapdu.specs.Writes.{Writes}
 use Rattle.zoom_pool.specs.Inputs.{Input, IsReadAs}
 use Rattle.zoom_pool.specs.Transcripts.{joined}
-use Rattle.zoom_pool.specs.declared.receiving.Turn.{Reception}
-use Rattle.zoom_pool.specs.declared.receiving.Turn.TheVariants as stages
+use Rattle.zoom_pool.specs.declared.receiving.Reception.{Reception}
+use Rattle.zoom_pool.specs.declared.receiving.Reception.TheVariants as stages
 use Rattle.zoom_pool.specs.Hosts.{HostState, Holdings, owed_by, AreReceived, IsStopping, IsHostRest, ArePutLast, IsShort, IsLong, IsFramerAt}
 
--- What a target that had received some, and had these replies pending, has received by now of the stream, and what of
--- the stream follows.
+-- A target had received and released these APDUs, with these replies pending. It has now received `now` of the
+-- stream, newest first; `rest` follows, and `Then` holds of both.
 pub record Receipt
     (holdings : Holdings) (stream : List ℕ) (released received pending : List Apdu) (target : TargetState)
     (Then : Holdings → List Apdu → List ℕ → Type 0)
@@ -30,7 +30,7 @@ pub record Receipt
   pub replies : ArePutLast holdings received pending now target.pending
   pub then : Then holdings now rest
 
--- what was reached with the one is reached with the other
+-- if `Before` was reached with the old target, `Behind` is reached with the new one
 abbrev pub ReceiptStep :
     (Holdings → List Apdu → List ℕ → Type 0) → (Holdings → List Apdu → List ℕ → Type 0)
     → TargetState → TargetState → Type 0
@@ -39,36 +39,38 @@ ReceiptStep Before Behind old new =
     → Receipt holdings stream released received pending old Before
     → Receipt holdings stream released received pending new Behind
 
--- the framer has what follows
+-- the framer has the octets that follow
 abbrev pub IsFollowing : Stream → Holdings → List Apdu → List ℕ → Type 0
 IsFollowing framer holdings received rest = IsFramerAt framer rest
 
--- the framer has what follows, and that is no whole message; or it stops the host
+-- not stopped: the framer has the octets that follow, which are no whole message; stopped: they stop the serving
+-- end
 abbrev pub IsReceiptEnd : Stream → Bool → Holdings → List Apdu → List ℕ → Type 0
 IsReceiptEnd framer false holdings received rest = IsFramerAt framer rest × IsHostRest holdings received rest false
 IsReceiptEnd framer true holdings received rest = IsHostRest holdings received rest true
 
+-- nothing is said of the octets that follow
 abbrev pub AnyRest : Holdings → List Apdu → List ℕ → Type 0
 AnyRest holdings received rest = Unit {0}
 
--- what the next message does
+-- what receiving the next message does
 abbrev pub ReceiveNextResult : {E : Type 0} → Result Reception E → Stream → Stream → TargetState → TargetState → Type 0
 ReceiveNextResult (Ok stages.More) framer later old new =
     ReceiptStep (IsFollowing framer) (IsFollowing later) old new × (length later.octets < length framer.octets)
-ReceiveNextResult (Ok stages.Waits) framer later old new = ReceiptStep (IsFollowing framer)
+ReceiveNextResult (Ok stages.Unfinished) framer later old new = ReceiptStep (IsFollowing framer)
     (IsReceiptEnd later false) old new
-ReceiveNextResult (Ok stages.Stopped) framer later old new = ReceiptStep (IsFollowing framer)
+ReceiveNextResult (Ok stages.Stopping) framer later old new = ReceiptStep (IsFollowing framer)
     (IsReceiptEnd later true) old new
 ReceiveNextResult (Err e) framer later old new = ReceiptStep (IsFollowing framer) AnyRest old new
 
--- what an error of the framer comes to
+-- a fault of the framer stops the serving end; missing memory is an error
 abbrev pub IsReceptionOf : {E : Type 0} → FrameError → Result Reception E → Type 0
-IsReceptionOf (frames.Fault kind at) (Ok stage) = stage ≡ stages.Stopped
+IsReceptionOf (frames.Fault kind at) (Ok stage) = stage ≡ stages.Stopping
 IsReceptionOf (frames.Fault kind at) (Err e) = ⊥
 IsReceptionOf frames.Memory (Ok stage) = ⊥
 IsReceptionOf frames.Memory (Err e) = Unit {0}
 
--- what all messages do
+-- what receiving all messages does
 abbrev pub ReceiveAllResult : {E : Type 0} → Result Bool E → Stream → Stream → TargetState → TargetState → Type 0
 ReceiveAllResult (Ok stopped) framer later old new =
     ReceiptStep (IsFollowing framer) (IsReceiptEnd later stopped) old new
@@ -82,8 +84,8 @@ ApduReceipt v old new =
     → TargetAfter databases settings (v ∷ received) released new
     × IsAnswered databases settings received v old.pending new.pending
 
--- what receiving an APDU does: the target takes it; or it does not, for another reason than memory; or memory was
--- wanting
+-- what receiving an APDU does: the target takes it; or the target refuses it for a reason other than memory; or no
+-- memory was found. The target is unchanged unless it takes the APDU.
 abbrev pub ReceiveApduResult : {E : Type 0} → Apdu → Result Bool E → TargetState → TargetState → Type 0
 ReceiveApduResult v (Ok true) old new = ApduReceipt v old new
 ReceiveApduResult v (Ok false) old new =
@@ -92,46 +94,47 @@ ReceiveApduResult v (Ok false) old new =
     → (error : TargetError) × (owed_by holdings received v ≡ Err error))
 ReceiveApduResult v (Err e) old new = new ≡ old
 
--- a message is not taken, and stops the host
+-- the message is not taken and stops the serving end; the target is unchanged
 abbrev pub MessageRefusal : Element → TargetState → TargetState → Type 0
 MessageRefusal n old new =
     (new ≡ old) × ((holdings : Holdings) (received released : List Apdu)
     → TargetAfter holdings.databases holdings.settings received released old
     → (input : Input) × IsReadAs n input × IsStopping holdings received input)
 
--- a message that is an APDU which the target takes, or that stops the host
+-- the message is an APDU that the target takes, or it stops the serving end
 abbrev pub MessageReceipt : Element → Bool → TargetState → TargetState → Type 0
 MessageReceipt n true old new = (v : Apdu) × Writes v n × ApduReceipt v old new
 MessageReceipt n false old new = MessageRefusal n old new
 
--- what receiving a message does, memory aside
+-- what receiving a message does; if no memory is found, the target is unchanged
 abbrev pub ReceiveMessageResult : {E : Type 0} → Element → Result Bool E → TargetState → TargetState → Type 0
 ReceiveMessageResult n (Ok taken) old new = MessageReceipt n taken old new
 ReceiveMessageResult n (Err e) old new = new ≡ old
 
--- what encoding a reply gives: its octets, of which it is read back, or none where they are too many
+-- the encoding of a reply, from which the reply is read back; none if it is too long
 abbrev pub EncodeReplyResult : {E : Type 0} → Apdu → Result (Option (List ℕ)) E → Type 0
 EncodeReplyResult reply (Ok (Some octets)) = (octets ≡ encoding_of reply) × IsShort reply × IsReadBack (sent_of reply)
 EncodeReplyResult reply (Ok None) = IsLong reply
 EncodeReplyResult reply (Err e) = Unit {0}
 
--- what putting a reply does: its octets go last; or it is too long; or memory was wanting
+-- what putting a reply does: its octets go last; or it is too long; or no memory was found. Nothing changes unless
+-- it is put.
 abbrev pub PutReplyResult : {E : Type 0} → Apdu → Result Bool E → List (List ℕ) → List (List ℕ) → Type 0
 PutReplyResult reply (Ok true) old new =
     (joined new ≡ joined old ++ encoding_of reply) × IsShort reply × IsReadBack (sent_of reply)
 PutReplyResult reply (Ok false) old new = (new ≡ old) × IsLong reply
 PutReplyResult reply (Err e) old new = new ≡ old
 
--- the framer had what came before the piece, and the piece follows
+-- the framer has the octets before the piece, and the piece follows
 abbrev pub IsFollowingPiece : Stream → List ℕ → Holdings → List Apdu → List ℕ → Type 0
 IsFollowingPiece framer piece holdings received rest =
     (before : List ℕ) × (rest ≡ before ++ piece) × IsFramerAt framer before
 
--- what waits to go out stays, and whether a Close was put
+-- the octets that wait to go out, and whether a Close was put, are unchanged
 abbrev pub SameOutput : HostState → HostState → Type 0
 SameOutput old new = (new.waiting ≡ old.waiting) × (new.closed ≡ old.closed)
 
--- what a piece does
+-- what receiving a piece does
 abbrev pub ReceivePieceResult : {E : Type 0} → List ℕ → Result Bool E → HostState → HostState → Type 0
 ReceivePieceResult piece (Ok stopped) old new =
     SameOutput old new × ReceiptStep (IsFollowingPiece old.framer piece)
@@ -139,7 +142,7 @@ ReceivePieceResult piece (Ok stopped) old new =
 ReceivePieceResult piece (Err e) old new =
     SameOutput old new × ReceiptStep (IsFollowingPiece old.framer piece) AnyRest old.target new.target
 
--- whether a reply was not put
+-- the reply was not put
 abbrev pub is_unput : {E : Type 0} → Result Bool E → Bool
 is_unput (Ok put) = not put
 is_unput (Err e) = true

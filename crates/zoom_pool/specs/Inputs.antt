@@ -1,4 +1,4 @@
--- What octets begin with, as a connection takes it: messages of at most 2,097,152 octets, one by one.
+-- What a connection takes next from its octets: messages of at most 2,097,152 octets, one by one.
 use Rattle.std.specs.Prelude.{◌≡◌, ℕ, ◌<◌, List, [], length}
 use Rattle.zber.specs.declared.fault.FaultKind.{FaultKind}
 use Rattle.zber.specs.declared.framer.TheConstants.{MESSAGE_LIMIT}
@@ -12,8 +12,8 @@ use Rattle.zapdu.specs.declared.apdu.ApduError.{ApduError}
 use Rattle.zapdu.specs.declared.apdu.ApduError.TheVariants as errors
 use Rattle.zapdu.specs.Writes.{Writes, IsNoApdu, IsMalformed}
 
--- What a Take meets: a connection that was stopped before; a message, or one that is no APDU; a fault; octets that are
--- no whole message, so many; no octets.
+-- What a Take finds: a connection that was stopped before; a message; or a message that is no APDU or is
+-- malformed. Or it finds a fault of the framing; so many octets that are no whole message; or no octets.
 pub data Input : Type 0 where
   AlreadyStopped : Input
   Message : Apdu → Input
@@ -22,26 +22,26 @@ pub data Input : Type 0 where
   Rest : ℕ → Input
   Nothing : Input
 
--- the element is refused so
+-- the element is no APDU, or is malformed, with this error
 abbrev pub IsForeign : Element → ApduError → Type 0
 IsForeign e errors.NotApdu = IsNoApdu e
 IsForeign e (errors.Malformed kind at) = ((v : Apdu) → Writes v e → ⊥) × IsMalformed kind at e
 IsForeign e errors.Memory = ⊥
 
--- the element is met as this
+-- the element is read as this input
 abbrev pub IsReadAs : Element → Input → Type 0
 IsReadAs e (Message v) = Writes v e
 IsReadAs e (Foreign error) = IsForeign e error
 IsReadAs e _ = ⊥
 
--- the octets begin with a message that is met as this
+-- the octets begin with a message that is read as this input
 pub record HasMessage (xs : List ℕ) (input : Input) : Type 0 where
   pub element : Element
   pub rest : List ℕ
   pub begins : Begins MESSAGE_LIMIT xs element rest
   pub read : IsReadAs element input
 
--- octets are met as this, by a connection that goes on
+-- the octets are this input to a connection that was not stopped
 abbrev pub AreInput : List ℕ → Input → Type 0
 AreInput xs AlreadyStopped = ⊥
 AreInput xs (Message v) = HasMessage xs (Message v)
@@ -50,7 +50,7 @@ AreInput xs (Fault kind at) = Shows MESSAGE_LIMIT xs kind at
 AreInput xs (Rest n) = (0 < length xs) × (n ≡ length xs) × IsUnfinished MESSAGE_LIMIT xs
 AreInput xs Nothing = xs ≡ []
 
--- behind so many messages of the stream these octets follow
+-- these octets follow the first `k` messages of the stream
 pub record IsBehind (stream : List ℕ) (k : ℕ) (rest : List ℕ) : Type 0 where
   pub messages : List Element
   pub gave : Gave MESSAGE_LIMIT stream messages rest

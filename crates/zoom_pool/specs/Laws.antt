@@ -1,4 +1,4 @@
--- The laws of histories: what deeds amount to, when a Take answers Nothing, and that the order of events does not
+-- Laws of histories: what events amount to, when a Take returns Nothing, and that the order of events does not
 -- matter.
 use Rattle.std.specs.Prelude.{◌≡◌, ◌↔◌, ℕ, true, false, List, None, Ok, Contains}
 use Rattle.zber.specs.Unfinished.{IsUnfinished}
@@ -16,17 +16,17 @@ use Rattle.zoom_pool.specs.Transcripts.{Event, Transcript, IsTranscript, NextInp
 use Rattle.zoom_pool.specs.Links.{Links}
 use Rattle.zoom_pool.specs.History.{History, accepted, After, AfterUpTo}
 
--- a connection's deeds amount to one thing
+-- the events of a connection have one transcript
 abbrev pub OneTranscript : Type 0
 OneTranscript =
     (settings : Settings) (events : List Event) (p q : Transcript)
     → IsTranscript settings events p → IsTranscript settings events q → p ≡ q
 
--- and a Take meets one thing
+-- a Take has one input
 abbrev pub OneInput : Type 0
 OneInput = (p : Transcript) (m n : Input) → NextInput p m → NextInput p n → m ≡ n
 
--- a connection is neither stopped nor ended, and what was not taken of its stream holds no message and shows no fault
+-- a connection is neither stopped nor ended, and the octets not yet taken hold no whole message and show no fault
 pub record IsWaiting (p : Transcript) : Type 0 where
   pub is_going : is_stopped (state_at p) ≡ false
   pub more : p.ended ≡ false
@@ -34,19 +34,19 @@ pub record IsWaiting (p : Transcript) : Type 0 where
   pub behind : IsBehind p.stream p.taken rest
   pub unfinished : IsUnfinished MESSAGE_LIMIT rest
 
--- when a Take answers Nothing, and when Stopped
+-- when a Take returns Nothing, and when it returns Stopped
 pub record TakeLaws : Type 0 where
   pub nothing : (p : Transcript) (input : Input) → NextInput p input → (answer_to p input ≡ Ok steps.Nothing)
       ↔ IsWaiting p
   pub stopped : (p : Transcript) (input : Input)
       → NextInput p input → (answer_to p input ≡ Ok steps.Stopped) ↔ (is_stopped (state_at p) ≡ true)
 
--- what a history can have left, it can have left up to any connection's next Take
+-- if a history can have left a pool, it can have left it up to the next Take of any connection
 abbrev pub UpToLaw : Type 0
 UpToLaw =
     (settings : Settings) (c : ℕ) (h : History) (pool : Links) → After settings h pool → AfterUpTo settings c h pool
 
--- a reply without its reference id
+-- an APDU without its reference id
 abbrev pub plain : Apdu → Apdu
 plain (apdus.InitRequest v) = apdus.InitRequest (record v { reference_id = None })
 plain (apdus.InitResponse v) = apdus.InitResponse (record v { reference_id = None })
@@ -56,25 +56,26 @@ plain (apdus.PresentRequest v) = apdus.PresentRequest (record v { reference_id =
 plain (apdus.PresentResponse v) = apdus.PresentResponse (record v { reference_id = None })
 plain (apdus.Close v) = apdus.Close (record v { reference_id = None })
 
+-- an answer whose reply has no reference id
 abbrev pub plain_answer : Answer → Answer
 plain_answer answer = record { asked = answer.asked; reply = plain answer.reply }
 
--- each answer is among the others, the reference id of its reply aside
+-- each answer of the first list is in the second, apart from the reference id of its reply
 abbrev pub AreAmong : List Answer → List Answer → Type 0
 AreAmong xs ys = (x : Answer) → Contains xs x → (y : Answer) × Contains ys y × (plain_answer x ≡ plain_answer y)
 
--- the accepted replies are the same
+-- the accepted replies are the same, apart from their reference ids
 abbrev pub AreSameAccepted : (ℕ → Transcript) → (ℕ → Transcript) → Type 0
 AreSameAccepted a b = (c : ℕ) → AreAmong (accepted (a c)) (accepted (b c)) × AreAmong (accepted (b c)) (accepted (a c))
 
--- the same is known, and the printed list is the same
+-- the same facts are known, and the printed lists are equal
 pub record SameKnowledge (one other : Links) : Type 0 where
   pub known : one.knowledge ≡ other.knowledge
   pub printed : (names : List (List ℕ)) (mode : Mode)
       → listing names mode one.knowledge ≡ listing names mode other.knowledge
 
--- histories with the same accepted replies leave the same knowledge, whatever the order of events and cutting of
--- streams
+-- histories with the same accepted replies leave the same knowledge; the order of events and the cutting of
+-- streams do not matter
 abbrev pub OrderLaw : Type 0
 OrderLaw =
     (settings others : Settings) (g h : History) (one other : Links)

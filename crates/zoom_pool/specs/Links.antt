@@ -1,4 +1,4 @@
--- What contracts see of a connection, and of a pool.
+-- A connection and a pool, as contracts see them.
 use Rattle.std.specs.Prelude.{◌≡◌, ℕ, ◌==◌, Bool, false, List, [], Option, Some, None, slice_get}
 use Rattle.zber.specs.Elements.{Element}
 use Rattle.zber.specs.Stream.{Stream}
@@ -6,9 +6,8 @@ use Rattle.zknow.specs.declared.fact.Fact.{Fact}
 use Rattle.zorigin.specs.Standings.{Standing}
 use Rattle.zoom_pool.specs.declared.state.State.{State}
 
--- A connection: its origin; the octets that came and were not yet given out in a message; the message that want of
--- memory
--- left; the octets that wait to go out; whether the input ended; what stopped it.
+-- A connection: its origin; the octets that came and were not yet given out in a message; and a message kept
+-- because no memory was found. Then the octets that wait to go out, whether the input ended, and what stopped it.
 pub record Link : Type 0 where
   pub origin : Standing
   pub framer : Stream
@@ -22,22 +21,24 @@ pub record Links : Type 0 where
   pub connections : List Link
   pub knowledge : List Fact
 
+-- the octets that wait to go out on a connection; none if there is no connection
 abbrev pub waiting_in : Option Link → List ℕ
 waiting_in None = []
 waiting_in (Some link) = link.waiting
 
--- the octets that wait to go out on a connection
+-- the octets that wait to go out on connection `c`
 abbrev pub waiting_at : Links → ℕ → List ℕ
 waiting_at pool c = waiting_in (slice_get pool.connections c)
 
+-- what stopped a connection; none if there is no connection
 abbrev pub stop_in : Option Link → Option State
 stop_in None = None
 stop_in (Some link) = link.stop
 
--- what stopped a connection
+-- what stopped connection `c`
 abbrev pub stop_at : Links → ℕ → Option State
 stop_at pool c = stop_in (slice_get pool.connections c)
 
--- the other connections are as they were
+-- all connections other than `c` are unchanged
 abbrev pub SameOthers : ℕ → Links → Links → Type 0
 SameOthers c old new = (i : ℕ) → (c == i) ≡ false → slice_get new.connections i ≡ slice_get old.connections i

@@ -1,12 +1,12 @@
--- Connections that are driven, each for one question: what contracts see of them, and which histories can have left
+-- Connections that are driven, each for one question, as contracts see them; and the histories that can have left
 -- them.
 use Rattle.std.specs.Prelude.{◌≡◌, ◌↔◌, ℕ, ◌+◌, ◌<◌, ◌≤◌, Bool, true, false, List, [], ◌∷◌, ◌++◌, map, length, slice_get, Option, None, Some, Result, Ok, Err}
 use Rattle.zorigin.specs.declared.settings.Settings.{Settings}
 use Rattle.zorigin.specs.Standings.{Call}
 use Rattle.zoom_questions.specs.declared.question.Question.{Question}
 use Rattle.zoom_questions.specs.declared.question.MetaSettings.{MetaSettings}
-use Rattle.zoom_pool.specs.declared.meta.Turn.{Advance}
-use Rattle.zoom_pool.specs.declared.meta.Turn.TheVariants as stages
+use Rattle.zoom_pool.specs.declared.meta.Advance.{Advance}
+use Rattle.zoom_pool.specs.declared.meta.Advance.TheVariants as stages
 use Rattle.zoom_pool.specs.declared.answer.Outcome.{Outcome}
 use Rattle.zoom_pool.specs.declared.answer.Outcome.TheVariants as outcome
 use Rattle.zoom_pool.specs.declared.answer.TakeError.{TakeError}
@@ -19,15 +19,16 @@ use Rattle.zoom_questions.specs.Askable.{AreAskable, AreFit}
 use Rattle.zoom_pool.specs.Steering.{Errand, errand_with, errand_of, IsNextCall, IsTried, skipped_in, complete_in}
 use Rattle.zoom_pool.specs.Drivers.{DriverState, IsDriver, HasOpening, IsOffer, NoteReplyStep}
 
--- A pool, and what drives each of its connections, by number.
+-- A pool, and the driver of each of its connections, by number.
 pub record MetaLinks : Type 0 where
   pub pool : Links
   pub drivers : List DriverState
 
+-- the settings of each connection's origin
 abbrev pub settings_of : MetaSettings → Settings
 settings_of s = record { name = s.name }
 
--- each connection is driven for its question
+-- each connection has a driver for its question, which agrees with its log
 pub record AreDriven (questions : List Question) (s : MetaSettings) (h : History) (drivers : List DriverState)
     : Type 0 where
   pub size : length drivers ≡ length questions
@@ -35,7 +36,7 @@ pub record AreDriven (questions : List Question) (s : MetaSettings) (h : History
       → slice_get questions c ≡ Some q → slice_get drivers c ≡ Some d → IsTranscript (settings_of s) (events_on c h) p
       → IsDriver (errand_of s q) p.settings p.log d
 
--- The history can have left these: it can have left the pool, and each call was next.
+-- The history can have left the pool, and each connection is driven for its question.
 pub record MetaAfter (questions : List Question) (s : MetaSettings) (h : History) (meta : MetaLinks) : Type 0 where
   pub fit : AreFit s
   pub askable : AreAskable questions
@@ -43,7 +44,7 @@ pub record MetaAfter (questions : List Question) (s : MetaSettings) (h : History
   pub driven : AreDriven questions s h meta.drivers
   pub size : length meta.pool.connections ≡ length questions
 
--- the same, but of what the next Take of c makes known a part may be known
+-- the same, but some facts that the next Take of `c` adds may be known already
 pub record MetaAfterUpTo (questions : List Question) (s : MetaSettings) (c : ℕ) (h : History) (meta : MetaLinks)
     : Type 0 where
   pub fit : AreFit s
@@ -52,7 +53,7 @@ pub record MetaAfterUpTo (questions : List Question) (s : MetaSettings) (c : ℕ
   pub driven : AreDriven questions s h meta.drivers
   pub size : length meta.pool.connections ≡ length questions
 
--- each driver stands for a question that nothing was asked of yet
+-- each driver is new, for its question and an empty log
 abbrev pub AreNewDrivers : List Question → ℕ → ℕ → List DriverState → Type 0
 AreNewDrivers [] step window [] = Unit {0}
 AreNewDrivers (q ∷ qs) step window (d ∷ ds) =
@@ -60,51 +61,51 @@ AreNewDrivers (q ∷ qs) step window (d ∷ ds) =
     × AreNewDrivers qs step window ds
 AreNewDrivers _ step window _ = ⊥
 
--- the deed befell the connection, and made these of those
+-- each history that can have left `old`, with this event of `c` added, can have left `new`
 abbrev pub MetaRecorded : ℕ → Event → MetaLinks → MetaLinks → Type 0
 MetaRecorded c event old new =
     (questions : List Question) (s : MetaSettings) (h : History)
     → MetaAfter questions s h old → MetaAfter questions s ((c, event) ∷ h) new
 
--- a Take did
+-- the same of a Take of `c`, also after a Take of `c` that found no memory
 abbrev pub MetaTakeStep : ℕ → MetaLinks → MetaLinks → Type 0
 MetaTakeStep c old new =
     (questions : List Question) (s : MetaSettings) (h : History)
     → MetaAfterUpTo questions s c h old → MetaAfter questions s ((c, Took) ∷ h) new
 
--- a Take was not done
+-- a Take of `c` found no memory: the history is unchanged
 abbrev pub MetaIncompleteTake : ℕ → MetaLinks → MetaLinks → Type 0
 MetaIncompleteTake c old new =
     (questions : List Question) (s : MetaSettings) (h : History)
     → MetaAfterUpTo questions s c h old → MetaAfterUpTo questions s c h new
 
--- what drives a connection knows a Take that was answered so
+-- the driver agrees with the log after a Take with this outcome
 abbrev pub DriverTakeStep : Result Outcome TakeError → DriverState → DriverState → Type 0
 DriverTakeStep answer old new =
     (e : Errand) (p : Transcript) (input : Input) → IsDriver e p.settings p.log old → answer ≡ outcome_of p input
     → IsDriver e (after_take p input).settings (after_take p input).log new
 
--- it is told what the origin took
+-- the driver notes what the origin took; if it took nothing, the driver is unchanged
 abbrev pub NoteTakeStep : Outcome → DriverState → DriverState → Type 0
 NoteTakeStep (outcome.Took taken) old new = NoteReplyStep taken old new
 NoteTakeStep _ old new = new ≡ old
 
 -- ---- calls that are due
 
--- the calls, the newest first, as deeds of the connection
+-- the calls, newest first, as events of the connection
 abbrev pub call_events : ℕ → List Call → History
 call_events c calls = map (λ call. (c, Called call)) calls
 
--- no call is next on a connection that goes on
+-- unless the connection is stopped, no call is next
 abbrev pub NoneIsNext : Errand → Transcript → Type 0
 NoneIsNext e p = is_stopped (state_at p) ≡ false → (call : Call) → IsNextCall e p.settings p.log call → ⊥
 
--- the search of a connection that goes on was admitted, or it was skipped, once the association was accepted
+-- unless the connection is stopped, the search was admitted or skipped once Init was answered
 abbrev pub WasTried : Transcript → Type 0
 WasTried p = is_stopped (state_at p) ≡ false → HasOpening (past_of p) → IsTried p.settings p.log
 
--- These calls of a connection were made, each the next one or the search that is skipped, and so many of them were
--- admitted.
+-- These calls of the connection were made, each the next one or the search that is skipped. The origin admitted
+-- `n` of them.
 pub record Progress (questions : List Question) (s : MetaSettings) (c : ℕ) (h : History) (n : ℕ) (new : MetaLinks)
     : Type 0 where
   pub calls : List Call
@@ -113,7 +114,7 @@ pub record Progress (questions : List Question) (s : MetaSettings) (c : ℕ) (h 
       → IsTranscript (settings_of s) (events_on c (call_events c calls ++ h)) q
       → length (past_of q).admitted ≡ length (past_of p).admitted + n
 
--- What driving a connection did: calls were made, and then none is next; no search was passed over.
+-- What driving a connection did: calls were made, and now none is next; the search was tried.
 pub record CompleteDrive (questions : List Question) (s : MetaSettings) (c : ℕ) (h : History) (n : ℕ) (new : MetaLinks)
     : Type 0 where
   pub progress : Progress questions s c h n new
@@ -123,11 +124,12 @@ pub record CompleteDrive (questions : List Question) (s : MetaSettings) (c : ℕ
   pub tried : (q : Transcript) → IsTranscript (settings_of s) (events_on c (call_events c progress.calls ++ h)) q
       → WasTried q
 
--- where memory was wanting: calls were made
+-- what driving a connection did; if no memory was found, some calls were made
 abbrev pub DriveResultAt : {E : Type 0} → List Question → MetaSettings → ℕ → History → Result ℕ E → MetaLinks → Type 0
 DriveResultAt questions s c h (Ok n) new = CompleteDrive questions s c h n new
 DriveResultAt questions s c h (Err e) new = (n : ℕ) × Progress questions s c h n new
 
+-- the same for each history that can have left `old`
 abbrev pub DriveResult : {E : Type 0} → ℕ → Result ℕ E → MetaLinks → MetaLinks → Type 0
 DriveResult c answer old new =
     (questions : List Question) (s : MetaSettings) (h : History)
@@ -135,30 +137,33 @@ DriveResult c answer old new =
 
 -- ---- one call
 
--- how many calls can at most be made on the connection before a reply comes
+-- the most calls that can be made on a connection before a reply comes
 abbrev pub left_of : Option DriverState → ℕ
 left_of None = 0
 left_of (Some d) = d.left
 
+-- the same, of connection `c`
 abbrev pub left_at : MetaLinks → ℕ → ℕ
 left_at meta c = left_of (slice_get meta.drivers c)
 
--- what looking for the next call did
+-- what looking for the next call did: one was admitted; or the search is skipped; or none is next; or no memory
+-- was found, and none was admitted
 abbrev pub AdvanceResultAt
     : {E : Type 0} → List Question → MetaSettings → ℕ → History → Result Advance E → MetaLinks → MetaLinks → Type 0
 AdvanceResultAt questions s c h (Ok stages.Admitted) old new =
     Progress questions s c h 1 new × (left_at new c < left_at old c)
 AdvanceResultAt questions s c h (Ok stages.Skipped) old new =
     Progress questions s c h 0 new × (left_at new c < left_at old c)
-AdvanceResultAt questions s c h (Ok stages.Rests) old new = CompleteDrive questions s c h 0 new
+AdvanceResultAt questions s c h (Ok stages.Idle) old new = CompleteDrive questions s c h 0 new
 AdvanceResultAt questions s c h (Err e) old new = Progress questions s c h 0 new
 
+-- the same for each history that can have left `old`
 abbrev pub AdvanceResult : {E : Type 0} → ℕ → Result Advance E → MetaLinks → MetaLinks → Type 0
 AdvanceResult c answer old new =
     (questions : List Question) (s : MetaSettings) (h : History)
     → MetaAfter questions s h old → AdvanceResultAt questions s c h answer old new
 
--- what drives the connection gave this call, and nothing stopped the connection
+-- the driver of the connection gave this call, and nothing stopped the connection
 abbrev pub IsGivenCall : List Question → MetaSettings → ℕ → History → Call → MetaLinks → Type 0
 IsGivenCall questions s c h call meta =
     (q : Question) (d : DriverState) (p : Transcript)
@@ -166,33 +171,36 @@ IsGivenCall questions s c h call meta =
     → IsTranscript (settings_of s) (events_on c h) p
     → (p.stop ≡ None) × IsOffer (errand_of s q) p.settings p.log d call
 
+-- what making the call that the driver gave did
 abbrev pub IssueResult : {E : Type 0} → ℕ → Call → Result Advance E → MetaLinks → MetaLinks → Type 0
 IssueResult c call answer old new =
     (questions : List Question) (s : MetaSettings) (h : History)
     → MetaAfter questions s h old → IsGivenCall questions s c h call old
     → AdvanceResultAt questions s c h answer old new
 
--- ---- what is told of a connection
+-- ---- results about one connection
 
--- what is told of each history that can have left these, of the connection and its question
+-- the result is this value of the connection's transcript, for each history that can have left these
 abbrev pub IsTranscriptValue : ℕ → MetaLinks → (Transcript → Bool) → Bool → Type 0
 IsTranscriptValue c meta value answer =
     (questions : List Question) (s : MetaSettings) (h : History) (p : Transcript)
     → MetaAfter questions s h meta → IsTranscript (settings_of s) (events_on c h) p → answer ≡ value p
 
--- the same, also after a Take of d that found no memory
+-- the same, also after a Take of `d` that found no memory
 abbrev pub IsTranscriptValueUpTo : ℕ → MetaLinks → (Transcript → Bool) → Bool → Type 0
 IsTranscriptValueUpTo c meta value answer =
     (questions : List Question) (s : MetaSettings) (d : ℕ) (h : History) (p : Transcript)
     → MetaAfterUpTo questions s d h meta → IsTranscript (settings_of s) (events_on c h) p → answer ≡ value p
 
+-- the search was skipped
 abbrev pub is_skipped : Transcript → Bool
 is_skipped p = skipped_in p.settings p.log
 
+-- the target rejected the association, or the origin admitted Close
 abbrev pub is_complete : Transcript → Bool
 is_complete p = complete_in (past_of p)
 
--- each connection is Closed or Failed
+-- the result says whether each connection is Closed or Failed
 abbrev pub IsFinished : MetaLinks → Bool → Type 0
 IsFinished meta answer =
     (questions : List Question) (s : MetaSettings) (h : History) → MetaAfter questions s h meta
@@ -200,7 +208,7 @@ IsFinished meta answer =
     → IsTranscript (settings_of s) (events_on c h) p
     → is_stopped (state_at p) ≡ true)
 
--- the same, also after a Take of d that found no memory
+-- the same, also after a Take of `d` that found no memory
 abbrev pub IsFinishedUpTo : MetaLinks → Bool → Type 0
 IsFinishedUpTo meta answer =
     (questions : List Question) (s : MetaSettings) (d : ℕ) (h : History) → MetaAfterUpTo questions s d h meta

@@ -1,4 +1,4 @@
--- The names of reasons, in ASCII codes: of several within one another, that of the innermost.
+-- The names of reasons, in ASCII codes; a reason within others gives them its name.
 use Rattle.std.specs.Prelude.{ℕ, List, codes}
 use Rattle.zber.specs.Faults.{kind_word}
 use Rattle.zapdu.specs.Apdus.{error_word as apdu_word}
@@ -8,7 +8,7 @@ use Rattle.zoom_pool.specs.declared.state.Reason.TheVariants as reasons
 use Rattle.zoom_pool.specs.declared.answer.TakeError.{TakeError}
 use Rattle.zoom_pool.specs.declared.answer.TakeError.TheVariants as errors
 
--- of what a connection failed for
+-- the name of the reason for which a connection failed
 abbrev pub reason_name : Reason → List ℕ
 reason_name (reasons.Frame kind at) = kind_word kind
 reason_name (reasons.Decode error) = apdu_word error
@@ -20,7 +20,7 @@ reason_name reasons.Write = codes "Write"
 reason_name reasons.Turns = codes "Turns"
 reason_name reasons.Memory = codes "Memory"
 
--- of why a message was not taken
+-- the name of the reason for which a message was not taken
 abbrev pub error_name : TakeError → List ℕ
 error_name (errors.Frame kind at) = kind_word kind
 error_name (errors.Decode error) = apdu_word error

@@ -24,12 +24,12 @@ use Rattle.zber.specs.declared.framer.TheConstants.{MESSAGE_LIMIT}
 use Rattle.zoom_pool.specs.Transcripts.{Transcript, Event, NextInput, after_stop, after_take, outcome_of, connection_call_result, news_at, reason_of, IsNews, IsDone}
 use Rattle.zoom_pool.specs.Connections.{FramerAfter, AreConsistent, ConnectionAfter}
 
--- what the origin was asked and given then
+-- the log after this input: it has the message, if there is one
 abbrev pub log_after : Transcript → Input → Log
 log_after p (Message v) = Got v ∷ p.log
 log_after p _ = p.log
 
--- What was met is taken: what is answered, where the origin stands then, and what is known.
+-- The input was processed: the outcome, the origin after it, and the facts known.
 pub record InputStep
     (target : ℕ) (p : Transcript) (input : Input) (answer : Result Outcome TakeError) (origin : Standing)
     (old new : List Fact)
@@ -38,7 +38,7 @@ pub record InputStep
   pub stands : OriginAfter p.settings (log_after p input) origin
   pub union : IsUnion (Contains old) (Contains (news_at target p input)) (Contains new)
 
--- the message in this element is taken
+-- The element was read as an input, which was processed.
 pub record MessageStep
     (target : ℕ) (p : Transcript) (e : Element) (answer : Result Outcome TakeError) (origin : Standing)
     (old new : List Fact)
@@ -47,11 +47,11 @@ pub record MessageStep
   pub read : IsReadAs e input
   pub input_step : InputStep target p input answer origin old new
 
--- the message in this element would make it known
+-- the message in this element adds this fact
 abbrev pub IsNewsIn : ℕ → Transcript → Element → Fact → Type 0
 IsNewsIn target p e q = (input : Input) × IsReadAs e input × Contains (news_at target p input) q
 
--- A Take: what it met, what it answers, what it leaves and what is known.
+-- A Take: its input, its outcome, the connection after it, and the facts known.
 pub record TakeResult
     (target : ℕ) (p : Transcript) (answer : Result Outcome TakeError) (c : Link) (old new : List Fact) : Type 0 where
   pub input : Input
@@ -60,7 +60,7 @@ pub record TakeResult
   pub matches : AreConsistent (after_take p input) c
   pub union : IsUnion (Contains old) (Contains (news_at target p input)) (Contains new)
 
--- A Take that met no message: as above, and nothing is made known.
+-- A Take that found no message: the same, and no fact is added.
 pub record EmptyTake (p : Transcript) (answer : Result Outcome TakeError) (c : Link) : Type 0 where
   pub input : Input
   pub is_next : NextInput p input
@@ -68,7 +68,7 @@ pub record EmptyTake (p : Transcript) (answer : Result Outcome TakeError) (c : L
   pub matches : AreConsistent (after_take p input) c
   pub silent : (target : ℕ) → news_at target p input ≡ []
 
--- what drawing the next message answers
+-- the result of asking the framer for the next message
 abbrev pub NextMessage : Transcript → Result (Option Element) FrameError → Option Element → Stream → Type 0
 NextMessage p (Ok (Some e)) held framer = (held ≡ None) × FramerAfter p (Some e) framer
 NextMessage p (Ok None) held framer =
@@ -79,55 +79,62 @@ NextMessage p (Err (Fault kind at)) held framer =
     × Shows MESSAGE_LIMIT framer.octets kind at
 NextMessage p (Err Memory) held framer = (held ≡ None) × FramerAfter p None framer
 
--- what stops the connection once a message was taken so, and whether the message is kept
+-- what stops a connection: the reason, if there is one; otherwise what stopped it before
 abbrev pub stop_for : Option State → Option Reason → Option State
 stop_for stop None = stop
 stop_for stop (Some reason) = Some (states.Failed reason)
 
+-- what stops a connection after a message with this outcome
 abbrev pub stop_after : Option State → Result Outcome TakeError → Option State
 stop_after stop (Ok outcome) = stop
 stop_after stop (Err error) = stop_for stop (reason_of error)
 
+-- the message kept: this one, if there is no reason to fail; otherwise the one kept before
 abbrev pub held_for : Option Reason → Element → Option Element → Option Element
 held_for None e old = Some e
 held_for (Some reason) e old = old
 
+-- the message kept after this one was processed with this outcome
 abbrev pub held_after : Result Outcome TakeError → Element → Option Element → Option Element
 held_after (Ok outcome) e old = old
 held_after (Err error) e old = held_for (reason_of error) e old
 
--- ---- clauses of the steps, for each list of deeds that can have left the connection
+-- ---- clauses of the steps, each for every transcript that agrees with the connection
 
+-- unless no memory is found, the message in the element is processed
 abbrev pub ProcessStep : ℕ → Element → Result Outcome TakeError → Standing → Standing → List Fact → List Fact → Type 0
 ProcessStep target e answer old new knew knows =
     (p : Transcript) → OriginAfter p.settings p.log old → IsDone answer → MessageStep target p e answer new knew knows
 
+-- if no memory is found, some facts of the message, and no others, were added
 abbrev pub PartialProcessStep : ℕ → Element → Result Outcome TakeError → Standing → List Fact → List Fact → Type 0
 PartialProcessStep target e answer old knew knows =
     (p : Transcript) → OriginAfter p.settings p.log old → answer ≡ Err errors.Memory
     → IsPartOfUnion (Contains knew) (IsNewsIn target p e) (Contains knows)
 
+-- unless no memory is found, this is what a Take does
 abbrev pub LinkTakeStep : ℕ → Result Outcome TakeError → Link → Link → List Fact → List Fact → Type 0
 LinkTakeStep target answer old new knew knows =
     (p : Transcript) → AreConsistent p old → IsDone answer → TakeResult target p answer new knew knows
 
+-- if no memory is found, some facts that the Take adds, and no others, were added
 abbrev pub PartialTake : ℕ → Result Outcome TakeError → Link → List Fact → List Fact → Type 0
 PartialTake target answer old knew knows =
     (p : Transcript) → AreConsistent p old → answer ≡ Err errors.Memory
     → IsPartOfUnion (Contains knew) (IsNews target p) (Contains knows)
 
--- the connection is as it was, but that a message may be kept
+-- if no memory is found, each transcript that agreed with the connection still agrees; a message may be kept
 abbrev pub LinkIncompleteTake : Result Outcome TakeError → Link → Link → Type 0
 LinkIncompleteTake answer old new =
     (p : Transcript) → AreConsistent p old → answer ≡ Err errors.Memory → AreConsistent p new
 
--- each list of deeds that can have left the one, with this deed more, can have left the other
+-- each list of events that can have left `old`, with this event added, can have left `new`
 abbrev pub LinkRecorded : Event → (Transcript → Transcript) → Link → Link → Type 0
 LinkRecorded event change old new =
     (settings : Settings) (events : List Event) (p : Transcript)
     → ConnectionAfter settings events p old → ConnectionAfter settings (event ∷ events) (change p) new
 
--- what a call answers
+-- the result of a call, unless no memory is found
 abbrev pub IsLinkCallResult : Call → Result (Unit {0}) CallRefused → Link → Type 0
 IsLinkCallResult call answer old =
     (p : Transcript) → AreConsistent p old → IsCalled answer → answer ≡ connection_call_result p call

@@ -1,4 +1,4 @@
-//! What a take answers.
+//! What a take returns.
 ghost use Rattle.std.specs.Prelude.{◌≡◌};
 ghost use Rattle.zoom_pool.specs.Transcripts.{reason_of, step_of};
 ghost use Rattle.zoom_pool.specs.Reasons.{error_name};
@@ -9,39 +9,40 @@ use zapdu::ApduError;
 use zber::FaultKind;
 use zorigin::{Refused, Taken};
 
-/// What taking a message came to.
+/// What a take did.
 #[derive(Clone, Copy, Debug, PartialEq, Eq)]
 pub enum Step {
-    /// No whole message is there yet.
+    /// No whole message has come yet.
     Nothing,
     /// The target accepted the association.
     Opened,
     /// The target rejected the association; the connection is Closed.
     Rejected,
-    /// A search or a Present was answered.
+    /// The target answered a search or a Present.
     Answered,
-    /// The target's Close came; the connection is Closed.
+    /// The origin took the target's Close; the connection is Closed.
     Closed,
-    /// The input ended, and nothing of it is left: the connection is Closed where it was Closing, else Failed.
+    /// The input has ended, and no octets of it are left. The connection is Closed if it was Closing, and Failed
+    /// otherwise.
     Ended,
-    /// The connection was Closed or Failed before.
+    /// The connection was Closed or Failed before the take.
     Stopped,
 }
 
-/// What taking a message came to, with what the origin took.
+/// What a take did, with what the origin took.
 #[derive(Drop)]
 pub(crate) enum Outcome {
-    /// No whole message is there yet.
+    /// No whole message has come yet.
     Nothing,
     /// The origin took a message.
     Took(Taken),
-    /// The input ended, and nothing of it is left.
+    /// The input has ended, and no octets of it are left.
     Ended,
-    /// The connection was Closed or Failed before.
+    /// The connection was Closed or Failed before the take.
     Stopped,
 }
 
-/// What a caller is told of it.
+/// Returns the step that a caller sees.
 pub(crate) fn step_of(outcome: &Outcome) -> Step
     ensures { result ≡ step_of outcome.now }
 {
@@ -58,28 +59,30 @@ pub(crate) fn step_of(outcome: &Outcome) -> Step
     }
 }
 
-/// Why a message is not taken. But for `Memory` the connection has then failed for this reason, and what is known
-/// stays.
+/// Why a take failed. Unless it is `Memory`, the connection has failed for this reason, and what is known stays as
+/// it is.
 #[derive(Clone, Copy, Debug, PartialEq, Eq, Error)]
 pub enum TakeError {
-    /// The octets show this fault at the header that stands so many octets behind the first of the message at fault
-    /// (X.690, 8.1); or the input ended within a message, of which there are so many octets.
+    /// The octets show this fault (X.690, 8.1). `at` is the number of octets from the first of the message at
+    /// fault to the faulty header. If the input ended within a message, `at` is the number of that message's
+    /// octets.
     #[error("{kind:?} at {at}")]
     Frame { kind: FaultKind, at: usize },
-    /// The message is no APDU (Z39.50-2003, 4.1).
+    /// The message is not an APDU (Z39.50-2003, 4.1).
     #[error("not an APDU that is known")]
     Decode(ApduError),
-    /// The APDU is not accepted: the origin's reason.
+    /// The origin did not accept the APDU, for this reason.
     #[error("not accepted")]
     Refused(Refused),
-    /// No memory was found. The message is kept: call again. What it says may be known in part.
+    /// No memory was found. The connection keeps the message; call again. A part of what the message says may be
+    /// known.
     #[error("out of memory")]
     Memory,
 }
 
 impl TakeError {
-    /// The name of the fault, of what the message is not, of the origin's reason, or `Memory`, in ASCII letters. It
-    /// takes no memory.
+    /// Returns the name of the fault, of the decoding error or of the origin's reason, or `Memory`, in ASCII
+    /// letters. It takes no memory.
     pub fn word(&self) -> &'static str
         ensures { result.now ≡ error_name self.now }
     {
@@ -92,7 +95,7 @@ impl TakeError {
     }
 }
 
-/// Why the connection has then failed.
+/// Returns the reason for which the connection fails; `None` for `Memory`.
 pub(crate) fn reason_of(error: TakeError) -> Option<Reason>
     ensures { result ≡ reason_of error }
 {

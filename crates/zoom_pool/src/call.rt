@@ -1,4 +1,4 @@
-//! Calls.
+//! Calls on a connection.
 ghost use Rattle.std.specs.Prelude.{◌≡◌, IfOk, OnErr};
 ghost use Rattle.zorigin.specs.Log.{AnswersCall, LeavesCall};
 ghost use Rattle.zorigin.specs.Sending.{IsReadBack};
@@ -14,39 +14,39 @@ pub enum Call {
     Init,
     /// Searches (Z39.50-2003, 3.2.2.1).
     Search {
-        /// The operation's number.
+        /// The number of the operation.
         op: u32,
-        /// The number of the result set that it makes, not 0.
+        /// The number of the result set that the search makes; not 0.
         set: u32,
-        /// What is asked for.
+        /// What the search asks for.
         ask: Ask,
     },
-    /// Asks for records of a set (Z39.50-2003, 3.2.3.1).
+    /// Asks for `n` records of a result set from position `start` on (Z39.50-2003, 3.2.3.1).
     Present {
-        /// The operation's number.
+        /// The number of the operation.
         op: u32,
-        /// The result set's number.
+        /// The number of the result set.
         set: u32,
-        /// The first position, from 1 on.
+        /// The first position, 1 or more.
         start: i64,
-        /// How many records, from 1 on.
+        /// The number of records, 1 or more.
         n: i64,
     },
-    /// Asks for the records of a set at the positions of all ranges, in their order (Z39.50-2003, 3.2.3.1).
+    /// Asks for the records of a result set at the positions of all ranges, in their order (Z39.50-2003, 3.2.3.1).
     PresentRanges {
-        /// The operation's number.
+        /// The number of the operation.
         op: u32,
-        /// The result set's number.
+        /// The number of the result set.
         set: u32,
-        /// The ranges: one at least, and two or more where version 3 is in force; each begins after the end of the one
-        /// before.
+        /// The ranges, at least one; two or more only if version 3 is in force. Each begins after the end of the
+        /// one before.
         ranges: Seq<Range>,
     },
     /// Ends the association (Z39.50-2003, 3.2.11.1).
     Close,
 }
 
-/// Calls the origin.
+/// Makes the call on the origin, and returns what it sends. A refused call leaves the origin unchanged.
 pub(crate) fn sent_for(origin: &mut Origin, call: &Call) -> Result<Sent, CallRefused>
     ensures answer { AnswersCall origin.old (call_of call.now) result }
     ensures after { LeavesCall origin.old (call_of call.now) result origin.new }

@@ -17,18 +17,18 @@ use zber::laws::stream_laws;
 use zber::{Framer, MESSAGE_LIMIT, Node};
 use zorigin::{CallRefused, Origin, Sent, Settings};
 
-/// A connection to one target: its origin, and the octets that came and that are to go.
+/// A connection to one target: its origin, the octets that came, and the octets that wait to go out.
 #[derive(Drop)]
 pub(crate) struct Connection {
     pub(crate) alloc: Global,
     pub(crate) origin: Origin,
     pub(crate) framer: Framer,
-    /// A message that was not taken yet for want of memory.
+    /// The message of a take that found no memory.
     pub(crate) held: Option<Node>,
-    /// What waits to go out, a request each.
+    /// The octets that wait to go out; each item is a request.
     pub(crate) waiting: Vec<Bytes>,
     pub(crate) ended: bool,
-    /// The state in which it was stopped, else than by its origin.
+    /// The state in which it was stopped, if its origin did not stop it.
     pub(crate) stop: Option<State>,
 }
 
@@ -54,7 +54,7 @@ impl Model for Connection {
 }
 
 impl Connection {
-    /// A connection in state Fresh. It takes no memory.
+    /// Creates a connection in state Fresh. It takes no memory.
     pub(crate) fn new(alloc: Global, settings: Settings) -> Self
         ensures { ConnectionAfter settings [] (empty_transcript settings) result }
     {
@@ -69,7 +69,7 @@ impl Connection {
         }
     }
 
-    /// Its state. It takes no memory.
+    /// Returns its state. It takes no memory.
     pub(crate) fn state(&self) -> State
         ensures { (p : Transcript) → AreConsistent p self.now → result ≡ state_at p }
     {
@@ -79,8 +79,8 @@ impl Connection {
         }
     }
 
-    /// Makes a call, and puts its request behind what waits. Room is found first: so a call that the origin admitted is
-    /// not refused.
+    /// Makes a call, and puts its request behind the octets that wait. Room for the request is reserved first, so
+    /// that a call is never refused once the origin has admitted it. A refused call changes nothing.
     pub(crate) fn call(&mut self, call: &Call) -> Result<(), CallRefused>
         ensures answer { IsLinkCallResult (call_of call.now) result self.old }
         ensures after { IsCalled result
@@ -98,7 +98,8 @@ impl Connection {
         Ok(())
     }
 
-    /// Takes the next piece of octets; where it is stopped or its input ended, it does nothing.
+    /// Takes the next piece of octets. If the connection is stopped or its input has ended, the piece is ignored.
+    /// If no memory is found, nothing changes.
     pub(crate) fn feed(&mut self, piece: &[u8]) -> Result<(), AllocError>
         ensures after { OnOk result (LinkRecorded (Fed piece.now) (λ p. after_feed p piece.now) self.old self.new) }
         ensures err { OnErr result (self.new ≡ self.old) }
@@ -110,14 +111,14 @@ impl Connection {
         self.framer.feed(piece)
     }
 
-    /// No more octets come. It takes no memory.
+    /// Notes that no more octets come. It takes no memory.
     pub(crate) fn end(&mut self)
         ensures { LinkRecorded InputEnded (λ p. record p { ended = true }) self.old self.new }
     {
         self.ended = true;
     }
 
-    /// It has failed for the reason. It takes no memory.
+    /// Makes the connection Failed for the reason. It takes no memory.
     pub(crate) fn stop(&mut self, reason: Reason)
         ensures after { LinkRecorded (Stopped reason) (λ p. after_stop p reason) self.old self.new }
         ensures stop { self.new.stop ≡ Some (states.Failed reason) }
@@ -125,7 +126,8 @@ impl Connection {
         self.stop = Some(State::Failed(reason));
     }
 
-    /// Appends the octets that wait, and forgets them.
+    /// Appends the octets that wait to `out`, and forgets them. If no memory is found, the connection and the
+    /// content of `out` are unchanged.
     pub(crate) fn outgoing(&mut self, out: &mut Vec<u8>) -> Result<(), AllocError>
         ensures gives { OnOk result (out.new.items ≡ out.old.items ++ self.old.waiting) }
         ensures after { OnOk result (LinkRecorded (HandedOut self.old.waiting) (λ p. p) self.old self.new) }

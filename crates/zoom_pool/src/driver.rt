@@ -1,4 +1,4 @@
-//! What drives one connection for its question.
+//! The driver of one connection, which asks one question.
 ghost use Rattle.std.specs.Prelude.{◌≡◌, ◌<◌, ◌≤◌, [], length, map, IfOk, OnErr};
 ghost use Rattle.zplan.specs.Ranges.{AreWanted};
 ghost use Rattle.zorigin.specs.declared.settings.Settings.{Settings};
@@ -21,9 +21,8 @@ use zorigin::{Ask, Taken};
 use zplan::laws::{agenda_laws, bound_laws, next_laws, number_law};
 use zplan::{Range, Schedule};
 
-/// What drives one connection: it knows which call is next.
-///
-/// Contracts speak of each log of the connection's origin that it can know.
+/// The driver of one connection: it knows which call is next. Contracts hold for each log of the connection's
+/// origin that the driver can know.
 #[derive(Drop)]
 pub(crate) struct Driver {
     alloc: Global,
@@ -71,7 +70,7 @@ fn is_rejection(taken: &Taken) -> bool
 }
 
 impl Driver {
-    /// What drives a connection in state Fresh.
+    /// Creates the driver of a connection in state Fresh.
     pub(crate) fn new(alloc: Global, question: Question, step: u32, window: u32) -> Self
         requires wanted { AreWanted question.wanted }
         requires syntax { HasArcs question.syntax }
@@ -101,7 +100,7 @@ impl Driver {
         }
     }
 
-    /// Makes a schedule, once the count is known.
+    /// Makes the schedule, if the count is known. If no memory is found, nothing changes.
     fn prepare(&mut self) -> Result<(), AllocError>
         ensures ok { IfOk result (λ _. PrepareStep self.old self.new) }
         ensures err { OnErr result (self.new ≡ self.old) }
@@ -115,9 +114,9 @@ impl Driver {
         Ok(())
     }
 
-    /// The call that is next in this state of the connection, or none; a search that is not offered or cannot be sent
-    /// is given too, and is then skipped. It is not made yet: `sent` or `refused` says what came of it. Refused only
-    /// for want of memory.
+    /// Returns the call that is next in this state of the connection, or `None`. A search that is not offered or
+    /// cannot be sent is returned too; it is skipped once it is refused. The caller makes the call, and reports it
+    /// with `note_sent` or `note_refused`. An error only if no memory is found.
     pub(crate) fn next_call(&mut self, state: State) -> Result<Option<Call>, AllocError>
         ensures stays { SameDriver self.old self.new }
         ensures ok { IfOk result (λ given. NextCallResult state given self.new) }
@@ -131,7 +130,7 @@ impl Driver {
         give(&mut self.phase, self.alloc, &self.ask, state, self.window)
     }
 
-    /// The origin admitted the call that was given. It takes no memory.
+    /// Notes that the origin admitted the call that was given. It takes no memory.
     pub(crate) fn note_sent(&mut self, call: &Call)
         ensures { NoteSentStep (call_of call.now) self.old self.new }
     {
@@ -143,8 +142,8 @@ impl Driver {
         self.complete = closes || self.complete;
     }
 
-    /// The origin refused the call that was given, though memory was there: it was the search, which is skipped. It
-    /// takes no memory.
+    /// Notes that the origin refused the call that was given, for another reason than `Memory`. The call was the
+    /// search, which is skipped. It takes no memory.
     pub(crate) fn note_refused(&mut self)
         ensures { NoteRefusedStep self.old self.new }
     {
@@ -152,7 +151,7 @@ impl Driver {
         self.skipped = true;
     }
 
-    /// The origin took a reply. It takes no memory.
+    /// Notes a reply that the origin took. It takes no memory.
     pub(crate) fn note_reply(&mut self, taken: &Taken)
         ensures { NoteReplyStep taken.now self.old self.new }
     {
@@ -165,7 +164,7 @@ impl Driver {
         self.complete = rejects || self.complete;
     }
 
-    /// Whether its search was refused, as `NotOffered` or `Unsendable`. It takes no memory.
+    /// Whether its search was refused as `NotOffered` or `Unsendable`. It takes no memory.
     pub(crate) fn is_skipped(&self) -> bool
         ensures { result ≡ self.now.skipped }
     {

@@ -5,8 +5,8 @@ ghost use Rattle.zoom_pool.specs.Due.{DueLaws};
 use zorigin::laws::{orderly_logs, sendable_requests};
 use zplan::laws::{bound_laws, number_law};
 
-/// Of a log in which each admitted call was due: each reply that was accepted answers what was sent, once; and at most
-/// two requests, and one for each wanted position up to the count, were sent, Close aside.
+/// If each admitted call of a log was due, each accepted reply answers what was sent, once. Close aside, at most
+/// two requests were sent, plus one for each wanted position up to the count.
 pub fn driven_laws()
     ensures { DrivenLaws }
 {
@@ -14,7 +14,8 @@ pub fn driven_laws()
     bound_laws();
 }
 
-/// The origin admits a call that is next, and the search too, unless it is not offered or cannot be sent.
+/// The origin admits each call that is next. It admits the search too, unless the search is not offered or cannot
+/// be sent.
 pub fn due_laws()
     ensures { DueLaws }
 {

@@ -1,4 +1,4 @@
-//! A target behind a stream of octets.
+//! The serving end: a target in memory behind a stream of octets.
 ghost use Rattle.std.specs.Prelude.{◌≡◌, ◌++◌, ◌&&◌, ◌||◌, not, [], true, OnOk, OnErr};
 ghost use Rattle.ztarget.specs.Receiving.{is_close};
 ghost use Rattle.ztarget.specs.Levels.{HasElement};
@@ -15,7 +15,7 @@ use zapdu::{Apdu, BuildError, to_node};
 use zber::{EncodeError, Framer, MESSAGE_LIMIT};
 use ztarget::Target;
 
-/// The octets of a reply; `None` where they are more than a message may have.
+/// Returns the octets of a reply, or `None` if they are more than a message may have.
 fn encode_reply(alloc: Global, reply: &Apdu) -> Result<Option<Bytes>, AllocError>
     requires { HasElement reply.now }
     ensures { EncodeReplyResult reply.now result }
@@ -38,7 +38,7 @@ fn encode_reply(alloc: Global, reply: &Apdu) -> Result<Option<Bytes>, AllocError
     }
 }
 
-/// Puts the octets of a reply last; `false` where they are too many.
+/// Puts the octets of a reply last, and returns `true`; returns `false` if they are more than a message may have.
 fn put_reply(alloc: Global, waiting: &mut Vec<Bytes>, reply: &Apdu) -> Result<bool, AllocError>
     requires { HasElement reply.now }
     ensures { PutReplyResult reply.now result waiting.old.items waiting.new.items }
@@ -53,7 +53,7 @@ fn put_reply(alloc: Global, waiting: &mut Vec<Bytes>, reply: &Apdu) -> Result<bo
     }
 }
 
-/// Whether a reply was not put.
+/// Whether the reply was not put.
 fn is_unput(put: &Result<bool, AllocError>) -> bool
     ensures { result ≡ is_unput put.now }
 {
@@ -63,7 +63,7 @@ fn is_unput(put: &Result<bool, AllocError>) -> bool
     }
 }
 
-/// Whether a Close was put, once it was tried to put a reply.
+/// Whether a Close was put, after the attempt to put this reply.
 fn has_closed(closed: bool, unput: bool, reply: &Apdu) -> bool
     ensures { result ≡ (closed || (not unput && is_close reply.now)) }
 {
@@ -73,24 +73,28 @@ fn has_closed(closed: bool, unput: bool, reply: &Apdu) -> bool
     }
 }
 
-/// A target in memory behind a stream of octets: it receives the messages of the octets that it is fed, and hands out
-/// the encodings of the replies that it is asked to release (Z39.50-2003, 3.2). It sends and receives nothing itself.
+/// The serving end: a target in memory behind a stream of octets. The target receives the messages of the octets
+/// that are fed. The encodings of the replies that it is asked to release wait to go out (Z39.50-2003, 3.2). It
+/// does no input or output itself.
 ///
-/// Three things stop it: octets that show a fault of the framing, with messages of at most 2,097,152 octets; a message
-/// that is no APDU, or one that the target does not take; and want of memory in `feed` or `release`, or a reply of more
-/// octets than a message may have, which is then lost. A stopped host ignores what is fed, and releases nothing; what
-/// waits to go out is still handed out.
+/// Three things stop it:
+/// - octets with a fault of the framing (X.690, 8.1), for messages of at most 2,097,152 octets;
+/// - a message that is not an APDU, or an APDU that the target does not take;
+/// - no memory in `feed` or `release`, or a released reply of more octets than a message may have. That reply is
+///   lost.
 ///
-/// Contracts speak of each history, the list of what befell the host so far, that can have left it.
+/// Once stopped, it ignores what is fed and releases nothing. The octets that wait are still handed out.
+///
+/// Contracts hold for each history, the list of its events so far, that can have left it.
 #[derive(Drop)]
 pub struct Host {
     alloc: Global,
     target: Target,
     framer: Framer,
-    /// What waits to go out, a reply each.
+    /// The octets that wait to go out; each item is a reply.
     waiting: Vec<Bytes>,
     stopped: bool,
-    /// A Close was put to go out.
+    /// Whether a Close was put to go out.
     closed: bool,
 }
 
@@ -116,7 +120,7 @@ impl Model for Host {
 }
 
 impl Host {
-    /// A host of a target that has received nothing yet. It takes no memory.
+    /// Creates the serving end of a target that has received nothing. It takes no memory.
     pub fn new(alloc: Global, target: Target) -> Self
         requires { IsNew target }
         ensures after { HostAfter (holdings_of target) [] result }
@@ -131,7 +135,7 @@ impl Host {
         }
     }
 
-    /// Whether it stopped. It takes no memory.
+    /// Whether it has stopped. It takes no memory.
     pub fn stopped(&self) -> bool
         ensures { result ≡ self.now.stopped }
     {
@@ -145,10 +149,12 @@ impl Host {
         self.closed
     }
 
-    /// Takes the next piece of octets, cut anywhere: the target receives all messages that are whole now, and the
-    /// replies that it owes are pending, in their order.
+    /// Takes the next piece of octets, cut anywhere. The target receives all messages that are now whole, up to
+    /// one that stops the serving end. The replies that it owes become pending, in their order. Once stopped, the
+    /// serving end ignores the piece.
     ///
-    /// An error only where no memory was found: the host has then stopped, and received some of the messages.
+    /// An error only if no memory is found: the serving end has then stopped, and its target has received some of
+    /// the messages. The octets that wait to go out are unchanged in each case.
     pub fn feed(&mut self, piece: &[u8]) -> Result<(), AllocError>
         ensures fed { OnOk result (HostRecorded (HostFed piece.now) self.old self.new) }
         ensures part { OnErr result (HostRecorded (HostFedPart piece.now) self.old self.new) }
@@ -170,7 +176,7 @@ impl Host {
         }
     }
 
-    /// Feeds the framer, and receives what is whole; whether something stops the host.
+    /// Feeds the framer, and receives what is whole. Returns whether something stops the serving end.
     fn receive(&mut self, piece: &[u8]) -> Result<bool, AllocError>
         ensures { ReceivePieceResult piece.now result self.old self.new }
     {
@@ -178,11 +184,14 @@ impl Host {
         receive_all(self.alloc, &mut self.framer, &mut self.target)
     }
 
-    /// Releases pending reply `k`, the first being 0, and puts its encoding behind what waits to go out: `true` where
-    /// it did so. `false` where there is no such reply, or it is a Close and others are pending (Z39.50-2003,
-    /// 3.2.11.1), or the host is stopped, be it by this very reply, since it has more octets than a message may have.
+    /// Releases pending reply `k`, the first being 0, and puts its encoding behind the octets that wait to go out.
+    /// Returns `true` if it did so.
     ///
-    /// An error only where no memory was found: the host has then stopped, and the reply is lost.
+    /// Returns `false` and changes nothing if there is no such reply, if it is a Close and others are pending
+    /// (Z39.50-2003, 3.2.11.1), or if the serving end has stopped. Returns `false` also if the reply has more
+    /// octets than a message may have: the serving end has then stopped, and the reply is lost.
+    ///
+    /// An error only if no memory is found: the serving end has then stopped, and the reply is lost.
     pub fn release(&mut self, k: usize) -> Result<bool, AllocError>
         ensures releases { ReleaseResult k result self.old self.new }
     {
@@ -199,8 +208,8 @@ impl Host {
         put
     }
 
-    /// Appends the octets that wait to go out, and forgets them. Where no memory is found, the host and `out` are as
-    /// they were.
+    /// Appends the octets that wait to go out to `out`, and forgets them. If no memory is found, the serving end
+    /// and the content of `out` are unchanged.
     pub fn outgoing(&mut self, out: &mut Vec<u8>) -> Result<(), AllocError>
         ensures gives { OnOk result (out.new.items ≡ out.old.items ++ self.old.waiting) }
         ensures after { OnOk result (HostRecorded (HostHandedOut self.old.waiting) self.old self.new) }

@@ -1,4 +1,4 @@
-//! Laws of the definitions, each the contract of a function that does nothing.
+//! Laws of the definitions. Each is the contract of a function that does nothing.
 ghost use Rattle.zoom_pool.specs.Laws.{OneInput, OneTranscript, TakeLaws, UpToLaw, OrderLaw};
 ghost use Rattle.zoom_pool.specs.Conflicts.{ConflictLaw};
 ghost use Rattle.zoom_pool.specs.MetaLaws.{MetaLaws};
@@ -8,7 +8,7 @@ use zapdu::laws::{one_refusal, one_value};
 use zber::laws::one_answer;
 use zknow::laws::{list_laws, place_laws};
 
-/// A take meets one thing.
+/// A take has one input.
 pub fn one_input()
     ensures { OneInput }
 {
@@ -17,34 +17,34 @@ pub fn one_input()
     one_refusal();
 }
 
-/// A connection's deeds amount to one thing.
+/// A connection's events have one transcript.
 pub fn one_transcript()
     ensures { OneTranscript }
 {
     one_input();
 }
 
-/// A take answers `Nothing` exactly where the connection is neither stopped nor ended and holds no message and no shown
-/// fault, and `Stopped` exactly where it was stopped.
+/// A take returns `Nothing` exactly if the connection is neither stopped nor ended, and the octets that it has not
+/// taken hold neither a whole message nor a fault. It returns `Stopped` exactly if the connection was stopped.
 pub fn take_laws()
     ensures { TakeLaws }
 {
     one_input();
 }
 
-/// A pool that a history can have left is one that it can have left up to any connection's next take.
+/// A history that can have left a pool can also have left it up to the next take of any connection.
 pub fn up_to()
     ensures { UpToLaw }
 {}
 
-/// Two histories with the same accepted replies, reference ids aside, leave the same knowledge, and it prints the same
-/// list, whatever the order of their events and the cutting of the streams.
+/// Two histories with the same accepted replies, reference ids aside, leave the same knowledge and print the same
+/// list. The order of their events and the cutting of the streams do not matter.
 pub fn order_does_not_matter()
     ensures { OrderLaw }
 {}
 
-/// The records known of a row are those that accepted replies show there. It is a conflict exactly where two of them
-/// differ, and is then printed as one, with all its records.
+/// The known records of a row are those that accepted replies show there. The row is a conflict exactly if two of
+/// them differ; it is then printed as a conflict, with all its records.
 pub fn conflicts()
     ensures { ConflictLaw }
 {
@@ -52,9 +52,9 @@ pub fn conflicts()
     list_laws();
 }
 
-/// Of connections that are driven: Close aside, each is asked two things at most, and one for each wanted position up
-/// to the number that its search found; and with the same accepted replies, reference ids aside, the same list is
-/// printed.
+/// For connections that are driven: Close aside, each is asked at most two things, plus one for each wanted
+/// position up to the number that its search found. With the same accepted replies, reference ids aside, the same
+/// list is printed.
 pub fn meta_laws()
     ensures { MetaLaws }
 {

@@ -1,4 +1,4 @@
-//! What replies make known.
+//! Adds to what is known what replies say.
 ghost use Rattle.std.specs.Prelude.{IfOk, OnOk};
 ghost use Rattle.std.specs.List.{AllByRecursion};
 ghost use Rattle.zknow.specs.Facts.{IsFact};
@@ -12,7 +12,7 @@ use zknow::{Fact, Knowledge};
 use zorigin::laws::known_facts;
 use zorigin::{Answer, Refused, Taken, facts_of};
 
-/// Adds facts, one by one.
+/// Adds facts one by one. If no memory is found, a part of them may be added.
 fn add_all(knowledge: &mut Knowledge, facts: &[Fact]) -> Result<(), AllocError>
     requires { AllByRecursion IsFact facts.now }
     ensures ok { OnOk result (AreAdded knowledge.old facts.now knowledge.new) }
@@ -24,7 +24,7 @@ fn add_all(knowledge: &mut Knowledge, facts: &[Fact]) -> Result<(), AllocError>
     Ok(())
 }
 
-/// Adds what an answer says.
+/// Adds what an answer says. If no memory is found, a part of it may be added.
 fn add_answer(
     alloc: Global,
     target: u32,
@@ -40,7 +40,7 @@ fn add_answer(
     add_all(knowledge, facts.as_slice())
 }
 
-/// Adds what was taken.
+/// Adds what the origin took says. If no memory is found, a part of it may be added.
 fn learn(
     alloc: Global,
     target: u32,
@@ -59,7 +59,8 @@ fn learn(
     }
 }
 
-/// Adds what would be taken; where the origin found no memory to tell it, nothing.
+/// Adds what the reply says if the origin would take it, and nothing if the origin would refuse it. Returns an
+/// error if no memory is found, be it by the origin; a part may then be added.
 pub(crate) fn learn_verdict(
     alloc: Global,
     target: u32,

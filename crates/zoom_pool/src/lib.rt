@@ -1,4 +1,4 @@
-//! Connections to targets, and what is known from them.
+//! Connections to targets, and what their replies make known. Nothing here does input or output.
 #![tactic(auto)]
 
 mod answer;

@@ -9,7 +9,7 @@ ghost use Rattle.zoom_pool.specs.PoolSteps.{IsStateAt, IsTakeResult, HasHandedOu
 ghost use Rattle.zoom_questions.specs.Askable.{AreFit, AreAskable};
 ghost use Rattle.zoom_pool.specs.Metas.{MetaAfter, MetaRecorded, MetaTakeStep, MetaIncompleteTake, DriveResult, AdvanceResult, IssueResult, NoteTakeStep, IsTranscriptValueUpTo, AreNewDrivers, is_skipped, is_complete, IsFinishedUpTo};
 
-use crate::answer::{Outcome, Step, TakeError, step_told};
+use crate::answer::{Outcome, Step, TakeError, step_of};
 use crate::call::Call;
 use crate::driver::{Driver, refused_law};
 use crate::laws::{one_input, one_transcript};
@@ -23,22 +23,23 @@ use zoom_questions::{MetaSettings, Question};
 use zorigin::CallRefused;
 use zorigin::laws::sent_requests;
 
-/// More than the calls of one drive: an Init, a search, a Close, the 64 Presents that may wait, and one look more.
+/// More than one drive can need: an Init, a search, a Close, the 64 Presents that may wait, and one last look.
 const MOST_LOOKS: u32 = 70;
 
-/// What looking for the next call came to.
+/// What looking for the next call did.
 #[derive(Clone, Copy, Debug, PartialEq, Eq)]
-pub(crate) enum Turn {
-    /// It was made, and the origin admitted it.
+pub(crate) enum Advance {
+    /// The call was made, and the origin admitted it.
     Admitted,
-    /// It was the search, and the origin refused it: another call is next.
+    /// The call was the search, and the origin refused it: it is skipped.
     Skipped,
-    /// None is next.
-    Rests,
+    /// No call is next.
+    Idle,
 }
 
-/// A pool of connections, each of which is driven for one question (Z39.50-2003, 3.2): which calls are made is decided
-/// here. Its caller carries octets, takes messages, and lets it drive after each. What is known changes by takes alone.
+/// A pool of connections, each of which is driven for one question (Z39.50-2003, 3.2). It decides which calls are
+/// made. Its caller carries octets, takes messages, and calls `drive` after each take. Takes alone change what is
+/// known. Each call that has a `c` requires it to be below `connections()`.
 #[derive(Drop)]
 pub struct Meta {
     pool: Pool,
@@ -63,7 +64,9 @@ impl Model for Meta {
 }
 
 impl Meta {
-    /// A connection for each question, in state Fresh, and nothing known.
+    /// Creates a connection in state Fresh for each question, with nothing known. It requires fewer than 2^32
+    /// questions that can be asked (`AreAskable`), and settings within their limits (`AreFit`). An error only if
+    /// no memory is found.
     pub fn new(
         alloc: Global,
         questions: Seq<Question>,
@@ -80,14 +83,14 @@ impl Meta {
         Ok(Meta { pool, drivers })
     }
 
-    /// How many connections there are: their numbers are below it. It takes no memory.
+    /// Returns the number of connections: their numbers are below it. It takes no memory.
     pub fn connections(&self) -> usize
         ensures { result ≡ length self.now.pool.connections }
     {
         self.pool.connections()
     }
 
-    /// The state of a connection. It takes no memory.
+    /// Returns the state of a connection. It takes no memory.
     pub fn state(&self, c: u32) -> State
         requires { c < length self.now.pool.connections }
         ensures { IsStateAt c self.now.pool result }
@@ -95,12 +98,17 @@ impl Meta {
         self.pool.state(c)
     }
 
-    /// Makes the calls of a connection that are due, and answers how many the origin admitted: Init first; where the
-    /// target accepted, the search; once its count is known, Presents by least first position, as many as may wait for
-    /// their answers, of what is wanted and of what short answers left; and Close, once nothing is due and nothing is
-    /// outstanding. The origin admits each of them but a search that is not offered or cannot be sent, which is
-    /// skipped: so afterwards none is next, and where the association was accepted and the connection goes on, its
-    /// search was admitted or it counts as skipped. Where no memory is found, the calls that were made stand.
+    /// Makes the calls of a connection that are due, and returns how many the origin admitted:
+    /// - Init first;
+    /// - if the target accepts the association, the search;
+    /// - once its count is known, Presents of what is wanted and of what short answers left, by least first
+    ///   position, as many as may wait for their answers;
+    /// - Close, once nothing is due and nothing is outstanding.
+    ///
+    /// The origin admits each of them except a search that is not offered or cannot be sent, which is skipped.
+    /// After `Ok` no call is next. If the association was accepted and the connection is neither Closed nor
+    /// Failed, its search was admitted or is skipped. If no memory is found, the calls already made are kept. What
+    /// is known is unchanged.
     pub fn drive(&mut self, c: u32) -> Result<u32, AllocError>
         requires { c < length self.old.pool.connections }
         ensures after { DriveResult c result self.old self.new }
@@ -111,16 +119,16 @@ impl Meta {
         let mut admitted: u32 = 0;
         for _ in 0..MOST_LOOKS {
             match self.advance(c)? {
-                Turn::Admitted => admitted += 1,
-                Turn::Skipped => {}
-                Turn::Rests => return Ok(admitted),
+                Advance::Admitted => admitted += 1,
+                Advance::Skipped => {}
+                Advance::Idle => return Ok(admitted),
             }
         }
         Ok(admitted)
     }
 
-    /// Makes the call of a connection that is next, where one is.
-    fn advance(&mut self, c: u32) -> Result<Turn, AllocError>
+    /// Makes the next call of a connection, if one is next.
+    fn advance(&mut self, c: u32) -> Result<Advance, AllocError>
         requires { c < length self.old.pool.connections }
         ensures after { AdvanceResult c result self.old self.new }
         ensures known { self.new.pool.knowledge ≡ self.old.pool.knowledge }
@@ -129,7 +137,7 @@ impl Meta {
         one_transcript();
         let state = self.pool.state(c);
         if is_stopped(state) {
-            return Ok(Turn::Rests);
+            return Ok(Advance::Idle);
         }
         match self.drivers[c as usize].next_call(state)? {
             Some(call) => {
@@ -137,12 +145,12 @@ impl Meta {
                 drop(call);
                 stage
             }
-            None => Ok(Turn::Rests),
+            None => Ok(Advance::Idle),
         }
     }
 
-    /// Makes the call that what drives the connection gave.
-    fn issue(&mut self, c: u32, call: &Call) -> Result<Turn, AllocError>
+    /// Makes the call that the driver of the connection gave.
+    fn issue(&mut self, c: u32, call: &Call) -> Result<Advance, AllocError>
         requires { c < length self.old.pool.connections }
         ensures after { IssueResult c (call_of call.now) result self.old self.new }
         ensures known { self.new.pool.knowledge ≡ self.old.pool.knowledge }
@@ -153,19 +161,20 @@ impl Meta {
         match self.pool.call(c, call) {
             Ok(()) => {
                 self.drivers[c as usize].note_sent(call);
-                Ok(Turn::Admitted)
+                Ok(Advance::Admitted)
             }
             Err(reason) => match reason {
                 CallRefused::Memory => Err(AllocError),
                 _ => {
                     self.drivers[c as usize].note_refused();
-                    Ok(Turn::Skipped)
+                    Ok(Advance::Skipped)
                 }
             },
         }
     }
 
-    /// Takes the next piece of octets that came on a connection, as `Pool::feed` does.
+    /// Takes the next piece of octets that came on a connection, as `Pool::feed` does. If no memory is found,
+    /// nothing changes.
     pub fn feed(&mut self, c: u32, piece: &[u8]) -> Result<(), AllocError>
         requires { c < length self.old.pool.connections }
         ensures after { OnOk result (MetaRecorded c (Fed piece.now) self.old self.new) }
@@ -176,9 +185,9 @@ impl Meta {
         self.pool.feed(c, piece)
     }
 
-    /// Takes one message of a connection, as `Pool::take` does: with the same answers, refusals and what they leave.
-    /// Behind a take that found no memory, `state`, `finished`, `skipped`, `complete` and the next take of each
-    /// connection answer what the history says.
+    /// Takes one message of a connection, as `Pool::take` does, with the same results and refusals. After a take
+    /// that found no memory, `state`, `finished`, `skipped`, `complete` and the next take of each connection
+    /// return what the history says.
     pub fn take(&mut self, c: u32) -> Result<Step, TakeError>
         requires { c < length self.old.pool.connections }
         ensures answer { IsTakeResult c self.old.pool result }
@@ -194,13 +203,13 @@ impl Meta {
         match self.pool.take_outcome(c) {
             Ok(outcome) => {
                 note_take(&mut self.drivers[c as usize], &outcome);
-                Ok(step_told(&outcome))
+                Ok(step_of(&outcome))
             }
             Err(error) => Err(error),
         }
     }
 
-    /// No more octets come to a connection, as for `Pool::end`. It takes no memory.
+    /// Notes that no more octets come to a connection, as `Pool::end` does. It takes no memory.
     pub fn end(&mut self, c: u32)
         requires { c < length self.old.pool.connections }
         ensures after { MetaRecorded c InputEnded self.old self.new }
@@ -210,7 +219,8 @@ impl Meta {
         self.pool.end(c);
     }
 
-    /// A connection has failed for a reason of its host, whatever its state was. It takes no memory.
+    /// Makes a connection Failed for a reason of the caller's, whatever its state was. The other connections and
+    /// what is known are unchanged. It takes no memory.
     pub fn stop(&mut self, c: u32, reason: Reason)
         requires { c < length self.old.pool.connections }
         ensures after { MetaRecorded c (Stopped reason) self.old self.new }
@@ -223,7 +233,8 @@ impl Meta {
         self.pool.stop(c, reason);
     }
 
-    /// Appends the octets that wait to go out on a connection, and forgets them, as `Pool::outgoing` does.
+    /// Appends the octets that wait to go out on a connection to `out`, and forgets them, as `Pool::outgoing`
+    /// does. If no memory is found, the connections and the content of `out` are unchanged.
     pub fn outgoing(&mut self, c: u32, out: &mut Vec<u8>) -> Result<(), AllocError>
         requires { c < length self.old.pool.connections }
         ensures gives { OnOk result (out.new.items ≡ out.old.items ++ waiting_at self.old.pool c) }
@@ -238,7 +249,7 @@ impl Meta {
         self.pool.outgoing(c, out)
     }
 
-    /// What is known: the union of the facts of the accepted replies. It takes no memory.
+    /// Returns what is known: the union of the facts of the accepted replies. It takes no memory.
     pub fn knowledge(&self) -> &Knowledge
         ensures { result.now ≡ self.now.pool.knowledge }
     {
@@ -253,8 +264,8 @@ impl Meta {
         self.pool.is_finished()
     }
 
-    /// Whether the question of a connection was skipped: its search was refused, as `NotOffered` or `Unsendable`. It
-    /// takes no memory.
+    /// Whether the question of a connection was skipped: the origin refused its search as `NotOffered` or
+    /// `Unsendable`. It takes no memory.
     pub fn skipped(&self, c: u32) -> bool
         requires { c < length self.now.pool.connections }
         ensures { IsTranscriptValueUpTo c self.now is_skipped result }
@@ -262,7 +273,8 @@ impl Meta {
         self.drivers[c as usize].is_skipped()
     }
 
-    /// Whether the target rejected the association or the connection's own Close was sent. It takes no memory.
+    /// Whether the target rejected the association, or the origin admitted the connection's own Close. It takes no
+    /// memory.
     pub fn complete(&self, c: u32) -> bool
         requires { c < length self.now.pool.connections }
         ensures { IsTranscriptValueUpTo c self.now is_complete result }
@@ -271,7 +283,7 @@ impl Meta {
     }
 }
 
-/// Tells what drives a connection what a take came to.
+/// Notes in the driver what a take did.
 fn note_take(driver: &mut Driver, outcome: &Outcome)
     ensures { NoteTakeStep outcome.now driver.old driver.new }
 {
@@ -280,7 +292,7 @@ fn note_take(driver: &mut Driver, outcome: &Outcome)
     }
 }
 
-/// What drives a connection for each question.
+/// Creates a driver for each question.
 fn drivers_for(
     alloc: Global,
     questions: Seq<Question>,

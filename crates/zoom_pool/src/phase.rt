@@ -1,4 +1,4 @@
-//! How far a connection is that is driven for one question.
+//! How far a connection is with its question.
 ghost use Rattle.std.specs.Prelude.{◌≡◌, ◌^◌, ◌≤◌, true, length, IfOk};
 ghost use Rattle.zplan.specs.Positions.{first_of};
 ghost use Rattle.zplan.specs.Ranges.{natural, positions, CanBeAsked};
@@ -17,7 +17,7 @@ use zber::{Duplicate, Seq};
 use zorigin::{Ask, Taken};
 use zplan::{Range, Schedule};
 
-/// How far it is.
+/// How far a connection is with its question.
 #[derive(Drop)]
 pub enum Phase {
     /// Init was not sent.
@@ -26,26 +26,26 @@ pub enum Phase {
     Opening,
     /// The association was accepted, and the search was not called.
     Opened {
-        /// Records can be asked for.
+        /// Whether records can be asked for.
         present: bool,
-        /// Version 3 is in force.
+        /// Whether version 3 is in force.
         three: bool,
     },
     /// The search was sent.
     Searching {
-        /// Records can be asked for.
+        /// Whether records can be asked for.
         present: bool,
-        /// Version 3 is in force.
+        /// Whether version 3 is in force.
         three: bool,
     },
     /// The search was answered, and no schedule was made yet.
     Counted {
-        /// Version 3 is in force.
+        /// Whether version 3 is in force.
         three: bool,
-        /// How many records there are.
+        /// The number of records found.
         count: u64,
     },
-    /// Records are asked for.
+    /// Records are asked for by this schedule.
     Asking(Schedule),
     /// Nothing is left to ask for, and Close was not sent.
     Done,
@@ -53,7 +53,7 @@ pub enum Phase {
     Closed,
 }
 
-/// How many Presents may wait, where calls can be made.
+/// Returns how many Presents may wait, or `None` if no call can be made.
 fn room_for(window: u32, state: State) -> Option<u32>
     ensures { result ≡ room_for window state }
 {
@@ -69,7 +69,7 @@ fn is_fresh(state: State) -> bool
     matches!(state, State::Fresh)
 }
 
-/// The search for what is asked.
+/// Makes the search call of the question.
 fn search_call(alloc: Global, ask: &Ask) -> Result<Call, AllocError>
     ensures { IfOk result (λ call. call_of call ≡ Search 1 1 ask.now) }
 {
@@ -88,7 +88,7 @@ fn search_call(alloc: Global, ask: &Ask) -> Result<Call, AllocError>
     })
 }
 
-/// The first position of the range.
+/// Returns the first position of a range.
 fn start_of(range: Range) -> u32
     requires { natural range.start ≤ 2 ^ 31 }
     ensures { result ≡ natural range.start }
@@ -100,7 +100,7 @@ fn start_of(range: Range) -> u32
     }
 }
 
-/// The first position of the ranges.
+/// Returns the first position of the ranges.
 fn first_position(list: &[Range]) -> u32
     requires { CanBeAsked list.now }
     ensures first { result ≡ first_of (positions list.now) }
@@ -109,7 +109,7 @@ fn first_position(list: &[Range]) -> u32
     start_of(list[0])
 }
 
-/// The Present for the ranges.
+/// Makes the Present call of the ranges.
 fn present_call(list: Vec<Range>) -> Call
     requires { CanBeAsked list.items }
     ensures { IsRangesCall list.items (call_of result) }
@@ -122,8 +122,8 @@ fn present_call(list: Vec<Range>) -> Call
     }
 }
 
-/// What is next of a schedule: the Present of what stands first, where fewer than `room` wait; Close, where nothing is
-/// due and nothing waits.
+/// Returns the next call of a schedule. If fewer than `room` Presents wait, it is the Present of what is due
+/// first. If nothing is due and nothing waits, it is Close.
 fn next_asked(schedule: &mut Schedule, alloc: Global, room: u32) -> Result<Option<Call>, AllocError>
     ensures same { SameAgenda schedule.old schedule.new }
     ensures ok { IfOk result (λ given. NextAskedResult room schedule.new given) }
@@ -143,7 +143,7 @@ fn next_asked(schedule: &mut Schedule, alloc: Global, room: u32) -> Result<Optio
     }
 }
 
-/// The call that is next at the phase, in this state.
+/// Returns the call that is next at the phase, in this state. An error only if no memory is found.
 pub(crate) fn give(
     phase: &mut Phase,
     alloc: Global,
@@ -177,7 +177,7 @@ pub(crate) fn give(
     }
 }
 
-/// The Present of what stands first was sent.
+/// Notes that the Present of what is due first was sent.
 fn send_first(schedule: &mut Schedule)
     ensures { schedule.old.ready ≡ true → IsSent schedule.old schedule.new }
 {
@@ -186,7 +186,7 @@ fn send_first(schedule: &mut Schedule)
     }
 }
 
-/// The origin admitted the call, which was given at the phase. It takes no memory.
+/// Changes the phase after the origin admitted the call, which was given at the phase. It takes no memory.
 pub(crate) fn send(phase: &mut Phase, call: &Call)
     ensures { SendStep (call_of call.now) phase.old phase.new }
 {
@@ -238,7 +238,7 @@ fn count_records(records: &Option<Records>) -> usize
     }
 }
 
-/// The list that waits from the first position on was answered.
+/// Notes the answer to the Present that waits and begins at position `first`.
 fn answer_list(schedule: &mut Schedule, first: u32, records: usize)
     ensures { HasWaiting first schedule.old → IsAnswered first records schedule.old schedule.new }
 {
@@ -247,7 +247,7 @@ fn answer_list(schedule: &mut Schedule, first: u32, records: usize)
     }
 }
 
-/// The answer to an operation came.
+/// Changes the phase after the answer to operation `op`.
 fn answer(phase: &mut Phase, op: u32, reply: &Apdu)
     ensures { AnswerStep op reply.now phase.old phase.new }
 {
@@ -268,7 +268,7 @@ fn answer(phase: &mut Phase, op: u32, reply: &Apdu)
     }
 }
 
-/// The origin took a reply. It takes no memory.
+/// Changes the phase after the origin took a reply. It takes no memory.
 pub(crate) fn note_taken(phase: &mut Phase, taken: &Taken)
     ensures { TakenStep taken.now phase.old phase.new }
 {

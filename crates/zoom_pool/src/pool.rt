@@ -9,7 +9,7 @@ ghost use Rattle.zoom_pool.specs.Links.{waiting_at, stop_at, SameOthers};
 ghost use Rattle.zoom_pool.specs.History.{After};
 ghost use Rattle.zoom_pool.specs.PoolSteps.{Recorded, IsStateAt, IsCallResult, IsTakeResult, IsTakeOutcome, TakeStep, IncompleteTake, HasHandedOutAll, IsPoolFinished};
 
-use crate::answer::{Outcome, Step, TakeError, step_told};
+use crate::answer::{Outcome, Step, TakeError, step_of};
 use crate::call::Call;
 use crate::connection::Connection;
 use crate::laws::one_input;
@@ -21,13 +21,13 @@ use zber::Duplicate;
 use zknow::Knowledge;
 use zorigin::{CallRefused, Settings};
 
-/// Connections to targets, by number from 0 on, and all that their replies say. A connection's number is its target's.
-/// It sends and receives nothing itself: octets are fed to it, and those that are to go out are asked for. What is
-/// known changes by takes alone.
+/// Connections to targets, numbered from 0, and all that their replies say. A connection has the number of its
+/// target; each call that has a `c` requires it to be below `connections()`. A pool does no input or output: its
+/// caller feeds octets to it, and fetches the octets that are to go out. Takes alone change what is known.
 ///
-/// Contracts speak of each history, the list of what befell the connections so far, that can have left it. A call that
-/// is refused for want of memory is no event of it. Behind a take that was, states and answers are what the history
-/// says, of each connection.
+/// Contracts hold for each history, the list of the connections' events so far, that can have left the pool. A
+/// call that is refused for want of memory is no event. After a take that found no memory, the states and results
+/// of each connection are what the history says.
 #[derive(Drop)]
 pub struct Pool {
     connections: Vec<Connection>,
@@ -48,7 +48,8 @@ impl Model for Pool {
 }
 
 impl Pool {
-    /// So many connections in state Fresh, and nothing known. The name is what each calls itself.
+    /// Creates `n` connections in state Fresh, with nothing known. `name` is the implementationName of each. An
+    /// error only if no memory is found.
     pub fn new(alloc: Global, n: u32, name: &Bytes) -> Result<Self, AllocError>
         ensures after { IfOk result (λ pool. After (record { name = name.now }) [] pool) }
         ensures size { IfOk result (λ pool. length pool.connections ≡ n) }
@@ -68,14 +69,14 @@ impl Pool {
         })
     }
 
-    /// How many connections there are: their numbers are below it. It takes no memory.
+    /// Returns the number of connections: their numbers are below it. It takes no memory.
     pub fn connections(&self) -> usize
         ensures { result ≡ length self.now.connections }
     {
         self.connections.len()
     }
 
-    /// The state of a connection. It takes no memory.
+    /// Returns the state of a connection. It takes no memory.
     pub fn state(&self, c: u32) -> State
         requires { c < length self.now.connections }
         ensures { IsStateAt c self.now result }
@@ -83,8 +84,8 @@ impl Pool {
         self.connections[c as usize].state()
     }
 
-    /// Makes a call on a connection: the request that it sends waits to go out. It is refused as `CallRefused` says,
-    /// in its order, and as `WrongState` where the connection is Closed or Failed; the pool is then as it was.
+    /// Makes a call on a connection; the request then waits to go out. It is refused as `CallRefused` says, in its
+    /// order, and as `WrongState` if the connection is Closed or Failed. A refused call leaves the pool unchanged.
     pub fn call(&mut self, c: u32, call: &Call) -> Result<(), CallRefused>
         requires { c < length self.old.connections }
         ensures answer { IsCallResult c (call_of call.now) self.old result }
@@ -96,8 +97,8 @@ impl Pool {
         self.connections[c as usize].call(call)
     }
 
-    /// Takes the next piece of octets that came on a connection, cut anywhere. On one that is Closed or Failed, or
-    /// whose input ended, it does nothing. Where no memory is found, the pool is as it was.
+    /// Takes the next piece of octets that came on a connection, cut anywhere. If the connection is Closed or
+    /// Failed or its input has ended, the piece is ignored. If no memory is found, the pool is unchanged.
     pub fn feed(&mut self, c: u32, piece: &[u8]) -> Result<(), AllocError>
         requires { c < length self.old.connections }
         ensures after { OnOk result (Recorded c (Fed piece.now) self.old self.new) }
@@ -108,12 +109,12 @@ impl Pool {
         self.connections[c as usize].feed(piece)
     }
 
-    /// Takes one message of a connection, and adds to what is known what it says. Whatever is answered, what was known
-    /// stays known.
+    /// Takes one message of a connection, and adds what it says to what is known. Whatever the result is, what was
+    /// known stays known.
     ///
-    /// Refused as `Frame`, `Decode` or `Refused`: the connection has then failed for that reason, and what is known
-    /// stays. Refused as `Memory`: the message is kept for the next take, all that was known is known, and of what the
-    /// message says a part may be.
+    /// If it is refused as `Frame`, `Decode` or `Refused`, the connection has failed for that reason, and what is
+    /// known stays as it is. If it is refused as `Memory`, the connection keeps the message for the next take, and
+    /// a part of what the message says may be known.
     pub fn take(&mut self, c: u32) -> Result<Step, TakeError>
         requires { c < length self.old.connections }
         ensures answer { IsTakeResult c self.old result }
@@ -124,12 +125,12 @@ impl Pool {
         ensures size { length self.new.connections ≡ length self.old.connections }
     {
         match self.take_outcome(c) {
-            Ok(outcome) => Ok(step_told(&outcome)),
+            Ok(outcome) => Ok(step_of(&outcome)),
             Err(error) => Err(error),
         }
     }
 
-    /// Takes one message of a connection, as `take` does, and tells what the origin took.
+    /// Takes one message of a connection, as `take` does, and returns what the origin took.
     pub(crate) fn take_outcome(&mut self, c: u32) -> Result<Outcome, TakeError>
         requires { c < length self.old.connections }
         ensures answer { IsTakeOutcome c self.old result }
@@ -145,8 +146,8 @@ impl Pool {
         taken
     }
 
-    /// No more octets come to a connection. Messages that wait can still be taken; after them a take answers the fault
-    /// `Truncated` where a rest is left, else `Ended`. It takes no memory.
+    /// Notes that no more octets come to a connection. Messages that wait can still be taken. After them a take
+    /// returns the fault `Truncated` if octets are left, and `Ended` otherwise. It takes no memory.
     pub fn end(&mut self, c: u32)
         requires { c < length self.old.connections }
         ensures after { Recorded c InputEnded self.old self.new }
@@ -156,7 +157,8 @@ impl Pool {
         self.connections[c as usize].end();
     }
 
-    /// A connection has failed for a reason of its host, whatever its state was. It takes no memory.
+    /// Makes a connection Failed for a reason of the caller's, whatever its state was. The other connections and
+    /// what is known are unchanged. It takes no memory.
     pub fn stop(&mut self, c: u32, reason: Reason)
         requires { c < length self.old.connections }
         ensures after { Recorded c (Stopped reason) self.old self.new }
@@ -168,8 +170,8 @@ impl Pool {
         self.connections[c as usize].stop(reason);
     }
 
-    /// Appends the octets that wait to go out on a connection, and forgets them. Where no memory is found, the pool and
-    /// `out` are as they were.
+    /// Appends the octets that wait to go out on a connection to `out`, and forgets them. If no memory is found,
+    /// the pool and the content of `out` are unchanged.
     pub fn outgoing(&mut self, c: u32, out: &mut Vec<u8>) -> Result<(), AllocError>
         requires { c < length self.old.connections }
         ensures gives { OnOk result (out.new.items ≡ out.old.items ++ waiting_at self.old c) }
@@ -196,7 +198,7 @@ impl Pool {
         true
     }
 
-    /// What is known: the union of the facts of the accepted replies. It takes no memory.
+    /// Returns what is known: the union of the facts of the accepted replies. It takes no memory.
     pub fn knowledge(&self) -> &Knowledge
         ensures { result.now ≡ self.now.knowledge }
     {

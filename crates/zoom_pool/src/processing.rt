@@ -1,4 +1,4 @@
-//! Messages that are taken: what each says is added to what is known, and then the origin takes it.
+//! Takes messages: adds what each says to what is known, and then gives it to the origin.
 ghost use Rattle.std.specs.Prelude.{◌≡◌, ◌∷◌, Contains, Err};
 ghost use Rattle.zknow.specs.Tables.Join.{IsPartOfUnion};
 ghost use Rattle.zorigin.specs.declared.settings.Settings.{Settings};
@@ -33,7 +33,8 @@ fn take_reply(origin: &mut Origin, reply: &Apdu) -> Result<Outcome, TakeError>
     }
 }
 
-/// Adds what the APDU says, and takes it.
+/// Adds what the APDU says, and gives it to the origin. If no memory is found, the origin is unchanged, and a part
+/// of what the APDU says may be added.
 fn process_reply(
     alloc: Global,
     origin: &mut Origin,
@@ -57,7 +58,8 @@ fn process_reply(
     }
 }
 
-/// Reads the message as an APDU, adds what it says, and takes it.
+/// Reads the message as an APDU, adds what it says, and gives it to the origin. If no memory is found, the origin
+/// is unchanged, and a part of what the message says may be added.
 pub(crate) fn process(
     alloc: Global,
     origin: &mut Origin,

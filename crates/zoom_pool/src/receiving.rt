@@ -1,4 +1,4 @@
-//! The messages of a host's octets, received one by one.
+//! Receives the messages of the serving end's octets, one by one.
 ghost use Rattle.zoom_pool.specs.HostSteps.{ReceiveNextResult, IsReceptionOf, ReceiveAllResult, ReceiveApduResult, ReceiveMessageResult};
 
 use std::alloc::{AllocError, Global};
@@ -6,18 +6,18 @@ use zapdu::{Apdu, ApduError, from_node};
 use zber::{FrameError, Framer, Node};
 use ztarget::{Target, TargetError};
 
-/// What the next message came to.
+/// What receiving the next message did.
 #[derive(Clone, Copy, Drop)]
-pub(crate) enum Turn {
-    /// It was received.
+pub(crate) enum Reception {
+    /// The target received it.
     More,
-    /// No whole message is there yet.
-    Waits,
-    /// It stops the host, or the octets show a fault.
-    Stopped,
+    /// No whole message has come yet.
+    Unfinished,
+    /// The message stops the serving end, or the octets show a fault.
+    Stopping,
 }
 
-/// Receives an APDU; whether the target takes it.
+/// Gives an APDU to the target; returns whether the target takes it.
 fn receive_apdu(target: &mut Target, apdu: &Apdu) -> Result<bool, AllocError>
     ensures { ReceiveApduResult apdu.now result target.old target.new }
 {
@@ -30,7 +30,7 @@ fn receive_apdu(target: &mut Target, apdu: &Apdu) -> Result<bool, AllocError>
     }
 }
 
-/// Receives a message; whether it is an APDU that the target takes.
+/// Receives a message; returns whether it is an APDU that the target takes.
 fn receive_message(alloc: Global, target: &mut Target, node: &Node) -> Result<bool, AllocError>
     ensures { ReceiveMessageResult node.now result target.old target.new }
 {
@@ -47,34 +47,39 @@ fn receive_message(alloc: Global, target: &mut Target, node: &Node) -> Result<bo
     }
 }
 
-/// What an error of the framer comes to: a fault stops the host.
-fn reception_of(error: FrameError) -> Result<Turn, AllocError>
+/// What an error of the framer means: a fault stops the serving end.
+fn reception_of(error: FrameError) -> Result<Reception, AllocError>
     ensures { IsReceptionOf error result }
 {
     match error {
-        FrameError::Fault { .. } => Ok(Turn::Stopped),
+        FrameError::Fault { .. } => Ok(Reception::Stopping),
         FrameError::Memory => Err(AllocError),
     }
 }
 
-/// Receives the next message, where one is whole.
-fn receive_next(alloc: Global, framer: &mut Framer, target: &mut Target) -> Result<Turn, AllocError>
+/// Receives the next message, if it is whole.
+fn receive_next(
+    alloc: Global,
+    framer: &mut Framer,
+    target: &mut Target,
+) -> Result<Reception, AllocError>
     ensures { ReceiveNextResult result framer.old.stream framer.new.stream target.old target.new }
 {
     match framer.next() {
         Ok(Some(node)) => {
             if receive_message(alloc, target, &node)? {
-                Ok(Turn::More)
+                Ok(Reception::More)
             } else {
-                Ok(Turn::Stopped)
+                Ok(Reception::Stopping)
             }
         }
-        Ok(None) => Ok(Turn::Waits),
+        Ok(None) => Ok(Reception::Unfinished),
         Err(error) => reception_of(error),
     }
 }
 
-/// Receives all whole messages, up to one that stops the host; whether one did, or a fault.
+/// Receives all whole messages, up to one that stops the serving end. Returns whether a message or a fault stops
+/// it.
 pub(crate) fn receive_all(
     alloc: Global,
     framer: &mut Framer,
@@ -84,9 +89,9 @@ pub(crate) fn receive_all(
 {
     'messages: loop {
         match receive_next(alloc, framer, target)? {
-            Turn::More => {}
-            Turn::Waits => return Ok(false),
-            Turn::Stopped => return Ok(true),
+            Reception::More => {}
+            Reception::Unfinished => return Ok(false),
+            Reception::Stopping => return Ok(true),
         }
     }
 }

@@ -15,12 +15,13 @@ use zber::Seq;
 use zknow::Known;
 use zorigin::{CallRefused, Range};
 
-/// A result set of one connection (Z39.50-2003, 3.1.5). It is a name: making one asks for nothing.
+/// A result set of one connection (Z39.50-2003, 3.1.5). It is a name: creating one asks for nothing.
 #[derive(Clone, Copy, Debug, PartialEq, Eq)]
 pub struct ResultSet {
-    /// The connection's number.
+    /// The number of the connection. `present` and `present_ranges` require it to be below the pool's
+    /// `connections()`.
     pub c: u32,
-    /// The set's number.
+    /// The number of the result set.
     pub set: u32,
 }
 
@@ -37,23 +38,23 @@ fn ranges_call(op: u32, set: u32, ranges: Seq<Range>) -> Call
 }
 
 impl ResultSet {
-    /// What is known of the number of its records. It takes no memory.
+    /// Returns what is known of the number of its records. It takes no memory.
     pub fn size(self, pool: &Pool) -> Known<'_, i64>
         ensures { Shows result (counts_at self.c self.set pool.now.knowledge) }
     {
         pool.knowledge().count(self.c, self.set)
     }
 
-    /// What is known of the record at a position, from 1 on; two or more records, in order of their canonical
-    /// encodings, where accepted replies differ. It takes no memory.
+    /// Returns what is known of the record at a position, from 1 on. If accepted replies differ, there are two or
+    /// more records, in the order of their canonical encodings. It takes no memory.
     pub fn row(self, pool: &Pool, position: i64) -> Known<'_, Record>
         ensures { Shows result (records_at self.c self.set position pool.now.knowledge) }
     {
         pool.knowledge().at(self.c, self.set, position)
     }
 
-    /// Asks for `n` of its records from position `start` on, by a call with the operation's number `op`; so it is
-    /// refused as that call is, and the pool is then as it was.
+    /// Asks for `n` of its records from position `start` on, by a call with operation number `op`. It is refused
+    /// as that call is; the pool is then unchanged.
     pub fn present(self, pool: &mut Pool, op: u32, start: i64, n: i64) -> Result<(), CallRefused>
         requires { self.c < length pool.old.connections }
         ensures answer { IsCallResult self.c (Present op self.set (one_range start n)) pool.old result }
@@ -69,8 +70,8 @@ impl ResultSet {
         answer
     }
 
-    /// Asks for its records at the positions of all ranges, in their order, by a call with the operation's number `op`;
-    /// so it is refused as that call is, and the pool is then as it was.
+    /// Asks for its records at the positions of all ranges, in their order, by a call with operation number `op`.
+    /// It is refused as that call is; the pool is then unchanged.
     pub fn present_ranges(
         self,
         pool: &mut Pool,

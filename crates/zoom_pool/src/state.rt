@@ -1,4 +1,4 @@
-//! Where a connection stands.
+//! The states of a connection, and why one failed.
 ghost use Rattle.std.specs.Prelude.{◌≡◌};
 ghost use Rattle.zoom_pool.specs.States.{state_as, is_stopped, is_closing};
 ghost use Rattle.zoom_pool.specs.Reasons.{reason_name};
@@ -10,30 +10,30 @@ use zorigin::Refused;
 /// Why a connection failed.
 #[derive(Clone, Copy, Debug, PartialEq, Eq)]
 pub enum Reason {
-    /// Its octets showed a fault so many octets behind the first of a message (X.690, 8.1), or ended within a message,
-    /// of which there were so many octets.
+    /// Its octets showed this fault (X.690, 8.1), `at` octets after the first of a message. If the input ended
+    /// within a message, `at` is the number of that message's octets.
     Frame { kind: FaultKind, at: usize },
-    /// A message was no APDU (Z39.50-2003, 4.1).
+    /// A message was not an APDU (Z39.50-2003, 4.1).
     Decode(ApduError),
-    /// An APDU was not accepted: the origin's reason.
+    /// The origin did not accept an APDU, for this reason.
     Refused(Refused),
     /// Its input ended while it was not Closing.
     Ended,
-    /// Its host's: no way to the target was found.
+    /// The caller found no way to the target.
     Connect,
-    /// Its host's: octets could not be read.
+    /// The caller could not read octets.
     Read,
-    /// Its host's: octets could not be written. How many of those that were handed out went out is not known.
+    /// The caller could not write octets. It is not known how many of the octets that were handed out went out.
     Write,
-    /// Its host's: it read as often as it was to, and the connection did not end.
+    /// The caller's limit on reads was reached before the connection ended.
     Turns,
-    /// Its host's: no memory was found.
+    /// The caller found no memory.
     Memory,
 }
 
 impl Reason {
-    /// The name of the fault, of what a message was not, of the origin's reason, or its own, in ASCII letters. It takes
-    /// no memory.
+    /// Returns the name of the fault, of the decoding error or of the origin's reason, or its own name, in ASCII
+    /// letters. It takes no memory.
     pub fn word(&self) -> &'static str
         ensures { result.now ≡ reason_name self.now }
     {
@@ -58,24 +58,25 @@ pub enum State {
     Fresh,
     /// Init was called, and its answer has not come.
     Initialising,
-    /// The target accepted the association. In force is what the origin offered and the target's answer has.
+    /// The target accepted the association. An option is in force if the origin offered it and the target's answer
+    /// has it.
     Ready {
-        /// Version 3 is in force.
+        /// Whether version 3 is in force.
         v3: bool,
-        /// Concurrent operations are in force.
+        /// Whether concurrent operations are in force.
         concurrent: bool,
-        /// Named result sets are in force.
+        /// Whether named result sets are in force.
         named: bool,
     },
     /// Close was called; outstanding replies are still taken.
     Closing,
-    /// The target rejected the association, its Close was taken, or the input ended after Close was called.
+    /// The target rejected the association, the origin took its Close, or the input ended after Close was called.
     Closed,
-    /// It failed.
+    /// The connection failed for this reason.
     Failed(Reason),
 }
 
-/// The origin's state.
+/// Returns the connection's state for the origin's.
 pub(crate) fn state_as(state: zorigin::State) -> State
     ensures { result ≡ state_as state }
 {
@@ -97,7 +98,7 @@ pub(crate) fn state_as(state: zorigin::State) -> State
     }
 }
 
-/// Whether nothing more is taken.
+/// Whether a connection in this state takes nothing more.
 pub(crate) fn is_stopped(state: State) -> bool
     ensures { result ≡ is_stopped state }
 {

@@ -1,4 +1,4 @@
-//! Taking a message of a connection.
+//! Takes a message of a connection.
 ghost use Rattle.std.specs.Prelude.{◌≡◌, IfOk, IfNone, true, false, None, if◌then◌else◌};
 ghost use Rattle.zber.specs.Unfinished.{IsUnfinished};
 ghost use Rattle.zoom_pool.specs.declared.state.State.TheVariants as states;
@@ -19,7 +19,8 @@ use zber::{FrameError, Framer, Node};
 use zknow::Knowledge;
 
 impl Connection {
-    /// Takes one message, and adds to the knowledge what it says of this target.
+    /// Takes one message, and adds what it says of this target to the knowledge. If no memory is found, the
+    /// message is kept, and a part of what it says may be added.
     pub(crate) fn take(
         &mut self,
         target: u32,
@@ -52,7 +53,7 @@ impl Connection {
         }
     }
 
-    /// No message is there.
+    /// What a take does if no message has come: it waits for more, or the input has ended.
     fn lack(&mut self) -> Result<Outcome, TakeError>
         requires asked { self.old.framer.asked ≡ true }
         requires sound { self.old.framer.fault ≡ None }
@@ -82,7 +83,7 @@ impl Connection {
     }
 }
 
-/// What stops the connection once the message was taken so; for want of memory the message is kept.
+/// Stops the connection if its message was refused; keeps the message if no memory was found.
 fn settle(
     stop: &mut Option<State>,
     held: &mut Option<Node>,
@@ -100,7 +101,7 @@ fn settle(
     }
 }
 
-/// The state after the input ended with nothing left.
+/// Returns the state after the input has ended with no octets left.
 fn ended_state(closing: bool) -> State
     ensures { result ≡ (if closing then states.Closed else states.Failed reasons.Ended) }
 {
@@ -111,7 +112,7 @@ fn ended_state(closing: bool) -> State
     }
 }
 
-/// The message that is kept, or the next one of the framer.
+/// Returns the message that is kept, or else the framer's next one.
 fn next_message(held: &mut Option<Node>, framer: &mut Framer) -> Result<Option<Node>, FrameError>
     ensures answer { (p : Transcript) → is_going p.stop ≡ true → FramerAfter p held.old framer.old.stream
         → NextMessage p result held.new framer.new.stream }

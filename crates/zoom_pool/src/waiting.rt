@@ -5,7 +5,7 @@ ghost use Rattle.zoom_pool.specs.Transcripts.{joined};
 use bytes::Bytes;
 use std::alloc::AllocError;
 
-/// Puts octets last, where there is room.
+/// Puts octets last. The caller has reserved room for them.
 pub(crate) fn put(waiting: &mut Vec<Bytes>, octets: Bytes)
     requires { vec_len waiting.old + 1 ≤ vec_capacity waiting.old }
     ensures { waiting.new.items ≡ waiting.old.items ++ octets ∷ [] }
@@ -13,7 +13,7 @@ pub(crate) fn put(waiting: &mut Vec<Bytes>, octets: Bytes)
     let _ = waiting.push(octets);
 }
 
-/// Appends all octets that wait; where no memory is found, none.
+/// Appends all octets that wait. If no memory is found, it appends none.
 pub(crate) fn append_all(waiting: &[Bytes], out: &mut Vec<u8>) -> Result<(), AllocError>
     ensures ok { OnOk result (out.new.items ≡ out.old.items ++ joined waiting.now) }
     ensures err { OnErr result (out.new.items ≡ out.old.items) }

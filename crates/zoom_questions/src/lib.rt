@@ -1,4 +1,4 @@
-//! What catalogues are asked, and how: what connections, world files and runs in memory have in common.
+//! Questions to catalogues, the settings for asking them, and the moves of a world in memory.
 #![tactic(auto)]
 
 mod moves;

@@ -1,4 +1,4 @@
--- What goes between a connection and its target.
+-- The octets between a connection and its target.
 use Rattle.std.proofs.Common.{◌≡◌, ◌∙◌, sym, ap, subst, inl, inr, ℕ, zero, suc, ◌==◌, Bool, true, false, List, [], ◌∷◌, ◌++◌, length, take, drop}
 use Rattle.std.proofs.Common.{Result, Ok, Err, refl, append_assoc, append-nil}
 use Rattle.std.specs.Prelude.{OnOk}
@@ -14,7 +14,7 @@ use Rattle.zoom_laws.specs.Exchange.{fed_to}
 use Rattle.zoom_sim.specs.RunSteps.{IsSilent, SilentStep, MoreSilentEvents, IsCarried, CarryStep, PeerReleaseStep}
 use Rattle.zoom_sim.proofs.RunSilentSteps.{given_append, fed_append, silent_more}
 
--- ---- what was carried by events one after the other
+-- ---- the octets of events one after the other
 
 pub fed_to_append : (a b : List HostEvent) → fed_to (a ++ b) ≡ fed_to b ++ fed_to a
 fed_to_append [] b = sym (append-nil (fed_to b))
@@ -35,7 +35,7 @@ handed_out_append (Lost k ∷ a) b = handed_out_append a b
 handed_out_append (HostHandedOut octets ∷ a) b =
     ap (λ z. z ++ octets) (handed_out_append a b) ∙ append_assoc (handed_out b) (handed_out a) octets
 
--- what went in is what came out and what is left, again and again
+-- over two steps, the octets that went in are those that came out and those that are left
 pub goes_through : (x y z w u v : List ℕ) → x ≡ y ++ z → z ++ w ≡ u ++ v → x ++ w ≡ (y ++ u) ++ v
 goes_through x y z w u v e f =
     ap (λ l. l ++ w) e ∙ append_assoc y z w ∙ ap (λ l. y ++ l) f ∙ sym (append_assoc y u v)
@@ -82,7 +82,7 @@ carries_trans c a b d p q r f g = record {
       (g.on qs s (one.events ++ h) holdings (one.host_more ++ host_events) one.after one.served);
 }
 
--- nothing is carried
+-- no octets are carried
 silent_to : (x : List ℕ) (events : List Event) → given events ≡ [] → x ++ given events ≡ [] ++ x
 silent_to x events e = ap (λ z. x ++ z) e ∙ append-nil x
 
@@ -106,14 +106,14 @@ goes_carries c old new p g = record {
 
 -- ---- the steps
 
--- deeds of another connection
+-- events of another connection
 pub other_silent : (c i : ℕ) (event : Event) → (c == i) ≡ false → IsSilent (events_on i ((c, event) ∷ []))
 other_silent c i event e = subst IsSilent (sym (only_other c i event [] e)) (refl, refl)
 
 own : (c : ℕ) (event : Event) → events_on c ((c, event) ∷ []) ≡ event ∷ []
 own c event = only_same c event []
 
--- what waited on the connection is on its way, and a piece came to the target
+-- the octets that waited on the connection are on their way, and a piece was fed to the target
 pub to_carries : (c : ℕ) (old new : MetaLinks) (was now : Peer) (octets pipe piece : List ℕ) (k : ℕ)
     → MetaRecorded c (HandedOut octets) old new → pipe ≡ was.to ++ octets → piece ≡ take k pipe
     → HostRecorded (HostFed piece) was.host now.host → now.to ≡ drop (length piece) pipe → now.from ≡ was.from
@@ -131,7 +131,7 @@ to_carries c old new was now octets pipe piece k recorded fills front is_step le
   };
 }
 
--- what waited at the target is on its way, and a piece came to the connection
+-- the octets that waited at the target are on their way, and a piece was fed to the connection
 pub from_carries : (c : ℕ) (old new : MetaLinks) (was now : Peer) (pipe piece : List ℕ) (k : ℕ)
     → HostRecorded (HostHandedOut was.host.waiting) was.host now.host → pipe ≡ was.from ++ was.host.waiting → piece ≡ take k pipe
     → MetaRecorded c (Fed piece) old new → now.from ≡ drop (length piece) pipe → now.to ≡ was.to

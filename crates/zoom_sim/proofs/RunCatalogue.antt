@@ -34,7 +34,7 @@ module _ (answers : CatalogueLaw) (conversation : ConversationLaw) (uniqueness :
   not_lost c t at (inl w) = w
   not_lost c t at (inr lost) = absurd (short c t at lost)
 
-  -- what one connection knows
+  -- the facts that one connection knows
   answered : (c : ℕ) (q : Question) (t : TargetState) → slice_get questions c ≡ Some q → slice_get targets c ≡ Some t
       → (f : Fact) → Contains (facts_at c (transcript c)) f ↔ Contains (catalogue c q t.databases t.settings) f
   answered c q t at by =
@@ -50,7 +50,7 @@ module _ (answers : CatalogueLaw) (conversation : ConversationLaw) (uniqueness :
       owed ends.0 ends.1 in
       subst (λ p. (f : Fact) → Contains (facts_at c p) f ↔ Contains (catalogue c q t.databases t.settings) f) same all
 
-  -- nothing is known of a connection that there is not
+  -- nothing is known of a connection that does not exist
   within : (c : ℕ) (f : Fact) → Contains (facts_at c (transcript c)) f → c < length questions
   within c f h = by (nat_lt c (length questions)) refl
     where

@@ -12,7 +12,7 @@ over_piece : (p : Transcript) (piece : List ℕ) → is_over (after_feed p piece
 over_piece p piece = elim (is_stopped (state_at p) || p.ended) as
     (λ b. is_over (cond b p (record p { stream = p.stream ++ piece })) ≡ is_over p) [ true ↦ refl | false ↦ refl ]
 
--- what goes on went on before a deed
+-- a connection that is not stopped was not stopped before an event
 goes_before : (settings : Settings) (event : Event) (events : List Event) (p : Transcript) (h : IsTranscript settings (event ∷ events) p)
     → is_over p ≡ false → (q : Transcript) × IsTranscript settings events q × (is_over q ≡ false)
 goes_before settings (Called call) events p h e =

@@ -1,4 +1,4 @@
--- A connection that is fine with its target: what is on its way between them, and what carrying it does.
+-- A connection that is sound with its target: the octets on their way between them, and what carrying them does.
 use Rattle.std.proofs.Common.{◌≡◌, ◌∙◌, inl, sym, ap, subst, ℕ, ◌<◌, ◌≤◌, Bool, true, false, cond, List, [], ◌∷◌, ◌++◌, length, take, drop, slice_get, Some, Result, Ok, Err, refl, append_assoc, append-nil, arith, length-append, true≢false}
 use Rattle.std.specs.Prelude.{◌&&◌, ◌||◌, not, OnOk, IfOk}
 use Rattle.std.specs.List.{flat_map}
@@ -35,11 +35,11 @@ none_left (n ∷ x) e = absurd (omega (arith, e))
 pub nothing_behind : (x y z : List ℕ) → z ≡ x ++ y → length z ≤ length x → y ≡ []
 nothing_behind x y z e le = none_left y (omega (arith, ap length e, length-append x y, le))
 
--- all of them went
+-- all octets that waited were carried
 pub whole_left : (pipe piece rest : List ℕ) → piece ≡ pipe → rest ≡ drop (length piece) pipe → rest ≡ []
 whole_left pipe piece rest e f = f ∙ ap (λ z. drop (length z) pipe) e ∙ drop_all (length pipe) pipe (omega arith)
 
--- ---- what is on its way
+-- ---- octets on their way
 
 pub to_of : {holdings : Holdings} {settings : Settings} {events : List Event} {p : Transcript} {host_events : List HostEvent}
     {host : HostState} (x : IsSoundExchange holdings settings events p host_events host) (octets : List ℕ)
@@ -53,7 +53,7 @@ from_of {p = p} x octets e = append_cancel_left p.stream x.from octets (x.comes 
 
 module _ (s : MetaSettings) (q : Question) (target : TargetState) (taken : Bool) (events : List Event) (p : Transcript)
     (host_events : List HostEvent) (peer : Peer) (f : IsSoundPeer s q target taken events p host_events peer) where
-  -- all that came was heard
+  -- all octets fed are in the stream
   pub all_heard : OverLaw → p.stream ≡ fed events
   all_heard over = by (is_stopped (state_at p)) refl
     where
@@ -69,7 +69,7 @@ module _ (s : MetaSettings) (q : Question) (target : TargetState) (taken : Bool)
           (no_more_stream (settings_of s) events p f.sound.transcript) in
           all ∙ ap (λ z. fed events ++ z) none ∙ append-nil (fed events)
 
-  -- what was sent is what the host was fed, what is on its way to it, and what waits at the connection
+  -- the octets sent are those fed to the serving end, those on their way to it, and those that wait at the connection
   pub sent_so : OneTranscript → (questions : List Question) (c : ℕ) (h : History) (meta : MetaLinks)
       → MetaAfter questions s h meta → slice_get questions c ≡ Some q → events ≡ events_on c h
       → sent (past_of p) ≡ fed_to host_events ++ (peer.to ++ waiting_at meta.pool c)
@@ -89,7 +89,7 @@ module _ (s : MetaSettings) (q : Question) (target : TargetState) (taken : Bool)
       ∙ ap (λ z. given z ++ waiting_at meta.pool c) (sym same) ∙ ap (λ z. z ++ waiting_at meta.pool c) f.to
       ∙ append_assoc (fed_to host_events) peer.to (waiting_at meta.pool c)
 
--- ---- a piece that came to the connection
+-- ---- a piece that was fed to the connection
 
 pub same_piece : (p : Transcript) (piece : List ℕ) → piece ≡ [] → after_feed p piece ≡ p
 same_piece p piece e = elim (is_stopped (state_at p) || p.ended) as
@@ -108,7 +108,7 @@ idle_piece s q p piece idle = elim (is_stopped (state_at p) || p.ended) as
 
 -- ---- steps
 
--- what waited on the connection is on its way, and a piece came to the target
+-- the octets that waited on the connection are on their way, and a piece was fed to the target
 pub to_steps : OneTranscript → HandedOutLaw → HostFedLaw → (c : ℕ) (old new : MetaLinks) (was now : Peer)
     (pipe piece : List ℕ) (k : ℕ) → MetaRecorded c (HandedOut (waiting_at old.pool c)) old new
     → pipe ≡ was.to ++ waiting_at old.pool c → piece ≡ take k pipe → HostRecorded (HostFed piece) was.host now.host
@@ -149,7 +149,7 @@ to_steps uniqueness gives host_fed c old new was now pipe piece k recorded fills
     cut : pipe ≡ piece ++ drop (length piece) pipe
     cut = front_rest k pipe ∙ ap (λ z. z ++ drop (length z) pipe) (sym front)
 
--- what waited at the target is on its way, and a piece came to the connection
+-- the octets that waited at the target are on their way, and a piece was fed to the connection
 pub from_steps : OverLaw → HostHandedOutLaw → FedLaw → (c : ℕ) (old new : MetaLinks) (was now : Peer) (pipe piece : List ℕ)
     (k : ℕ) → HostRecorded (HostHandedOut was.host.waiting) was.host now.host → pipe ≡ was.from ++ was.host.waiting
     → piece ≡ take k pipe → MetaRecorded c (Fed piece) old new → now.from ≡ drop (length piece) pipe
@@ -197,7 +197,7 @@ from_steps over handed feeds c old new was now pipe piece k hands fills front re
     as_it_was : (p : Transcript) → not carried ≡ true → after_feed p piece ≡ p
     as_it_was p e = same_piece p piece (none (not_so carried e))
 
--- a host that stopped is not fine
+-- a serving end that stopped is not sound
 pub ended_steps : (c : ℕ) (taken : Bool) (old new : MetaLinks) (peer : Peer) → peer.host.stopped ≡ true
     → MetaRecorded c InputEnded old new → PeerStep c taken taken true old new peer peer
 ended_steps c taken old new peer stopped recorded = record {
@@ -206,13 +206,13 @@ ended_steps c taken old new peer stopped recorded = record {
   adds = λ questions s h after. record { events = InputEnded ∷ []; after = recorded questions s h after };
 }
 
--- ---- the steps of a piece that came to the connection, one after the other
+-- ---- the steps of a piece that was fed to the connection, one after the other
 
 and_same : (b : Bool) → b && b ≡ b
 and_same true = refl
 and_same false = refl
 
--- nothing stops what is fine, and then all messages are taken
+-- nothing stops a sound peer, and then all messages are taken
 pub taken_steps : OneTranscript → LongerLaw → (c : ℕ) (carried : Bool) (old mid stopped ended new : MetaLinks)
     (was now : Peer) → PeerStep c true (not carried) (not carried) old mid was now → stopped ≡ mid
     → ((taken : Bool) → PeerStep c taken taken true stopped ended now now) → TakeAllStep c ended new

@@ -1,4 +1,4 @@
--- Replies that are released, where a connection is fine with its target.
+-- Replies that are released, if a connection is sound with its target.
 use Rattle.std.proofs.Common.{◌≡◌, ◌∙◌, ◌⊎◌, inl, inr, sym, ap, subst, ℕ, ◌+◌, ◌<◌, ◌≤◌, Bool, true, false, List, [], ◌∷◌, ◌++◌, length, slice_get, Some, Result, Ok, Err, refl, arith, length-append, true≢false}
 use Rattle.std.specs.Prelude.{OnOk, Contains}
 use Rattle.std.proofs.lemmas.Option.{slice_get_within, get_or_from_slice_get}
@@ -18,7 +18,7 @@ use Rattle.zoom_sim.proofs.RunSound.{steps_same}
 abbrev with_host : Peer → HostState → Peer
 with_host p host = record p { host = host }
 
--- ---- replies that are put
+-- ---- replies that are sent
 
 pub putting_none : (p : Peer) → ReleaseSteps 0 p p
 putting_none p = record {
@@ -56,7 +56,7 @@ putting_more one_served released n k was mid host before put = record {
       };
 }
 
--- ---- a reply that was not put
+-- ---- a reply that was not sent
 
 contains_at : {X : Type 0} (xs : List X) (k : ℕ) (x : X) → slice_get xs k ≡ Some x → Contains xs x
 contains_at xs k x e = (k, slice_get_within xs k x e, get_or_from_slice_get xs k x x e)
@@ -108,7 +108,7 @@ module _ (pending : PendingLaw) (empty : EmptyLaw) (n : ℕ) (was mid : Peer) (h
   empties E (inl none) = none_left none
   empties E (inr long) = too_long long.0
 
--- more replies than are owed were not put
+-- no more replies than are owed were sent
 pub empties_all : CountLaw → FewLaw → (n : ℕ) (was now : Peer) → 1000003 < n → ReleaseSteps n was now → ReleaseAllStep was now
 empties_all counts few n was now many all = record {
   to = all.to;

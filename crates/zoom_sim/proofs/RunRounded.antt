@@ -1,5 +1,5 @@
--- A round of a connection and its target: everything is carried and released, and the connection sends more or is
--- over.
+-- A round of a connection and its target: all octets are carried, all replies are released, and the connection sends
+-- more or is over.
 use Rattle.std.proofs.Common.{◌≡◌, ◌∙◌, ◌⊎◌, inl, inr, sym, ap, subst, ℕ, ◌<◌, ◌≤◌, Bool, true, false, List, [], ◌∷◌, ◌++◌, length, slice_get, Some, refl, append_assoc, append-nil, arith, length-append, true≢false}
 use Rattle.std.specs.Prelude.{◌||◌, not, nat_lt}
 use Rattle.std.proofs.lemmas.Bool.Decides.{nat_tests}
@@ -23,19 +23,19 @@ use Rattle.zoom_sim.proofs.RunCarries.{fed_to_append}
 use Rattle.zoom_sim.proofs.RunTranscripts.{whole_stream}
 use Rattle.zoom_sim.proofs.RunPeers.{nothing_behind, to_of, from_of, sent_so}
 
--- ---- a round that leaves nothing on its way
+-- ---- a round that leaves no octets on their way
 
 module _ (uniqueness : OneTranscript) (one_served : OneServedLaw) (rests : SettledLaw) (ended : EndedLaw)
     (questions : List Question) (s : MetaSettings) (c : ℕ) (q : Question) (target : TargetState)
     (at : slice_get questions c ≡ Some q)
     (mid new : MetaLinks) (a b now : Peer) (to : a.to ≡ []) (waits : waiting_at mid.pool c ≡ []) (kept : b.to ≡ a.to)
     (brings : CarryAllStep b now)
-    -- the connection and its target, once all was carried to the target
+    -- the connection and its target, after all octets were carried to the target
     (h : History) (p : Transcript) (host_events : List HostEvent) (after : MetaAfter questions s h mid)
     (fine : IsSoundPeer s q target true (events_on c h) p host_events a)
-    -- once all was released
+    -- after all replies were released
     (emptied : IsEmptied s q target (events_on c h) p host_events b)
-    -- and once all was carried to the connection
+    -- after all octets were carried to the connection
     (events : List Event) (host_more : List HostEvent) (later : Transcript) (last : MetaAfter questions s (at_connection c events ++ h) new)
     (done : IsSoundPeer s q target true (events ++ events_on c h) later (host_more ++ (emptied.host_more ++ host_events)) now) where
   abbrev all : List HostEvent
@@ -146,7 +146,7 @@ module _ (uniqueness : OneTranscript) (longer : LongerLaw) (one_served : OneServ
       fine_mid : IsSoundPeer s q target true (events_on c past) one.later acted a
       fine_mid = subst (λ z. IsSoundPeer s q target true z one.later acted a) (sym (only_more c one.events h)) one.fine
 
-      -- all went well
+      -- no reply is too long
       well : (two : IsEmptied s q target (events_on c past) one.later acted b)
           → SoundStep questions s c past q target true (not came) one.later (two.host_more ++ acted) new now
           → SoundRound questions s c h q target moved p host_events new now

@@ -1,4 +1,4 @@
--- Worlds whose way loses nothing, round after round.
+-- Worlds over a channel that loses nothing, round after round.
 use Rattle.std.proofs.Common.{◌≡◌, ◌∙◌, ◌⊎◌, inl, inr, sym, ap, subst, ℕ, suc, ◌+◌, ◌<◌, ◌≤◌, ◌==◌, Bool, true, false, List, [], ◌++◌, length, get_or, slice_get, slice_set, Some, refl, arith, true≢false}
 use Rattle.std.specs.Prelude.{nat_lt, ◌^◌, ◌-◌, ◌||◌, if◌then◌else◌}
 use Rattle.std.proofs.lemmas.Bool.Decides.{nat_tests}
@@ -31,7 +31,7 @@ other_more c i events h far = only_append i (at_connection c events) h ∙ ap (�
 at_peer : (peers : List Peer) (c : ℕ) (p : Peer) → c < length peers → slice_get peers c ≡ Some (get_or peers c p)
 at_peer peers c p lt = got peers c p (get_or peers c p) lt refl
 
--- what the numbers say is said of fewer octets too, and of numbers of connections only
+-- a bound on sent octets can be lowered, and matters for connections that exist only
 pub world_as : (one two : ℕ → ℕ) (qs : List Question) (s : MetaSettings) (ts : List TargetState) (meta : MetaLinks)
     (peers : List Peer) → ((c : ℕ) → c < length peers → one c ≡ two c) → IsSoundWorld one qs s ts meta peers
     → IsSoundWorld two qs s ts meta peers
@@ -46,7 +46,7 @@ world_as one two qs s ts meta peers same w = record {
 
 module _ (qs : List Question) (s : MetaSettings) (ts : List TargetState) (old new : MetaLinks) (peers : List Peer)
     (c : ℕ) (r : Peer) (lt : c < length peers) where
-  -- deeds of one connection more
+  -- more events of one connection
   world_put : (one two : ℕ → ℕ) (w : IsSoundWorld one qs s ts old peers) (events : List Event)
       → MetaAfter qs s (at_connection c events ++ w.history) new
       → ((q : Question) (t : TargetState) → slice_get qs c ≡ Some q → slice_get ts c ≡ Some t
@@ -84,13 +84,13 @@ module _ (qs : List Question) (s : MetaSettings) (ts : List TargetState) (old ne
   target_at : (one : ℕ → ℕ) (w : IsSoundWorld one qs s ts old peers) → (t : TargetState) × (slice_get ts c ≡ Some t)
   target_at one w = slice_some ts c (let g : c < length ts = omega (arith, w.size, lt) in g)
 
-  -- both are those
+  -- they are the same
   at_both : (X : Question → TargetState → Type 0) (q p : Question) (t u : TargetState) → slice_get qs c ≡ Some q
       → slice_get qs c ≡ Some p → slice_get ts c ≡ Some t → slice_get ts c ≡ Some u → X q t → X p u
   at_both X q p t u a b d e x =
       subst (λ z. X z u) (some_is (sym a ∙ b)) (subst (λ z. X q z) (some_is (sym d ∙ e)) x)
 
-  -- a connection of which some reply is too long
+  -- a connection to which a reply is owed that is too long
   world_lost : OneTranscript → LongerLaw → (one two : ℕ → ℕ) (w : IsSoundWorld one qs s ts old peers)
       (q : Question) (t : TargetState) → slice_get qs c ≡ Some q → slice_get ts c ≡ Some t
       → MoreEvents qs s c w.history new → HasLongReplyDue s t (events_on c w.history)
@@ -133,11 +133,11 @@ module _ (uniqueness : OneTranscript) (longer : LongerLaw) (old new : MetaLinks)
 
 -- ---- a round
 
--- of the connections before this one so much is said, of the others so much
+-- the connections before this one have the new bound, the others the old one
 abbrev pub half : ℕ → ℕ → ℕ → ℕ → ℕ
 half c m n i = if nat_lt i c then m else n
 
--- the connections before this one went round; whether anything was carried or released
+-- the connections before this one had their round; whether anything was carried or released
 abbrev pub SoundRoundSoFar : ℕ → Bool → MetaLinks → MetaLinks → List Peer → List Peer → Type 0
 SoundRoundSoFar c any old new was now =
     (n m : ℕ) (qs : List Question) (s : MetaSettings) (ts : List TargetState) → (any ≡ true → m ≡ suc n)
@@ -189,7 +189,7 @@ pub or_right : (a b : Bool) → b ≡ true → (a || b) ≡ true
 or_right true b e = refl
 or_right false b e = e
 
--- what a round of the connection says of how much was sent
+-- how much the connection sent after its round
 grown : (moved : Bool) (n m : ℕ) (p later : Transcript) → (moved ≡ true → m ≡ suc n)
     → (is_over p ≡ false → n ≤ length (sent (past_of p)))
     → (is_over later ≡ false → length (sent (past_of p)) < length (sent (past_of later)))
@@ -244,7 +244,7 @@ module _ (uniqueness : OneTranscript) (longer : LongerLaw) (any moved now : Bool
       (subst (λ z. IsAdvancedTo z s q.0 t.0 (events_on c w.history) (get_or peers c p)) (half_before c m n)
       (w.kept c q.0 t.0 (get_or peers c p) q.1 t.1 (at_peer peers c p lt)))
 
--- ---- finished connections are spared
+-- ---- finished connections are unchanged
 
 -- more octets than a connection ever sends
 abbrev pub most : ℕ
@@ -253,7 +253,7 @@ most = 2 ^ 64 - 1
 module _ (uniqueness : OneTranscript) (longer : LongerLaw) (few : FewLaw) (qs : List Question) (s : MetaSettings)
     (ts : List TargetState) (old : MetaLinks) (peers : List Peer)
     (w : IsSoundWorld (λ i. most) qs s ts old peers) where
-  -- a connection that is fine is finished
+  -- a connection that is sound is finished
   over_by : (c : ℕ) (q : Question) (p : Transcript) → slice_get qs c ≡ Some q → IsTranscript (settings_of s) (events_on c w.history) p
       → (is_over p ≡ false → most ≤ length (sent (past_of p))) → is_over p ≡ true
   over_by c q p at transcript least = by (is_over p) refl
@@ -342,7 +342,7 @@ ran_whole laws least qs s ts meta peers w over =
     kept_whole laws qs s w.history meta w.after c q at t (least c) p kept
     (λ x transcript. over c x (slice_get_within qs c q at) transcript))
 
--- where so much was said of each, each is finished, unless some reply is too long
+-- at this bound, each connection is finished, unless a reply that is owed is too long
 pub ran_kept : ExchangeLaws → OneTranscript → (qs : List Question) (s : MetaSettings) (ts : List TargetState)
     (meta : MetaLinks) (peers : List Peer) → IsSoundWorld (λ i. most) qs s ts meta peers → IsCompleteRun qs s ts meta
 ran_kept laws uniqueness qs s ts meta peers w = ran_by (λ i. most) qs s ts meta peers w by
@@ -370,7 +370,7 @@ started_fine qs s ts meta peers w size equal = record {
       inl (f.0, [], f.1, λ on. omega arith);
 }
 
--- ---- so many rounds
+-- ---- n rounds
 
 abbrev pub SoundRounds : ℕ → MetaLinks → MetaLinks → List Peer → List Peer → Type 0
 SoundRounds n old new was now =
@@ -388,7 +388,7 @@ pub grows_moved : (old new : MetaLinks) (was now : List Peer) → AfterSoundRoun
     → AfterRoundOrEnd old new was now
 grows_moved old new was now f = record { on = λ n qs s ts w. f.on n (suc n) qs s ts (λ e. refl) w }
 
--- one in which nothing was, and the inputs that ended then
+-- a round in which nothing was, and the end of the inputs
 pub grows_ended : OneTranscript → LongerLaw → FewLaw → (old mid new : MetaLinks) (was now : List Peer)
     → AfterSoundRound false old mid was now → UnfinishedOnlyStep mid new → AfterRoundOrEnd old new was now
 grows_ended uniqueness longer few old mid new was now f x = record {
@@ -406,7 +406,7 @@ finished_whole laws n old new was now g f = record {
       ran_whole laws (λ i. n) qs s ts new now x (λ c p lt transcript. (f qs s x.history x.after).0 refl c p lt transcript);
 }
 
--- all are finished, after so many rounds
+-- all are finished, after n rounds
 pub most_whole : ExchangeLaws → OneTranscript → (n : ℕ) (old mid new : MetaLinks) (was now : List Peer)
     → SoundRounds n old mid was now → most ≤ n → UnfinishedOnlyStep mid new → AfterAllSoundRounds old new was
 most_whole laws uniqueness n old mid new was now g le x = record {

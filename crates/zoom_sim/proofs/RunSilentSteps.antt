@@ -1,4 +1,4 @@
--- Deeds more, that carry nothing.
+-- More events, all silent.
 use Rattle.std.proofs.Common.{◌≡◌, ◌∙◌, sym, ap, subst, ℕ, ◌==◌, Bool, true, false, List, [], ◌∷◌, ◌++◌, Result, Ok, Err}
 use Rattle.std.proofs.Common.{refl, append_assoc, append-nil}
 use Rattle.zorigin.specs.Standings.{Call}
@@ -12,7 +12,7 @@ use Rattle.zoom_pool.proofs.Metas.{up_to_meta}
 use Rattle.zoom_pool.proofs.Pools.{only_append}
 use Rattle.zoom_sim.specs.RunSteps.{IsSilent, AreSilent, MoreSilentEvents, SilentStep}
 
--- ---- what was carried by deeds one after the other
+-- ---- the octets of events one after the other
 
 pub given_append : (a b : List Event) → given (a ++ b) ≡ given b ++ given a
 given_append [] b = sym (append-nil (given b))
@@ -45,7 +45,7 @@ silent_more i a b p q = subst IsSilent (sym (only_append i a b)) (silent_append 
 pub all_silent : (a b : History) → AreSilent a → AreSilent b → AreSilent (a ++ b)
 all_silent a b p q i = silent_more i a b (p i) (q i)
 
--- a deed that carries nothing
+-- a silent event
 abbrev pub IsSilentEvent : Event → Type 0
 IsSilentEvent (Fed piece) = ⊥
 IsSilentEvent (HandedOut octets) = ⊥
@@ -71,7 +71,7 @@ calls_silent c [] i = (refl, refl)
 calls_silent c (call ∷ calls) i =
     all_silent ((c, Called call) ∷ []) (call_events c calls) (one_silent c (Called call) tt) (calls_silent c calls) i
 
--- ---- goes on
+-- ---- silent steps
 
 pub goes_same : (m : MetaLinks) → SilentStep m m
 goes_same m = record { on = λ q s h a. record { more = []; after = a; silent = λ i. (refl, refl) } }

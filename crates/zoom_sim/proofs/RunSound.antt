@@ -26,7 +26,7 @@ use Rattle.zoom_laws.specs.Exchange.{LongerLaw}
 use Rattle.zoom_sim.specs.declared.peers.Peer.{Peer}
 use Rattle.zoom_sim.specs.RunSound.{at_connection, IsSoundPeer, HasLongReplyDue, SoundStep, LongReplyStep, MoreEvents, PeerStep}
 
--- ---- deeds of one connection
+-- ---- events of one connection
 
 pub only_of : (c : ℕ) (events : List Event) → events_on c (at_connection c events) ≡ events
 only_of c [] = refl
@@ -43,9 +43,9 @@ pub of_append : (c : ℕ) (one two : List Event) (h : History) → at_connection
 of_append c one two h =
     sym (append_assoc (at_connection c two) (at_connection c one) h) ∙ ap (λ z. z ++ h) (sym (map-append (λ event. (c, event)) two one))
 
--- ---- deeds only add to the log
+-- ---- events only add to the log
 
--- the later log goes on from the earlier one
+-- the later log continues the earlier one
 pub record IsLonger (p r : Transcript) : Type 0 where
   pub settings : r.settings ≡ p.settings
   pub more : Log
@@ -102,7 +102,7 @@ longer_then p q r one two = record {
   log = two.log ∙ ap (λ z. two.more ++ z) one.log ∙ sym (append_assoc two.more one.more p.log);
 }
 
--- what the earlier deeds amount to is the front of what all do
+-- the transcript of the earlier events is a front of the transcript of all
 pub heard_before : (settings : Settings) (one events : List Event) (r : Transcript) → IsTranscript settings (one ++ events) r
     → (p : Transcript) × IsTranscript settings events p × IsLonger p r
 heard_before settings [] events r transcript = (r, transcript, as_long r r refl refl)
@@ -110,7 +110,7 @@ heard_before settings (event ∷ one) events r transcript =
     let before = heard_before settings one events transcript.0 transcript.1 in
     (before.0, before.1, longer_then before.0 transcript.0 r before.2 (longer_deed event transcript.0 r transcript.2))
 
--- the connection of a question's number heard its deeds
+-- the connection of a question's number has a transcript of its events
 pub asked_heard : (questions : List Question) (s : MetaSettings) (h : History) (meta : MetaLinks) (c : ℕ) (q : Question)
     → MetaAfter questions s h meta → slice_get questions c ≡ Some q
     → (p : Transcript) × IsTranscript (settings_of s) (events_on c h) p
@@ -135,7 +135,7 @@ lost_longer uniqueness longer s target one events later transcript lost =
     (longer (holdings_of target) before.0.settings before.2.more before.0.log long.0 was)) in
     (later, transcript, (long.0, owed, long.2))
 
--- whatever deeds are added
+-- whatever events are added
 pub lost_by : OneTranscript → LongerLaw → (questions : List Question) (s : MetaSettings) (c : ℕ) (h more : History)
     (q : Question) (target : TargetState) (new : MetaLinks)
     → MetaAfter questions s (more ++ h) new → slice_get questions c ≡ Some q
@@ -247,9 +247,9 @@ steps_trans uniqueness longer c one two three a b old mid new was between now f 
       (f.adds questions s h after);
 }
 
--- ---- one that says less
+-- ---- weaker steps
 
--- where less is told before or behind
+-- the flags `taken` before and after may be weakened
 pub fine_weaker : (s : MetaSettings) (q : Question) (target : TargetState) (taken less : Bool) (events : List Event)
     (p : Transcript) (host_events : List HostEvent) (peer : Peer) → (less ≡ true → taken ≡ true)
     → IsSoundPeer s q target taken events p host_events peer → IsSoundPeer s q target less events p host_events peer
@@ -281,8 +281,7 @@ module _ (questions : List Question) (s : MetaSettings) (c : ℕ) (h : History) 
   either_weaker so also (inl t) = inl (stepped_weaker so also t)
   either_weaker so also (inr l) = inr l
 
--- A step says as much of a start of which more is told, where less is told of its end, and where it is told less often
--- that the connection is as it was.
+-- A step is also one with a stronger flag before, with a weaker flag after, and with a weaker flag `same`.
 pub steps_weaker : (c : ℕ) (before behind same earlier later few : Bool) (old new : MetaLinks) (was now : Peer)
     → (before ≡ true → earlier ≡ true) → (later ≡ true → behind ≡ true) → (few ≡ true → same ≡ true)
     → PeerStep c before behind same old new was now → PeerStep c earlier later few old new was now

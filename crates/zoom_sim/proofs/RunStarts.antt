@@ -31,7 +31,7 @@ starts_none meta = record {
   };
 }
 
--- nothing came, so all messages that came were taken
+-- no octets came, so all messages that came were taken
 silent_took : TakeLaws → (settings : Settings) → HasTakenAll (empty_transcript settings)
 silent_took laws settings =
     let m : NextInput (empty_transcript settings) Nothing =
@@ -53,7 +53,7 @@ module _ (laws : ExchangeLaws) (takes : TakeLaws) (uniqueness : OneTranscript) (
   abbrev longer : History
   longer = at_connection n (map Called drove.progress.calls) ++ w.history
 
-  -- nothing was done to the connection that is next
+  -- the next connection has no events
   untouched : events_on n w.history ≡ []
   untouched = w.others n (λ lt. omega (arith, lt))
 

@@ -37,7 +37,7 @@ and_true : (b : Bool) → b && true ≡ b
 and_true true = refl
 and_true false = refl
 
--- a connection of which all messages were taken meets no other
+-- if all messages were taken, the next input is no message
 meets_none : TakeLaws → (s : MetaSettings) (q : Question) (target : TargetState) (c : ℕ) (h : History) (p : Transcript)
     (host_events : List HostEvent) (peer : Peer) (questions : List Question) (old new : MetaLinks) → TakeOneStep c true old new
     → MetaAfter questions s h old → IsSoundPeer s q target true (events_on c h) p host_events peer → ⊥
@@ -55,7 +55,7 @@ module _ (laws : ExchangeLaws) (takes : TakeLaws) (uniqueness : OneTranscript) (
     (turns : TakeSteps c n old mid) where
   module _ (questions : List Question) (s : MetaSettings) (h : History) (q : Question) (target : TargetState)
       (p : Transcript) (host_events : List HostEvent) (peer : Peer) where
-    -- where it stands now
+    -- its transcript now
     fine_now : (taken : Bool) (w : SoundTakeSteps questions s c h q target taken n p host_events mid peer)
         → IsSoundPeer s q target taken (events_on c (at_connection c w.stepped.events ++ h)) w.stepped.later (w.stepped.host_more ++ host_events) peer
     fine_now taken w =
@@ -90,7 +90,7 @@ module _ (laws : ExchangeLaws) (takes : TakeLaws) (uniqueness : OneTranscript) (
         one.still two in
         subst (λ z. SoundStep questions s c h q target true z p host_events new peer) (and_true taken) both
 
-  -- a turn more
+  -- one more message
   pub take_steps_more : (between new : MetaLinks) → c < length mid.pool.connections → TakeOneStep c true mid between
       → DriveOneStep c between new → TakeSteps c (n + 1) old new
   take_steps_more between new there t d = record {
@@ -114,7 +114,7 @@ module _ (laws : ExchangeLaws) (takes : TakeLaws) (uniqueness : OneTranscript) (
     adds = take_steps_adds false new there t;
   }
 
--- so many messages are never taken
+-- n messages are never taken
 pub take_steps_out : ExchangeLaws → (c n : ℕ) (old new : MetaLinks) → 1000003 < n → TakeSteps c n old new → TakeAllStep c old new
 take_steps_out laws c n old new many turns taken peer = record {
   fine = λ questions s h q target p host_events a at fine. absurd

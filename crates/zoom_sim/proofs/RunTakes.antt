@@ -33,9 +33,9 @@ use Rattle.zoom_sim.specs.RunSound.{at_connection, DriveOneStep, TakeOneStep, is
 use Rattle.zoom_sim.specs.RunTakeAll.{MoreEventsStep}
 use Rattle.zoom_sim.proofs.RunSound.{only_more, of_append}
 
--- ---- what a Take answers
+-- ---- the result of a take
 
--- there is what it met, and this was answered
+-- there is an input, and this is its result
 pub takes_at : UpToLaw → OneTranscript → (c : ℕ) (old new : MetaLinks) (answer : Result Step TakeError) (taken : Bool)
     → c < length old.pool.connections → IsTakeResult c old.pool answer → IsDone answer → MetaTakeStep c old new
     → is_taken answer ≡ taken → TakeOneStep c taken old new
@@ -47,7 +47,7 @@ takes_at law uniqueness c old new answer taken there value_is done took is quest
     let answers : answer ≡ answer_to p t.0 = subst (λ z. answer ≡ answer_to z t.0) same t.2 in
     (took questions s h up, (t.0, subst (λ z. NextInput z t.0) same t.1, sym (ap is_taken answers) ∙ is))
 
--- ---- what a Take meets
+-- ---- the input of a take
 
 message_step : (t : Taken) → is_message (step_of_taken t) ≡ true
 message_step (taken.Opened answer) = refl
@@ -55,14 +55,14 @@ message_step (taken.Rejected answer) = refl
 message_step (taken.Answered answer) = refl
 message_step taken.Closed = refl
 
--- a connection that took all messages meets no other
+-- if all messages were taken, the next input is no message
 pub none_taken : TakeLaws → (p : Transcript) (input : Input) → p.ended ≡ false → is_stopped (state_at p) ≡ false → HasTakenAll p
     → NextInput p input → is_taken (answer_to p input) ≡ false
 none_taken laws p input more goes t m =
     let waits : IsWaiting p = record { goes_on = goes; more = more; rest = t.0; behind = t.1; unfinished = t.2 } in
     ap is_taken ((laws.nothing p input m).1 waits)
 
--- one that is stopped meets none
+-- nor is it if the connection is stopped
 pub stopped_none : (p : Transcript) (input : Input) → is_stopped (state_at p) ≡ true → NextInput p input
     → is_taken (answer_to p input) ≡ false
 stopped_none p AlreadyStopped s m = refl
@@ -72,7 +72,7 @@ stopped_none p (Fault kind at) s m = refl
 stopped_none p (Rest n) s m = absurd (true≢false (sym s ∙ m.0))
 stopped_none p Nothing s m = absurd (true≢false (sym s ∙ m.0))
 
--- a Take that met no message, by a connection that it did not stop, left it as it was, and all messages were taken
+-- a take of no message that did not stop the connection left it unchanged, and all messages were taken
 pub record IsIdleTake (p q : Transcript) : Type 0 where
   pub same : q ≡ p
   pub took : is_stopped (state_at p) ≡ false → HasTakenAll p
@@ -104,7 +104,7 @@ idle_take laws p Nothing more m e goes = record {
   took = λ on. waits_all p ((laws.nothing p Nothing m).0 (rw more refl));
 }
 
--- one that met a message that was accepted took one more
+-- a take of a message that was accepted took one more
 grown_verdict : (later : Transcript) (v : Result Taken Refused) → (after_reply later v).taken ≡ later.taken
 grown_verdict later (Ok t) = refl
 grown_verdict later (Err reason) = refl
@@ -127,7 +127,7 @@ taken_grows p Nothing e = absurd (by p.ended refl)
 
 -- ---- calls
 
--- what calls make of a connection, the newest first
+-- the transcript after some calls, the newest first
 abbrev pub called : List Call → Transcript → Transcript
 called [] p = p
 called (call ∷ calls) p = after_call (called calls p) call
@@ -138,7 +138,7 @@ called_heard settings [] events p transcript = transcript
 called_heard settings (call ∷ calls) events p transcript =
     (called calls p, called_heard settings calls events p transcript, refl)
 
--- a call takes nothing, and nothing comes by it
+-- a call takes nothing and feeds nothing
 pub record IsSameStream (p q : Transcript) : Type 0 where
   pub stream : q.stream ≡ p.stream
   pub taken : q.taken ≡ p.taken
@@ -207,7 +207,7 @@ pub drove_after : (questions : List Question) (s : MetaSettings) (c : ℕ) (h : 
 drove_after questions s c h n new w =
     subst (λ z. MetaAfter questions s (z ++ h) new) (made_of c w.progress.calls) w.progress.after
 
--- what they make of a sound connection
+-- a sound connection after these calls
 pub record IsDriven (s : MetaSettings) (q : Question) (holdings : Holdings) (calls : List Call) (events : List Event)
     (p : Transcript) (host_events : List HostEvent) (host : HostState) : Type 0 where
   pub sound : IsSoundExchange holdings (settings_of s) (map Called calls ++ events) (called calls p) host_events host
@@ -233,7 +233,7 @@ drives_sound law uniqueness questions s c h n new w q holdings p host_events hos
           (subst (λ z. IsTranscript (settings_of s) (events_on c (z ++ h)) (called calls p)) (sym (made_of c calls)) there);
     }
 
--- ---- whatever was fine
+-- ---- whatever was sound
 
 pub drive_adds : (c : ℕ) (old new : MetaLinks) → DriveOneStep c old new → MoreEventsStep c old new
 drive_adds c old new d questions s h a =
@@ -241,7 +241,7 @@ drive_adds c old new d questions s h a =
     let w : CompleteDrive questions s c h drove.0 new = drove.1 in
     record { events = map Called w.progress.calls; after = drove_after questions s c h drove.0 new w }
 
--- a Take, whatever it meets
+-- a take, whatever its input
 pub take_adds : (c : ℕ) (taken : Bool) (old new : MetaLinks) → c < length old.pool.connections → TakeOneStep c taken old new
     → MoreEventsStep c old new
 take_adds c taken old new there t questions s h a =
@@ -260,7 +260,7 @@ adds_trans c old mid new f g questions s h a =
       after = subst (λ z. MetaAfter questions s z new) (of_append c one.events two.events h) two.after;
     }
 
--- ---- what was fine
+-- ---- what was sound
 
 -- one message was taken
 pub record Busy (questions : List Question) (s : MetaSettings) (c : ℕ) (h : History) (q : Question)
@@ -270,7 +270,7 @@ pub record Busy (questions : List Question) (s : MetaSettings) (c : ℕ) (h : Hi
 
 module _ (laws : ExchangeLaws) (takes : TakeLaws) (c : ℕ) (peer : Peer) (questions : List Question) (s : MetaSettings)
     (h : History) (q : Question) (target : TargetState) (p : Transcript) (host_events : List HostEvent) where
-  -- a Take that met no message
+  -- a take of no message
   pub idle_fine : (taken : Bool) (old new : MetaLinks) → TakeOneStep c false old new → MetaAfter questions s h old
       → IsSoundPeer s q target taken (events_on c h) p host_events peer
       → SoundStep questions s c h q target true true p host_events new peer
@@ -294,7 +294,7 @@ module _ (laws : ExchangeLaws) (takes : TakeLaws) (c : ℕ) (peer : Peer) (quest
         still = λ e. idle.same;
       }
 
-  -- one that met a message, and the calls that were due then
+  -- a take of a message, and the calls that were due then
   pub busy_fine : OneTranscript → (old mid new : MetaLinks) → TakeOneStep c true old mid → DriveOneStep c mid new
       → MetaAfter questions s h old → slice_get questions c ≡ Some q → IsSoundPeer s q target false (events_on c h) p host_events peer
       → Busy questions s c h q target p host_events new peer

@@ -1,4 +1,4 @@
--- What a connection heard that nothing stopped.
+-- The transcript of a connection that nothing stopped.
 use Rattle.std.proofs.Common.{◌≡◌, ◌∙◌, sym, ap, subst, ℕ, ◌≤◌, Bool, true, false, cond, List, [], ◌∷◌, ◌++◌, length, is_some, Option, None, Some, Result, Ok, Err, refl, arith, length-append, true≢false}
 use Rattle.std.specs.Prelude.{◌||◌, not}
 use Rattle.zorigin.specs.declared.settings.Settings.{Settings}
@@ -73,7 +73,7 @@ not_lost settings (HandedOut octets ∷ events) p h =
     subst (NotLost (is_lost events)) (sym h.2) (not_lost settings events h.0 h.1)
 not_lost settings (Stopped reason ∷ events) p h = λ s. absurd (no_some (sym (ap (λ z. z.stop) h.2) ∙ s))
 
--- ---- what goes on went on before
+-- ---- a connection that nothing stopped was not stopped before
 
 -- no call is admitted in a state in which nothing more is taken
 unstopped : (s : OriginState) → is_stopped (state_as s) ≡ true → (is_fresh s ≡ false) × (is_ready s ≡ false)
@@ -132,9 +132,9 @@ goes_before_take p (Fault kind at) m e = m.0
 goes_before_take p (Rest n) m e = m.0
 goes_before_take p Nothing m e = m.0
 
--- ---- all that came was heard
+-- ---- all octets fed are in the stream
 
--- where it goes on, and its input did not end
+-- if nothing stopped it, and its input did not end
 abbrev HasWholeStream : List Event → Transcript → Type 0
 HasWholeStream events p = is_stopped (state_at p) ≡ false → p.ended ≡ false → p.stream ≡ fed events
 
@@ -202,7 +202,7 @@ whole_stream settings (HandedOut octets ∷ events) p h = subst (HasWholeStream 
 whole_stream settings (Stopped reason ∷ events) p h =
     subst (HasWholeStream events) (sym h.2) (λ e f. absurd (true≢false e))
 
--- ---- no more was heard than came
+-- ---- no more octets are in the stream than were fed
 
 abbrev HasNoMoreStream : List Event → Transcript → Type 0
 HasNoMoreStream events p = length p.stream ≤ length (fed events)

@@ -1,4 +1,4 @@
--- Connections that are finished are left as they are.
+-- Connections that are finished are unchanged.
 use Rattle.std.proofs.Common.{◌≡◌, ◌∙◌, sym, ap, subst, ℕ, ◌==◌, Bool, true, false, List, [], ◌∷◌, ◌++◌, refl, append_assoc, arith, true≢false}
 use Rattle.std.proofs.lemmas.Bool.Decides.{nat_tests}
 use Rattle.zoom_questions.specs.declared.question.Question.{Question}
@@ -29,7 +29,7 @@ spares_trans a b c f g = record {
       };
 }
 
--- deeds of a connection that is not finished
+-- events of a connection that is not finished
 pub adds_spares : (c : ℕ) (old new : MetaLinks) → IsTranscriptValue c old is_over false → MoreEventsStep c old new → UnfinishedOnlyStep old new
 adds_spares c old new value_is adds = record {
   on = λ questions s h a.
@@ -51,6 +51,6 @@ adds_spares c old new value_is adds = record {
         (subst (λ z. IsTranscript (settings_of s) (events_on z h) p) (sym at) transcript))))
     by questions s h a events i p transcript over false e = none_of c i events e
 
--- one deed
+-- one event
 pub recorded_adds : (c : ℕ) (event : Event) (old new : MetaLinks) → MetaRecorded c event old new → MoreEventsStep c old new
 recorded_adds c event old new b questions s h a = record { events = event ∷ []; after = b questions s h a }

@@ -1,4 +1,4 @@
--- Worlds that go on.
+-- Worlds after moves.
 use Rattle.std.proofs.Common.{◌≡◌, ◌∙◌, sym, ap, subst, ℕ, zero, suc, ◌<◌, ◌==◌, Bool, true, false, List, [], ◌∷◌, ◌++◌, length, get_or, slice_get, slice_set}
 use Rattle.std.proofs.Common.{Some, refl, arith, append-nil}
 use Rattle.std.proofs.lemmas.Bool.Decides.{nat_tests}
@@ -24,7 +24,7 @@ use Rattle.zoom_sim.proofs.RunCarries.{fed_to_append, handed_out_append, goes_th
 pub some_is : {X : Type 0} {y z : X} → Some y ≡ Some z → y ≡ z
 some_is e = cc
 
--- ---- what is tied stays so
+-- ---- an exchange that is underway stays so
 
 join_given : (c : ℕ) (h more : History) → given (events_on c (more ++ h)) ≡ given (events_on c h) ++ given (events_on c more)
 join_given c h more = ap given (only_append c more h) ∙ given_append (events_on c more) (events_on c h)
@@ -73,7 +73,7 @@ goes_world old new peers g = record {
       };
 }
 
--- the connection's target, and what was tied of both
+-- the connection's target, and the exchange of both
 pub carries_world : (c : ℕ) (old new : MetaLinks) (peers : List Peer) (p r : Peer) → slice_get peers c ≡ Some p
     → CarryStep c old new p r → AfterMoves old new peers (slice_set peers c r)
 carries_world c old new peers p r here f = record { on = λ q s ts w. at q s ts w }

@@ -1,5 +1,4 @@
--- Connections that are driven, with targets in memory at their other ends: what went between them, and how it ended
--- (Z39.50-2003, 3.2).
+-- Runs of connections against targets in memory: the exchange on each connection, and how it ended (Z39.50-2003, 3.2).
 use Rattle.std.specs.Prelude.{◌≡◌, ℕ, ◌<◌, Bool, true, List, ◌++◌, length, slice_get, Some}
 use Rattle.ztarget.specs.Receiving.{TargetState}
 use Rattle.zoom_questions.specs.declared.question.Question.{Question}
@@ -11,9 +10,9 @@ use Rattle.zoom_pool.specs.Hosts.{HostState, HostAfter, HostEvent, holdings_of, 
 use Rattle.zoom_pool.specs.Metas.{MetaLinks, MetaAfter, settings_of}
 use Rattle.zoom_laws.specs.Exchange.{fed_to}
 
--- What went between a connection, of which these are the deeds, and a target: a host of the target was fed what the
--- connection handed out, and the connection what the host handed out, each octet once and in order. Some may be left on
--- either way.
+-- The exchange between a connection with these events and a target. The target's serving end was fed what the
+-- connection handed out, and the connection was fed what that end handed out: each octet once and in order. Some octets
+-- may be left in either direction.
 pub record IsExchange (target : TargetState) (events : List Event) : Type 0 where
   pub host : HostState
   pub host_events : List HostEvent
@@ -23,11 +22,12 @@ pub record IsExchange (target : TargetState) (events : List Event) : Type 0 wher
   pub to_come : List ℕ
   pub came : handed_out host_events ≡ fed events ++ to_come
 
--- a connection is Closed or Failed
+-- the connection is finished: Closed or Failed
 abbrev pub is_over : Transcript → Bool
 is_over p = is_stopped (state_at p)
 
--- Some history left the connections: each talked with the target of its number, and each is Closed or Failed.
+-- What a run leaves: some history left the connections; each had an exchange with the target of its number; and each is
+-- Closed or Failed.
 pub record IsRun (questions : List Question) (s : MetaSettings) (targets : List TargetState) (meta : MetaLinks)
     : Type 0 where
   pub history : History

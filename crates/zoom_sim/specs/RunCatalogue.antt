@@ -1,4 +1,4 @@
--- What a run in memory makes known is what is read directly from the databases (Z39.50-2003, 3.2).
+-- A run in memory makes known what is read directly from the databases (Z39.50-2003, 3.2).
 use Rattle.std.specs.Prelude.{◌≡◌, ◌↔◌, ℕ, List, length, slice_get, Some, Contains}
 use Rattle.zknow.specs.declared.fact.Fact.{Fact}
 use Rattle.ztarget.specs.Receiving.{TargetState}
@@ -10,13 +10,13 @@ use Rattle.zoom_sim.specs.RunSound.{HasLongReplyDue}
 use Rattle.zoom_sim.specs.RunRounds.{IsCompleteRun}
 use Rattle.zoom_laws.specs.Catalogue.{catalogue, CanAsk, HasFittingRecords}
 
--- some question brings it from the target of its number
+-- some question brings the fact from the target of its number
 abbrev pub IsBrought : List Question → List TargetState → Fact → Type 0
 IsBrought questions targets f =
     (c : ℕ) × (q : Question) × (t : TargetState) × (slice_get questions c ≡ Some q) × (slice_get targets c ≡ Some t)
     × Contains (catalogue c q t.databases t.settings) f
 
--- each target refuses associations, or its question's search can be sent; and each record that is due fits
+-- for each question, the search can be sent or the target refuses associations; and each record that is due fits
 abbrev pub CanBring : List Question → List TargetState → Type 0
 CanBring questions targets =
     (c : ℕ) (q : Question) (t : TargetState) → slice_get questions c ≡ Some q → slice_get targets c ≡ Some t
@@ -27,7 +27,7 @@ abbrev pub NoneIsLong : MetaSettings → List TargetState → History → Type 0
 NoneIsLong s targets h =
     (c : ℕ) (t : TargetState) → slice_get targets c ≡ Some t → HasLongReplyDue s t (events_on c h) → ⊥
 
--- after a run in memory exactly that is known which the questions bring from the databases
+-- after a complete run, exactly the facts are known that the questions bring from the databases
 abbrev pub RunLaw : Type 0
 RunLaw =
     (questions : List Question) (s : MetaSettings) (targets : List TargetState) (meta : MetaLinks)

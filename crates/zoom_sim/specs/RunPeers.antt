@@ -1,4 +1,4 @@
--- What the steps of a connection and its target do besides, where the way between them loses nothing.
+-- What carrying all octets and releasing all replies do, over a channel that loses nothing.
 use Rattle.std.specs.Prelude.{◌≡◌, ◌⊎◌, ℕ, ◌≤◌, true, List, [], ◌++◌, length, slice_get, Some}
 use Rattle.ztarget.specs.Receiving.{TargetState}
 use Rattle.zoom_questions.specs.declared.question.Question.{Question}
@@ -10,7 +10,7 @@ use Rattle.zoom_pool.specs.Metas.{MetaLinks, MetaAfter}
 use Rattle.zoom_sim.specs.declared.peers.Peer.{Peer}
 use Rattle.zoom_sim.specs.RunSound.{IsSoundPeer, HasLongReply}
 
--- all that waited at the target, and was on its way from it, came to the connection
+-- all octets that waited at the target, or were on their way from it, were carried to the connection
 pub record CarryAllStep (was now : Peer) : Type 0 where
   pub host : HostRecorded (HostHandedOut was.host.waiting) was.host now.host
   pub waiting : now.host.waiting ≡ []
@@ -24,7 +24,7 @@ pub record IsEmptied (s : MetaSettings) (q : Question) (target : TargetState) (e
   pub fine : IsSoundPeer s q target true events p (host_more ++ host_events) now
   pub none : now.host.target.pending ≡ []
 
--- all replies were released, or some is too long
+-- all replies were released, or some reply that is owed is too long
 pub record ReleaseAllStep (was now : Peer) : Type 0 where
   pub to : now.to ≡ was.to
   pub on : (questions : List Question) (s : MetaSettings) (c : ℕ) (h : History) (q : Question) (target : TargetState)
@@ -33,7 +33,7 @@ pub record ReleaseAllStep (was now : Peer) : Type 0 where
       → IsSoundPeer s q target true (events_on c h) p host_events was
       → IsEmptied s q target (events_on c h) p host_events now ⊎ HasLongReply (holdings_of target) p
 
--- connection and target are fine, and so many replies at least were put
+-- connection and target are sound, and the serving end sent at least n replies
 pub record SoundReleaseSteps (n : ℕ) (s : MetaSettings) (q : Question) (target : TargetState) (events : List Event)
     (p : Transcript)
     (host_events : List HostEvent) (now : Peer) : Type 0 where
@@ -41,7 +41,7 @@ pub record SoundReleaseSteps (n : ℕ) (s : MetaSettings) (q : Question) (target
   pub fine : IsSoundPeer s q target true events p (host_more ++ host_events) now
   pub count : n ≤ length fine.sound.served.served.sent
 
--- so many replies were released, and each was put
+-- n replies were released, and each was sent
 pub record ReleaseSteps (n : ℕ) (was now : Peer) : Type 0 where
   pub to : now.to ≡ was.to
   pub on : (s : MetaSettings) (q : Question) (target : TargetState) (events : List Event) (p : Transcript)

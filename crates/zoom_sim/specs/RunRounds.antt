@@ -1,4 +1,4 @@
--- All connections of a world in memory whose way loses nothing, round after round, and how they end (Z39.50-2003, 3.2).
+-- All connections of a world over a channel that loses nothing: the rounds, and how they end (Z39.50-2003, 3.2).
 use Rattle.std.specs.Prelude.{◌≡◌, ◌⊎◌, ℕ, suc, ◌≤◌, Bool, true, false, List, length, slice_get, Some, IsPermutation}
 use Rattle.std.specs.List.{flat_map}
 use Rattle.zapdu.specs.declared.apdu.Apdu.{Apdu}
@@ -20,13 +20,14 @@ use Rattle.zoom_sim.specs.RunSound.{IsSoundPeer, HasLongReplyDue}
 
 -- ---- rounds
 
--- The connection is fine with its target, and is finished or sent so many octets at least; or some reply is too long.
+-- The connection is sound with its target, and is finished or sent at least n octets; or some reply that is owed is too
+-- long.
 abbrev pub IsAdvancedTo : ℕ → MetaSettings → Question → TargetState → List Event → Peer → Type 0
 IsAdvancedTo n s q target events peer =
     ((p : Transcript) × (host_events : List HostEvent) × IsSoundPeer s q target true events p host_events peer
     × (is_over p ≡ false → n ≤ length (sent (past_of p)))) ⊎ HasLongReplyDue s target events
 
--- Some history left the world; each connection sent as many octets as is said of its number.
+-- Some history left the world, and each connection c has advanced to `least c` octets.
 pub record IsSoundWorld (least : ℕ → ℕ) (questions : List Question) (s : MetaSettings) (targets : List TargetState)
     (meta : MetaLinks) (peers : List Peer) : Type 0 where
   pub history : History
@@ -37,28 +38,28 @@ pub record IsSoundWorld (least : ℕ → ℕ) (questions : List Question) (s : M
       → slice_get targets c ≡ Some target → slice_get peers c ≡ Some peer
       → IsAdvancedTo (least c) s q target (events_on c history) peer
 
--- what is fine stays so
+-- each sound world stays sound
 pub record AfterSoundMoves (old new : MetaLinks) (was now : List Peer) : Type 0 where
   pub on : (questions : List Question) (s : MetaSettings) (targets : List TargetState)
       → IsSoundWorld (λ c. 0) questions s targets old was → IsSoundWorld (λ c. 0) questions s targets new now
 
--- What a round did: each connection that is not finished sent more than before; and where nothing was carried or
--- released, each is finished, so that any number may be said.
+-- After a round, each connection that is not finished sent more than before. If nothing was carried or released, each
+-- connection is finished, so that any number of octets m can be claimed.
 pub record AfterSoundRound (moved : Bool) (old new : MetaLinks) (was now : List Peer) : Type 0 where
   pub on : (n m : ℕ) (questions : List Question) (s : MetaSettings) (targets : List TargetState)
       → (moved ≡ true → m ≡ suc n)
       → IsSoundWorld (λ c. n) questions s targets old was → IsSoundWorld (λ c. m) questions s targets new now
 
--- a round, and what ends where nothing was carried or released
+-- after a round, and the end of inputs if it carried and released nothing, each connection advanced by an octet
 pub record AfterRoundOrEnd (old new : MetaLinks) (was now : List Peer) : Type 0 where
   pub on : (n : ℕ) (questions : List Question) (s : MetaSettings) (targets : List TargetState)
       → IsSoundWorld (λ c. n) questions s targets old was → IsSoundWorld (λ c. suc n) questions s targets new now
 
 -- ---- the end
 
--- A connection and its target after a complete exchange: neither was stopped; the connection was rejected, or its
--- search was tried and its Close was answered; and what came to it are the replies that the target owes to what it
--- sent, each once, in some order.
+-- A complete exchange of a connection and its target. Neither was stopped. The connection was rejected, or its search
+-- was tried and its Close was answered. It received exactly the replies that the target owes to its requests, each
+-- once, in some order.
 pub record IsCompleteExchange (s : MetaSettings) (target : TargetState) (events : List Event) : Type 0 where
   pub transcript : Transcript
   pub host_events : List HostEvent
@@ -71,8 +72,8 @@ pub record IsCompleteExchange (s : MetaSettings) (target : TargetState) (events 
   pub owed : IsPermutation (replies_to (holdings_of target) (requests transcript.settings transcript.log)) replies
   pub stream : transcript.stream ≡ flat_map encoding_of replies
 
--- Some history left the connections: each had a complete exchange with the target of its number, unless some reply that
--- the target owes to what was sent is longer than a message may be.
+-- A complete run: some history left the connections, and each had a complete exchange with the target of its number.
+-- The exception is a connection to which a reply is owed that is longer than a message may be.
 pub record IsCompleteRun (questions : List Question) (s : MetaSettings) (targets : List TargetState) (meta : MetaLinks)
     : Type 0 where
   pub history : History
@@ -80,7 +81,7 @@ pub record IsCompleteRun (questions : List Question) (s : MetaSettings) (targets
   pub whole : (c : ℕ) (target : TargetState) → slice_get targets c ≡ Some target
       → IsCompleteExchange s target (events_on c history) ⊎ HasLongReplyDue s target (events_on c history)
 
--- what is fine comes to its end
+-- each sound world comes to a complete run
 pub record AfterAllSoundRounds (old new : MetaLinks) (was : List Peer) : Type 0 where
   pub on : (questions : List Question) (s : MetaSettings) (targets : List TargetState)
       → IsSoundWorld (λ c. 0) questions s targets old was → IsCompleteRun questions s targets new

@@ -1,4 +1,4 @@
--- What the steps of a world in memory do, each for every history that can have left it.
+-- The steps of a world in memory, each for every history that can have left the state before it.
 use Rattle.std.specs.Prelude.{◌≡◌, ◌⊎◌, ℕ, ◌<◌, true, false, ◌==◌, List, [], ◌∷◌, ◌++◌, length, slice_get, Some}
 use Rattle.ztarget.specs.Receiving.{TargetState}
 use Rattle.zoom_questions.specs.declared.question.Question.{Question}
@@ -14,32 +14,33 @@ use Rattle.zoom_sim.specs.Run.{is_over, IsRun}
 
 -- ---- connections
 
--- nothing was handed out, and nothing came
+-- nothing was handed out, and nothing was fed
 abbrev pub IsSilent : List Event → Type 0
 IsSilent events = (given events ≡ []) × (fed events ≡ [])
 
+-- the events of each connection are silent
 abbrev pub AreSilent : History → Type 0
 AreSilent more = (i : ℕ) → IsSilent (events_on i more)
 
--- deeds more, that carried nothing
+-- more events, all silent
 pub record MoreSilentEvents (questions : List Question) (s : MetaSettings) (h : History)
     (new : MetaLinks) : Type 0 where
   pub more : History
   pub after : MetaAfter questions s (more ++ h) new
   pub silent : AreSilent more
 
--- each history that can have left the old ones, with some deeds more that carried nothing, can have left the new ones
+-- Each history that can have left the old connections, with some silent events more, can have left the new ones.
 pub record SilentStep (old new : MetaLinks) : Type 0 where
   pub on : (questions : List Question) (s : MetaSettings) (h : History)
       → MetaAfter questions s h old → MoreSilentEvents questions s h new
 
--- The connection was finished, and nothing changed; or it was not, and its host stopped it.
+-- The connection was finished, and nothing changed; or it was not, and the caller stopped it.
 abbrev pub StopOneStep : ℕ → MetaLinks → MetaLinks → Type 0
 StopOneStep c old new =
     ((new ≡ old) × IsTranscriptValue c old is_over true)
     ⊎ ((reason : Reason) × MetaRecorded c (Stopped reason) old new × IsTranscriptValue c old is_over false)
 
--- deeds more, that carried nothing, and the first so many connections are finished
+-- more events, all silent, after which the first n connections are finished
 pub record AreStopped (questions : List Question) (s : MetaSettings) (n : ℕ) (h : History)
     (new : MetaLinks) : Type 0 where
   pub more : History
@@ -48,14 +49,15 @@ pub record AreStopped (questions : List Question) (s : MetaSettings) (n : ℕ) (
   pub over : (i : ℕ) (p : Transcript) → i < n → IsTranscript (settings_of s) (events_on i (more ++ h)) p → is_over p
       ≡ true
 
+-- each of the first n connections that is not finished is stopped
 pub record StopAllStep (n : ℕ) (old new : MetaLinks) : Type 0 where
   pub on : (questions : List Question) (s : MetaSettings) (h : History)
       → MetaAfter questions s h old → AreStopped questions s n h new
 
 -- ---- a connection and its target
 
--- Deeds more, of which those of other connections carried nothing, and events more of the host: what was on its way,
--- and what was handed out since, is what came since, and what is on its way now.
+-- More events of the connection and of the serving end; those of other connections are silent. In each direction, the
+-- octets on their way before, with those handed out since, are those fed since and those on their way now.
 pub record IsCarried
     (questions : List Question) (s : MetaSettings) (c : ℕ) (h : History) (holdings : Holdings)
     (host_events : List HostEvent)
@@ -69,26 +71,27 @@ pub record IsCarried
   pub to : was.to ++ given (events_on c events) ≡ fed_to host_more ++ now.to
   pub from : was.from ++ handed_out host_more ≡ fed (events_on c events) ++ now.from
 
+-- a step that carries octets between connection c and its target, for every history that can have left both
 pub record CarryStep (c : ℕ) (old new : MetaLinks) (was now : Peer) : Type 0 where
   pub on : (questions : List Question) (s : MetaSettings) (h : History) (holdings : Holdings)
       (host_events : List HostEvent)
       → MetaAfter questions s h old → HostAfter holdings host_events was.host
       → IsCarried questions s c h holdings host_events new was now
 
--- replies were released, and no connection was touched
+-- replies were released, and no connection changed
 pub record PeerReleaseStep (was now : Peer) : Type 0 where
   pub on : (c : ℕ) (meta : MetaLinks) → CarryStep c meta meta was now
 
 -- ---- all of them
 
--- what went between a connection and its target, with what is on its way
+-- the exchange between a connection and its target, with the octets on their way
 pub record IsExchangeUnderway (target : TargetState) (events : List Event) (peer : Peer) : Type 0 where
   pub host_events : List HostEvent
   pub served : HostAfter (holdings_of target) host_events peer.host
   pub sent : given events ≡ fed_to host_events ++ peer.to
   pub came : handed_out host_events ≡ fed events ++ peer.from
 
--- Some history left the world.
+-- Some history can have left the world.
 pub record IsReachableWorld
     (questions : List Question) (s : MetaSettings) (targets : List TargetState) (meta : MetaLinks) (peers : List Peer)
     : Type 0 where
@@ -99,22 +102,23 @@ pub record IsReachableWorld
       → slice_get targets c ≡ Some target → slice_get peers c ≡ Some peer
       → IsExchangeUnderway target (events_on c history) peer
 
--- a world that can be left as the old ones can be left as the new ones
+-- each world that was reachable before is reachable after
 pub record AfterMoves (old new : MetaLinks) (was now : List Peer) : Type 0 where
   pub on : (questions : List Question) (s : MetaSettings) (targets : List TargetState)
       → IsReachableWorld questions s targets old was → IsReachableWorld questions s targets new now
 
--- and is then finished
+-- each world that was reachable before has come to a run
 pub record AfterAllRounds (old new : MetaLinks) (was : List Peer) : Type 0 where
   pub on : (questions : List Question) (s : MetaSettings) (targets : List TargetState)
       → IsReachableWorld questions s targets old was → IsRun questions s targets new
 
--- a target that has received nothing yet, and nothing is on its way
+-- the peer's target has received nothing, and no octets are on their way
 pub record IsPeerOf (target : TargetState) (peer : Peer) : Type 0 where
   pub served : HostAfter (holdings_of target) [] peer.host
   pub to : peer.to ≡ []
   pub from : peer.from ≡ []
 
+-- one such peer for each target, in order
 abbrev pub ArePeersOf : List TargetState → List Peer → Type 0
 ArePeersOf [] [] = Unit {0}
 ArePeersOf (t ∷ ts) (p ∷ ps) = IsPeerOf t p × ArePeersOf ts ps

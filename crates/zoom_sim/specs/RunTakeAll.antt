@@ -1,4 +1,4 @@
--- What turns of a connection do, while messages are taken.
+-- What taking messages one after the other does to a connection.
 use Rattle.std.specs.Prelude.{ℕ, ◌≤◌, ◌≡◌, Bool, List, slice_get, Some}
 use Rattle.ztarget.specs.Receiving.{TargetState}
 use Rattle.zoom_questions.specs.declared.question.Question.{Question}
@@ -10,14 +10,14 @@ use Rattle.zoom_pool.specs.Metas.{MetaLinks, MetaAfter}
 use Rattle.zoom_sim.specs.declared.peers.Peer.{Peer}
 use Rattle.zoom_sim.specs.RunSound.{IsSoundPeer, SoundStep, MoreEvents}
 
--- deeds more of the connection, whatever they are, for each history that can have left it
+-- more events of the connection, whatever they are, for each history that can have left it
 abbrev pub MoreEventsStep : ℕ → MetaLinks → MetaLinks → Type 0
 MoreEventsStep c old new =
     (questions : List Question) (s : MetaSettings) (h : History)
     → MetaAfter questions s h old → MoreEvents questions s c h new
 
--- What was fine is fine, and so many messages were taken; where all were taken before, none was, and the connection is
--- as it was.
+-- What was sound is sound, and at least n messages have been taken. If all were taken before, the transcript is
+-- unchanged.
 pub record SoundTakeSteps (questions : List Question) (s : MetaSettings) (c : ℕ) (h : History) (q : Question)
     (target : TargetState) (taken : Bool) (n : ℕ) (p : Transcript) (host_events : List HostEvent) (new : MetaLinks)
     (peer : Peer)
@@ -25,7 +25,7 @@ pub record SoundTakeSteps (questions : List Question) (s : MetaSettings) (c : �
   pub stepped : SoundStep questions s c h q target taken taken p host_events new peer
   pub many : n ≤ stepped.later.taken
 
--- so many messages were taken, with the calls that were due after each
+-- n messages were taken, and the calls were made that were due after each
 pub record TakeSteps (c n : ℕ) (old new : MetaLinks) : Type 0 where
   pub fine : (questions : List Question) (s : MetaSettings) (h : History) (q : Question) (target : TargetState)
       (taken : Bool) (p : Transcript) (host_events : List HostEvent) (peer : Peer)

@@ -1,29 +1,28 @@
-//! Ways from one end of a connection to the other.
+//! Channels: what carries octets between the two ends of a connection.
 
 use zoom_pool::Reason;
 
-/// What carries the octets between connections and their targets, piece by piece: each piece comes whole, or not at
-/// all.
+/// Carries octets between connections and their targets, piece by piece. Each piece arrives whole or not at all.
 pub trait Channel {
     ghost use Rattle.std.specs.Prelude.{◌≡◌, Bool, true, None};
 
-    /// Whether each piece comes, and nothing fails.
+    /// Whether every piece arrives and nothing fails.
     ghost sure: { Bool };
 
-    /// Carries a piece to the target of connection `c`; whether it came there.
+    /// Carries a piece from connection `c` to its target. Returns whether it arrived.
     fn carry_to(&mut self, c: u32, piece: &[u8]) -> bool
         ensures { sure ≡ true → result ≡ true };
 
-    /// Carries a piece from the target of connection `c`; whether it came here.
+    /// Carries a piece from the target of connection `c` to the connection. Returns whether it arrived.
     fn carry_from(&mut self, c: u32, piece: &[u8]) -> bool
         ensures { sure ≡ true → result ≡ true };
 
-    /// Why nothing more is carried for connection `c`, where that is so.
+    /// Returns the reason why nothing more is carried for connection `c`, or `None` if the channel did not fail for it.
     fn failure(&self, c: u32) -> Option<Reason>
         ensures { sure ≡ true → result ≡ None };
 }
 
-/// Within memory, where each piece comes.
+/// The channel within memory: every piece arrives.
 #[derive(Clone, Copy, Debug)]
 pub struct InMemory;
 

@@ -1,4 +1,4 @@
-//! Turns of connections: what is due is sent, and what came is taken.
+//! Drives connections: makes the calls that are due, and takes the messages that came.
 ghost use Rattle.std.specs.Prelude.{◌≡◌, ◌<◌, ◌^◌, length, IfOk, OnOk, None};
 ghost use Rattle.zoom_pool.specs.Transcripts.{is_message};
 ghost use Rattle.zoom_pool.specs.States.{is_stopped};
@@ -13,7 +13,7 @@ use zoom_laws::laws::exchange_laws;
 use zoom_pool::laws::{one_transcript, take_laws, up_to};
 use zoom_pool::{Meta, Reason, State, Step, TakeError};
 
-/// Drives a connection.
+/// Makes the calls that are due on connection `c`.
 fn drive(meta: &mut Meta, c: u32) -> Result<(), AllocError>
     requires { c < length meta.old.pool.connections }
     ensures on { OnOk result (SilentStep meta.old meta.new) }
@@ -24,7 +24,7 @@ fn drive(meta: &mut Meta, c: u32) -> Result<(), AllocError>
     Ok(())
 }
 
-/// Whether a message was taken.
+/// Returns whether the step took a message.
 fn is_message(step: Step) -> bool
     ensures { result ≡ is_message step }
 {
@@ -34,7 +34,7 @@ fn is_message(step: Step) -> bool
     )
 }
 
-/// Takes a message of a connection; whether there was one that was accepted.
+/// Takes the next message of connection `c`. Returns whether there was one that was accepted.
 fn take_one(meta: &mut Meta, c: u32) -> Result<bool, AllocError>
     requires { c < length meta.old.pool.connections }
     ensures on { OnOk result (SilentStep meta.old meta.new) }
@@ -52,7 +52,7 @@ fn take_one(meta: &mut Meta, c: u32) -> Result<bool, AllocError>
     }
 }
 
-/// Takes the whole messages of a connection, and drives it after each.
+/// Takes each whole message of connection `c`, and makes the calls that are due after each.
 pub(crate) fn take_all(meta: &mut Meta, c: u32) -> Result<(), AllocError>
     requires { c < length meta.old.pool.connections }
     ensures on { OnOk result (SilentStep meta.old meta.new) }
@@ -72,7 +72,10 @@ pub(crate) fn take_all(meta: &mut Meta, c: u32) -> Result<(), AllocError>
     Ok(())
 }
 
-/// Drives each connection.
+/// Makes the calls that are due on each connection, in order of their numbers.
+///
+/// Requires fewer than 2^32 connections. Returns `AllocError` if no memory is found; the number of connections is
+/// unchanged.
 pub fn drive_all(meta: &mut Meta) -> Result<(), AllocError>
     requires { length meta.old.pool.connections < 2 ^ 32 }
     ensures on { OnOk result (SilentStep meta.old meta.new) }
@@ -88,14 +91,14 @@ pub fn drive_all(meta: &mut Meta) -> Result<(), AllocError>
     Ok(())
 }
 
-/// Whether nothing more is taken in this state.
+/// Returns whether the state is Closed or Failed: nothing more is taken then.
 fn is_stopped(state: State) -> bool
     ensures { result ≡ is_stopped state }
 {
     matches!(state, State::Closed | State::Failed(_))
 }
 
-/// Whether a connection is finished.
+/// Returns whether connection `c` is finished: Closed or Failed.
 fn is_over(meta: &Meta, c: u32) -> bool
     requires { c < length meta.now.pool.connections }
     ensures { IsTranscriptValue c meta.now is_over result }
@@ -105,7 +108,7 @@ fn is_over(meta: &Meta, c: u32) -> bool
     is_stopped(meta.state(c))
 }
 
-/// Ends the input of a connection that is not finished, and takes what is left.
+/// If connection `c` is not finished, ends its input and takes the messages that are left.
 fn end_input(meta: &mut Meta, c: u32) -> Result<(), AllocError>
     requires { c < length meta.old.pool.connections }
     ensures on { OnOk result (SilentStep meta.old meta.new) }
@@ -119,7 +122,7 @@ fn end_input(meta: &mut Meta, c: u32) -> Result<(), AllocError>
     take_all(meta, c)
 }
 
-/// Ends the input of each connection that is not finished, and takes what is left.
+/// Ends the input of each connection that is not finished, and takes the messages that are left.
 pub(crate) fn end_inputs(meta: &mut Meta) -> Result<(), AllocError>
     requires { length meta.old.pool.connections < 2 ^ 32 }
     ensures on { OnOk result (SilentStep meta.old meta.new) }
@@ -132,7 +135,7 @@ pub(crate) fn end_inputs(meta: &mut Meta) -> Result<(), AllocError>
     Ok(())
 }
 
-/// Stops a connection whose way failed.
+/// If the channel failed, stops connection `c` for that reason; otherwise changes nothing.
 pub(crate) fn stop_for(meta: &mut Meta, c: u32, failure: Option<Reason>)
     requires { c < length meta.old.pool.connections }
     ensures on { SilentStep meta.old meta.new }
@@ -144,7 +147,7 @@ pub(crate) fn stop_for(meta: &mut Meta, c: u32, failure: Option<Reason>)
     }
 }
 
-/// Stops a connection that is not finished.
+/// If connection `c` is not finished, stops it.
 fn stop(meta: &mut Meta, c: u32)
     requires { c < length meta.old.pool.connections }
     ensures after { StopOneStep c meta.old meta.new }

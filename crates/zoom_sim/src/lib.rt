@@ -1,4 +1,4 @@
-//! Connections that are driven, with targets in memory at their other ends, round after round.
+//! Runs connections against targets in memory: moves first, then rounds, until each connection is finished.
 #![tactic(auto)]
 
 pub mod channels;

@@ -15,18 +15,18 @@ use zoom_pool::laws::one_transcript;
 use zoom_pool::{Host, Meta, Move};
 use ztarget::Target;
 
-/// A target in memory at the other end of a connection, with the octets that go to it and come from it.
+/// A target in memory at the other end of a connection, with the octets on their way in both directions.
 #[derive(Drop)]
 pub struct Peer {
-    /// The target, behind its octets.
+    /// The serving end: the target, behind its octets.
     pub host: Host,
-    /// What the connection handed out and was not carried yet.
+    /// Octets that the connection handed out and that were not carried yet.
     pub to: Pipe,
-    /// What the host handed out and was not carried yet.
+    /// Octets that the serving end handed out and that were not carried yet.
     pub from: Pipe,
 }
 
-/// The number of the connection that a move is made on.
+/// Returns the number of the connection that the move is on.
 pub(crate) fn connection_of(step: Move) -> u32 {
     match step {
         Move::To { c, .. } => c,
@@ -35,7 +35,7 @@ pub(crate) fn connection_of(step: Move) -> u32 {
     }
 }
 
-/// How many octets are carried of up to `k`: all that came, or none.
+/// Returns how many octets to carry: `k` if the piece arrived, otherwise 0.
 fn count_of(came: bool, k: usize) -> usize
     ensures { came ≡ true → result ≡ k }
 {
@@ -43,7 +43,7 @@ fn count_of(came: bool, k: usize) -> usize
 }
 
 impl Peer {
-    /// Of a host. Nothing is on its way. It takes no memory.
+    /// Makes a peer of a serving end, with no octets on their way. It takes no memory.
     pub fn new(alloc: Global, host: Host) -> Peer
         ensures host { result.host ≡ host }
         ensures to { result.to ≡ [] }
@@ -56,7 +56,7 @@ impl Peer {
         }
     }
 
-    /// Carries up to `k` octets of what waits on the connection to the target; whether any came.
+    /// Carries up to `k` octets that wait on connection `c` to the target. Returns whether any arrived.
     fn carry_to<W: Channel>(
         &mut self,
         meta: &mut Meta,
@@ -83,7 +83,7 @@ impl Peer {
         Ok(n > 0)
     }
 
-    /// Carries up to `k` octets of what waits at the target to the connection; whether any came.
+    /// Carries up to `k` octets that wait at the target to connection `c`. Returns whether any arrived.
     fn feed_from<W: Channel>(
         &mut self,
         meta: &mut Meta,
@@ -108,7 +108,7 @@ impl Peer {
         Ok(n > 0)
     }
 
-    /// Ends the input of the connection, where its target stopped and nothing more comes of it.
+    /// Ends the input of connection `c` if its target stopped and none of its octets is left to be carried.
     fn end_where_stopped(&self, meta: &mut Meta, c: u32)
         requires { c < length meta.old.pool.connections }
         ensures on { SilentStep meta.old meta.new }
@@ -121,8 +121,8 @@ impl Peer {
         }
     }
 
-    /// Carries up to `k` octets of what waits at the target to the connection, which takes each whole message; whether
-    /// any came. A way that failed stops the connection.
+    /// Carries up to `k` octets that wait at the target to connection `c`, which takes each whole message. Returns
+    /// whether any arrived. If the channel failed, stops the connection.
     fn carry_from<W: Channel>(
         &mut self,
         meta: &mut Meta,
@@ -146,7 +146,7 @@ impl Peer {
         Ok(carried)
     }
 
-    /// Releases pending reply `k`; whether there was one.
+    /// Releases pending reply `k`. Returns whether there was one to release.
     fn release(&mut self, k: usize) -> Result<bool, AllocError>
         ensures releases { OnOk result (PeerReleaseStep self.old self.new) }
         ensures fine { OnOk result (SoundReleaseStep self.old self.new) }
@@ -155,7 +155,7 @@ impl Peer {
         self.host.release(k)
     }
 
-    /// Releases the first pending reply until none can be released; whether there was one.
+    /// Releases the first pending reply until none can be released. Returns whether any was released.
     fn release_all(&mut self) -> Result<bool, AllocError>
         ensures releases { OnOk result (PeerReleaseStep self.old self.new) }
         ensures fine { OnOk result (SoundReleaseStep self.old self.new) }
@@ -172,7 +172,7 @@ impl Peer {
         Ok(released)
     }
 
-    /// Makes a move on this connection.
+    /// Makes the move on connection `c`. Returns whether anything was carried or released.
     pub(crate) fn make<W: Channel>(
         &mut self,
         meta: &mut Meta,
@@ -193,8 +193,10 @@ impl Peer {
         }
     }
 
-    /// Carries everything to the target, releases all replies in order, and carries everything to the connection;
-    /// whether there was anything.
+    /// Carries all octets to the target, releases all replies in order, and carries all octets to connection `c`.
+    ///
+    /// Returns whether anything was carried or released, or `AllocError` if no memory is found. The number of
+    /// connections is unchanged either way. Requires that connection `c` exists.
     pub fn go_round<W: Channel>(
         &mut self,
         meta: &mut Meta,
@@ -216,7 +218,7 @@ impl Peer {
     }
 }
 
-/// Of a target that has received nothing yet. It takes no memory.
+/// Makes a peer of a target that has received nothing. It takes no memory.
 fn peer_of(alloc: Global, target: Target) -> Peer
     requires { IsNew target }
     ensures { IsPeerOf target result }
@@ -224,7 +226,8 @@ fn peer_of(alloc: Global, target: Target) -> Peer
     Peer::new(alloc, Host::new(alloc, target))
 }
 
-/// One for each target, in order.
+/// Makes one peer for each target, in order. Each target must have received nothing. Returns `AllocError` if no memory
+/// is found.
 pub fn peers_of(alloc: Global, targets: Vec<Target>) -> Result<Vec<Peer>, AllocError>
     requires { AreNew targets.items }
     ensures { IfOk result (λ peers. ArePeersOf targets.items peers.items) }

@@ -9,13 +9,13 @@ use std::alloc::{AllocError, Global};
 use std::marker::Model;
 use zoom_pool::{Host, Meta};
 
-/// Octets that go one way, in order. None is copied once it is in, whatever pieces it is carried in.
+/// Octets on their way in one direction, in order. No octet is copied when a piece is passed.
 ///
-/// Contracts see the octets that wait.
+/// In contracts, a pipe is the list of the octets that wait.
 #[derive(Drop)]
 pub struct Pipe {
     octets: Vec<u8>,
-    /// How many of them were carried.
+    /// How many of the octets were carried, from the front.
     carried: usize,
 }
 
@@ -30,7 +30,7 @@ impl Model for Pipe {
 }
 
 impl Pipe {
-    /// No octets wait. It takes no memory.
+    /// Makes a pipe in which no octets wait. It takes no memory.
     pub(crate) fn new(alloc: Global) -> Pipe
         ensures { result ≡ [] }
     {
@@ -40,14 +40,14 @@ impl Pipe {
         }
     }
 
-    /// Whether no octets wait.
+    /// Returns whether no octets wait.
     pub(crate) fn is_empty(&self) -> bool
         ensures { result ≡ (length self.now == 0) }
     {
         self.carried == self.octets.len()
     }
 
-    /// The next octets that wait, up to `k`.
+    /// Returns the next `k` octets that wait, or all of them if there are fewer.
     pub(crate) fn next(&self, k: usize) -> &[u8]
         ensures front { result.now ≡ take k self.now }
         ensures whole { k ≡ 2 ^ 64 - 1 → result.now ≡ self.now }
@@ -60,7 +60,7 @@ impl Pipe {
         }
     }
 
-    /// So many of the octets that wait were carried.
+    /// Removes the first `n` octets that wait: they were carried.
     pub(crate) fn pass(&mut self, n: usize)
         requires { n ≤ length self.old }
         ensures { self.new ≡ drop n self.old }
@@ -68,7 +68,7 @@ impl Pipe {
         self.carried += n;
     }
 
-    /// Gives up the place of what was carried, where that is all.
+    /// If no octets wait, clears the buffer; the octets that wait are unchanged.
     fn tidy(&mut self)
         ensures { self.new ≡ self.old }
     {
@@ -78,7 +78,7 @@ impl Pipe {
         }
     }
 
-    /// Takes in what waits to go out on a connection.
+    /// Appends the octets that wait to go out on connection `c`; none wait there afterwards.
     pub(crate) fn take_in_sent(&mut self, meta: &mut Meta, c: u32) -> Result<(), AllocError>
         requires { c < length meta.old.pool.connections }
         ensures pipe { OnOk result (self.new ≡ self.old ++ waiting_at meta.old.pool c) }
@@ -90,7 +90,7 @@ impl Pipe {
         meta.outgoing(c, &mut self.octets)
     }
 
-    /// Takes in what waits to go out at a host.
+    /// Appends the octets that wait to go out at the serving end; none wait there afterwards.
     pub(crate) fn take_in_replies(&mut self, host: &mut Host) -> Result<(), AllocError>
         ensures pipe { OnOk result (self.new ≡ self.old ++ host.old.waiting) }
         ensures after { OnOk result (HostRecorded (HostHandedOut host.old.waiting) host.old host.new) }

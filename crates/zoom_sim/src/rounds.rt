@@ -15,10 +15,10 @@ use zoom_laws::laws::exchange_laws;
 use zoom_pool::laws::one_transcript;
 use zoom_pool::{Meta, Move};
 
-/// The most rounds: where nothing fails, each connection sends an octet more in each, until it is finished.
+/// The most rounds. If nothing fails, each connection that is not finished sends at least one octet more in each round.
 const MOST_ROUNDS: u64 = u64::MAX;
 
-/// Makes a move; one on no connection does nothing.
+/// Makes one move. A move on a connection that does not exist does nothing.
 fn make_move<W: Channel>(
     peers: &mut [Peer],
     meta: &mut Meta,
@@ -41,7 +41,10 @@ fn make_move<W: Channel>(
     Ok(())
 }
 
-/// Makes the moves, in order.
+/// Makes the moves in order. A move on a connection that does not exist does nothing.
+///
+/// Requires fewer than 2^32 connections, and one peer for each. Returns `AllocError` if no memory is found; the number
+/// of connections is unchanged.
 pub fn make_moves<W: Channel>(
     peers: &mut [Peer],
     meta: &mut Meta,
@@ -60,7 +63,7 @@ pub fn make_moves<W: Channel>(
     Ok(())
 }
 
-/// A round over all connections; whether anything was carried or released.
+/// Makes a round over all connections. Returns whether anything was carried or released.
 fn go_round<W: Channel>(
     peers: &mut [Peer],
     meta: &mut Meta,
@@ -83,7 +86,7 @@ fn go_round<W: Channel>(
     Ok(any)
 }
 
-/// A round; where nothing was carried or released, the input ends of each connection that is not finished.
+/// Makes a round. If nothing was carried or released, ends the input of each connection that is not finished.
 fn go_on<W: Channel>(peers: &mut [Peer], meta: &mut Meta, channel: &mut W) -> Result<(), AllocError>
     requires few { length meta.old.pool.connections < 2 ^ 32 }
     requires equal { length peers.old ≡ length meta.old.pool.connections }
@@ -100,7 +103,7 @@ fn go_on<W: Channel>(peers: &mut [Peer], meta: &mut Meta, channel: &mut W) -> Re
     }
 }
 
-/// Rounds until each connection is finished.
+/// Makes rounds until each connection is finished. Stops the connections that are not finished after the last round.
 fn finish<W: Channel>(
     peers: &mut [Peer],
     meta: &mut Meta,
@@ -125,7 +128,7 @@ fn finish<W: Channel>(
     Ok(())
 }
 
-/// Drives each connection once, makes the moves, and goes on until each connection is finished.
+/// Drives each connection once, makes the moves, and makes rounds until each connection is finished.
 pub(crate) fn carry_out<W: Channel>(
     peers: &mut [Peer],
     meta: &mut Meta,

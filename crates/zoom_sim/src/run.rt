@@ -1,4 +1,4 @@
-//! Worlds in memory: connections that are driven, and targets in memory that answer them.
+//! Runs of questions against targets in memory.
 ghost use Rattle.std.specs.Prelude.{◌≡◌, ◌<◌, ◌^◌, ◌++◌, true, length, IfOk, OnErr};
 ghost use Rattle.zknow.specs.List.Listing.{listing};
 ghost use Rattle.zoom_questions.specs.Askable.{AreFit, AreAskable};
@@ -15,21 +15,26 @@ use zknow::{Mode, Names, print_list};
 use zoom_pool::{Meta, MetaSettings, Move, Question};
 use ztarget::Target;
 
-/// Drives a connection for each question until each is Closed or Failed, with the target of the same number at its
-/// other end of a way (Z39.50-2003, 3.2).
+/// Drives a connection for each question, with the target of the same number at its other end, until each connection
+/// is Closed or Failed (Z39.50-2003, 3.2).
 ///
-/// Each connection is driven once. Then the moves are made; one on no connection does nothing. `To` carries up to `k`
-/// octets to the target, which receives all whole messages; `Release` releases its pending reply `k`; `From` carries up
-/// to `k` octets to the connection, which takes each whole message, and is driven after each. Then come rounds over all
-/// connections, each of which carries everything and releases all replies in order. A round that carried and released
-/// nothing ends the input of each connection that is not finished; so does, for its own connection, a target that
-/// stopped, once all its octets are carried. A way that failed stops its connection.
+/// First, each connection is driven once. Then the moves are made, in order:
 ///
-/// Where the way is sure to carry each piece, each connection has then had a complete exchange with its target: what
-/// came to it are the replies that the target owes to what it sent, each once, in some order. Excepted is a connection
-/// to which a reply is owed of more octets than a message may have.
+/// - `To` carries up to `k` octets to the target, which receives each whole message.
+/// - `Release` releases pending reply `k` of the target.
+/// - `From` carries up to `k` octets to the connection, which takes each whole message and is driven after each.
+/// - A move on a connection that does not exist does nothing.
 ///
-/// An error only where no memory was found.
+/// Then come rounds over all connections. A round carries all octets and releases all replies in order. If a round
+/// carried and released nothing, the input of each connection that is not finished ends. If a target stopped, the input
+/// of its connection ends once all its octets are carried. If the channel failed for a connection, it is stopped.
+///
+/// If the channel is sure to carry each piece, each connection has had a complete exchange with its target at the end.
+/// It received exactly the replies that the target owes to its requests, each once, in some order. The exception is a
+/// connection to which a reply is owed of more octets than a message may have.
+///
+/// Requires fewer than 2^32 questions that can be asked, settings that fit, and as many targets as questions. Each
+/// target must have received nothing. Returns `AllocError` only if no memory is found.
 pub fn run_over<W: Channel>(
     alloc: Global,
     questions: Vec<Question>,
@@ -54,9 +59,9 @@ pub fn run_over<W: Channel>(
     Ok(meta)
 }
 
-/// As `run_over`, within memory; appends the list of what is known then.
+/// Does what `run_over` does, within memory, and appends the list of what is known at the end to `out`.
 ///
-/// An error only where no memory was found: nothing is appended then.
+/// It requires what `run_over` requires. Returns `AllocError` only if no memory is found; `out` is unchanged.
 pub fn run_world(
     alloc: Global,
     questions: Vec<Question>,

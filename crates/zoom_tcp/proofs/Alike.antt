@@ -1,4 +1,4 @@
--- Deeds of one connection: behind histories that tell the same of it, and in histories that go on.
+-- Events of one connection: after histories with the same events on it, and in histories that go on.
 use Rattle.std.proofs.Common.{◌≡◌, ◌∙◌, sym, ap, refl, append-nil, arith, ℕ, zero, suc, ◌<◌, ◌==◌, Bool, true, false, List, [], ◌∷◌, ◌++◌, length, get_or, Option, is_some}
 use Rattle.zoom_questions.specs.declared.question.Question.{Question}
 use Rattle.zoom_questions.specs.declared.question.MetaSettings.{MetaSettings}
@@ -13,29 +13,29 @@ use Rattle.zoom_io.proofs.Joining.{stopped_over}
 use Rattle.zoom_tcp.specs.Asking.{is_present, Opening, unreached, begun, unsent, WholeTalk, ended_itself, stopped_for_reason as was_stopped, WholeTalkIf, IsConnectionAsked, IsConnectionAskedIf}
 use Rattle.zoom_tcp.specs.AskingSteps.{IsOpened, IsOpenedIf}
 
--- ---- what there is of a connection, in lists
+-- ---- entries of a list for each connection
 
--- in place
+-- The entry in place.
 pub has_place : {A : Type 0} (xs : List (Option A)) (i : ℕ) (x : Option A) → i < length xs → x ≡ get_or xs i x
     → is_present xs i ≡ is_some x
 has_place [] i x lt is = absurd (omega (arith, lt))
 has_place (y ∷ xs) zero x lt is = ap is_some (sym is)
 has_place (y ∷ xs) (suc i) x lt is = has_place xs i x (omega (arith, lt)) is
 
--- behind as many
+-- The entry after as many others.
 pub has_middle : {A : Type 0} (xs : List (Option A)) (x : Option A) (ys : List (Option A))
     → is_present (xs ++ x ∷ ys) (length xs) ≡ is_some x
 has_middle [] x ys = refl
 has_middle (y ∷ xs) x ys = has_middle xs x ys
 
--- before the last
+-- The entries before the last.
 pub has_front : {A : Type 0} (xs : List (Option A)) (x : Option A) (c : ℕ) → c < length xs
     → is_present (xs ++ x ∷ []) c ≡ is_present xs c
 has_front [] x c lt = absurd (omega (arith, lt))
 has_front (y ∷ xs) x zero lt = refl
 has_front (y ∷ xs) x (suc c) lt = has_front xs x c (omega (arith, lt))
 
--- two lists that go on alike
+-- Two lists that grow alike.
 pub has_push : {A B : Type 0} (xs : List (Option A)) (ys : List (Option B)) (x : Option A) (y : Option B)
     → length xs ≡ length ys → ((c : ℕ) → is_present xs c ≡ is_present ys c) → is_some x ≡ is_some y
     → (c : ℕ) → is_present (xs ++ x ∷ []) c ≡ is_present (ys ++ y ∷ []) c
@@ -50,7 +50,7 @@ pub none_left : {A : Type 0} (xs : List A) → length xs ≡ 0 → xs ≡ []
 none_left [] is = refl
 none_left (x ∷ xs) is = absurd cc
 
--- ---- deeds that follow the one follow the other
+-- ---- a trace after one history is a trace after the other
 
 pub opening_alike : {q : List Question} {s : MetaSettings} {c : ℕ} {h more : History} {reached : Bool} (k : History)
     → events_on c h ≡ events_on c k → Opening q s c h more reached → Opening q s c k more reached
@@ -77,7 +77,7 @@ talking_alike {s = s} {c = c} {h = h} k e (was_stopped {more = more} reason f fo
     was_stopped reason (follows_alike k e f) for
     (λ is. cut_alike s c (more ++ h) (more ++ k) (behind c more h k e) (cut is))
 
--- ---- they are none of another's
+-- ---- its events are on no other connection
 
 pub others_opening : {q : List Question} {s : MetaSettings} {c : ℕ} {h more : History} {reached : Bool} (i : ℕ)
     → Opening q s c h more reached → (c == i) ≡ false → events_on i more ≡ []
@@ -101,7 +101,7 @@ others_talk q s at_once c h more false i t far = ap (events_on i) t
 
 -- ---- a connection that is over
 
--- a host that was not reached
+-- A host was not reached.
 unreached_over : {q : List Question} {s : MetaSettings} {c : ℕ} {h more : History} {reached : Bool}
     → Opening q s c h more reached → reached ≡ false → IsStoppedAt s c (more ++ h)
 unreached_over {s = s} {c = c} {h = h} unreached e = stopped_over s c reasons.Connect h
@@ -111,7 +111,7 @@ unreached_over {s = s} {c = c} {h = h} (unsent calls octets idle all) e =
 
 -- ---- within a history
 
--- its host was talked with
+-- The host was talked with.
 pub talked_out : (q : List Question) (s : MetaSettings) (at_once : Bool) (c : ℕ) (h now more : History)
     → IsOpened q s c true h → WholeTalk q s at_once c h more → events_on c now ≡ events_on c (more ++ h) → IsStoppedAt s c now
     → IsConnectionAsked q s at_once c now
@@ -125,7 +125,7 @@ talked_out q s at_once c h now more o talk mine over = record {
   over = over;
 }
 
--- there is no way to its host
+-- The host was not reached.
 pub none_talked : (q : List Question) (s : MetaSettings) (at_once : Bool) (c : ℕ) (h now : History)
     → IsOpened q s c false h → events_on c now ≡ events_on c h → IsConnectionAsked q s at_once c now
 none_talked q s at_once c h now o mine = record {

@@ -16,7 +16,7 @@ use Rattle.zoom_tcp.specs.Asking.{is_present, ended_itself, stopped_for_reason a
 use Rattle.zoom_tcp.specs.AskingSteps.{IsOpened, IsOpenedIf, AreOpened, AfterOpenAll}
 use Rattle.zoom_tcp.proofs.Alike.{talked_out, none_talked}
 
--- where each talk stands so, and that of one more
+-- Each talk of a list is in a phase, and so is one more.
 pub at_push : {R W : Type 0} (phase : TalkPhase) (xs : List (Option (Halves R W))) (x : Option (Halves R W)) → AreAtPhase phase xs
     → IsAtPhase phase x → AreAtPhase phase (xs ++ x ∷ [])
 at_push phase [] x all is zero = is
@@ -26,7 +26,7 @@ at_push phase (y ∷ xs) x all is (suc c) = at_push phase xs x (λ d. all (suc d
 
 module _ (q : List Question) (s : MetaSettings) (c : ℕ) (h now : History) (over : IsStoppedAt s c now)
     (o : IsOpened q s c true h) where
-  -- as the talk ended
+  -- The connection as its talk ended.
   ended : (reads : ℕ) (first last : View) → reads ≤ 1000000000 → TalkEndAmong q s c h now reads 1000000000 first last
       → IsConnectionAsked q s true c now
   ended reads first last few (stopped_by_itself t sound) =
@@ -61,7 +61,7 @@ module _ {B : Type 0} (view : B → View) (q : List Question) (s : MetaSettings)
   done_at None (Some y) chosen o d = absurd d
   done_at (Some x) None chosen o d = absurd d
 
--- where all were
+-- All hosts were asked.
 pub asked_at_once : {A B : Type 0} (view : B → View) (q : List Question) (s : MetaSettings) (chosen : ℕ → Bool)
     (links : List (Option A)) (first last : List (Option B)) (old mid new : MetaLinks) → MetaAfter q s [] old
     → length links ≡ length q → AfterOpenAll chosen links old mid → ((c : ℕ) → is_present first c ≡ is_present links c)

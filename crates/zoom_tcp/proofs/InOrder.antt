@@ -91,7 +91,7 @@ talks_begin links m = record {
   };
 }
 
--- one more
+-- One host more.
 module _ {A : Type 0} (q : List Question) (s : MetaSettings) (chosen : ℕ → Bool) (links : List (Option A)) (n : ℕ)
     (reached : Bool) (is : is_present links n ≡ reached) (few : n < length links) (mid new : MetaLinks)
     (w : AreFirstAsked q s chosen links n mid) (t : FinishedTalk q s n w.history reached new) where
@@ -139,7 +139,7 @@ talks_more links n link old mid new is few all one = record {
       talked_next q s chosen links n (is_some link) is few mid new m (one.on q s m.history m.after);
 }
 
--- where all were
+-- All hosts were asked.
 pub asked_in_order : {A : Type 0} (q : List Question) (s : MetaSettings) (chosen : ℕ → Bool) (links : List (Option A))
     (old mid new : MetaLinks) → MetaAfter q s [] old → length links ≡ length q → AfterOpenAll chosen links old mid
     → AfterTalkAll links (length links) mid new → IsAsked q s false chosen new

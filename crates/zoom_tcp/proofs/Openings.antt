@@ -1,4 +1,4 @@
--- The ways to the hosts are opened, one after the other.
+-- The connections to the hosts are opened, one after the other.
 use Rattle.std.proofs.Common.{◌≡◌, ◌∙◌, sym, ap, subst, refl, append-nil, length-append, arith, ℕ, ◌+◌, ◌<◌, ◌≤◌, ◌==◌, Bool, true, false, List, [], ◌∷◌, ◌++◌, length, Option, is_some, Ok, Err}
 use Rattle.std.proofs.lemmas.Bool.Decides.{nat_tests}
 use Rattle.zoom_questions.specs.declared.question.Question.{Question}
@@ -75,7 +75,7 @@ under n c lt far = grind (arith, nat_tests)
 apart_above : (c n : ℕ) → n < c → (n == c) ≡ false
 apart_above c n lt = grind (arith, nat_tests)
 
--- a line more
+-- One link more.
 module _ {A : Type 0} (q : List Question) (s : MetaSettings) (chosen : ℕ → Bool) (links : List (Option A))
     (link : Option A) (n : ℕ) (at : n ≡ length links) where
   size : length (links ++ link ∷ []) ≡ n + 1
@@ -84,7 +84,7 @@ module _ {A : Type 0} (q : List Question) (s : MetaSettings) (chosen : ℕ → B
   last : is_present (links ++ link ∷ []) n ≡ is_some link
   last = subst (λ z. is_present (links ++ link ∷ []) z ≡ is_some link) (sym at) (has_middle links link [])
 
-  -- the others' openings stand
+  -- The other connections stay opened.
   opened : (more h : History) → ((c : ℕ) → c < length links → IsOpenedIf (chosen c) q s c (is_present links c) h)
       → ((c : ℕ) → (n == c) ≡ false → events_on c more ≡ []) → IsOpenedIf (chosen n) q s n (is_some link) (more ++ h)
       → (c : ℕ) → c < length (links ++ link ∷ []) → (b : Bool) → (n == c) ≡ b

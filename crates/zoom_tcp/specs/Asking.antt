@@ -1,5 +1,5 @@
--- Connections that are asked over sockets: how the deeds of each follow one another, and that each is over
--- (Z39.50-2003, 3.2).
+-- Connections are asked over TCP: the order of the events of each, and that each is Closed or Failed (Z39.50-2003,
+-- 3.2).
 use Rattle.std.specs.Prelude.{◌≡◌, ℕ, ◌<◌, ◌≤◌, Bool, true, false, List, [], ◌∷◌, ◌++◌, length, Option}
 use Rattle.std.specs.Option.{is_some}
 use Rattle.zorigin.specs.Standings.{Call}
@@ -13,15 +13,15 @@ use Rattle.zoom_pool.specs.Metas.{MetaLinks, MetaAfter, call_events}
 use Rattle.zoom_io.specs.TalksAmong.{halves_at}
 use Rattle.zoom_io.specs.TalkTraces.{Stage, Listening, Waiting, Ended, TalkTrace, IsIdle, IsAllHandedOut, IsStoppedAt, IsCutOff}
 
--- whether there is something of a connection
+-- Whether the list has something for connection c.
 abbrev pub is_present : {A : Type 0} → List (Option A) → ℕ → Bool
 is_present xs c = is_some (halves_at xs c)
 
--- ---- the deeds of one connection
+-- ---- the events of one connection
 
--- The way to the host of a connection is opened: there is none, for which it is stopped; or the calls that are due are
--- made, and all that waits is handed out and written, or that fails, for which it is stopped. Its deeds, the newest
--- first, behind a history; and whether the host can be talked with.
+-- Opening a connection to a host, after a history: its events, the newest first, and whether the host was reached.
+-- Unreached: the connection is stopped for `Connect`. Begun: the due calls are made, and everything that waits is
+-- handed out and written. Unsent: that write failed, and the connection is stopped for `Write`.
 pub data Opening (questions : List Question) (s : MetaSettings) (c : ℕ) (h : History) : History → Bool → Type 0 where
   unreached : Opening questions s c h ((c, Stopped reasons.Connect) ∷ []) false
   begun : (calls : List Call) (octets : List ℕ) → IsIdle questions s c (call_events c calls ++ h)
@@ -31,13 +31,13 @@ pub data Opening (questions : List Question) (s : MetaSettings) (c : ℕ) (h : H
       → IsAllHandedOut s c ((c, HandedOut octets) ∷ (call_events c calls ++ h))
       → Opening questions s c h ((c, Stopped reasons.Write) ∷ (c, HandedOut octets) ∷ call_events c calls) false
 
--- after how many reads a talk may be stopped for `Turns`: one alone; one that goes on among others at once, whose
--- source may have had nothing yet at the other polls
+-- After how many reads a talk may be stopped for `Turns`: after 1,000,000 if it is alone. If talks go on at once,
+-- after at most 1,000,000,000: other polls may have found no octets yet.
 abbrev pub IsTurnLimit : Bool → ℕ → Type 0
 IsTurnLimit false reads = reads ≡ 1000000
 IsTurnLimit true reads = reads ≤ 1000000000
 
--- at which stage of a talk, alone or at once, after how many reads, a connection is stopped for which reason
+-- At which stage, and after how many reads, a talk can be stopped for which reason.
 abbrev pub CanStopFor : Bool → Stage → ℕ → Reason → Type 0
 CanStopFor at_once Listening reads reasons.Write = Unit {0}
 CanStopFor at_once Waiting reads reasons.Read = Unit {0}
@@ -45,8 +45,8 @@ CanStopFor at_once Waiting reads reasons.Turns = IsTurnLimit at_once reads
 CanStopFor at_once Ended reads reasons.Ended = Unit {0}
 CanStopFor at_once _ reads reason = ⊥
 
--- A talk to its end: the connection is then over by itself, or stopped; for the end of its input only where it has
--- failed for that.
+-- A whole talk: the connection ended by itself, or was stopped. It is stopped for `Ended` only if the end of the
+-- input cut it off.
 pub data WholeTalk (questions : List Question) (s : MetaSettings) (at_once : Bool) (c : ℕ) (h : History)
     : History → Type 0 where
   ended_itself : {more : History} {read written : List ℕ} {reads : ℕ} {stage : Stage}
@@ -57,15 +57,15 @@ pub data WholeTalk (questions : List Question) (s : MetaSettings) (at_once : Boo
       → (reason ≡ reasons.Ended → IsCutOff s c (more ++ h))
       → WholeTalk questions s at_once c h ((c, Stopped reason) ∷ more)
 
--- the host is talked with, where it can be
+-- A whole talk if the host was reached, and no events otherwise.
 abbrev pub WholeTalkIf : List Question → MetaSettings → Bool → ℕ → History → Bool → History → Type 0
 WholeTalkIf questions s at_once c h true more = WholeTalk questions s at_once c h more
 WholeTalkIf questions s at_once c h false more = more ≡ []
 
--- ---- among the deeds of the others
+-- ---- among the events of the others
 
--- The way to its host was opened, the host was then talked with, where it can be, and nothing else befell the
--- connection, which is over.
+-- A connection was opened, its host was talked with if it was reached, and the connection has no other events. It is
+-- Closed or Failed.
 pub record IsConnectionAsked (questions : List Question) (s : MetaSettings) (at_once : Bool) (c : ℕ) (h : History)
     : Type 0 where
   pub opened : History
@@ -76,14 +76,13 @@ pub record IsConnectionAsked (questions : List Question) (s : MetaSettings) (at_
   pub mine : events_on c h ≡ events_on c (more ++ opened)
   pub over : IsStoppedAt s c h
 
--- nothing befell a connection that was not chosen
+-- A chosen connection is asked; another has no events.
 abbrev pub IsConnectionAskedIf : Bool → List Question → MetaSettings → Bool → ℕ → History → Type 0
 IsConnectionAskedIf true questions s at_once c h = IsConnectionAsked questions s at_once c h
 IsConnectionAskedIf false questions s at_once c h = events_on c h ≡ []
 
--- Some history left the connections, in which the way to the host of each that is chosen was opened and the host talked
--- with, one alone after the other or all at once, where there is a way to it; each of these is Closed or Failed, and
--- nothing befell the others.
+-- Some history left the connections. In it each chosen connection is asked, in order or at once, and is Closed or
+-- Failed; the others have no events.
 pub record IsAsked
     (questions : List Question) (s : MetaSettings) (at_once : Bool) (chosen : ℕ → Bool) (meta : MetaLinks)
     : Type 0 where

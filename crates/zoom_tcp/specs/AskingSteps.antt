@@ -1,4 +1,4 @@
--- What the steps of asking do, each for every history that can have left the connections.
+-- What the steps of asking do, for every history that can have left the connections.
 use Rattle.std.specs.Prelude.{◌≡◌, ℕ, ◌<◌, ◌≤◌, Bool, true, false, List, [], ◌++◌, length, Option}
 use Rattle.zoom_questions.specs.declared.question.Question.{Question}
 use Rattle.zoom_questions.specs.declared.question.MetaSettings.{MetaSettings}
@@ -9,6 +9,7 @@ use Rattle.zoom_tcp.specs.Asking.{is_present, Opening, WholeTalkIf, IsConnection
 
 -- ---- one connection
 
+-- After a history, the connection to a host was opened, or the host was not reached.
 pub record OpenedWay
     (questions : List Question) (s : MetaSettings) (c : ℕ) (h : History) (reached : Bool) (new : MetaLinks)
     : Type 0 where
@@ -16,16 +17,17 @@ pub record OpenedWay
   pub opening : Opening questions s c h more reached
   pub after : MetaAfter questions s (more ++ h) new
 
--- the way to the host of the connection was opened
+-- What opening a connection to a host does, after every history.
 pub record AfterOpen (c : ℕ) (reached : Bool) (old new : MetaLinks) : Type 0 where
   pub on : (questions : List Question) (s : MetaSettings) (h : History)
       → MetaAfter questions s h old → OpenedWay questions s c h reached new
 
--- where it is chosen
+-- It is opened if it is chosen; otherwise nothing changes.
 abbrev pub AfterOpenIf : Bool → ℕ → Bool → MetaLinks → MetaLinks → Type 0
 AfterOpenIf true c reached old new = AfterOpen c reached old new
 AfterOpenIf false c reached old new = (reached ≡ false) × (new ≡ old)
 
+-- After a history, the host was talked with if it was reached, and its connection is Closed or Failed.
 pub record FinishedTalk
     (questions : List Question) (s : MetaSettings) (c : ℕ) (h : History) (reached : Bool) (new : MetaLinks)
     : Type 0 where
@@ -34,27 +36,27 @@ pub record FinishedTalk
   pub after : MetaAfter questions s (more ++ h) new
   pub over : reached ≡ true → IsStoppedAt s c (more ++ h)
 
--- its host was talked with, where it can be
+-- What talking with a host does, after every history.
 pub record AfterTalkOn (c : ℕ) (reached : Bool) (old new : MetaLinks) : Type 0 where
   pub on : (questions : List Question) (s : MetaSettings) (h : History)
       → MetaAfter questions s h old → FinishedTalk questions s c h reached new
 
--- ---- among the deeds of the others
+-- ---- among the events of the others
 
--- the way to the host of a connection was opened, and nothing else befell the connection
+-- The connection was opened, or its host was not reached, and it has no other events.
 pub record IsOpened (questions : List Question) (s : MetaSettings) (c : ℕ) (reached : Bool) (h : History)
     : Type 0 where
   pub more : History
   pub opening : Opening questions s c [] more reached
   pub mine : events_on c h ≡ events_on c more
 
--- where it was chosen
+-- A chosen connection is opened; another is not reached and has no events.
 abbrev pub IsOpenedIf : Bool → List Question → MetaSettings → ℕ → Bool → History → Type 0
 IsOpenedIf true questions s c reached h = IsOpened questions s c reached h
 IsOpenedIf false questions s c reached h = (reached ≡ false) × (events_on c h ≡ [])
 
--- The ways to the first hosts, of those that are chosen, were opened; those are reached for which there is a line; and
--- nothing befell the other connections.
+-- The first connections that are chosen were opened, as many as there are entries; those with a link are reached. All
+-- other connections have no events.
 pub record AreOpened {A : Type 0}
     (questions : List Question) (s : MetaSettings) (chosen : ℕ → Bool) (links : List (Option A)) (new : MetaLinks)
     : Type 0 where
@@ -63,12 +65,12 @@ pub record AreOpened {A : Type 0}
   pub opened : (c : ℕ) → c < length links → IsOpenedIf (chosen c) questions s c (is_present links c) history
   pub others : (c : ℕ) → length links ≤ c → events_on c history ≡ []
 
--- after no deed
+-- What opening all connections does, when there are no events yet.
 pub record AfterOpenAll {A : Type 0} (chosen : ℕ → Bool) (links : List (Option A)) (old new : MetaLinks) : Type 0 where
   pub on : (questions : List Question) (s : MetaSettings)
       → MetaAfter questions s [] old → AreOpened questions s chosen links new
 
--- the first so many hosts were talked with, and the ways to the others were opened, of those that are chosen
+-- Of the chosen connections, the first n were asked, and the later ones were opened.
 pub record AreFirstAsked {A : Type 0}
     (questions : List Question) (s : MetaSettings) (chosen : ℕ → Bool) (links : List (Option A)) (n : ℕ)
     (new : MetaLinks)
@@ -78,7 +80,7 @@ pub record AreFirstAsked {A : Type 0}
   pub talked : (c : ℕ) → c < n → IsConnectionAskedIf (chosen c) questions s false c history
   pub opened : (c : ℕ) → n ≤ c → c < length links → IsOpenedIf (chosen c) questions s c (is_present links c) history
 
--- after their ways were opened
+-- What talking with the first n hosts does, after their connections were opened.
 pub record AfterTalkAll {A : Type 0} (links : List (Option A)) (n : ℕ) (old new : MetaLinks) : Type 0 where
   pub on : (questions : List Question) (s : MetaSettings) (chosen : ℕ → Bool)
       → AreOpened questions s chosen links old → AreFirstAsked questions s chosen links n new

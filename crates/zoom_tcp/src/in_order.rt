@@ -22,8 +22,8 @@ const TURNS: u32 = 1_000_000;
 /// them and sends each the Init, then talks with each in order (Z39.50-2003, 3.2).
 ///
 /// A host costs its own connection alone if it cannot be reached, fails, is silent for 30 seconds or takes more than
-/// an hour, or if 1,000,000 reads do not end its talk. Nothing happens on the connection of a question without an
-/// address. `watch` looks at the connections before each talk.
+/// an hour. So does a host whose talk has not ended after 1,000,000 reads. Nothing happens on the connection of a
+/// question without an address. `watch` looks at the connections before each talk.
 ///
 /// Returns an error only if no memory is found.
 pub fn ask<N: Net + Clock, V: Watch>(

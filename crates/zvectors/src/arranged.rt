@@ -8,7 +8,7 @@ use std::process::Abort;
 use std::test::Fail;
 use zber_tests::rows::{each_row, halves, unescape};
 use zber_tests::unread::Unread;
-use zmeta_world::in_memory::Arrangement;
+use zmeta_world::in_memory::InMemoryRun;
 use zmeta_world::world::{WorldError, read_world};
 
 // A file, and the number of the line with a question to a host.
@@ -28,7 +28,7 @@ ask a d - 1 emma
 to a 7";
 
 /// The world of a file of at most 1,000,000 octets, arranged for one who asks by the name `zmeta`.
-pub(crate) fn in_memory(alloc: Global, file: &[u8]) -> Result<Arrangement, WorldError>
+pub(crate) fn in_memory(alloc: Global, file: &[u8]) -> Result<InMemoryRun, WorldError>
     ensures { IfOk result CanBeRun }
 {
     if file.len() > 1_000_000 {
@@ -68,14 +68,14 @@ fn has_names(names: &[Bytes]) -> bool {
 }
 
 // How many targets, questions and moves there are, and the settings.
-fn counts(alloc: Global, world: &Arrangement) -> Result<String, AllocError> {
+fn counts(alloc: Global, world: &InMemoryRun) -> Result<String, AllocError> {
     let (targets, questions) = (world.targets.len(), world.questions.len());
     let (moves, settings) = (world.moves.len(), &world.settings);
     let (step, window) = (settings.step, settings.window);
     format!(in alloc; "{targets} {questions} {moves} {step} {window}")
 }
 
-fn is_in_order(alloc: Global, world: &Arrangement) -> Result<bool, AllocError> {
+fn is_in_order(alloc: Global, world: &InMemoryRun) -> Result<bool, AllocError> {
     let counts = counts(alloc, world)?;
     let is_asker = spells(&world.settings.name, "zmeta");
     Ok(is_asker && has_names(world.names.as_slice()) && counts.as_str() == "2 2 1 3 5")

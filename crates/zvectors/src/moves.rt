@@ -9,7 +9,7 @@ use std::test::Fail;
 use zapdu_tests::boxes::box_value;
 use zber_tests::rows::{each_row, halves, pair};
 use zber_tests::unread::Unread;
-use zmeta_world::in_memory::Arrangement;
+use zmeta_world::in_memory::InMemoryRun;
 use zoom::{Meta, Move, Reason, State};
 use zoom_sim::channels::InMemory;
 use zoom_sim::drives::drive_all;
@@ -73,10 +73,10 @@ fn moves(alloc: Global, row: &str) -> Result<Vec<Move>, Unread> {
     Ok(moves)
 }
 
-fn connection(alloc: Global, arrangement: Arrangement) -> Result<Box<Meta>, AllocError>
+fn connection(alloc: Global, arrangement: InMemoryRun) -> Result<Box<Meta>, AllocError>
     requires { CanBeRun arrangement }
 {
-    let Arrangement {
+    let InMemoryRun {
         questions,
         settings,
         targets: _,
@@ -87,10 +87,10 @@ fn connection(alloc: Global, arrangement: Arrangement) -> Result<Box<Meta>, Allo
     box_value(alloc, meta)
 }
 
-fn ends(alloc: Global, arrangement: Arrangement) -> Result<Vec<Peer>, AllocError>
+fn ends(alloc: Global, arrangement: InMemoryRun) -> Result<Vec<Peer>, AllocError>
     requires { CanBeRun arrangement }
 {
-    let Arrangement {
+    let InMemoryRun {
         questions: _,
         settings: _,
         targets,

@@ -20,7 +20,7 @@ use ztarget::{Field, TargetSettings};
 pub(crate) enum Way {
     /// From a connection to its target.
     To,
-    /// At the target: a waiting reply is released.
+    /// At the target: releases a pending reply, so that its octets can be carried.
     Release,
     /// From a target to its connection.
     From,

@@ -1,4 +1,4 @@
--- The laws.
+-- The proofs of the laws.
 use Rattle.std.proofs.Common.{◌≡◌, ◌⊎◌, inl, inr, Bool, true, false, cond, not, List, [], ◌∷◌, ◌++◌, reverse, map, Option, None, Some, Result, Ok, Err, refl, sym, ap, subst, ◌∙◌}
 use Rattle.std.specs.List.{list_any}
 use Rattle.std.specs.Prelude.{Contains}
@@ -42,7 +42,7 @@ use Rattle.zoom_laws.proofs.AccordTheory.Conversing.{no_close, close_sent, close
 
 -- ---- verdicts
 
--- a reply that fits is weighed against the operation that it names
+-- the verdict on a reply that fits is by the operation with its reference id
 weighed : (s : Standing) (q : Asked) (reply : Apdu) → named s (id_of reply) ≡ Some q → Fits q.what reply
     → answered s reply ≡ Ok (taken_as (record { asked = q; reply = reply }))
 weighed s q reply e f = by q.what reply refl e f
@@ -86,7 +86,7 @@ named_taken settings log (apdus.SearchResponse v) q f n = (q, n, refl)
 named_taken settings log (apdus.PresentRequest v) q f n = (q, n, refl)
 named_taken settings log (apdus.PresentResponse v) q f n = (q, n, refl)
 
--- only a response to Init fits it
+-- only a response to Init fits Init
 pub init_fits : (reply : Apdu) → Fits what.Init reply → (v : InitResponse) × (reply ≡ apdus.InitResponse v)
 init_fits (apdus.InitResponse v) f = (v, refl)
 init_fits (apdus.InitRequest v) f = absurd f
@@ -108,7 +108,7 @@ module _ (databases : List Database) (target : TargetSettings) (settings : Setti
   abbrev received : List Apdu
   received = requests settings log
 
-  -- what is owed, of an operation, with its name
+  -- an owed reply with the reference id of an operation
   fits_named : (reply : Apdu) (d : IsReplyDue databases target settings log reply) (q : Asked)
       → IsIn q (operation_of d.call)
       → Fits q.what reply × IsReplyTo settings log reply q
@@ -120,7 +120,7 @@ module _ (databases : List Database) (target : TargetSettings) (settings : Setti
     },
   )
 
-  -- Init was called where something is owed
+  -- if a reply is owed, Init was called
   was_begun : (reply : Apdu) → IsReplyDue databases target settings log reply → list_any is_init_call p.admitted ≡ true
   was_begun reply d = by (list_any is_init_call p.admitted) refl
     where
@@ -133,7 +133,7 @@ module _ (databases : List Database) (target : TargetSettings) (settings : Setti
   module _ (k : IsConversation databases target settings log) (reply : Apdu)
       (h : Contains (replies_due databases target settings log) reply)
       (u : IsUnanswered settings log reply) where
-    -- an association that was rejected left nothing to be answered
+    -- a rejected association left no operation unanswered
     not_rejected : (x : Accepted) → Contains p.accepted x → (v : InitResponse) → x.reply ≡ apdus.InitResponse v
         → v.result ≡ false → ⊥
     not_rejected x c v is failed =

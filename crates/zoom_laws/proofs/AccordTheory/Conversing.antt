@@ -1,4 +1,4 @@
--- An origin that took from its target alone: its requests are taken, and its replies are those of its requests.
+-- An origin that converses with one target alone: its requests are taken, and its replies are those to its requests.
 use Rattle.std.proofs.Common.{◌≡◌, ◌≢◌, ◌⊎◌, inl, inr, ℕ, Bool, true, false, cond, ◌&&◌, ◌||◌, not, List, [], ◌∷◌, ◌++◌, reverse, Option, None, Some, Result, Ok, Err, refl, sym, ap, subst, ◌∙◌}
 use Rattle.std.specs.Prelude.{Contains}
 use Rattle.zber.proofs.Tests.{both_true}
@@ -48,14 +48,14 @@ no_close what.Init c h = h
 no_close what.Search c h = h
 no_close (what.Present ranges) c h = h
 
--- the request of a call that has no id is Close
+-- only a call of Close has a request without an id
 pub close_sent : (c : Call) (v : Apdu) → IsRequestOf c v → call_id c ≡ None → v ≡ close_request
 close_sent Init v h e = absurd (cc)
 close_sent (Search op set ask) v h e = absurd (cc)
 close_sent (Present op set ranges) v h e = absurd (cc)
 close_sent Close v h e = let same : close_request ≡ v = (let f = h.1 in cc) in sym same
 
--- what is accepted refers to its operation by its id, where it has one
+-- an accepted reply that has a reference id has that of its operation
 id_so : (p : Past) (q : Asked) (o : Option (List ℕ)) → Refers p q o → o ≢ None → o ≡ Some (reference_id q.op)
 id_so p q None r n = absurd (n refl)
 id_so p q (Some id) r n = ap (λ i. Some i) r
@@ -65,7 +65,7 @@ pub close_replied : (target : TargetSettings) (v x : Apdu) → v ≡ close_reque
     → (c : CloseApdu) × (x ≡ apdus.Close c)
 close_replied target v x e h = (_, subst (λ w. Replies target w x) e h)
 
--- only a request of Init is replied to by a response to it
+-- only a request of Init has a response to Init as its reply
 pub init_sent : (target : TargetSettings) (v : Apdu) (w : InitResponse) → Replies target v (apdus.InitResponse w)
     → (r : InitRequest) × (v ≡ apdus.InitRequest r) × (w.result ≡ is_accepted target r.protocol_version)
 init_sent target (apdus.InitRequest r) w h =
@@ -147,7 +147,7 @@ module _ (databases : List Database) (target : TargetSettings) (settings : Setti
   got_requests log reply =
       let p = past settings log in ap (λ l. reverse l) (same_verdict p (verdict (standing p) reply)).1
 
-  -- a reply that was accepted before the call is none to it
+  -- a reply that was accepted before the call is no reply to it
   module _ (log : Log) (c : Call) (k : IsConversation databases target settings (Made c ∷ log)) (x : Accepted)
       (h : Contains (past settings log).accepted x) where
     then : Contains (past settings (Made c ∷ log)).accepted x
@@ -212,7 +212,7 @@ module _ (databases : List Database) (target : TargetSettings) (settings : Setti
         sound = fault_before p v k.sound;
       }
 
-  -- ---- the target's terms
+  -- ---- the state of the target
 
   init_state : (r : InitRequest) → is_accepted target r.protocol_version ≡ true
       → (standing_after databases target (apdus.InitRequest r ∷ [])).state ≡ Open (terms target r)
@@ -235,7 +235,7 @@ module _ (databases : List Database) (target : TargetSettings) (settings : Setti
   between_open (apdus.PresentResponse r) s t b e = absurd b
   between_open (apdus.Close r) s t b e = absurd b
 
-  -- an association that was accepted, and what came between, leave it open
+  -- after an accepted Init and requests before Close, the association is open
   runs_open : (received : List Apdu) → target.refuse ≡ false → Runs received
       → (t : Terms) × ((standing_after databases target received).state ≡ Open t)
   runs_open [] f r = absurd r
@@ -247,7 +247,7 @@ module _ (databases : List Database) (target : TargetSettings) (settings : Setti
       let m = runs_open vs f more.1 in
       (m.0, between_open v (standing_after databases target vs) m.0 more.0 m.1)
 
-  -- the association that the origin has for accepted the target accepted
+  -- if the origin's association is accepted, the target accepted it
   pub accepted_open : (log : Log) → IsConversation databases target settings log → IsAccepting (opening (past settings log))
       → target.refuse ≡ false
   accepted_open log k a =

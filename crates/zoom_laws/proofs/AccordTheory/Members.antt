@@ -1,4 +1,4 @@
--- Members of lists, and lists of APDUs of which no two have one reference id.
+-- Members of lists, and lists of APDUs with distinct reference ids.
 use Rattle.std.proofs.Common.{◌≡◌, ◌≢◌, inl, inr, ℕ, Bool, true, false, ◌||◌, List, [], ◌∷◌, ◌++◌, reverse, Option, None, Some, refl, sym, ap, subst, ◌∙◌, true≢false, IsPermutation}
 use Rattle.std.specs.Bool.{Decides, one_answer}
 use Rattle.std.specs.List.{list_any, flat_map, AllByRecursion, IsDistinct}
@@ -41,7 +41,7 @@ module _ {X : Type 0} where
         | false ↦ λ e g. let m = more g in (m.0, inr m.1, m.2)
       ] refl h
 
--- a member of the lists that are made of the members is made of one
+-- a member of the joined lists is in the list of one member
 pub in_flat : {X Y : Type 0} (f : X → List Y) (xs : List X) (y : Y) → IsIn y (flat_map f xs)
     → (x : X) × IsIn x xs × IsIn y (f x)
 in_flat f [] y i = absurd i
@@ -122,7 +122,7 @@ apart_push (x ∷ vs) v h d =
       | inr j ↦ elim j [ inl e ↦ subst (λ y. id_of x ≢ id_of y) (sym e) (h x (inl refl)) | inr none ↦ absurd none ]
     ]) (apart_push vs v (λ w i. h w (inr i)) (apart_rest x vs d))
 
--- those of one part of them have not the id of one of the other
+-- an APDU of one part has not the id of an APDU of the other
 pub apart_parts : (xs ys : List Apdu) (a b : Apdu) → AreApart (xs ++ ys) → IsIn a xs → IsIn b ys → id_of a ≢ id_of b
 apart_parts [] ys a b d i j = absurd i
 apart_parts (x ∷ xs) ys a b d (inl e) j =

@@ -1,4 +1,4 @@
--- What a target owes to a request, and what the request leaves.
+-- What a target owes to a request, and its state after the request.
 use Rattle.std.proofs.Common.{◌≡◌, inl, inr, true, false, List, [], ◌∷◌, ◌++◌, Option, None, Some, Result, Ok, Err, refl, sym, ap, subst, ◌∙◌, cond, append-nil}
 use Rattle.zapdu.specs.declared.apdu.Apdu.{Apdu}
 use Rattle.zapdu.specs.declared.apdu.Apdu.TheVariants as apdus
@@ -26,7 +26,7 @@ use Rattle.zoom_laws.specs.Accord.{AreTaken}
 use Rattle.zoom_laws.proofs.AccordTheory.Members.{AreApart, apart_none, apart_first, apart_rest, apart_push}
 use Rattle.zoom_laws.proofs.AccordTheory.FittingReplies.{found_fits, failed_fits, presented_fits, presented_id}
 
--- the request is for such
+-- the request asks for such an operation
 abbrev pub Asks : What → Apdu → Type 0
 Asks what.Init (apdus.InitRequest r) = Unit {0}
 Asks what.Search (apdus.SearchRequest r) = Unit {0}
@@ -63,7 +63,7 @@ module _ (target : TargetSettings) where
       subst (Fits (what.Present ranges)) (sym h.1) (subst (λ ps. FitsPresent ps h.0) (sym a) h.2)
   reply_fits (what.Present ranges) _ x a h = absurd a
 
-  -- it ends the association: Close, and Init where that is refused
+  -- the request ends the association: Close, or an Init that is refused
   abbrev pub EndsAssociation : Apdu → Type 0
   EndsAssociation (apdus.InitRequest r) = is_accepted target r.protocol_version ≡ false
   EndsAssociation (apdus.Close c) = Unit {0}
@@ -181,7 +181,7 @@ module _ (target : TargetSettings) where
     abbrev state_after : List Apdu → State
     state_after received = (standing_after databases target received).state
 
-    -- what a request that is taken leaves
+    -- the state after a request that is taken
     pub after_taken : (received : List Apdu) (v : Apdu) (a : Answer) → owed databases target received v ≡ Ok a
         → state_after (v ∷ received) ≡ a.standing.state
     after_taken received v a h = ap (λ r. (left_by (standing_after databases target received) r).state) h
@@ -220,7 +220,7 @@ module _ (target : TargetSettings) where
         let m = replying received t.1 v i in
         (m.0, in_left m.0 (replies databases target received) (reply_of (owed databases target received w)) m.1, m.2)
 
-    -- replies are apart where requests are
+    -- replies to requests with distinct ids have distinct ids
     pub replies_apart : (received : List Apdu) → AreApart received → AreApart (replies databases target received)
     replies_apart [] d = apart_none
     replies_apart (v ∷ received) d =
@@ -264,7 +264,7 @@ module _ (target : TargetSettings) where
         absurd (begun (state_after received) (standing_after databases target received).sets v t.0.0 t.0.1
         (sym (after_taken received v t.0.0 t.0.1) ∙ f))
 
-    -- an Init that was refused was all that was sent
+    -- if Init was refused, nothing else was sent
     pub refused_alone : (received : List Apdu) → AreTaken databases target received → (r : InitRequest)
         → IsIn (apdus.InitRequest r) received
         → is_accepted target r.protocol_version ≡ false → received ≡ apdus.InitRequest r ∷ []

@@ -1,4 +1,4 @@
--- What the calls of a log sent.
+-- The requests of the calls of a log.
 use Rattle.std.proofs.Common.{◌≡◌, ◌≢◌, ◌⊎◌, inl, inr, ℕ, Bool, true, false, cond, ◌==◌, List, [], ◌∷◌, ◌++◌, reverse, Option, None, Some, Result, Ok, Err, refl, sym, ap, subst, ◌∙◌, true≢false}
 use Rattle.std.specs.List.{list_any}
 use Rattle.zapdu.specs.declared.apdu.Apdu.{Apdu}
@@ -31,7 +31,7 @@ use Rattle.zorigin.proofs.Proper.{free, fresh_op, ready_if}
 use Rattle.zoom_laws.proofs.AccordTheory.Members.{reverse_push, of_reverse, in_flat, flat_in, AreApart, apart_none, apart_cons}
 use Rattle.zoom_laws.proofs.AccordTheory.Calls.{IsRequestOf, call_id, some_same, present_so, request_id, operation_id, call_kind, same_number, has_self}
 
--- ---- what the states say
+-- ---- what follows from the states
 
 pub record IsAccepting (o : Option Answer) : Type 0 where
   pub answer : Answer
@@ -102,7 +102,7 @@ open_so closing o (inr a) =
     ∙ elim closing as (λ c. is_open (closing_state c (ready (force_in a.response))) ≡ true)
     [ true ↦ refl | false ↦ refl ]
 
--- an operation that is Init is of the call of Init
+-- the Init operation is that of the call of Init
 init_call : (c : Call) (q : Asked) → IsIn q (operation_of c) → is_init q.what ≡ true → c ≡ Init
 init_call Init q i h = refl
 init_call (Search op set ask) q (inl e) h = absurd (true≢false (sym (ap (λ (x : Asked). is_init x.what) (sym e) ∙ h)))
@@ -112,7 +112,7 @@ init_call (Present op set ranges) q (inl e) h =
 init_call (Present op set ranges) q (inr none) h = absurd none
 init_call Close q none h = absurd none
 
--- where the association was accepted, Init was called
+-- if the association was accepted, Init was called
 pub init_in : (p : Past) → IsOrderly p → (x : Answer) → opening p ≡ Some x → IsIn Init p.admitted
 init_in p ok x e =
     let found = find_in opens p.accepted x e in
@@ -129,7 +129,7 @@ ComesBetween (apdus.SearchRequest r) = Unit {0}
 ComesBetween (apdus.PresentRequest r) = Unit {0}
 ComesBetween _ = ⊥
 
--- Init, and requests that come between behind it, the newest first
+-- Init, and behind it requests between Init and Close, the newest first
 abbrev pub Runs : List Apdu → Type 0
 Runs [] = ⊥
 Runs (v ∷ vs) = (((s : Settings) × (v ≡ init_request s)) × (vs ≡ [])) ⊎ (ComesBetween v × Runs vs)
@@ -151,7 +151,7 @@ pub record AreSent (calls : List Call) (sent : List Apdu) : Type 0 where
   pub first : list_any is_init_call calls ≡ false → sent ≡ []
   pub runs : IsIn Init calls → list_any is_close_call calls ≡ false → Runs (reverse sent)
 
--- a number that is not used is that of no call
+-- an unused number is that of no call
 unused : (p : Past) (op : ℕ) (c : Call) (q : Asked) → list_any (has op) (asked p) ≡ false → IsIn c p.admitted
     → IsIn q (operation_of c)
     → reference_id op ≡ reference_id q.op → ⊥
@@ -173,7 +173,7 @@ pub ready_past : (p : Past) → is_ready (state_of p) ≡ true
 ready_past p h =
     ready_so p.fault p.closed (list_any is_close_call p.admitted) (list_any is_init_call p.admitted) (opening p) h
 
--- Init was not called where it may be
+-- if Init may be called, it was not called
 pub fresh_past : (p : Past) → refusal (standing p) Init ≡ None → list_any is_init_call p.admitted ≡ false
 fresh_past p h =
     fresh_so p.fault p.closed (list_any is_close_call p.admitted) (list_any is_init_call p.admitted) (opening p)

@@ -1,4 +1,4 @@
--- What a complete connection knows is its target's catalogue's answer.
+-- A complete connection knows the facts that the question brings from its target's catalogue.
 use Rattle.std.proofs.Common.{◌≡◌, inl, inr, ℕ, zero, suc, ◌+◌, ◌≤◌, Bool, true, false, if◌then◌else◌, List, [], ◌∷◌, ◌++◌, map, take, length, Option, None, Some, refl, sym, ap, subst, ◌∙◌, arith, append-nil, length-append}
 use Rattle.std.specs.Prelude.{not, ◌&&◌, ◌||◌, pos, min, int_lt, nat_le, is_none, Contains}
 use Rattle.std.specs.List.{flat_map}
@@ -92,7 +92,7 @@ none_due named q (suc m) =
     (initialising.natural (pos 0))) lt
     ∙ ap (λ (b : Bool). if not b || int_lt (pos 0) (pos 0) then 0 else min (suc m) (initialising.natural (pos 0))) ge
 
--- what the answer to the search says
+-- the facts of the answer to the search
 abbrev first_facts : ℕ → List Found → Option Reason → List Fact
 first_facts c found None = Count c 1 (pos (length found)) ∷ []
 first_facts c found (Some reason) = fault_facts c reason
@@ -109,7 +109,7 @@ search_says c offers q found None =
     (none_due offers.named q (length found))
 search_says c offers q found (Some reason) = refl
 
--- what it comes to in the plan
+-- its reply in the plan
 abbrev count_of : List Found → Option Reason → Option ℕ
 count_of found None = Some (length found)
 count_of found (Some reason) = None

@@ -1,4 +1,4 @@
--- Members of lists, and what stands at positions.
+-- Members of lists, and the entries at positions.
 use Rattle.std.proofs.Common.{◌≡◌, inl, inr, ℕ, zero, suc, ◌-◌, ◌<◌, ◌≤◌, List, [], ◌∷◌, ◌++◌, map, take, drop, length, refl, sym, ap, subst, ◌∙◌, arith}
 use Rattle.std.specs.Prelude.{pos}
 use Rattle.zapdu.specs.declared.productions.record.Record.{Record}
@@ -20,7 +20,7 @@ of_map g (z ∷ xs) y (inr i) = let r = of_map g xs y i in (r.0, inr r.1, r.2)
 
 -- ---- positions of a set
 
--- each position is one of a set of so many
+-- each position is one of a set of that size
 abbrev pub AreWithin : ℕ → List ℕ → Type 0
 AreWithin n [] = Unit {0}
 AreWithin n (p ∷ ps) = (1 ≤ p) × (p ≤ n) × AreWithin n ps
@@ -30,7 +30,7 @@ at_index [] k h = absurd (omega arith)
 at_index (x ∷ xs) zero h = (x, refl)
 at_index (x ∷ xs) (suc k) h = at_index xs k (omega arith)
 
--- an entry stands at it
+-- there is an entry at it
 at_one : {X : Type 0} (xs : List X) (p : ℕ) → 1 ≤ p → p ≤ length xs → (x : X) × (take 1 (drop (p - 1) xs) ≡ x ∷ [])
 at_one xs p lo hi = at_index xs (p - 1) (omega arith)
 
@@ -52,7 +52,7 @@ module _ {X : Type 0} (xs : List X) (make : X → Record) (target : ℕ) where
       → map make (at_positions xs (p ∷ ps)) ≡ kept → make x ∷ map make (at_positions xs ps) ≡ kept
   first_is p ps kept x at e = sym (ap (λ z. map make (z ++ at_positions xs ps)) at) ∙ e
 
-  -- what is seen of the records kept stands at their positions
+  -- the records kept are the entries at their positions
   pub of_seen : (l : List ℕ) (kept left : List Record) → AreWithin (length xs) l
       → map make (at_positions xs l) ≡ kept ++ left
       → (f : Fact) → IsIn f (seen_at target 1 l kept)
@@ -77,7 +77,7 @@ module _ {X : Type 0} (xs : List X) (make : X → Record) (target : ℕ) where
       let r = of_seen ps ks left w.2 (tail_is (make x.0) k (map make (at_positions xs ps)) (ks ++ left) both) f j in
       (r.0, r.1, inr r.2, r.3, r.4)
 
-  -- and the other way round
+  -- the converse
   pub to_seen : (l : List ℕ) (kept left : List Record) → AreWithin (length xs) l
       → map make (at_positions xs l) ≡ kept ++ left
       → (p : ℕ) (x : X) → IsIn p (take (length kept) l) → IsIn x (at_positions xs (p ∷ []))

@@ -13,7 +13,7 @@ use Rattle.ztarget.specs.Standing.{Terms, State, Fresh, Open, Ended, NamedSet, S
 use Rattle.ztarget.specs.Responding.{search_fault}
 use Rattle.ztarget.specs.Replies.{Answer, to_init, to_search, to_search_unless, to_present, to_close, found_by_query, answer, answer_at, left_by}
 
--- the answer to a request that was taken
+-- what a target owes to a request that it took
 abbrev pub IsAnswer : List Database → TargetSettings → State → List NamedSet → Apdu → Answer → Type 0
 IsAnswer databases settings state sets (apdus.InitRequest r) a = (state ≡ Fresh) × (a ≡ to_init settings sets r)
 IsAnswer databases settings state sets (apdus.SearchRequest r) a =
@@ -64,7 +64,7 @@ answered databases settings Ended sets (apdus.PresentResponse r) a h = absurd (n
 
 -- ---- the kind of a reply
 
--- which request it answers
+-- the request that it replies to
 abbrev pub Replies : Apdu → Apdu → Type 0
 Replies (apdus.InitRequest r) (apdus.InitResponse s) = Unit {0}
 Replies (apdus.SearchRequest r) (apdus.SearchResponse s) = Unit {0}
@@ -93,9 +93,9 @@ kind databases settings state sets (apdus.InitResponse r) a h = absurd h
 kind databases settings state sets (apdus.SearchResponse r) a h = absurd h
 kind databases settings state sets (apdus.PresentResponse r) a h = absurd h
 
--- ---- what a request leaves
+-- ---- the state after a request
 
--- a search and a request for records leave the state
+-- a search and a request for records leave the state unchanged
 after_search : (terms : Terms) (sets : List NamedSet) (r : SearchRequest) (found : List Found) (f : Option Reason)
     → (to_search_unless terms sets r found f).standing.state ≡ Open terms
 after_search terms sets r found None = refl

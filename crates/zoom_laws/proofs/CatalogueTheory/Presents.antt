@@ -1,4 +1,4 @@
--- What a target presents of ranges that an origin asks for.
+-- The records that a target presents of the ranges that an origin asks for.
 use Rattle.std.proofs.Common.{◌≡◌, ℕ, zero, suc, ◌+◌, ◌≤◌, Bool, true, false, if◌then◌else◌, List, [], ◌∷◌, ◌++◌, map, length, Option, None, Some, refl, sym, ap, ◌∙◌, arith}
 use Rattle.std.specs.Prelude.{ℤ, pos, ◌&&◌, int_lt}
 use Rattle.std.specs.List.{range_with_len, AllByRecursion}
@@ -114,7 +114,7 @@ pub all_within : (n : ℕ) (ranges : List Range) → are_ranges ranges ≡ true 
     → AreWithin n (positions ranges)
 all_within n ranges a h = within_by n (positions ranges) (low_positions (pos 0) ranges (follows ranges a)) h
 
--- records that are kept are those of the response
+-- the records that are kept are those of the response
 pub records_back : (kept : List Record) → records_in (records_of kept) ≡ kept
 records_back [] = refl
 records_back (x ∷ xs) = refl

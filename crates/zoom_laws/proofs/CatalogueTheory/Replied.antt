@@ -88,7 +88,7 @@ present_fits ranges (apdus.SearchResponse w) f = absurd f
 present_fits ranges (apdus.PresentRequest w) f = absurd f
 present_fits ranges (apdus.Close w) f = absurd f
 
--- which call a response answers
+-- the call that a response replies to
 for_init : (s : Standing) (call : Call) (v : Apdu) (w : InitResponse) → IsRequest s call v
     → Replies v (apdus.InitResponse w) → call ≡ Init
 for_init s Init v w r m = refl
@@ -178,7 +178,7 @@ all_ask e settings (Got reply ∷ log) s =
     subst (AllAsk e.ask) (sym (same_admitted (past settings log) (verdict (standing (past settings log)) reply)))
     (all_ask e settings log s)
 
--- what is kept of the search with set 1
+-- the entries kept of the search with set 1
 looked : (ask : Ask) (acc : List Answer) (calls : List Call) (s : Searched) → AllAsk ask calls
     → search_of (map filed (map (with_outcome acc) (flat_map search_in calls))) 1 ≡ Some s
     → (s ≡ with_outcome acc (unanswered 1 1 ask)) × (list_any is_search_call calls ≡ true)
@@ -267,7 +267,7 @@ search_by_fault : (offers : TargetSettings) (ask : Ask) (sets : List NamedSet) (
 search_by_fault offers ask sets found None = refl
 search_by_fault offers ask sets found (Some reason) = refl
 
--- one that found something had no fault
+-- a search that found something had no fault
 found_count : (offers : TargetSettings) (ask : Ask) (found : List Found) (o : Option Reason)
     → is_found (outcome_in (search_reply offers ask found o)) ≡ true
     → (o ≡ None) × (outcome_in (search_reply offers ask found o) ≡ Some (outcomes.Found (pos (length found))))
@@ -287,7 +287,7 @@ module _ (orderly : (s : Settings) (l : Log) → IsOrderly (past s l))
   owed_to : (x : Answer) → IsIn x (past settings log).accepted → Owed x.reply
   owed_to x i = owes databases offers (errand_of s q) settings log k.steered k.driven x.reply (talks x i)
 
-  -- where the target stood before the request
+  -- the state of the target before the request
   abbrev before : (r : Apdu) → Owed r → target.Standing
   before r o = standing_after databases offers (requests settings o.2.earlier)
 

@@ -1,4 +1,4 @@
--- Which call a reply that is owed answers, and when that was made.
+-- The call that an owed reply replies to, and when it was made.
 use Rattle.std.proofs.Common.{◌≡◌, inl, inr, List, [], ◌∷◌, ◌++◌, Option, None, Some, Result, Ok, Err, refl, sym, ap, subst, ◌∙◌}
 use Rattle.std.specs.Prelude.{reverse}
 use Rattle.std.specs.Option.{option_map}
@@ -30,7 +30,7 @@ use Rattle.zoom_laws.proofs.ScheduleTheory.Replies.{kept_call, kept_reply}
 use Rattle.zoom_laws.specs.Accord.{requests}
 use Rattle.zoom_laws.proofs.AccordTheory.Requests.{same_verdict}
 
--- ---- one entry more
+-- ---- one more entry
 
 kept_asked : (p : Past) (call : Call) (r : Option CallRefused) (q : Asked) → IsIn q (asked p)
     → IsIn q (asked (admit_unless p call r))
@@ -70,10 +70,10 @@ is_request s (Present op set (r ∷ rs)) v e = by (search_of s.searches set) ref
     by (Some searched) is f = (r, rs, searched, refl, is, some_is (present_request s.force.named op r rs searched) v f)
 is_request s Close v e = some_is close_request v e
 
--- ---- which call a reply answers
+-- ---- the call of a reply
 
 module _ (databases : List Database) (offers : TargetSettings) (e : Errand) (settings : Settings) where
-  -- The call was made and admitted in the log, and its request was answered so by those before it.
+  -- The call was made and admitted in the log, and after the requests before it the target owed this to its request.
   pub record SentAt (log : Log) (v : Apdu) (a : target.Answer) : Type 0 where
     pub earlier : Log
     pub call : Call

@@ -1,4 +1,4 @@
--- Where the target stands after the requests of an origin, and what Init puts in force.
+-- The state of the target after the requests of an origin, and what Init puts in force.
 use Rattle.std.proofs.Common.{◌≡◌, inl, inr, ℕ, Bool, true, false, cond, if◌then◌else◌, List, [], ◌∷◌, ◌++◌, Option, None, Some, refl, sym, ap, subst, ◌∙◌}
 use Rattle.std.specs.Prelude.{not, ◌&&◌, ◌||◌, codes, reverse}
 use Rattle.std.specs.List.{list_any, find, flat_map}
@@ -133,7 +133,7 @@ closing_fresh closing states.Closing e = absurd cc
 closing_fresh closing states.Closed e = absurd cc
 closing_fresh closing (states.Failed r) e = absurd cc
 
--- Ready comes of an answer that accepts, and no Close
+-- Ready follows from an accepting answer to Init and no Close
 ready_from : (fault : Option Refused) (closed closing begun : Bool) (o : Option Answer)
     → is_ready (state_from fault closed closing begun o) ≡ true
     → (closing ≡ false) × (x : Answer) × (o ≡ Some x) × (is_ready (state_by x.reply) ≡ true)
@@ -171,7 +171,7 @@ fresh_from None false closing begun (Some x) e =
 
 -- ---- the target
 
--- where it stands, by whether Init and Close were sent
+-- its state, by whether Init and Close were sent
 abbrev pub expected : TargetSettings → Settings → Bool → Bool → State
 expected offers settings begun true = Ended
 expected offers settings true false = after_init offers (init_value settings)
@@ -232,7 +232,7 @@ module _ (databases : List Database) (offers : TargetSettings) (settings : Setti
   abbrev pub target_at : Past → Standing
   target_at p = standing_after databases offers (reverse p.sent)
 
-  -- Where the target stands after the requests that were sent; its result set, once the search was sent.
+  -- The state of the target after the requests that were sent, and its result set after the search.
   pub record StandsIn (p : Past) : Type 0 where
     pub state : (target_at p).state
         ≡ expected offers settings (list_any is_init_call p.admitted) (list_any is_close_call p.admitted)
@@ -245,7 +245,7 @@ module _ (databases : List Database) (offers : TargetSettings) (settings : Setti
       → x.reply ≡ apdus.InitResponse (response offers settings)
 
   module _ (orderly : (s : Settings) (l : Log) → IsOrderly (past s l)) where
-    -- what holds where calls can be made
+    -- what holds if calls can be made
     pub record IsReady (log : Log) : Type 0 where
       pub accepts : offers.refuse ≡ false
       pub force : force_after (opening (past settings log)) ≡ force_of offers
@@ -289,7 +289,7 @@ module _ (databases : List Database) (offers : TargetSettings) (settings : Setti
               stands = (λ i. expected offers settings (begun i) (k.0 i)) ∙ opened_state_of offers settings accepted;
             }
 
-    -- ---- one call more
+    -- ---- one more call
 
     none_opens : (xs : List Answer) → find opens xs ≡ None → list_any opens xs ≡ true → ⊥
     none_opens [] f h = cc

@@ -1,4 +1,4 @@
--- Where no reply is waited for, all that was sent was answered.
+-- If no reply is waited for, each request was answered.
 use Rattle.std.proofs.Common.{◌≡◌, ◌⊎◌, inl, inr, Bool, true, false, cond, not, List, [], ◌∷◌, ◌++◌, filter, Option, None, Some, Result, Ok, Err, refl, sym, ap, subst, ◌∙◌, true≢false}
 use Rattle.zplan.specs.Plan.{Operation, Event, Reply, same, asked_in, replies_in}
 use Rattle.zplan.proofs.Order.{same_self}
@@ -30,7 +30,7 @@ use Rattle.zoom_laws.proofs.ExchangeTheory.Endings.{same_asked}
 no_some : {A : Type 0} {x : A} → Some x ≡ None → ⊥
 no_some e = cc
 
--- ---- what was sent was admitted
+-- ---- each request was admitted
 
 -- the operation that asks for it was admitted
 abbrev IsFor : Past → Operation → Type 0
@@ -76,7 +76,7 @@ module _ (ask : Ask) (settings : Settings) where
       (same_events ask (past settings (Got reply ∷ log)) v (events_of ask settings log)) i) in
       (f.0, subst (IsIn f.0) (sym (drivings.same_asked p v)) f.1, f.2)
 
-  -- ---- what was accepted is a reply
+  -- ---- each accepted APDU is a reply
 
   -- it has a reply
   abbrev HasReply : List Event → Operation → Type 0
@@ -137,7 +137,7 @@ module _ (ask : Ask) (settings : Settings) where
       reply_verdict (past settings log) (past settings (Got reply ∷ log)) (verdict (standing (past settings log)) reply)
       (events_of ask settings log) (has_reply log) y i
 
--- ---- where none is outstanding
+-- ---- if no reply is outstanding
 
 none_left : (u : Asked → Bool) (qs : List Asked) → filter u qs ≡ [] → (q : Asked) → IsIn q qs → u q ≡ false
 none_left u [] e q i = absurd i

@@ -1,4 +1,4 @@
--- How much is sent, and how much is owed to it.
+-- How many requests are sent, and how many replies are owed to them.
 use Rattle.std.proofs.Common.{◌≡◌, ℕ, zero, suc, ◌+◌, ◌*◌, ◌≤◌, Bool, true, false, cond, List, [], ◌∷◌, ◌++◌, length, filter, Option, None, Some, Result, Ok, Err, refl, ap, subst, ◌∙◌, length-append, arith}
 use Rattle.std.specs.Prelude.{◌||◌, nat_le, slice_get}
 use Rattle.std.specs.List.{flat_map, list_any}
@@ -51,10 +51,10 @@ few_replies databases target (v ∷ received) =
     omega (arith, older, one, all)
 
 pub count : CountLaw
-count holdings settings deeds p events host s =
+count holdings settings events p host_events host s =
     let asks = requests p.settings p.log in
     let put = s.served.served.sent in
-    let d = due holdings settings deeds p events host s in
+    let d = due holdings settings events p host_events host s in
     let few = few_replies holdings.databases holdings.settings asks in
     let reversed : length asks ≡ length (past_of p).sent = length-reverse (past_of p).sent in
     let moved : length (put ++ d.0) ≡ length (replies_to holdings asks) =
@@ -147,7 +147,7 @@ filter_few t (x ∷ xs) =
 
 -- ---- octets
 
--- the encoding of what is read back fits one message
+-- the encoding of an APDU that is read back fits one message
 one_read : (v : Apdu) → IsReadBack (sent_of v) → length (encoding_of v) ≤ 2097152
 one_read v r =
     let b = r.framed [] in

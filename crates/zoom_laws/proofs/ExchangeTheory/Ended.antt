@@ -1,4 +1,4 @@
--- A driven connection that waits for nothing is over, or some call is next.
+-- A driven connection that waits for no reply is over, or some call is next on it.
 use Rattle.std.proofs.Common.{◌≡◌, ◌≢◌, inl, inr, ℕ, ◌<◌, ◌≤◌, Bool, true, false, List, [], ◌∷◌, length, slice_get, Some, refl, sym, ap, subst, ◌∙◌, arith, true≢false}
 use Rattle.std.specs.Prelude.{pos}
 use Rattle.zplan.specs.Plan as plan
@@ -106,7 +106,7 @@ module _ (next : NextLaws) (agendas : AgendaLaws) (laws : DrivenLaws) (e : Erran
           next = subst (λ z. IsNext e.wanted e.step room events (Sends (plan.Present z))) (sym (positions_of l)) n;
         })
 
-    -- of a schedule with nothing that waits
+    -- in a schedule in which nothing waits
     no_asking : (a : Agenda) → IsAgenda e.wanted e.step events a → IsIn plan.Init (asked_in events)
         → IsIn plan.Search (asked_in events) → outstanding_in events ≡ 0 → (due : List (List ℕ)) → a.due ≡ due → ⊥
     no_asking a g i j zero [] is =

@@ -1,4 +1,4 @@
--- Where soundness leads: how a connection is over, and what holds once nothing is left to do.
+-- What follows from soundness: how a connection is over, and what holds when nothing is left to do.
 use Rattle.std.proofs.Common.{◌≡◌, ◌≢◌, ◌⊎◌, inl, inr, ℕ, nat_eq, true, false, not, List, [], ◌∷◌, ◌++◌, map, reverse, None, Some, refl, sym, ap, subst, ◌∙◌, append-nil, true≢false, arith, length, take}
 use Rattle.std.specs.Prelude.{Contains, IsPermutation, ◌||◌}
 use Rattle.std.specs.List.{flat_map, list_any, AllByRecursion, IsDistinct}
@@ -61,7 +61,7 @@ other_op op (q ∷ qs) b d (inl f) e =
     true≢false (sym t ∙ d.0)
 other_op op (q ∷ qs) b d (inr i) e = other_op op qs b d.1 i e
 
--- one number is of one operation
+-- each number is of one operation
 pub same_asked : (qs : List Asked) (a b : Asked) → IsDistinct nat_eq (map op_of qs) → IsIn a qs → IsIn b qs → a.op ≡ b.op
     → a ≡ b
 unfolding IsDistinct
@@ -88,10 +88,10 @@ answers_it settings log a op i e =
     subst (λ z. Refers (past settings i.earlier) a.asked z) e i.refers in
     sym (same_number op a.asked.op refers)
 
-module _ (holdings : Holdings) (settings : Settings) (deeds : List Event) (p : Transcript) (events : List HostEvent)
+module _ (holdings : Holdings) (settings : Settings) (events : List Event) (p : Transcript) (host_events : List HostEvent)
     (host : HostState)
-    (s : IsSoundExchange holdings settings deeds p events host) where
-  -- where the connection stands is where its origin stands
+    (s : IsSoundExchange holdings settings events p host_events host) where
+  -- the state of the connection is the state of its origin
   pub stands : state_at p ≡ state_as (state_of (past_of p))
   stands = ap (λ z. or_else (state_as (state_of (past_of p))) z) s.goes
 
@@ -118,7 +118,7 @@ module _ (holdings : Holdings) (settings : Settings) (deeds : List Event) (p : T
           → complete_in (past_of p) ≡ true
       by (inl c) =
           let g = closed_got p.settings p.log c in
-          let i = close_is g.0 (got_owed holdings settings deeds p events host s (apdus.Close g.0) g.1) in
+          let i = close_is g.0 (got_owed holdings settings events p host_events host s (apdus.Close g.0) g.1) in
           ap (λ b. is_rejected (opening (past_of p)) || b) (close_admitted (past_of p) i.0) ∙ or_right
           (is_rejected (opening (past_of p))) true refl
       by (inr x) =
@@ -128,24 +128,24 @@ module _ (holdings : Holdings) (settings : Settings) (deeds : List Event) (p : T
           ap (λ o. is_rejected o || closes) x.1 ∙ ap (λ b. b || closes)
           (rejected x.0.asked.what x.0.reply found.1 i.fits x.2)
 
-  -- ---- at rest
+  -- ---- settled exchanges
 
   module _ (laws : AccordLaws) (to : s.to ≡ []) (from : s.from ≡ []) (waiting : host.waiting ≡ [])
       (pending : host.target.pending ≡ [])
       (took : HasTakenAll p) where
     -- all requests were received
-    others_none : (received_is holdings settings deeds p events host s).others ≡ []
+    others_none : (received_is holdings settings events p host_events host s).others ≡ []
     others_none =
-        let w = whole holdings settings deeds p events host s in
-        let c = received_is holdings settings deeds p events host s in
+        let w = whole holdings settings events p host_events host s in
+        let c = received_is holdings settings events p host_events host s in
         all_taken c.others w.received.rest c.read
         (sym (append-nil w.received.rest) ∙ ap (λ z. w.received.rest ++ z) (sym to) ∙ c.rest_is)
         w.received.behind.no_message
 
     all_received : requests p.settings p.log ≡ s.served.served.received
     all_received =
-        let w = whole holdings settings deeds p events host s in
-        let c = received_is holdings settings deeds p events host s in
+        let w = whole holdings settings events p host_events host s in
+        let c = received_is holdings settings events p host_events host s in
         reversed_cut (past_of p).sent s.served.served.received (w.received.rest ++ s.to) c
         ∙ ap (λ z. reverse z ++ s.served.served.received) others_none
 
@@ -154,11 +154,11 @@ module _ (holdings : Holdings) (settings : Settings) (deeds : List Event) (p : T
         subst (λ z. IsPermutation (replies_to holdings z) s.served.served.sent) (sym all_received)
         (subst (λ z. IsPermutation (replies_to holdings s.served.served.received) z)
         (ap (λ z. s.served.served.sent ++ z) pending ∙ append-nil s.served.served.sent)
-        (permuted holdings settings deeds p events host s))
+        (permuted holdings settings events p host_events host s))
 
     none_comes : s.coming ≡ []
     none_comes =
-        let c = coming_is holdings settings deeds p events host s took.0 took.1 in
+        let c = coming_is holdings settings events p host_events host s took.0 took.1 in
         let nothing : s.from ++ host.waiting ≡ [] = ap (λ z. z ++ host.waiting) from ∙ waiting in
         all_taken s.coming took.0 c.read
         (sym (append-nil took.0) ∙ ap (λ z. took.0 ++ z) (sym nothing) ∙ c.are) took.2.no_message
@@ -168,13 +168,13 @@ module _ (holdings : Holdings) (settings : Settings) (deeds : List Event) (p : T
 
     all_came : p.stream ≡ flat_map encoding_of s.served.served.sent
     all_came =
-        sym (append-nil p.stream) ∙ ap (λ z. p.stream ++ z) (sym from) ∙ s.comes ∙ sym (append-nil (handed_out events))
-        ∙ ap (λ z. handed_out events ++ z) (sym waiting) ∙ s.served.waiting
+        sym (append-nil p.stream) ∙ ap (λ z. p.stream ++ z) (sym from) ∙ s.comes ∙ sym (append-nil (handed_out host_events))
+        ∙ ap (λ z. handed_out host_events ++ z) (sym waiting) ∙ s.served.waiting
 
     -- each reply that is owed was taken
     became : (v : Apdu) → Contains (replies_to holdings (requests p.settings p.log)) v → Became (past_of p) v
     became v i =
-        got_became p.settings p.log v (took_all settings deeds p s.transcript s.goes)
+        got_became p.settings p.log v (took_all settings events p s.transcript s.goes)
         (subst (λ z. Contains z v) all_got
         (Contains-permutation (replies_to holdings (requests p.settings p.log)) s.served.served.sent v all_put i))
 
@@ -183,7 +183,7 @@ module _ (holdings : Holdings) (settings : Settings) (deeds : List Event) (p : T
         (a.asked.op ≡ q.op)
     replied q i =
         let o = laws.owes holdings.databases holdings.settings p.settings p.log q
-        (conversation holdings settings deeds p events host s) i in
+        (conversation holdings settings events p host_events host s) i in
         by o.0 o.1 o.2 (became o.0 o.1)
       where
         by : (v : Apdu) → Contains (replies_to holdings (requests p.settings p.log)) v → id_of v ≡ Some
@@ -220,7 +220,7 @@ module _ (holdings : Holdings) (settings : Settings) (deeds : List Event) (p : T
         (opening r)
         (as_closing (state_of r) (sym stands ∙ e)) in
         let o = laws.owes_close holdings.databases holdings.settings p.settings p.log
-        (conversation holdings settings deeds p events host s)
+        (conversation holdings settings events p host_events host s)
         (close_called_in r.admitted n.1) in
         by o.0 n.0 (became (apdus.Close o.0)
         (subst (λ z. Contains z (apdus.Close o.0)) (sym o.2) (Contains-push o.1 (apdus.Close o.0))))
@@ -230,24 +230,24 @@ module _ (holdings : Holdings) (settings : Settings) (deeds : List Event) (p : T
         by c n (inr x) = true≢false (sym x.2 ∙ n)
 
 pub ends : CompletenessLaw
-ends holdings settings deeds p events host s e = ended holdings settings deeds p events host s e
+ends holdings settings events p host_events host s e = ended holdings settings events p host_events host s e
 
 pub rests : AccordLaws → SettledLaw
-rests laws holdings settings deeds p events host s to from waiting pending took = record {
-  answered = all_put holdings settings deeds p events host s laws to from waiting pending took;
-  stream = all_came holdings settings deeds p events host s laws to from waiting pending took;
-  waits = waits_none holdings settings deeds p events host s laws to from waiting pending took;
-  begun = is_begun holdings settings deeds p events host s laws to from waiting pending took;
-  closed = is_closed holdings settings deeds p events host s laws to from waiting pending took;
+rests laws holdings settings events p host_events host s to from waiting pending took = record {
+  answered = all_put holdings settings events p host_events host s laws to from waiting pending took;
+  stream = all_came holdings settings events p host_events host s laws to from waiting pending took;
+  waits = waits_none holdings settings events p host_events host s laws to from waiting pending took;
+  begun = is_begun holdings settings events p host_events host s laws to from waiting pending took;
+  closed = is_closed holdings settings events p host_events host s laws to from waiting pending took;
 }
 
 pub took : TakenRepliesLaw
-took holdings settings deeds p events host s =
+took holdings settings events p host_events host s =
     sym (ap (λ z. take z s.served.served.sent) (sym s.count) ∙ ap (λ z. take (length (got_in p.log)) z) s.got
     ∙ take_at (got_in p.log) s.coming (length (got_in p.log)) refl)
 
 pub keeps_converse : ConversationLaw
-keeps_converse holdings settings deeds p events host s = conversation holdings settings deeds p events host s
+keeps_converse holdings settings events p host_events host s = conversation holdings settings events p host_events host s
 
 pub keeps_owed : PendingLaw
-keeps_owed holdings settings deeds p events host s v i = pending_owed holdings settings deeds p events host s v i
+keeps_owed holdings settings events p host_events host s v i = pending_owed holdings settings events p host_events host s v i

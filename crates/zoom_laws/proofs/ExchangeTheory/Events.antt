@@ -1,4 +1,4 @@
--- Events amount to one thing, where memory was not wanting; and what they amount to, where nothing stopped the host.
+-- If memory was found, the host_events of a serving end have one transcript; and that transcript, if nothing stopped it.
 use Rattle.std.proofs.Common.{◌≡◌, ◌⊎◌, inl, inr, ℕ, Bool, true, false, List, [], ◌∷◌, ◌++◌, Some, Result, Ok, Err, refl, sym, ap, subst, ◌∙◌, true≢false, remove, arith}
 use Rattle.std.proofs.lemmas.List.{append_cancel_left}
 use Rattle.zber.specs.Elements.{Element}
@@ -43,7 +43,7 @@ from_first : {holdings : Holdings} {stream rest : List ℕ} {received : List Apd
 from_first nothing = here
 from_first (message r b w t) = follows_more (from_first r) b w t
 
--- what stops a host is no message that it takes
+-- what stops a serving end is no message that it takes
 stops_none : (holdings : Holdings) (received : List Apdu) (xs rest : List ℕ) (e : Element) (v : Apdu) (by : Answer)
     (input : Input)
     → Begins MESSAGE_LIMIT xs e rest → Writes v e → owed_by holdings received v ≡ Ok by → AreInput xs input
@@ -108,7 +108,7 @@ pub one_received : (holdings : Holdings) (stream : List ℕ) (now later : List A
 one_received holdings stream now later b c x y =
     one_follows b c (from_first x.messages) (from_first y.messages) refl refl x.behind y.behind
 
--- ---- law: events amount to one thing
+-- ---- law: host_events have one transcript
 
 module _ (holdings : Holdings) where
   one_put_last : (received pending now later a b : List Apdu) → ArePutLast holdings received pending now a
@@ -159,24 +159,24 @@ module _ (holdings : Holdings) where
       ∙ (λ i. record p { pending = remove p.pending k; released = p.released ++ same i ∷ []; stopped = true })
       ∙ sym y.is
 
-  pub one_served : (events : List HostEvent) (p q : HostTranscript) → ArePlain events → IsHostTranscript holdings events p
-      → IsHostTranscript holdings events q → p ≡ q
+  pub one_served : (host_events : List HostEvent) (p q : HostTranscript) → ArePlain host_events → IsHostTranscript holdings host_events p
+      → IsHostTranscript holdings host_events q → p ≡ q
   one_served [] p q plain a b = a ∙ sym b
-  one_served (HostFed piece ∷ events) p q plain a b =
-      one_piece piece a.0 b.0 p q (one_served events a.0 b.0 plain a.1 b.1) a.2 b.2
-  one_served (HostFedPart piece ∷ events) p q plain a b = absurd plain
-  one_served (Released k ∷ events) p q plain a b =
-      one_sent k a.0 p q a.2 (subst (λ z. ReleaseStep k z q) (sym (one_served events a.0 b.0 plain a.1 b.1)) b.2)
-  one_served (Lost k ∷ events) p q plain a b =
-      one_lost k a.0 p q a.2 (subst (λ z. LossStep k z q) (sym (one_served events a.0 b.0 plain a.1 b.1)) b.2)
-  one_served (HostHandedOut octets ∷ events) p q plain a b =
-      a.2 ∙ one_served events a.0 b.0 plain a.1 b.1 ∙ sym b.2
+  one_served (HostFed piece ∷ host_events) p q plain a b =
+      one_piece piece a.0 b.0 p q (one_served host_events a.0 b.0 plain a.1 b.1) a.2 b.2
+  one_served (HostFedPart piece ∷ host_events) p q plain a b = absurd plain
+  one_served (Released k ∷ host_events) p q plain a b =
+      one_sent k a.0 p q a.2 (subst (λ z. ReleaseStep k z q) (sym (one_served host_events a.0 b.0 plain a.1 b.1)) b.2)
+  one_served (Lost k ∷ host_events) p q plain a b =
+      one_lost k a.0 p q a.2 (subst (λ z. LossStep k z q) (sym (one_served host_events a.0 b.0 plain a.1 b.1)) b.2)
+  one_served (HostHandedOut octets ∷ host_events) p q plain a b =
+      a.2 ∙ one_served host_events a.0 b.0 plain a.1 b.1 ∙ sym b.2
 
--- ---- a host that goes on
+-- ---- a serving end that nothing stopped
 
--- all octets fed were heard, what was released was put, and all whole messages were received
-pub record IsUnbroken (holdings : Holdings) (events : List HostEvent) (q : HostTranscript) : Type 0 where
-  pub stream : q.stream ≡ fed_to events
+-- all octets fed are in the stream, each released reply was sent, and all whole messages were received
+pub record IsUnbroken (holdings : Holdings) (host_events : List HostEvent) (q : HostTranscript) : Type 0 where
+  pub stream : q.stream ≡ fed_to host_events
   pub released : q.released ≡ q.sent
   pub received : HasReceived holdings q.stream q.received false
 
@@ -190,11 +190,11 @@ module _ (holdings : Holdings) where
   moved p q e f h = subst (λ z. HasReceived holdings z q.received false) (sym e)
       (subst (λ z. HasReceived holdings p.stream z false) (sym f) h)
 
-  fed_unbroken : (piece : List ℕ) (events : List HostEvent) (p q : HostTranscript) →
-      (p.stopped ≡ false → IsUnbroken holdings events p)
-      → q.stopped ≡ false → IsIgnored p q ⊎ FeedStep holdings piece p q → IsUnbroken holdings (HostFed piece ∷ events) q
-  fed_unbroken piece events p q older g (inl x) = absurd (true≢false (sym x.0 ∙ sym (ap (λ z. z.stopped) x.1) ∙ g))
-  fed_unbroken piece events p q older g (inr x) =
+  fed_unbroken : (piece : List ℕ) (host_events : List HostEvent) (p q : HostTranscript) →
+      (p.stopped ≡ false → IsUnbroken holdings host_events p)
+      → q.stopped ≡ false → IsIgnored p q ⊎ FeedStep holdings piece p q → IsUnbroken holdings (HostFed piece ∷ host_events) q
+  fed_unbroken piece host_events p q older g (inl x) = absurd (true≢false (sym x.0 ∙ sym (ap (λ z. z.stopped) x.1) ∙ g))
+  fed_unbroken piece host_events p q older g (inr x) =
       let u = older x.going in
       record {
         stream = ap (λ z. z.stream) x.is ∙ ap (λ z. z ++ piece) u.stream;
@@ -203,26 +203,26 @@ module _ (holdings : Holdings) where
             (subst (λ b. HasReceived holdings (p.stream ++ piece) q.received b) g x.received);
       }
 
-  pub unbroken : (events : List HostEvent) (q : HostTranscript) → ArePlain events → IsHostTranscript holdings events q → q.stopped ≡ false
-      → IsUnbroken holdings events q
+  pub unbroken : (host_events : List HostEvent) (q : HostTranscript) → ArePlain host_events → IsHostTranscript holdings host_events q → q.stopped ≡ false
+      → IsUnbroken holdings host_events q
   unbroken [] q plain h g = subst (λ z. IsUnbroken holdings [] z) (sym h) (record {
     stream = refl;
     released = refl;
     received = record { rest = []; messages = nothing; behind = none_yet };
   })
-  unbroken (HostFed piece ∷ events) q plain h g = fed_unbroken piece events h.0 q (unbroken events h.0 plain h.1) g h.2
-  unbroken (HostFedPart piece ∷ events) q plain h g = absurd plain
-  unbroken (Released k ∷ events) q plain h g =
+  unbroken (HostFed piece ∷ host_events) q plain h g = fed_unbroken piece host_events h.0 q (unbroken host_events h.0 plain h.1) g h.2
+  unbroken (HostFedPart piece ∷ host_events) q plain h g = absurd plain
+  unbroken (Released k ∷ host_events) q plain h g =
       let x = h.2 in
-      let u = unbroken events h.0 plain h.1 x.going in
+      let u = unbroken host_events h.0 plain h.1 x.going in
       record {
         stream = ap (λ z. z.stream) x.is ∙ u.stream;
         released = ap (λ z. z.released) x.is ∙ ap (λ z. z ++ x.reply ∷ []) u.released ∙ sym (ap (λ z. z.sent) x.is);
         received = moved h.0 q (ap (λ z. z.stream) x.is) (ap (λ z. z.received) x.is) u.received;
       }
-  unbroken (Lost k ∷ events) q plain h g = absurd (true≢false (sym (ap (λ z. z.stopped) h.2.is) ∙ g))
-  unbroken (HostHandedOut octets ∷ events) q plain h g =
-      let u = unbroken events h.0 plain h.1 (sym (ap (λ z. z.stopped) h.2) ∙ g) in
+  unbroken (Lost k ∷ host_events) q plain h g = absurd (true≢false (sym (ap (λ z. z.stopped) h.2.is) ∙ g))
+  unbroken (HostHandedOut octets ∷ host_events) q plain h g =
+      let u = unbroken host_events h.0 plain h.1 (sym (ap (λ z. z.stopped) h.2) ∙ g) in
       record {
         stream = ap (λ z. z.stream) h.2 ∙ u.stream;
         released = ap (λ z. z.released) h.2 ∙ u.released ∙ sym (ap (λ z. z.sent) h.2);

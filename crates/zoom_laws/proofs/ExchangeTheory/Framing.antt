@@ -1,4 +1,4 @@
--- Octets that are the encodings of APDUs begin with these, and with nothing else.
+-- Octets that are the encodings of APDUs begin with these APDUs, and with nothing else.
 use Rattle.std.proofs.Common.{◌≡◌, ℕ, List, [], ◌∷◌, ◌++◌, length, reverse, refl, sym, ap, subst, ◌∙◌, append_assoc, arith}
 use Rattle.std.specs.List.{flat_map}
 use Rattle.std.proofs.lemmas.List.{reverse-append}
@@ -24,7 +24,7 @@ use Rattle.zoom_pool.proofs.Uniqueness.{none_begins}
 use Rattle.zoom_pool.proofs.Streams.{begins_longer}
 use Rattle.zoom_pool.specs.Connections.{AreReadBack}
 
--- the encodings begin with this element, which the first of the APDUs is written as
+-- the encodings begin with this element, which encodes the first APDU
 pub record IsNext (vs : List Apdu) (e : Element) (rest : List ℕ) : Type 0 where
   pub first : Apdu
   pub others : List Apdu
@@ -50,9 +50,9 @@ next_is (v ∷ vs) xs rest e all is b =
       read = all.1;
     }
 
--- ---- so many messages
+-- ---- messages
 
--- the messages are the front of the APDUs, and the others are behind them
+-- the messages are the first APDUs, and the other APDUs are behind them
 pub record IsCut (vs : List Apdu) (es : List Element) (rest : List ℕ) : Type 0 where
   pub front : List Apdu
   pub others : List Apdu
@@ -111,16 +111,16 @@ pub reversed_cut : (vs received : List Apdu) (rest : List ℕ) (c : IsReceived v
 reversed_cut vs received rest c =
     ap reverse c.are ∙ reverse-append c.front c.others ∙ ap (λ z. reverse c.others ++ z) (sym c.reversed)
 
--- ---- what is met
+-- ---- inputs
 
--- an APDU that is met is the first of them, and neither a fault is met nor a message that is no APDU
+-- an APDU that is the next input is the first of them; the input is neither a fault nor a message that is no APDU
 abbrev pub IsInputOf : List Apdu → Input → Type 0
 IsInputOf vs (Message v) = (others : List Apdu) × (vs ≡ v ∷ others)
 IsInputOf vs (Foreign error) = ⊥
 IsInputOf vs (Fault kind at) = ⊥
 IsInputOf vs _ = Unit {0}
 
--- an element that is refused is written of no APDU
+-- an element that is refused encodes no APDU
 pub written_foreign : (v : Apdu) (e : Element) (error : ApduError) → Writes v e → IsForeign e error → ⊥
 written_foreign v e decode.NotApdu w f = one_refusal.written v e w f
 written_foreign v e (decode.Malformed kind at) w f = f.0 v w
@@ -151,7 +151,7 @@ input_is vs rest more (Fault kind at) all is m = no_fault vs (rest ++ more) kind
 input_is vs rest more (Rest n) all is m = tt
 input_is vs rest more Nothing all is m = tt
 
--- encodings that begin with no message are none
+-- if encodings begin with no message, there are none
 pub all_taken : (vs : List Apdu) (xs : List ℕ) → AreReadBack vs → xs ≡ flat_map encoding_of vs
     → ((e : Element) (rest : List ℕ) → Begins MESSAGE_LIMIT xs e rest → ⊥) → vs ≡ []
 all_taken [] xs all is none = refl

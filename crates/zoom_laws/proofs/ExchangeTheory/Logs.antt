@@ -1,4 +1,4 @@
--- What a log got, and what became of it.
+-- The APDUs that a log got, and how each was taken.
 use Rattle.std.proofs.Common.{option_map, ◌≡◌, ◌⊎◌, inl, inr, true, false, cond, List, [], ◌∷◌, ◌++◌, Option, None, Some, Result, Ok, Err, refl, sym, ap, subst, ◌∙◌, true≢false}
 use Rattle.std.specs.Prelude.{Contains, ◌||◌}
 use Rattle.std.specs.List.{list_any}
@@ -30,7 +30,7 @@ use Rattle.zoom_laws.specs.Exchange.{got_in}
 
 -- ---- what was taken
 
--- each APDU that was got was taken
+-- each APDU that the log got was taken
 abbrev pub AllTaken : Settings → Log → Type 0
 AllTaken settings [] = Unit {0}
 AllTaken settings (Made call ∷ log) = AllTaken settings log
@@ -40,7 +40,7 @@ AllTaken settings (Got v ∷ log) =
 abbrev okay : Taken → Result Taken Refused
 okay x = Ok x
 
--- a Close alone closes
+-- only a Close closes
 judged_open : (answer : Answer) (o : Option Refused) → judged answer o ≡ Ok taken.Closed → ⊥
 judged_open answer (Some reason) e = absurd (cc)
 judged_open answer None e = by answer.reply e
@@ -83,9 +83,9 @@ verdict_close s reply e =
       | false ↦ λ f. absurd (cc)
     ] e
 
--- ---- what was got is accepted, or closed the connection
+-- ---- an APDU that the log got is accepted, or closed the connection
 
--- what became of an APDU that was got
+-- how an APDU that the log got was taken
 abbrev pub Became : Past → Apdu → Type 0
 Became p v = ((a : Answer) × Contains p.accepted a × (a.reply ≡ v)) ⊎
     ((c : CloseApdu) × (v ≡ apdus.Close c) × (p.closed ≡ true))
@@ -260,7 +260,7 @@ any_close (call ∷ calls) (inr i) = ap (λ b. is_close_call call || b) (any_clo
 pub close_admitted : (p : Past) → Contains p.admitted Close → list_any is_close_call p.admitted ≡ true
 close_admitted p i = any_close p.admitted (among Close p.admitted i)
 
--- and back
+-- the converse
 pub close_called_in : (calls : List Call) → list_any is_close_call calls ≡ true → Contains calls Close
 close_called_in calls h = contained Close calls (by calls h)
   where

@@ -1,4 +1,4 @@
--- What a longer log sent, and what is owed to that.
+-- The requests of a longer log, and the replies that are owed to them.
 use Rattle.std.proofs.Common.{◌≡◌, List, [], ◌∷◌, ◌++◌, reverse, sym, ap, subst, ◌∙◌, append_assoc, append-nil}
 use Rattle.std.specs.Prelude.{Contains}
 use Rattle.std.proofs.lemmas.List.{reverse-append}
@@ -15,7 +15,7 @@ use Rattle.zoom_laws.specs.Exchange.{LongerLaw}
 use Rattle.zoom_laws.proofs.ExchangeTheory.Replies.{replies_more}
 use Rattle.zoom_laws.proofs.ExchangeTheory.Steps.{called}
 
--- more is sent behind what was sent
+-- later requests are sent behind earlier ones
 sent_more : (settings : Settings) (more log : Log) → (later : List Apdu)
     × ((past settings (more ++ log)).sent ≡ (past settings log).sent ++ later)
 sent_more settings [] log = ([], sym (append-nil (past settings log).sent))

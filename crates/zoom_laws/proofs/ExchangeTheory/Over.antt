@@ -1,4 +1,4 @@
--- A Close is the last of what is owed: what is pending then, and what came once a connection is over.
+-- A Close is the last owed reply: what is pending then, and what came when a connection is over.
 use Rattle.std.proofs.Common.{◌≡◌, ◌⊎◌, inl, inr, ◌+◌, ◌≤◌, true, false, not, List, [], ◌∷◌, ◌++◌, length, Some, refl, sym, ap, subst, ◌∙◌, append_assoc, append-nil, length-append, true≢false, arith}
 use Rattle.std.specs.Prelude.{◌||◌, ◌==◌, Contains, IsPermutation}
 use Rattle.std.specs.List.{flat_map, list_any}
@@ -44,21 +44,21 @@ kind_of (apdus.PresentRequest v) = inl refl
 kind_of (apdus.PresentResponse v) = inl refl
 kind_of (apdus.Close c) = inr (c, refl)
 
-module _ (laws : AccordLaws) (holdings : Holdings) (settings : Settings) (deeds : List Event) (p : Transcript)
-    (events : List HostEvent) (host : HostState)
-    (s : IsSoundExchange holdings settings deeds p events host) where
+module _ (laws : AccordLaws) (holdings : Holdings) (settings : Settings) (events : List Event) (p : Transcript)
+    (host_events : List HostEvent) (host : HostState)
+    (s : IsSoundExchange holdings settings events p host_events host) where
   abbrev all : List Apdu
   all = replies_to holdings (requests p.settings p.log)
 
-  -- where a Close is owed, all is owed before one
+  -- if a Close is owed, all other replies are owed before a Close
   closes : (c : Close) → Contains all (apdus.Close c)
       → (d : Close) × (others : List Apdu) × (all ≡ others ++ apdus.Close d ∷ [])
   closes c i =
       laws.owes_close holdings.databases holdings.settings p.settings p.log
-      (conversation holdings settings deeds p events host s)
-      (close_is holdings settings deeds p events host s c i).0
+      (conversation holdings settings events p host_events host s)
+      (close_is holdings settings events p host_events host s c i).0
 
-  -- two are not owed one before the other
+  -- no Close is owed before another
   one_close : (c d : Close) (before behind : List Apdu) → all ≡ before ++ behind → IsIn (apdus.Close c) before
       → IsIn (apdus.Close d) behind
       → Contains all (apdus.Close c) → Contains all (apdus.Close d) → ⊥
@@ -66,26 +66,26 @@ module _ (laws : AccordLaws) (holdings : Holdings) (settings : Settings) (deeds 
       laws.apart holdings.databases holdings.settings p.settings p.log before behind (apdus.Close c) (apdus.Close d)
       (subst (λ z. IsPermutation all z) e (IsPermutation-refl all))
       (contained (apdus.Close c) before i) (contained (apdus.Close d) behind j)
-      ((close_is holdings settings deeds p events host s c there).1
-      ∙ sym (close_is holdings settings deeds p events host s d too).1)
+      ((close_is holdings settings events p host_events host s c there).1
+      ∙ sym (close_is holdings settings events p host_events host s d too).1)
 
   last_there : (others : List Apdu) (d : Close) → all ≡ others ++ apdus.Close d ∷ [] → Contains all (apdus.Close d)
   last_there others d e = subst (λ z. Contains z (apdus.Close d)) (sym e) (Contains-push others (apdus.Close d))
 
-  -- ---- what is pending
+  -- ---- pending replies
 
   ordered : IsPart host.target.pending all
   ordered =
-      let more = more_owed holdings settings deeds p events host s in
+      let more = more_owed holdings settings events p host_events host s in
       subst (λ z. IsPart host.target.pending z) (sym more.1)
       (subst (λ z. IsPart z (replies_to holdings s.served.served.received ++ more.0)) (sym s.served.pending)
       (part_front s.served.served.pending (replies_to holdings s.served.served.received) more.0
-      (in_order holdings events s.served.served s.served.happened)))
+      (in_order holdings host_events s.served.served s.served.happened)))
 
   not_before : (c : Close) (w : Apdu) (vs : List Apdu) → host.target.pending ≡ apdus.Close c ∷ w ∷ vs → ⊥
   not_before c w vs is =
       let there : Contains all (apdus.Close c) =
-      pending_owed holdings settings deeds p events host s (apdus.Close c)
+      pending_owed holdings settings events p host_events host s (apdus.Close c)
       (subst (λ z. Contains z (apdus.Close c)) (sym is)
       (contained (apdus.Close c) (apdus.Close c ∷ w ∷ vs) (inl refl))) in
       let o = closes c there in
@@ -103,9 +103,9 @@ module _ (laws : AccordLaws) (holdings : Holdings) (settings : Settings) (deeds 
       by (inl f) = absurd (true≢false (ap (λ b. not b || (length (v ∷ w ∷ vs) == 1)) (sym f) ∙ e))
       by (inr c) = absurd (not_before c.0 w vs (is ∙ ap (λ z. z ∷ w ∷ vs) c.1))
 
-  -- ---- once the connection is over
+  -- ---- when the connection is over
 
-  -- all that is owed was put, and was taken
+  -- each owed reply was sent and taken
   record HasAll : Type 0 where
     put : IsPermutation all s.served.served.sent
     none : s.coming ≡ []
@@ -115,10 +115,10 @@ module _ (laws : AccordLaws) (holdings : Holdings) (settings : Settings) (deeds 
   closed_all e =
       let g = closed_got p.settings p.log e in
       let c = g.0 in
-      let there = got_owed holdings settings deeds p events host s (apdus.Close c) g.1 in
-      let f = followed holdings events s.served.served s.served.happened (got_in p.log) s.coming c s.got
+      let there = got_owed holdings settings events p host_events host s (apdus.Close c) g.1 in
+      let f = followed holdings host_events s.served.served s.served.happened (got_in p.log) s.coming c s.got
       (among (apdus.Close c) (got_in p.log) g.1) in
-      let more = more_owed holdings settings deeds p events host s in
+      let more = more_owed holdings settings events p host_events host s in
       let cut : all ≡ f.before ++ (f.behind ++ more.0) =
       more.1 ∙ ap (λ z. z ++ more.0) f.is ∙ append_assoc f.before f.behind more.0 in
       let o = closes c there in
@@ -143,20 +143,20 @@ module _ (laws : AccordLaws) (holdings : Holdings) (settings : Settings) (deeds 
           let put : IsPermutation received s.served.served.sent =
           subst (λ z. IsPermutation received z)
           (ap (λ z. s.served.served.sent ++ z) pending ∙ append-nil s.served.served.sent)
-          (permuted holdings settings deeds p events host s) in
+          (permuted holdings settings events p host_events host s) in
           record {
             put = subst (λ z. IsPermutation z s.served.served.sent) (sym same) put;
             none = none_in_none s.coming (λ v i. subst (IsIn v) behind (f.late v i));
           }
 
-  -- Init was all that was sent
+  -- only Init was sent
   rejected_all : (a : Answer) → opening (past_of p) ≡ Some a → Rejects a.reply → HasAll
   rejected_all a o r =
       let found = found_in (past_of p).accepted a o in
       let there = contained a (past_of p).accepted found.0 in
       let i = accepted_so p.settings p.log a there in
       let v = rejecting a.asked.what a.reply found.1 i.fits r in
-      let k = conversation holdings settings deeds p events host s in
+      let k = conversation holdings settings events p host_events host s in
       let d = conversing.due holdings.databases holdings.settings p.settings p.log a.reply (k.owed a there) in
       let m = conversing.init_sent holdings.settings d.request v.0
       (subst (owing.Replies holdings.settings d.request) v.1 d.replies) in
@@ -165,7 +165,7 @@ module _ (laws : AccordLaws) (holdings : Holdings) (settings : Settings) (deeds 
       let alone : asks ≡ apdus.InitRequest m.0 ∷ [] =
       owing.refused_alone holdings.settings holdings.databases asks taken m.0
       (subst (λ z. IsIn z asks) m.1 d.received) (sym m.2 ∙ v.2) in
-      let put = due holdings settings deeds p events host s in
+      let put = due holdings settings events p host_events host s in
       let got : IsIn a.reply (got_in p.log) = among a.reply (got_in p.log) (accepted_got p.settings p.log a i) in
       let some = some_in a.reply (got_in p.log) got in
       let one : length asks ≡ 1 = ap length alone in
@@ -189,7 +189,7 @@ module _ (laws : AccordLaws) (holdings : Holdings) (settings : Settings) (deeds 
   has_all e =
       let r = past_of p in
       by (stopped_so r.fault r.closed (list_any is_close_call r.admitted) (list_any is_init_call r.admitted)
-      (opening r) s.sound (ap is_stopped (sym (stands holdings settings deeds p events host s)) ∙ e))
+      (opening r) s.sound (ap is_stopped (sym (stands holdings settings events p host_events host s)) ∙ e))
     where
       by : ((past_of p).closed ≡ true) ⊎ ((a : Answer) × (opening (past_of p) ≡ Some a) × Rejects a.reply) → HasAll
       by (inl c) = closed_all c
@@ -198,19 +198,19 @@ module _ (laws : AccordLaws) (holdings : Holdings) (settings : Settings) (deeds 
   -- nothing is behind it
   all_came : HasAll → p.stream ≡ flat_map encoding_of s.served.served.sent
   all_came h =
-      let r = rest_behind settings deeds p s.transcript s.goes in
+      let r = rest_behind settings events p s.transcript s.goes in
       let more = s.from ++ host.waiting in
-      let c = coming_is holdings settings deeds p events host s r.0 r.1 in
+      let c = coming_is holdings settings events p host_events host s r.0 r.1 in
       let none : more ≡ [] = right_none r.0 more (c.are ∙ ap (λ z. flat_map encoding_of z) h.none) in
       sym (append-nil p.stream) ∙ ap (λ z. p.stream ++ z) (sym none)
-      ∙ left_of (handed_out events) p.stream s.from host.waiting (flat_map encoding_of s.served.served.sent) s.comes
+      ∙ left_of (handed_out host_events) p.stream s.from host.waiting (flat_map encoding_of s.served.served.sent) s.comes
       s.served.waiting
 
 pub empty : AccordLaws → EmptyLaw
-empty laws holdings settings deeds p events host s e =
-    none_pending laws holdings settings deeds p events host s host.target.pending refl e
+empty laws holdings settings events p host_events host s e =
+    none_pending laws holdings settings events p host_events host s host.target.pending refl e
 
 pub over : AccordLaws → OverLaw
-over laws holdings settings deeds p events host s e =
-    let h = has_all laws holdings settings deeds p events host s e in
-    (h.put, all_came laws holdings settings deeds p events host s h)
+over laws holdings settings events p host_events host s e =
+    let h = has_all laws holdings settings events p host_events host s e in
+    (h.put, all_came laws holdings settings events p host_events host s h)

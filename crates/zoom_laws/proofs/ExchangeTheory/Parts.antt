@@ -54,7 +54,7 @@ module _ {X : Type 0} where
   part_none [] h = refl
   part_none (x ∷ xs) h = absurd h
 
-  -- what others follow in a part is not the last of the whole
+  -- an element with others behind it in a part is not the last of the whole
   pub before_last : (x y z : X) (xs others : List X) → IsPart (x ∷ y ∷ xs) (others ++ z ∷ []) → IsIn x others
   before_last x y z xs [] (inl e) = absurd e.1
   before_last x y z xs [] (inr h) = absurd h
@@ -84,7 +84,7 @@ module _ {X : Type 0} where
   none_in_none [] h = refl
   none_in_none (x ∷ xs) h = absurd (h x (inl refl))
 
-  -- the last is the last of the second part, where there is one
+  -- the last is the last of the second part, if that is not empty
   pub last_in : (x : X) (xs ys others : List X) → xs ++ ys ≡ others ++ x ∷ [] → (ys ≡ []) ⊎ IsIn x ys
   last_in x [] ys others e = inr (subst (IsIn x) (sym e) (in_last others))
     where
@@ -94,7 +94,7 @@ module _ {X : Type 0} where
   last_in x (y ∷ xs) ys [] e = inl (right_none xs ys (tails e))
   last_in x (y ∷ xs) ys (z ∷ others) e = last_in x xs ys others (tails e)
 
-  -- the last is of the second part, where there is one
+  -- the last is of the second part, if that is not empty
   pub last_cut : (x : X) (xs a b : List X) → xs ++ x ∷ [] ≡ a ++ b
       → (b ≡ []) ⊎ ((c : List X) × (b ≡ c ++ x ∷ []) × (xs ≡ a ++ c))
   last_cut x xs [] b e = inr (xs, sym e, refl)

@@ -1,4 +1,4 @@
--- The order of what a host owes, and what it can owe once a Close was put.
+-- The order of the replies that a serving end owes, and what it can owe after a Close was sent.
 use Rattle.std.proofs.Common.{◌≡◌, ◌⊎◌, inl, inr, ℕ, zero, suc, true, false, List, [], ◌∷◌, ◌++◌, length, None, Some, refl, sym, ap, subst, ◌∙◌, append_assoc, append-nil, true≢false, arith}
 use Rattle.std.proofs.lemmas.Bool.Decides.{nat_tests}
 use Rattle.std.specs.Prelude.{◌==◌, remove, slice_get}
@@ -17,7 +17,7 @@ no_some e = cc
 none_put : {x : Apdu} {xs : List Apdu} → [] ≡ x ∷ xs → ⊥
 none_put e = cc
 
--- where a Close may go out, nothing else is pending
+-- if a Close may be released, nothing else is pending
 one_left : (pending : List Apdu) (k : ℕ) (c : Close) → may_go (slice_get pending k) (length pending) ≡ true
     → slice_get pending k ≡ Some (apdus.Close c)
     → remove pending k ≡ []
@@ -28,7 +28,7 @@ one_left (v ∷ w ∷ vs) k c may e =
     let more : (length (v ∷ w ∷ vs) == 1) ≡ false = grind (arith, nat_tests) in
     absurd (true≢false (sym may ∙ ap (λ o. may_go o (length (v ∷ w ∷ vs))) e ∙ more))
 
--- A Close was put: what was put since, and what is pending, is owed behind it.
+-- A Close was sent: the replies sent since, and those pending, are owed behind it.
 pub record Follows (owed : List Apdu) (c : Close) (since pending : List Apdu) : Type 0 where
   pub before : List Apdu
   pub behind : List Apdu
@@ -40,7 +40,7 @@ pub record Follows (owed : List Apdu) (c : Close) (since pending : List Apdu) : 
 module _ (holdings : Holdings) where
   -- ---- the order
 
-  -- what is pending is a part of what is owed, in the same order
+  -- the pending replies are a part of those owed, in the same order
   abbrev InOrder : HostTranscript → Type 0
   InOrder q = IsPart q.pending (replies_to holdings q.received)
 
@@ -54,19 +54,19 @@ module _ (holdings : Holdings) where
   order_fed piece p q h (inl x) = subst InOrder (sym x.1) h
   order_fed piece p q h (inr x) = order_more p q x.replies h
 
-  pub in_order : (events : List HostEvent) (q : HostTranscript) → IsHostTranscript holdings events q → InOrder q
+  pub in_order : (host_events : List HostEvent) (q : HostTranscript) → IsHostTranscript holdings host_events q → InOrder q
   in_order [] q h = subst InOrder (sym h) tt
-  in_order (HostFed piece ∷ events) q h = order_fed piece h.0 q (in_order events h.0 h.1) h.2
-  in_order (HostFedPart piece ∷ events) q h = order_more h.0 q h.2.replies (in_order events h.0 h.1)
-  in_order (Released k ∷ events) q h =
+  in_order (HostFed piece ∷ host_events) q h = order_fed piece h.0 q (in_order host_events h.0 h.1) h.2
+  in_order (HostFedPart piece ∷ host_events) q h = order_more h.0 q h.2.replies (in_order host_events h.0 h.1)
+  in_order (Released k ∷ host_events) q h =
       subst InOrder (sym h.2.is)
-      (part_remove h.0.pending (replies_to holdings h.0.received) k (in_order events h.0 h.1))
-  in_order (Lost k ∷ events) q h =
+      (part_remove h.0.pending (replies_to holdings h.0.received) k (in_order host_events h.0 h.1))
+  in_order (Lost k ∷ host_events) q h =
       subst InOrder (sym h.2.is)
-      (part_remove h.0.pending (replies_to holdings h.0.received) k (in_order events h.0 h.1))
-  in_order (HostHandedOut octets ∷ events) q h = subst InOrder (sym h.2) (in_order events h.0 h.1)
+      (part_remove h.0.pending (replies_to holdings h.0.received) k (in_order host_events h.0 h.1))
+  in_order (HostHandedOut octets ∷ host_events) q h = subst InOrder (sym h.2) (in_order host_events h.0 h.1)
 
-  -- ---- once a Close was put
+  -- ---- after a Close was sent
 
   abbrev IsFollowed : HostTranscript → Type 0
   IsFollowed q =
@@ -92,7 +92,7 @@ module _ (holdings : Holdings) where
   followed_fed piece p q h (inl x) = subst IsFollowed (sym x.1) h
   followed_fed piece p q h (inr x) = followed_more p q (ap (λ z. z.sent) x.is) x.replies h
 
-  -- a reply less is pending
+  -- one reply less is pending
   fewer : (owed : List Apdu) (c : Close) (since pending : List Apdu) (k : ℕ) → Follows owed c since pending
       → Follows owed c since (remove pending k)
   fewer owed c since pending k f = record {
@@ -104,7 +104,7 @@ module _ (holdings : Holdings) where
     left = part_remove pending f.behind k f.left;
   }
 
-  -- a reply was put
+  -- a reply was sent
   module _ (k : ℕ) (p q : HostTranscript) (order : InOrder p) (older : IsFollowed p) (x : ReleaseStep k p q) where
     there : IsIn x.reply p.pending
     there = there_in p.pending k x.reply x.due.there
@@ -112,7 +112,7 @@ module _ (holdings : Holdings) where
     none_late : (b : List Apdu) → b ≡ [] → (v : Apdu) → IsIn v b → (behind : List Apdu) → IsIn v behind
     none_late b e v i behind = absurd (subst (IsIn v) e i)
 
-    -- it is the newest of those that count
+    -- it is the newest of those sent since
     followed_last : (a b : List Apdu) (c : Close) → b ≡ [] → p.sent ++ x.reply ∷ [] ≡ a ++ b → IsIn (apdus.Close c) a
         → Follows (replies_to holdings p.received) c b (remove p.pending k)
     followed_last a b c none e i =
@@ -176,15 +176,15 @@ module _ (holdings : Holdings) where
   nothing_put [] b c e i = absurd i
   nothing_put (v ∷ a) b c e i = absurd (none_put e)
 
-  pub followed : (events : List HostEvent) (q : HostTranscript) → IsHostTranscript holdings events q → IsFollowed q
+  pub followed : (host_events : List HostEvent) (q : HostTranscript) → IsHostTranscript holdings host_events q → IsFollowed q
   followed [] q h = subst IsFollowed (sym h) nothing_put
-  followed (HostFed piece ∷ events) q h = followed_fed piece h.0 q (followed events h.0 h.1) h.2
-  followed (HostFedPart piece ∷ events) q h =
-      followed_more h.0 q (ap (λ z. z.sent) h.2.is) h.2.replies (followed events h.0 h.1)
-  followed (Released k ∷ events) q h =
-      followed_sent k h.0 q (in_order events h.0 h.1) (followed events h.0 h.1) h.2
-  followed (Lost k ∷ events) q h =
-      let older = followed events h.0 h.1 in
+  followed (HostFed piece ∷ host_events) q h = followed_fed piece h.0 q (followed host_events h.0 h.1) h.2
+  followed (HostFedPart piece ∷ host_events) q h =
+      followed_more h.0 q (ap (λ z. z.sent) h.2.is) h.2.replies (followed host_events h.0 h.1)
+  followed (Released k ∷ host_events) q h =
+      followed_sent k h.0 q (in_order host_events h.0 h.1) (followed host_events h.0 h.1) h.2
+  followed (Lost k ∷ host_events) q h =
+      let older = followed host_events h.0 h.1 in
       subst IsFollowed (sym h.2.is)
       (λ a b c e i. fewer (replies_to holdings h.0.received) c b h.0.pending k (older a b c e i))
-  followed (HostHandedOut octets ∷ events) q h = subst IsFollowed (sym h.2) (followed events h.0 h.1)
+  followed (HostHandedOut octets ∷ host_events) q h = subst IsFollowed (sym h.2) (followed host_events h.0 h.1)

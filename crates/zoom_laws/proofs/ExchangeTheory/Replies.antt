@@ -19,7 +19,7 @@ use Rattle.zoom_laws.proofs.ExchangeTheory.Logs.{none_in}
 
 -- ---- a Close
 
--- the Close that this answers
+-- the Close that this Close replies to
 abbrev pub Answers : Apdu → Close → Type 0
 Answers v c = (d : Close) × (v ≡ apdus.Close d) × (c.reference_id ≡ d.reference_id)
 
@@ -78,7 +78,7 @@ close_of databases settings received v c (Ok a) q i =
       | inr f ↦ absurd f
     ]
 
--- a Close that is owed answers one that was received
+-- a Close that is owed replies to one that was received
 pub close_owed : (databases : List Database) (settings : TargetSettings) (received : List Apdu) (c : Close)
     → Contains (replies databases settings received) (apdus.Close c)
     → (d : Close) × Contains received (apdus.Close d) × (c.reference_id ≡ d.reference_id)
@@ -95,9 +95,9 @@ close_owed databases settings (v ∷ received) c i =
     in_rest : (x : Apdu) → Contains received x → Contains (v ∷ received) x
     in_rest x h = contained x (v ∷ received) (inr (among x received h))
 
--- ---- requests more
+-- ---- more requests
 
--- what is owed to these is owed first
+-- the replies to earlier requests are owed first
 pub replies_more : (databases : List Database) (settings : TargetSettings) (later received : List Apdu)
     → (more : List Apdu) × (replies databases settings
     (later ++ received) ≡ replies databases settings received ++ more)
@@ -107,7 +107,7 @@ replies_more databases settings (v ∷ later) received =
     let mine = reply_of (owed databases settings (later ++ received) v) in
     (older.0 ++ mine, ap (λ z. z ++ mine) older.1 ∙ append_assoc (replies databases settings received) older.0 mine)
 
--- what was put and what is left are all that is owed to more
+-- after more requests, the replies sent and those left are all that are owed
 pub owed_more : (databases : List Database) (settings : TargetSettings) (later received all sent pending : List Apdu)
     → all ≡ later ++ received
     → IsPermutation (replies databases settings received) (sent ++ pending)

@@ -1,4 +1,4 @@
--- What holds of a connection and a host that are sound.
+-- What holds of a connection and a serving end in a sound exchange.
 use Rattle.std.proofs.Common.{◌≡◌, ℕ, List, [], ◌∷◌, ◌++◌, length, reverse, sym, ap, subst, ◌∙◌, append_assoc, arith}
 use Rattle.std.specs.Prelude.{Contains, IsPermutation}
 use Rattle.std.specs.List.{flat_map}
@@ -32,7 +32,7 @@ same_fronts (x ∷ a) (y ∷ b) c d n e = same_fronts a b c d (omega (arith, n))
     tails : x ∷ (a ++ c) ≡ y ∷ (b ++ d) → a ++ c ≡ b ++ d
     tails f = cc
 
--- what is left of octets that came as they were sent, with what goes further
+-- the octets left of a stream that was received as it was sent, if more is sent
 pub left_of : (front came from waiting all : List ℕ) → came ++ from ≡ front → front ++ waiting ≡ all → came ++
     (from ++ waiting) ≡ all
 left_of front came from waiting all e f = sym (append_assoc came from waiting) ∙ ap (λ z. z ++ waiting) e ∙ f
@@ -42,13 +42,13 @@ pub record IsComing (coming : List Apdu) (octets : List ℕ) : Type 0 where
   pub are : octets ≡ flat_map encoding_of coming
   pub read : AreReadBack coming
 
-module _ (holdings : Holdings) (settings : Settings) (deeds : List Event) (p : Transcript) (events : List HostEvent)
+module _ (holdings : Holdings) (settings : Settings) (events : List Event) (p : Transcript) (host_events : List HostEvent)
     (host : HostState)
-    (s : IsSoundExchange holdings settings deeds p events host) where
-  -- ---- the host
+    (s : IsSoundExchange holdings settings events p host_events host) where
+  -- ---- the serving end
 
-  pub whole : IsUnbroken holdings events s.served.served
-  whole = unbroken holdings events s.served.served s.plain s.served.happened s.serving
+  pub whole : IsUnbroken holdings host_events s.served.served
+  whole = unbroken holdings host_events s.served.served s.plain s.served.happened s.serving
 
   pub stream_is : s.served.served.stream ++ s.to ≡ flat_map encoding_of (past_of p).sent
   stream_is = ap (λ z. z ++ s.to) whole.stream ∙ s.sends
@@ -85,7 +85,7 @@ module _ (holdings : Holdings) (settings : Settings) (deeds : List Event) (p : T
       (Contains-permutation all owing v (IsPermutation-sym owing all permuted)
       (Contains-append_right s.served.served.sent host.target.pending v i)))
 
-  -- what was put and what is left are all that is owed to what was sent
+  -- the replies sent and those left are all that are owed to the requests
   pub due : (left : List Apdu) × IsPermutation (replies_to holdings (requests p.settings p.log))
       (s.served.served.sent ++ left)
   due = owed_more holdings.databases holdings.settings (reverse received_is.others) s.served.served.received
@@ -112,7 +112,7 @@ module _ (holdings : Holdings) (settings : Settings) (deeds : List Event) (p : T
   coming_is rest b =
       let more = s.from ++ host.waiting in
       let all : p.stream ++ more ≡ flat_map encoding_of s.served.served.sent =
-      left_of (handed_out events) p.stream s.from host.waiting
+      left_of (handed_out host_events) p.stream s.from host.waiting
       (flat_map encoding_of s.served.served.sent) s.comes s.served.waiting in
       let c = cut_by s.served.served.sent s.answers all (fed_more MESSAGE_LIMIT p.stream rest more b.messages b.gave) in
       let same : s.coming ≡ c.others =

@@ -1,4 +1,4 @@
--- Where a connection stands that nothing stopped.
+-- The state of a connection that nothing stopped.
 use Rattle.std.proofs.Common.{◌≡◌, ◌⊎◌, inl, inr, ℕ, arith, Bool, true, false, cond, not, List, [], ◌∷◌, filter, Option, None, Some, refl, sym, ap, subst, ◌∙◌, true≢false}
 use Rattle.std.specs.Prelude.{◌||◌}
 use Rattle.std.specs.List.{list_any, find}
@@ -53,7 +53,7 @@ stops_by closing (apdus.PresentRequest v) s = tt
 stops_by closing (apdus.PresentResponse v) s = tt
 stops_by closing (apdus.Close v) s = tt
 
--- it was closed, or its Init was answered so
+-- it was closed, or its Init was answered with a rejection
 pub stopped_so : (fault : Option Refused) (closed closing begun : Bool) (answer : Option Answer) → fault ≡ None
     → is_stopped (state_as (state_from fault closed closing begun answer)) ≡ true
     → (closed ≡ true) ⊎ ((a : Answer) × (answer ≡ Some a) × Rejects a.reply)
@@ -153,7 +153,7 @@ by_closing (apdus.PresentRequest v) s = absurd (cc)
 by_closing (apdus.PresentResponse v) s = absurd (cc)
 by_closing (apdus.Close v) s = absurd (cc)
 
--- Close was admitted, and no Close was taken
+-- Close was admitted, and no Close of the target was taken
 pub closing_so : (fault : Option Refused) (closed closing begun : Bool) (answer : Option Answer)
     → state_from fault closed closing begun answer ≡ origins.Closing → (closed ≡ false) × (closing ≡ true)
 closing_so (Some reason) closed closing begun answer e = absurd (cc)

@@ -1,4 +1,4 @@
--- What is done keeps a connection and a host sound.
+-- Each step keeps an exchange of a connection and a serving end sound.
 use Rattle.std.proofs.Common.{◌≡◌, ◌⊎◌, inl, inr, ℕ, suc, Bool, true, false, cond, is_some, List, [], ◌∷◌, ◌++◌, reverse, Option, None, Some, Ok, refl, sym, ap, subst, ◌∙◌, append_assoc, append-nil, length-append, true≢false, arith}
 use Rattle.std.specs.Prelude.{Contains, IsPermutation, ◌||◌}
 use Rattle.std.specs.List.{flat_map, list_any}
@@ -56,7 +56,7 @@ starts holdings settings host a = record {
 
 -- ---- calls
 
--- what a call adds to what was sent
+-- what a call adds to the requests sent
 pub record IsCalled (p q : Past) : Type 0 where
   pub more : List Apdu
   pub sent : q.sent ≡ p.sent ++ more
@@ -67,16 +67,16 @@ called p call None = record { more = request_list (request_of (standing p) call)
 called p call (Some reason) = record { more = []; sent = sym (append-nil p.sent); fault = refl }
 
 pub calls : CallLaw
-calls holdings settings deeds p events host call s reads =
+calls holdings settings events p host_events host call s reads =
     let q : Transcript = record p { log = Made call ∷ p.log } in
     let is : after_call p call ≡ q = ap (λ o. cond (is_some o) p q) s.goes in
     let c = called (past_of p) call (refusal (standing (past_of p)) call) in
-    let now : IsSoundExchange holdings settings (Called call ∷ deeds) q events host = record {
+    let now : IsSoundExchange holdings settings (Called call ∷ events) q host_events host = record {
       transcript = (p, s.transcript, sym is);
       served = s.served;
       plain = s.plain;
       to = s.to ++ flat_map encoding_of c.more;
-      sends = sym (append_assoc (fed_to events) s.to (flat_map encoding_of c.more))
+      sends = sym (append_assoc (fed_to host_events) s.to (flat_map encoding_of c.more))
           ∙ ap (λ z. z ++ flat_map encoding_of c.more) s.sends
           ∙ sym (flat_map-append encoding_of (past_of p).sent c.more) ∙ ap (λ z. flat_map encoding_of z) (sym c.sent);
       from = s.from;
@@ -91,14 +91,14 @@ calls holdings settings deeds p events host call s reads =
       asks = subst (λ z. AreReadBack (past_of z).sent) is reads;
       answers = s.answers;
     } in
-    subst (λ z. IsSoundExchange holdings settings (Called call ∷ deeds) z events host) (sym is) now
+    subst (λ z. IsSoundExchange holdings settings (Called call ∷ events) z host_events host) (sym is) now
 
--- ---- deeds that leave the connection as it was
+-- ---- host_events that leave the connection unchanged
 
-still : (holdings : Holdings) (settings : Settings) (deeds more : List Event) (p : Transcript) (events : List HostEvent)
-    (host : HostState) → IsTranscript settings more p → IsSoundExchange holdings settings deeds p events host
-    → IsSoundExchange holdings settings more p events host
-still holdings settings deeds more p events host transcript s = record {
+still : (holdings : Holdings) (settings : Settings) (events more : List Event) (p : Transcript) (host_events : List HostEvent)
+    (host : HostState) → IsTranscript settings more p → IsSoundExchange holdings settings events p host_events host
+    → IsSoundExchange holdings settings more p host_events host
+still holdings settings events more p host_events host transcript s = record {
   transcript = transcript;
   served = s.served;
   plain = s.plain;
@@ -118,21 +118,21 @@ still holdings settings deeds more p events host transcript s = record {
 }
 
 pub gives : HandedOutLaw
-gives holdings settings deeds p events host octets s =
-    still holdings settings deeds (HandedOut octets ∷ deeds) p events host (p, s.transcript, refl) s
+gives holdings settings events p host_events host octets s =
+    still holdings settings events (HandedOut octets ∷ events) p host_events host (p, s.transcript, refl) s
 
--- ---- octets that come to the connection
+-- ---- octets that are fed to the connection
 
-module _ (holdings : Holdings) (settings : Settings) (deeds : List Event) (p : Transcript) (events : List HostEvent)
+module _ (holdings : Holdings) (settings : Settings) (events : List Event) (p : Transcript) (host_events : List HostEvent)
     (host : HostState)
-    (piece rest : List ℕ) (s : IsSoundExchange holdings settings deeds p events host) (cut : s.from ≡ piece ++ rest) where
+    (piece rest : List ℕ) (s : IsSoundExchange holdings settings events p host_events host) (cut : s.from ≡ piece ++ rest) where
   abbrev longer : Transcript
   longer = record p { stream = p.stream ++ piece }
 
   fed_by : (b : Bool) → (is_stopped (state_at p) || p.ended) ≡ b
-      → IsSoundExchange holdings settings (Fed piece ∷ deeds) (cond b p longer) events host
+      → IsSoundExchange holdings settings (Fed piece ∷ events) (cond b p longer) host_events host
   fed_by true e =
-      still holdings settings deeds (Fed piece ∷ deeds) p events host
+      still holdings settings events (Fed piece ∷ events) p host_events host
       (p, s.transcript, ap (λ b. cond b p longer) (sym e)) s
   fed_by false e = record {
     transcript = (p, s.transcript, ap (λ b. cond b p longer) (sym e));
@@ -154,24 +154,24 @@ module _ (holdings : Holdings) (settings : Settings) (deeds : List Event) (p : T
   }
 
 pub fed : FedLaw
-fed holdings settings deeds p events host piece rest s cut =
-    fed_by holdings settings deeds p events host piece rest s cut (is_stopped (state_at p) || p.ended) refl
+fed holdings settings events p host_events host piece rest s cut =
+    fed_by holdings settings events p host_events host piece rest s cut (is_stopped (state_at p) || p.ended) refl
 
--- ---- the host
+-- ---- the serving end
 
 taken_behind : (databases : List Database) (target : TargetSettings) (later received : List Apdu)
     → AreTaken databases target (later ++ received) → AreTaken databases target received
 taken_behind databases target [] received t = t
 taken_behind databases target (v ∷ later) received t = taken_behind databases target later received t.1
 
-module _ (holdings : Holdings) (settings : Settings) (deeds : List Event) (p : Transcript) (events : List HostEvent)
+module _ (holdings : Holdings) (settings : Settings) (events : List Event) (p : Transcript) (host_events : List HostEvent)
     (host : HostState)
-    (s : IsSoundExchange holdings settings deeds p events host) where
-  same_served : (q : HostTranscript) → IsHostTranscript holdings events q → q ≡ s.served.served
-  same_served q h = one_served holdings events q s.served.served s.plain h s.served.happened
+    (s : IsSoundExchange holdings settings events p host_events host) where
+  same_served : (q : HostTranscript) → IsHostTranscript holdings host_events q → q ≡ s.served.served
+  same_served q h = one_served holdings host_events q s.served.served s.plain h s.served.happened
 
-  handed_on : (later : HostState) → HostAfter holdings (HostHandedOut host.waiting ∷ events) later
-      → IsSoundExchange holdings settings deeds p (HostHandedOut host.waiting ∷ events) later
+  handed_on : (later : HostState) → HostAfter holdings (HostHandedOut host.waiting ∷ host_events) later
+      → IsSoundExchange holdings settings events p (HostHandedOut host.waiting ∷ host_events) later
   handed_on later a =
       let same : a.served ≡ s.served.served = a.happened.2 ∙ same_served a.happened.0 a.happened.1 in
       record {
@@ -193,8 +193,8 @@ module _ (holdings : Holdings) (settings : Settings) (deeds : List Event) (p : T
         answers = subst AreReadBack (sym (ap (λ z. z.sent) same)) s.answers;
       }
 
-  put_on : (k : ℕ) (later : HostState) → HostAfter holdings (Released k ∷ events) later
-      → IsSoundExchange holdings settings deeds p (Released k ∷ events) later
+  put_on : (k : ℕ) (later : HostState) → HostAfter holdings (Released k ∷ host_events) later
+      → IsSoundExchange holdings settings events p (Released k ∷ host_events) later
   put_on k later a =
       let x : ReleaseStep k s.served.served a.served = subst (λ z. ReleaseStep k z a.served)
       (same_served a.happened.0 a.happened.1) a.happened.2 in
@@ -218,7 +218,7 @@ module _ (holdings : Holdings) (settings : Settings) (deeds : List Event) (p : T
         answers = subst AreReadBack (sym put) (read_append s.served.served.sent (x.reply ∷ []) s.answers (x.reads, tt));
       }
 
-  -- nothing that was sent stops the host
+  -- nothing that was sent stops the serving end
   module _ (laws : AccordLaws) (piece rest : List ℕ) (cut : s.to ≡ piece ++ rest) (received : List Apdu) where
     stops_not : (others : List Apdu) (input : Input) → requests p.settings p.log ≡ reverse others ++ received
         → IsInputOf others input
@@ -229,7 +229,7 @@ module _ (holdings : Holdings) (settings : Settings) (deeds : List Event) (p : T
         e ∙ ap (λ z. reverse z ++ received) m.1 ∙ ap (λ z. z ++ received) (reverse-append (v ∷ []) m.0) ∙ append_assoc
         (reverse m.0) (v ∷ []) received in
         let all = laws.taken holdings.databases holdings.settings p.settings p.log
-        (conversation holdings settings deeds p events host s) in
+        (conversation holdings settings events p host_events host s) in
         let t = taken_behind holdings.databases holdings.settings (reverse m.0) (v ∷ received)
         (subst (λ z. AreTaken holdings.databases holdings.settings z) behind all) in
         no_both t.0.1 i.1
@@ -243,15 +243,15 @@ module _ (holdings : Holdings) (settings : Settings) (deeds : List Event) (p : T
     not_stopped true h =
         let stream : (s.served.served.stream ++ piece) ++ rest ≡ flat_map encoding_of (past_of p).sent =
         append_assoc s.served.served.stream piece rest ∙ ap (λ z. s.served.served.stream ++ z) (sym cut)
-        ∙ stream_is holdings settings deeds p events host s in
+        ∙ stream_is holdings settings events p host_events host s in
         let c = received_cut (past_of p).sent s.asks stream (messages_longer rest h.messages) in
         let m = input_is c.others h.rest rest h.behind.0 c.read c.rest_is h.behind.1 in
         absurd (stops_not c.others h.behind.0 (reversed_cut (past_of p).sent received (h.rest ++ rest) c) m h.behind.2)
 
   heard_on : (laws : AccordLaws) (piece rest : List ℕ) (later : HostState) → s.to ≡ piece ++ rest
-      → (a : HostAfter holdings (HostFed piece ∷ events) later) → IsIgnored s.served.served a.served
+      → (a : HostAfter holdings (HostFed piece ∷ host_events) later) → IsIgnored s.served.served a.served
       ⊎ FeedStep holdings piece s.served.served a.served
-      → IsSoundExchange holdings settings deeds p (HostFed piece ∷ events) later
+      → IsSoundExchange holdings settings events p (HostFed piece ∷ host_events) later
   heard_on laws piece rest later cut a (inl x) = absurd (true≢false (sym x.0 ∙ s.serving))
   heard_on laws piece rest later cut a (inr x) =
       let put : a.served.sent ≡ s.served.served.sent = ap (λ z. z.sent) x.is in
@@ -260,7 +260,7 @@ module _ (holdings : Holdings) (settings : Settings) (deeds : List Event) (p : T
         served = a;
         plain = s.plain;
         to = rest;
-        sends = append_assoc (fed_to events) piece rest ∙ ap (λ z. fed_to events ++ z) (sym cut) ∙ s.sends;
+        sends = append_assoc (fed_to host_events) piece rest ∙ ap (λ z. fed_to host_events ++ z) (sym cut) ∙ s.sends;
         from = s.from;
         comes = s.comes;
         goes = s.goes;
@@ -275,21 +275,21 @@ module _ (holdings : Holdings) (settings : Settings) (deeds : List Event) (p : T
       }
 
 pub handed : HostHandedOutLaw
-handed holdings settings deeds p events host later s a = handed_on holdings settings deeds p events host s later a
+handed holdings settings events p host_events host later s a = handed_on holdings settings events p host_events host s later a
 
 pub released : ReleasedLaw
-released holdings settings deeds p events host later k s a =
-    put_on holdings settings deeds p events host s k later a
+released holdings settings events p host_events host later k s a =
+    put_on holdings settings events p host_events host s k later a
 
 pub host_fed : AccordLaws → HostFedLaw
-host_fed laws holdings settings deeds p events host later piece rest s cut a =
-    let same = same_served holdings settings deeds p events host s a.happened.0 a.happened.1 in
-    heard_on holdings settings deeds p events host s laws piece rest later cut a
+host_fed laws holdings settings events p host_events host later piece rest s cut a =
+    let same = same_served holdings settings events p host_events host s a.happened.0 a.happened.1 in
+    heard_on holdings settings events p host_events host s laws piece rest later cut a
     (subst (λ z. IsIgnored z a.served ⊎ FeedStep holdings piece z a.served) same a.happened.2)
 
 -- ---- what the connection takes
 
--- what was sent stays, and so does the fault
+-- the requests sent and the fault are unchanged
 record IsKept (p q : Past) : Type 0 where
   pub sent : q.sent ≡ p.sent
   pub fault : q.fault ≡ p.fault
@@ -300,16 +300,16 @@ kept p (taken.Rejected answer) = record { sent = refl; fault = refl }
 kept p (taken.Answered answer) = record { sent = refl; fault = refl }
 kept p taken.Closed = record { sent = refl; fault = refl }
 
-module _ (holdings : Holdings) (settings : Settings) (deeds : List Event) (p : Transcript) (events : List HostEvent)
+module _ (holdings : Holdings) (settings : Settings) (events : List Event) (p : Transcript) (host_events : List HostEvent)
     (host : HostState)
-    (s : IsSoundExchange holdings settings deeds p events host) where
+    (s : IsSoundExchange holdings settings events p host_events host) where
   -- a take that changed nothing
-  took_none : (input : Input) → NextInput p input → after_take p input ≡ p → IsSoundExchange holdings settings (Took ∷ deeds)
-      (after_take p input) events host
+  took_none : (input : Input) → NextInput p input → after_take p input ≡ p → IsSoundExchange holdings settings (Took ∷ events)
+      (after_take p input) host_events host
   took_none input m is =
-      let now : IsSoundExchange holdings settings (Took ∷ deeds) p events host =
-      still holdings settings deeds (Took ∷ deeds) p events host (p, s.transcript, (input, m, sym is)) s in
-      subst (λ z. IsSoundExchange holdings settings (Took ∷ deeds) z events host) (sym is) now
+      let now : IsSoundExchange holdings settings (Took ∷ events) p host_events host =
+      still holdings settings events (Took ∷ events) p host_events host (p, s.transcript, (input, m, sym is)) s in
+      subst (λ z. IsSoundExchange holdings settings (Took ∷ events) z host_events host) (sym is) now
 
   open_by : (b : Bool) → (past_of p).closed ≡ b → is_stopped (state_at p) ≡ false → b ≡ false
   open_by false e g = refl
@@ -326,36 +326,36 @@ module _ (holdings : Holdings) (settings : Settings) (deeds : List Event) (p : T
         (subst (λ z. Contains z v) (sym is) (contained v (v ∷ others) (inl refl)))
 
     put_apart : IsPermutation (replies_due holdings.databases holdings.settings p.settings p.log)
-        (got_in p.log ++ (s.coming ++ (due holdings settings deeds p events host s).0))
+        (got_in p.log ++ (s.coming ++ (due holdings settings events p host_events host s).0))
     put_apart =
-        let d = due holdings settings deeds p events host s in
+        let d = due holdings settings events p host_events host s in
         subst (λ z. IsPermutation (replies_due holdings.databases holdings.settings p.settings p.log) z)
         (ap (λ z. z ++ d.0) s.got ∙ append_assoc (got_in p.log) s.coming d.0) d.1
 
     accepts : is_stopped (state_at p) ≡ false → (x : Taken) × (verdict (standing (past_of p)) v ≡ Ok x)
     accepts g =
-        let d = due holdings settings deeds p events host s in
-        let c = conversation holdings settings deeds p events host s in
+        let d = due holdings settings events p host_events host s in
+        let c = conversation holdings settings events p host_events host s in
         let put : Contains s.served.served.sent v =
         subst (λ z. Contains z v) (sym s.got) (Contains-append_right (got_in p.log) s.coming v
         (subst (λ z. Contains z v) (append-nil s.coming) (v_comes []))) in
         let x = laws.accepts holdings.databases holdings.settings p.settings p.log v c
         (open_by (past_of p).closed refl g)
-        (put_owed holdings settings deeds p events host s v put)
+        (put_owed holdings settings events p host_events host s v put)
         (λ x i. laws.apart holdings.databases holdings.settings p.settings p.log (got_in p.log)
         (s.coming ++ d.0) x.reply v put_apart
         (accepted_got p.settings p.log x (accepted_so p.settings p.log x i)) (v_comes d.0)) in
         (x.0, x.1)
 
     took_reply : NextInput p (Message v) → (x : Taken) × (verdict (standing (past_of p)) v ≡ Ok x)
-        → IsSoundExchange holdings settings (Took ∷ deeds) (after_take p (Message v)) events host
+        → IsSoundExchange holdings settings (Took ∷ events) (after_take p (Message v)) host_events host
     took_reply m x =
         let q : Transcript = record p { taken = suc p.taken; log = Got v ∷ p.log } in
         let took : after_take p (Message v) ≡ q = ap (λ z. after_reply q z) x.1 in
         let after : past_of q ≡ after_verdict (past_of p) (Ok x.0) = ap (λ z. after_verdict (past_of p) z) x.1 in
         let k = kept (past_of p) x.0 in
         let asked : (past_of q).sent ≡ (past_of p).sent = ap (λ z. z.sent) after ∙ k.sent in
-        let now : IsSoundExchange holdings settings (Took ∷ deeds) q events host = record {
+        let now : IsSoundExchange holdings settings (Took ∷ events) q host_events host = record {
           transcript = (p, s.transcript, (Message v, m, sym took));
           served = s.served;
           plain = s.plain;
@@ -373,15 +373,15 @@ module _ (holdings : Holdings) (settings : Settings) (deeds : List Event) (p : T
           asks = subst AreReadBack (sym asked) s.asks;
           answers = s.answers;
         } in
-        subst (λ z. IsSoundExchange holdings settings (Took ∷ deeds) z events host) (sym took) now
+        subst (λ z. IsSoundExchange holdings settings (Took ∷ events) z host_events host) (sym took) now
 
   met_next : (rest : List ℕ) (input : Input) → IsBehind p.stream p.taken rest → AreInput rest input → IsInputOf s.coming input
   met_next rest input b a =
-      let c = coming_is holdings settings deeds p events host s rest b in
+      let c = coming_is holdings settings events p host_events host s rest b in
       input_is s.coming rest (s.from ++ host.waiting) input c.read c.are a
 
-  took : (laws : AccordLaws) (input : Input) → NextInput p input → IsSoundExchange holdings settings (Took ∷ deeds)
-      (after_take p input) events host
+  took : (laws : AccordLaws) (input : Input) → NextInput p input → IsSoundExchange holdings settings (Took ∷ events)
+      (after_take p input) host_events host
   took laws AlreadyStopped m = took_none AlreadyStopped m refl
   took laws (Message v) m =
       let n = met_next m.1 (Message v) m.2 m.3 in
@@ -392,4 +392,4 @@ module _ (holdings : Holdings) (settings : Settings) (deeds : List Event) (p : T
   took laws Nothing m = took_none Nothing m (ap (λ b. cond b (end_by p) p) s.goes_on)
 
 pub takes : AccordLaws → TakeStepLaw
-takes laws holdings settings deeds p events host input s m = took holdings settings deeds p events host s laws input m
+takes laws holdings settings events p host_events host input s m = took holdings settings events p host_events host s laws input m

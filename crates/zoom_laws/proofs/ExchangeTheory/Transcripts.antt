@@ -1,4 +1,4 @@
--- What a connection that nothing stopped has taken, and what is behind it.
+-- What a connection that nothing stopped has taken, and the octets behind it.
 use Rattle.std.proofs.Common.{◌≡◌, ℕ, suc, true, false, cond, List, [], ◌∷◌, ◌++◌, is_some, None, Some, Result, Ok, Err, refl, sym, subst, length-append, arith}
 use Rattle.std.specs.Prelude.{◌||◌}
 use Rattle.zber.specs.Laws.{nothing}
@@ -50,21 +50,21 @@ took_met p Nothing h = elim p.ended as (λ b. HasTakenAll (cond b (end_by p) p))
   | false ↦ h
 ]
 
-pub took_all : (settings : Settings) (deeds : List Event) (p : Transcript) → IsTranscript settings deeds p → p.stop ≡ None
+pub took_all : (settings : Settings) (events : List Event) (p : Transcript) → IsTranscript settings events p → p.stop ≡ None
     → AllTaken p.settings p.log
 took_all settings [] p h = subst HasTakenAll (sym h) (λ s. tt)
-took_all settings (Called call ∷ deeds) p h = subst HasTakenAll (sym h.2)
-    (took_call h.0 call (took_all settings deeds h.0 h.1))
-took_all settings (Fed piece ∷ deeds) p h = subst HasTakenAll (sym h.2)
-    (took_piece h.0 piece (took_all settings deeds h.0 h.1))
-took_all settings (Took ∷ deeds) p h =
+took_all settings (Called call ∷ events) p h = subst HasTakenAll (sym h.2)
+    (took_call h.0 call (took_all settings events h.0 h.1))
+took_all settings (Fed piece ∷ events) p h = subst HasTakenAll (sym h.2)
+    (took_piece h.0 piece (took_all settings events h.0 h.1))
+took_all settings (Took ∷ events) p h =
     let x = h.2 in
-    subst HasTakenAll (sym x.2) (took_met h.0 x.0 (took_all settings deeds h.0 h.1))
-took_all settings (InputEnded ∷ deeds) p h = subst HasTakenAll (sym h.2) (took_all settings deeds h.0 h.1)
-took_all settings (HandedOut octets ∷ deeds) p h = subst HasTakenAll (sym h.2) (took_all settings deeds h.0 h.1)
-took_all settings (Stopped reason ∷ deeds) p h = subst HasTakenAll (sym h.2) (λ s. absurd (no_some s))
+    subst HasTakenAll (sym x.2) (took_met h.0 x.0 (took_all settings events h.0 h.1))
+took_all settings (InputEnded ∷ events) p h = subst HasTakenAll (sym h.2) (took_all settings events h.0 h.1)
+took_all settings (HandedOut octets ∷ events) p h = subst HasTakenAll (sym h.2) (took_all settings events h.0 h.1)
+took_all settings (Stopped reason ∷ events) p h = subst HasTakenAll (sym h.2) (λ s. absurd (no_some s))
 
--- ---- what is behind the messages taken
+-- ---- the octets behind the messages taken
 
 abbrev HasRest : Transcript → Type 0
 HasRest p = p.stop ≡ None → (rest : List ℕ) × IsBehind p.stream p.taken rest
@@ -124,15 +124,15 @@ rest_met p Nothing m h = elim p.ended as (λ b. HasRest (cond b (end_by p) p)) [
   | false ↦ h
 ]
 
-pub rest_behind : (settings : Settings) (deeds : List Event) (p : Transcript) → IsTranscript settings deeds p → HasRest p
+pub rest_behind : (settings : Settings) (events : List Event) (p : Transcript) → IsTranscript settings events p → HasRest p
 rest_behind settings [] p h = subst HasRest (sym h) (rest_silence settings)
-rest_behind settings (Called call ∷ deeds) p h = subst HasRest (sym h.2)
-    (rest_call h.0 call (rest_behind settings deeds h.0 h.1))
-rest_behind settings (Fed piece ∷ deeds) p h = subst HasRest (sym h.2)
-    (rest_piece h.0 piece (rest_behind settings deeds h.0 h.1))
-rest_behind settings (Took ∷ deeds) p h =
+rest_behind settings (Called call ∷ events) p h = subst HasRest (sym h.2)
+    (rest_call h.0 call (rest_behind settings events h.0 h.1))
+rest_behind settings (Fed piece ∷ events) p h = subst HasRest (sym h.2)
+    (rest_piece h.0 piece (rest_behind settings events h.0 h.1))
+rest_behind settings (Took ∷ events) p h =
     let x = h.2 in
-    subst HasRest (sym x.2) (rest_met h.0 x.0 x.1 (rest_behind settings deeds h.0 h.1))
-rest_behind settings (InputEnded ∷ deeds) p h = subst HasRest (sym h.2) (rest_behind settings deeds h.0 h.1)
-rest_behind settings (HandedOut octets ∷ deeds) p h = subst HasRest (sym h.2) (rest_behind settings deeds h.0 h.1)
-rest_behind settings (Stopped reason ∷ deeds) p h = subst HasRest (sym h.2) (λ s. absurd (no_some s))
+    subst HasRest (sym x.2) (rest_met h.0 x.0 x.1 (rest_behind settings events h.0 h.1))
+rest_behind settings (InputEnded ∷ events) p h = subst HasRest (sym h.2) (rest_behind settings events h.0 h.1)
+rest_behind settings (HandedOut octets ∷ events) p h = subst HasRest (sym h.2) (rest_behind settings events h.0 h.1)
+rest_behind settings (Stopped reason ∷ events) p h = subst HasRest (sym h.2) (λ s. absurd (no_some s))

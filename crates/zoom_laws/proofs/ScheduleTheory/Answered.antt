@@ -1,4 +1,4 @@
--- Each answer that was accepted is a reply of the plan; and a connection that is complete answered all that is asked.
+-- Each accepted answer is a reply of the plan, and on a complete connection each operation that is asked was answered.
 use Rattle.std.proofs.Common.{◌≡◌, inl, inr, ℕ, Bool, true, false, cond, List, [], ◌∷◌, ◌++◌, map, Option, None, Some, Result, Ok, Err, refl, sym, ap, subst, ◌∙◌, arith, true≢false}
 use Rattle.std.specs.Prelude.{◌&&◌, not, nat_eq}
 use Rattle.std.specs.List.{list_any, find, IsDistinct, AllByRecursion}
@@ -39,7 +39,7 @@ abbrev Replied : List Event → Answer → Type 0
 Replied events x = (r : Reply) × (replies_in events (operation_for x.asked.what) ≡ Some r)
 
 module _ (ask : Ask) (settings : Settings) where
-  -- a reply stays, whatever else is received
+  -- a reply stays, whatever is received later
   still : (op : Operation) (r : Reply) (events : List Event) (x : Answer) → Replied events x → Replied (Receives op r ∷ events) x
   still op r events x s =
       elim (same op (operation_for x.asked.what)) as
@@ -114,7 +114,7 @@ one_answer (z ∷ xs) x y d (inr i) (inl b) e =
 
 -- ---- a complete connection
 
--- the first that opens is one of them
+-- the first opening reply is one of them
 find_in : (xs : List Answer) (x : Answer) → find opens xs ≡ Some x → IsIn x xs × (opens x ≡ true)
 find_in [] x e = absurd cc
 find_in (z ∷ xs) x e =
@@ -127,7 +127,7 @@ find_in (z ∷ xs) x e =
 
 module _ (ask : Ask) (wanted : List ℕ) (step : ℕ) (settings : Settings)
     (orderly : (s : Settings) (l : Log) → IsOrderly (past s l)) where
-  -- an association that was rejected opened nothing
+  -- a rejected association opened nothing
   opens_nothing : (p : Past) (x : Apdu) → is_rejection x ≡ true → (three : Bool) × (reply_for ask p x ≡ Opens false three)
   opens_nothing p (apdus.InitResponse v) refused = by v.result refused
     where
@@ -188,7 +188,7 @@ module _ (ask : Ask) (wanted : List ℕ) (step : ℕ) (settings : Settings)
     ];
   }
 
-  -- all that is asked was answered
+  -- each operation that is asked was answered
   pub complete_whole : (log : Log) → IsDrivenLog ask wanted step settings log → complete_in (past settings log) ≡ true
       → IsAnsweredWhole wanted step (events_of ask settings log)
   complete_whole log d e = whole_of wanted step (events_of ask settings log) (complete_by log d e)

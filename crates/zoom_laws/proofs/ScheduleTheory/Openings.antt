@@ -1,4 +1,4 @@
--- What the reply to Init puts in force, it alone decides.
+-- The reply to Init alone decides what is in force.
 use Rattle.std.proofs.Common.{◌≡◌, ◌⊎◌, inl, inr, ℕ, Bool, true, false, cond, List, [], ◌∷◌, ◌++◌, Option, None, Some, Result, Ok, Err, refl, sym, ap, subst, ◌∙◌}
 use Rattle.std.specs.Prelude.{Contains}
 use Rattle.std.specs.List.{find}
@@ -32,7 +32,7 @@ use Rattle.zoom_laws.proofs.ScheduleTheory.Replies.{CameFrom}
 -- ---- before the reply to Init
 
 module _ (wanted : List ℕ) (step : ℕ) where
-  -- what else is asked is asked once Init was answered
+  -- other operations are asked only after Init was answered
   pub init_replied : (replies : plan.Replies) (a : Operation) → IsAsked wanted step replies a
       → (a ≡ plan.Init) ⊎ ((three : Bool) × (replies plan.Init ≡ Some (Opens true three)))
   init_replied replies plan.Init first = inl refl
@@ -48,7 +48,7 @@ module _ (wanted : List ℕ) (step : ℕ) where
     | inr e ↦ absurd (let x : None ≡ Some (Opens true e.0) = sym none ∙ e.1 in cc)
   ]
 
-  -- Init alone can have been called, and nothing was accepted
+  -- only Init can have been called, and nothing was accepted
   pub record IsEarly (p : Past) : Type 0 where
     pub admitted : (p.admitted ≡ []) ⊎ (p.admitted ≡ Init ∷ [])
     pub accepted : p.accepted ≡ []
@@ -91,7 +91,7 @@ module _ (wanted : List ℕ) (step : ℕ) where
         q : Past
         q = past settings (Got reply ∷ log)
 
-        -- nothing but Init can be answered
+        -- only Init can be answered
         never : (op : Operation) (r : Reply) → IsDriven wanted step (Receives op r ∷ events_of ask settings log)
             → replies_in (Receives op r ∷ events_of ask settings log) plan.Init ≡ None → ⊥
         never op r g n =
@@ -119,9 +119,9 @@ module _ (wanted : List ℕ) (step : ℕ) where
               | false ↦ e
             ]
 
--- ---- once it was accepted
+-- ---- after it was accepted
 
--- a log that came to nothing but Init and its reply
+-- a log with nothing admitted or accepted but Init and its reply
 abbrev pub opened_past : Settings → List Apdu → Apdu → Past
 opened_past settings sent reply = record {
   settings = settings;
@@ -181,7 +181,7 @@ was_open s reply t e =
       | false ↦ λ k. absurd cc
     ] e
 
--- where Init alone was called, and replies are taken, the connection was neither closed nor failed
+-- if only Init was called, and replies are taken, the connection was neither closed nor failed
 sound : (fault : Option Refused) (closed : Bool) → is_open (state_from fault closed false true None) ≡ true
     → (fault ≡ None) × (closed ≡ false)
 sound None true e = absurd cc
@@ -197,7 +197,7 @@ module _ (ask : Ask) (wanted : List ℕ) (step : ℕ) (settings : Settings)
   accepted_past p (taken.Answered y) x e = ap (accept p) (let is : y ≡ x = cc in is)
   accepted_past p taken.Closed x e = absurd cc
 
-  -- the log came to nothing but Init and its reply
+  -- the log has nothing admitted or accepted but Init and its reply
   pub at_opening : (log : Log) (r : Reply) (c : CameFrom ask wanted step settings log plan.Init r)
       → past settings (Got c.reply ∷ c.earlier)
       ≡ opened_past (past settings c.earlier).settings (past settings c.earlier).sent c.answer.reply

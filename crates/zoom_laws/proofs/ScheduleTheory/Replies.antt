@@ -1,4 +1,4 @@
--- Where a reply of a log came from.
+-- The origin of each reply of a log.
 use Rattle.std.proofs.Common.{◌≡◌, ℕ, true, false, cond, List, [], ◌∷◌, ◌++◌, Option, None, Some, Result, Ok, Err, refl, sym, subst, ◌∙◌}
 use Rattle.zplan.specs.Plan.{Operation, Receives, Reply, same, asked_in, replies_in, IsDriven}
 use Rattle.zplan.specs.Positions.{IsIn}
@@ -20,8 +20,8 @@ use Rattle.zoom_pool.specs.Transcripts.{answer_in}
 use Rattle.zoom_pool.specs.Driving.{operation_for, reply_for, got_event, made_event, events_of, IsDrivenLog}
 use Rattle.zoom_pool.proofs.Drivings.{in_last, in_front, replies_call, driven}
 
--- An answer was accepted for the operation, and its reply came to this, at a moment of the log at which the operation
--- was not answered; what was accepted until then is accepted still.
+-- An answer to the operation was accepted with this reply, when the operation was unanswered in the log. What was
+-- accepted until then is still accepted.
 pub record CameFrom
     (ask : Ask) (wanted : List ℕ) (step : ℕ) (settings : Settings) (log : Log) (a : Operation) (r : Reply)
     : Type 0 where
@@ -40,7 +40,7 @@ pub record CameFrom
       → IsIn x (past settings log).accepted
   pub there : IsIn answer (past settings log).accepted
 
--- what was accepted stays so, whatever is called or comes then
+-- what was accepted stays accepted, whatever is called or taken later
 pub kept_call : (p : Past) (call : Call) (r : Option CallRefused) (x : Answer) → IsIn x p.accepted
     → IsIn x (admit_unless p call r).accepted
 kept_call p call None x i = i

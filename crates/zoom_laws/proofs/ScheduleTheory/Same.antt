@@ -1,4 +1,4 @@
--- Equal replies to equal operations make the same known.
+-- Equal replies to equal operations make the same facts known.
 use Rattle.std.proofs.Common.{◌≡◌, inl, inr, ℕ, Bool, true, false, cond, List, [], ◌∷◌, length, Some, refl, sym, ap, ◌∙◌}
 use Rattle.std.specs.Prelude.{◌&&◌, Contains}
 use Rattle.std.specs.List.{find}
@@ -55,7 +55,7 @@ by_plain c d (apdus.Close v) = refl
 by_same : (c d : Bool) (x y : Apdu) → plain x ≡ plain y → reply_by c d x ≡ reply_by c d y
 by_same c d x y e = by_plain c d x ∙ ap (reply_by c d) e ∙ sym (by_plain c d y)
 
--- a reply to a search reads nothing of whether searches can be sent, and one to a Present neither
+-- whether searches can be sent does not matter for a reply to a search or to a Present
 by_fit : (w : What) (x : Apdu) (b c d : Bool) → Fits w x → operation_for w ≡ plan.Search → reply_by b d x ≡ reply_by c d x
 by_fit what.Init x b c d f e = absurd cc
 by_fit what.Search (apdus.SearchResponse v) b c d f e = refl
@@ -119,7 +119,7 @@ find_there (z ∷ xs) x i o = by (λ j. find_there xs x j o) (opens z) refl
 module _ (ask : Ask) (wanted : List ℕ) (step : ℕ)
     (orderly : (s : Settings) (l : Log) → IsOrderly (past s l))
     (accepts : (s : Settings) (l : Log) (x : Answer) → Contains (past s l).accepted x → IsAccepted s l x) where
-  -- where something else than Init was answered, Init was
+  -- if another operation than Init was answered, Init was
   opened_then : (settings : Settings) (log : Log) (a : Operation) (r : Reply)
       (c : CameFrom ask wanted step settings log a r) → (a ≡ plan.Init → ⊥)
       → (x : Answer) × (opening (past settings (Got c.reply ∷ c.earlier)) ≡ Some x)

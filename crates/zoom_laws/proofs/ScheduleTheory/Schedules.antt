@@ -54,7 +54,7 @@ module _ (orderly : (s : Settings) (l : Log) → IsOrderly (past s l))
       let events = events_of (ask_of q) p.settings p.log in
       let plan = driven (ask_of q) p.settings (positions q.wanted) s.step orderly p.log k.driven in
       record {
-        events_on = λ x i.
+        no_others = λ x i.
             let r = is_replied (ask_of q) p.settings p.log x (among x (accepted p) i) in
             sent_asked (positions q.wanted) s.step events plan (operation_for x.asked.what)
             (answered_sent (positions q.wanted) s.step events plan (operation_for x.asked.what) r.0 r.1);
@@ -77,7 +77,7 @@ module _ (orderly : (s : Settings) (l : Log) → IsOrderly (past s l))
       of_set (errand_of s q) p.settings p.log k.steered x.asked
       (among x.asked (asked (past p.settings p.log)) ((orderly p.settings p.log).known x (contained x (accepted p) i)))
 
-  -- what an answer of the one says, an answer of the other says
+  -- each fact of an answer of the one is a fact of an answer of the other
   module _ (q : Question) (s t : MetaSettings) (one other : Transcript) (d e : DriverState)
       (k : IsDriver (errand_of s q) one.settings one.log d) (l : IsDriver (errand_of t q) other.settings other.log e)
       (step : s.step ≡ t.step) (this : IsCompleteTranscript one) (that : IsCompleteTranscript other) (equal : HaveEqualReplies one other) where

@@ -1,4 +1,4 @@
--- Facts of an answer follow from its operation and its reply.
+-- The facts of an answer follow from its operation and its reply.
 use Rattle.std.proofs.Common.{◌≡◌, inl, inr, ℕ, List, [], ◌∷◌, Option, None, Some, refl, sym, ap, subst, ◌∙◌}
 use Rattle.zknow.specs.declared.fact.Fact.{Fact}
 use Rattle.zplan.specs.Plan as plan
@@ -23,7 +23,7 @@ use Rattle.zoom_pool.specs.Steering.{Errand, IsCallOf, IsSteered, IsSteeredCall}
 use Rattle.zoom_pool.specs.Laws.{plain}
 use Rattle.zoom_pool.proofs.Drivings.{asked_more, same_asked}
 
--- ---- the set of an operation
+-- ---- the result set of an operation
 
 abbrev pub set_for : What → ℕ
 set_for what.Init = 0
@@ -59,7 +59,7 @@ of_set e settings (Made call ∷ log) s q i =
 of_set e settings (Got reply ∷ log) s q i =
     of_set e settings log s q (subst (IsIn q) (same_asked (past settings log) (verdict (standing (past settings log)) reply)) i)
 
--- ---- its facts
+-- ---- the facts of an answer
 
 abbrev pub facts_for : ℕ → Operation → Apdu → List Fact
 facts_for target plan.Init (apdus.InitResponse v) = init_facts target v

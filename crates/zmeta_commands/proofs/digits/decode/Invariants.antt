@@ -1,4 +1,4 @@
--- the octets so far are read, and there is room for those of the rest
+-- the octets so far are read, and there is room for the octets of the rest
 use Rattle.std.proofs.Common.{◌+◌, ◌*◌, ◌≤◌, length, vec_len, vec_capacity}
 use Rattle.zmeta_commands.proofs.Reading.{IsRead}
 use Rattle.zmeta_commands.proofs.digits.decode.Given as goal

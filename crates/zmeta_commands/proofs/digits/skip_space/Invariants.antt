@@ -1,4 +1,4 @@
--- white space alone has been passed over
+-- only white space was skipped
 use Rattle.std.proofs.Common.{◌≡◌, ◌≤◌, length}
 use Rattle.zmeta_commands.specs.Digits.{digits}
 use Rattle.zmeta_commands.proofs.digits.skip_space.Given as goal

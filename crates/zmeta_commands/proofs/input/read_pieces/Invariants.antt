@@ -1,4 +1,4 @@
--- what has been read is what the reader has lost, in pieces of at most 4,096 octets
+-- the octets read are those that the reader has lost, in pieces of at most 4,096 octets
 use Rattle.std.proofs.Common.{◌≤◌, ◌*◌, vec_len}
 use Rattle.std.specs.Io.KnownBytes.{Consumes}
 use Rattle.zmeta_commands.proofs.input.read_pieces.Given as goal

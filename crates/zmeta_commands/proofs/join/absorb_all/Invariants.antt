@@ -1,4 +1,4 @@
--- the files so far are joined to those before them
+-- the files so far are joined to the files before them
 use Rattle.std.proofs.Common.{ℕ, List, ◌++◌, take}
 use Rattle.zmeta_commands.specs.Join.{AreJoined}
 use Rattle.zmeta_args.specs.Texts.{texts_of}

@@ -1,4 +1,4 @@
--- what is gone from the rest was appended
+-- the octets taken from the rest were appended
 use Rattle.zmeta_commands.proofs.DeviceSteps.{HasPut}
 use Rattle.zmeta_commands.proofs.output.write_pieces.Given as goal
 

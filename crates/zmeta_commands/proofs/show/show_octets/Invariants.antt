@@ -1,4 +1,4 @@
--- the framer holds the rest, and what is shown of the rest goes on behind the text so far
+-- the framer holds the rest, and the text of the rest follows the text so far
 use Rattle.std.proofs.Common.{◌≡◌, None, length}
 use Rattle.zber.specs.declared.framer.TheConstants.{MESSAGE_LIMIT}
 use Rattle.zmeta_commands.proofs.Showing.{HasShown}

@@ -10,7 +10,7 @@ nothing_left : {X : Type 0} (l : List X) → length l ≡ 0 → l ≡ []
 nothing_left [] h = refl
 nothing_left (x ∷ xs) h = absurd (omega arith)
 
--- the question that comes next can be asked
+-- the next question can be asked
 next_askable : (questions yielded left gone : List Question) (x : Question) → yielded ++ left ≡ questions → left ≡ x ∷ gone
     → AreAskable questions → IsAskable x
 next_askable questions yielded left gone x all step a =

@@ -1,4 +1,4 @@
--- what the next message does is done to what all before it left
+-- the next message is received by the target that all messages before it left
 use Rattle.std.proofs.Common.{length}
 use Rattle.zoom_pool.specs.HostSteps.{ReceiptStep, IsFollowing}
 use Rattle.zoom_pool.proofs.receiving.receive_all.Given as goal

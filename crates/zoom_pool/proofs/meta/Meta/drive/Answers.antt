@@ -13,10 +13,10 @@ returns-in_err-advance-clause-after c = drove_wanting _ _ c.args.c c.loop.admitt
     c.advance.new.self c.in_err-advance.field-0.0 c.from_residual.result c.from_residual.ensures.0 c.loop.invariant.0
     c.in_err-advance.ensures.after
 
-pub returns-in-Rests-clause-after : goal.returns-in-Rests-clause-after
-returns-in-Rests-clause-after c = drove_rests AllocError c.args.c c.loop.admitted c.loop.counter c.args.self.now c.loop.self
+pub returns-in-Idle-clause-after : goal.returns-in-Idle-clause-after
+returns-in-Idle-clause-after c = drove_rests AllocError c.args.c c.loop.admitted c.loop.counter c.args.self.now c.loop.self
     c.advance.new.self c.loop.invariant.0
-    (subst (λ z. AdvanceResult {E = AllocError} c.args.c (Ok z) c.loop.self c.advance.new.self) c.in-Rests.is c.in_ok-advance.ensures.after)
+    (subst (λ z. AdvanceResult {E = AllocError} c.args.c (Ok z) c.loop.self c.advance.new.self) c.in-Idle.is c.in_ok-advance.ensures.after)
 
 pub loop-preserved : goal.loop-preserved
 loop-preserved c = elim c.match-branch-2.branch [

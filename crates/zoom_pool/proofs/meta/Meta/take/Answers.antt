@@ -8,7 +8,7 @@ use Rattle.zoom_pool.proofs.meta.Meta.take.Goals as goal
 
 pub returns-in-Ok-clause-answer : goal.returns-in-Ok-clause-answer
 returns-in-Ok-clause-answer c = rw (← c.self.view_is)
-    (subst (λ z. IsTakeResult c.args.c c.self.inside.pool (Ok z)) (sym c.step_told.ensures)
+    (subst (λ z. IsTakeResult c.args.c c.self.inside.pool (Ok z)) (sym c.step_of.ensures)
     (take_answer c.args.c c.self.inside.pool (Ok c.in-Ok.outcome) c.in-Ok.ensures.answer))
 
 pub returns-in-Ok-clause-after : goal.returns-in-Ok-clause-after
