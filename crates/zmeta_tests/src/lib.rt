@@ -4,6 +4,8 @@
 #[cfg(test)]
 mod answers;
 #[cfg(test)]
+mod arguments;
+#[cfg(test)]
 mod broken;
 #[cfg(test)]
 mod devices;
@@ -15,5 +17,3 @@ mod hosts;
 mod lines;
 #[cfg(test)]
 mod shelf;
-#[cfg(test)]
-mod words;
