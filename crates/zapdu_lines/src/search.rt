@@ -1,6 +1,7 @@
 //! The lines of a SearchRequest.
 ghost use Rattle.std.specs.Prelude.{◌≡◌, ◌++◌, Some, OnOk};
 ghost use Rattle.zquery.specs.Element.Type1Reading.{query_spelt};
+ghost use Rattle.zapdu.specs.Text.{ber_text};
 ghost use Rattle.zapdu_lines.specs.Searches.{search_request_text, database_line, database_lines, optional_syntax, search_line, type_1_text, sought_text, query_line};
 
 use crate::fields::{put_numbers, put_start, put_truth};

@@ -3,8 +3,8 @@ ghost use Rattle.std.specs.Prelude.{◌≡◌, ℕ, ℤ, pos, Option, Some, None
 ghost use Rattle.std.specs.Fmt.{signed_decimal};
 ghost use Rattle.std.specs.List.{find};
 ghost use Rattle.std.specs.Option.{option_map};
-ghost use Rattle.zquery.specs.Trees.{OfTerm};
-ghost use Rattle.zquery.specs.QueryTrees.{seen};
+ghost use Rattle.zquery_rpn.specs.Trees.{OfTerm};
+ghost use Rattle.zquery_rpn.specs.QueryTrees.{seen};
 ghost use Rattle.ztarget.specs.Faults.{fault, first_of, is_unknown, is_among, number_fault, row_of, value_fault, set_fault, attr_fault, attrs_fault, term_fault, tree_fault, query_fault, is_known, names_fault, match_fault};
 
 use crate::decimal::{decimal, dotted};
@@ -13,7 +13,7 @@ use bytes::Bytes;
 use std::alloc::{AllocError, Global};
 use std::marker::Model;
 use zber::Oid;
-use zquery::{Attr, AttrValue, Query, Rpn, TermValue};
+use zquery_rpn::{Attr, AttrValue, Query, Rpn, TermValue};
 
 /// Why a request is not done: a condition of the diagnostics of bib-1 (Z39.50-2003, ERR), and what it names.
 #[derive(Drop)]

@@ -1,6 +1,6 @@
 //! What a target finds for a query.
 ghost use Rattle.std.specs.Prelude.{◌≡◌, ◌<◌, ◌^◌, None, length, map, IfOk, IfErr, OnOk};
-ghost use Rattle.zquery.specs.QueryTrees.{seen};
+ghost use Rattle.zquery_rpn.specs.QueryTrees.{seen};
 ghost use Rattle.ztarget.specs.Faults.{match_fault};
 ghost use Rattle.ztarget.specs.Matching.{matches};
 ghost use Rattle.ztarget.specs.Searching.{entries_in, found_places, result_set};
@@ -18,7 +18,7 @@ use crate::searched::searched;
 use bytes::Bytes;
 use std::alloc::{AllocError, Global};
 use zapdu::{SearchQuery, SearchRequest};
-use zquery::Query;
+use zquery_rpn::Query;
 
 /// The places of the entries that match, counted through the databases named.
 #[tactic(auto, using(crate::proofs::FewEntries::few_searched))]

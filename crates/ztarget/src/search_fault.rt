@@ -14,7 +14,7 @@ use crate::sets::ResultSets;
 use bytes::Bytes;
 use std::alloc::{AllocError, Global};
 use zapdu::{SearchQuery, SearchRequest};
-use zquery::Query;
+use zquery_rpn::Query;
 
 /// The fault of a result set's name other than `default` where names are not in force (Z39.50-2003, 3.2.2.1.3).
 fn name_fault(named: bool, name: &Bytes) -> Result<Option<Fault>, AllocError>

@@ -36,7 +36,7 @@ use zapdu::{
     Apdu, Close, InitRequest, PresentRequest, PresentResponse, SearchRequest, SearchResponse,
 };
 use zber::Duplicate;
-use zquery::Query;
+use zquery_rpn::Query;
 
 /// A target of Z39.50 with databases in memory (Z39.50-2003, 3.2): it owes each request that it takes one reply, a
 /// function of the requests received up to it, and hands the replies out in any order, a Close last.
@@ -58,7 +58,7 @@ impl Model for Target {
 
     ghost use Rattle.std.specs.Coded.{codes};
     ghost use Rattle.zber.specs.Coding.{coded_element};
-    ghost use Rattle.zquery.specs.Coding.{coded_query};
+    ghost use Rattle.zquery_rpn.specs.Coding.{coded_query};
 
     ghost coded = { Prim.hlevel (codes, coded_element, coded_query) };
 

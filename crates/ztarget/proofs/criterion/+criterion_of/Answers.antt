@@ -1,5 +1,5 @@
 use Rattle.std.proofs.Common.{◌≡◌, rules}
-use Rattle.zquery.specs.QueryTrees.{seen}
+use Rattle.zquery_rpn.specs.QueryTrees.{seen}
 use Rattle.ztarget.specs.Asking.{asked, meets}
 use Rattle.ztarget.specs.TargetStates.{asks}
 use Rattle.ztarget.proofs.Repeats.{both_meet, either_meets, first_meets}
