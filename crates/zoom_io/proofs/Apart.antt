@@ -45,7 +45,7 @@ others_follow {c = c} i (due_sent {more = more} calls octets f idle all) far =
 others_follow {c = c} i (message_taken {more = more} step f next is) far = only_other c i Took more far ∙ others_follow i f far
 others_follow {c = c} i (none_taken {more = more} f next) far = only_other c i Took more far ∙ others_follow i f far
 others_follow {c = c} i (stop_taken {more = more} f) far = only_other c i Took more far ∙ others_follow i f far
-others_follow {c = c} i (reads {more = more} piece f some few) far =
+others_follow {c = c} i (piece_read {more = more} piece f some few) far =
     only_other c i (Fed piece) more far ∙ others_follow i f far
 others_follow {c = c} i (input_end {more = more} f) far =
     only_other c i Took ((c, InputEnded) ∷ more) far ∙ only_other c i InputEnded more far ∙ others_follow i f far
