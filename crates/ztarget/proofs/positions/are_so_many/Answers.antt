@@ -16,7 +16,7 @@ pub returns-then-left-number : goal.returns-then-left-number
 returns-then-left-number c =
     let ranges = c.args.ranges.now in
     let i = c.loop-range.range-index in
-    let x = get_or ranges i (record { starting_position = pos 0; number_of_records = pos 0 }) in
+    let x = get_or ranges i (record { start = pos 0; n = pos 0 }) in
     let is : x ≡ get_or ranges i x = get_or_default ranges i _ x c.loop-range-test.true in
     let fits : FitsSigned w64 x.n = search rules in
     let number : c.natural-number.result ≡ natural x.n = c.natural-number.ensures ∙ ap natural (to_z-of_z w64 x.n fits) in
@@ -28,7 +28,7 @@ pub loop-range-preserved : goal.loop-range-preserved
 loop-range-preserved c =
     let ranges = c.args.ranges.now in
     let i = c.loop-range.range-index in
-    let x = get_or ranges i (record { starting_position = pos 0; number_of_records = pos 0 }) in
+    let x = get_or ranges i (record { start = pos 0; n = pos 0 }) in
     let is : x ≡ get_or ranges i x = get_or_default ranges i _ x c.loop-range-test.true in
     let fits : FitsSigned w64 x.n = search rules in
     let number : c.natural-number.result ≡ natural x.n = c.natural-number.ensures ∙ ap natural (to_z-of_z w64 x.n fits) in

@@ -9,14 +9,14 @@ pub put_fitting-requires : goal.put_fitting-requires
 put_fitting-requires c =
     let ranges = c.args.ranges.now in
     let i = c.loop-range.range-index in
-    let x = get_or ranges i (record { starting_position = pos 0; number_of_records = pos 0 }) in
+    let x = get_or ranges i (record { start = pos 0; n = pos 0 }) in
     subst (AllStand c.args.databases.now) (sym c.hits_at-hits.ensures) (stand_at c.args.databases.now c.args.found.now (positions_of x) c.requires.stand)
 
 pub loop-range-preserved : goal.loop-range-preserved
 loop-range-preserved c =
     let ranges = c.args.ranges.now in
     let i = c.loop-range.range-index in
-    let x = get_or ranges i (record { starting_position = pos 0; number_of_records = pos 0 }) in
+    let x = get_or ranges i (record { start = pos 0; n = pos 0 }) in
     let is : x ≡ get_or ranges i x = get_or_default ranges i _ x c.loop-range-test.true in
     record {
       held = held_step c.args.size c.args.syntax.now c.args.databases.now c.args.found.now ranges i x c.loop-range.records.items c.put_fitting.new.records.items
