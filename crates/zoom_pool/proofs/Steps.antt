@@ -53,7 +53,7 @@ waits p (Message v) m e = absurd (told_step (verdict (standing (past_of p)) v) s
 waits p (Foreign error) m e = absurd (cc)
 waits p (Fault k at) m e = absurd (cc)
 waits p (Rest n) m e = record {
-  goes_on = m.0;
+  is_going = m.0;
   more = rest_answer p.ended n e;
   rest = m.1;
   behind = m.2;
@@ -61,7 +61,7 @@ waits p (Rest n) m e = record {
       m.3.2;
 }
 waits p Nothing m e = record {
-  goes_on = m.0;
+  is_going = m.0;
   more = end_answer p.ended e;
   rest = m.1;
   behind = m.2;
@@ -105,7 +105,7 @@ take_laws meeting = record {
   nothing = λ p input m. (
     waits p input m,
     λ w. (
-        let other = met_waiting p w.rest w.goes_on w.more w.behind w.unfinished in
+        let other = met_waiting p w.rest w.is_going w.more w.behind w.unfinished in
         subst (λ z. answer_to p z ≡ Ok steps.Nothing) (meeting p other.0 input other.1 m) other.2),
   );
   stopped = λ p input m. (

@@ -59,7 +59,7 @@ message_step taken.Closed = refl
 pub none_taken : TakeLaws → (p : Transcript) (input : Input) → p.ended ≡ false → is_stopped (state_at p) ≡ false → HasTakenAll p
     → NextInput p input → is_taken (answer_to p input) ≡ false
 none_taken laws p input more goes t m =
-    let waits : IsWaiting p = record { goes_on = goes; more = more; rest = t.0; behind = t.1; unfinished = t.2 } in
+    let waits : IsWaiting p = record { is_going = goes; more = more; rest = t.0; behind = t.1; unfinished = t.2 } in
     ap is_taken ((laws.nothing p input m).1 waits)
 
 -- nor is it if the connection is stopped
