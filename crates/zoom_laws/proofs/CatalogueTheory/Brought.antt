@@ -22,7 +22,7 @@ use Rattle.zorigin.specs.declared.answer.What.TheVariants as what
 use Rattle.zorigin.specs.declared.answer.Answer.{Answer}
 use Rattle.zorigin.specs.Standings.{nothing_in_force}
 use Rattle.zplan.specs.Positions.{first_of}
-use Rattle.zplan.specs.Ranges.{positions}
+use Rattle.zplan.specs.Ranges.{positions, natural}
 use Rattle.zorigin.specs.Facts.{facts_of, facts_by, seen_at, seen_from, told_at}
 use Rattle.zorigin.specs.Fitting.{records_in, diagnostics_in}
 use Rattle.zorigin.specs.Sending.{search_request, is_unsendable}
@@ -39,7 +39,6 @@ use Rattle.ztarget.specs.Positions.{at_positions}
 use Rattle.ztarget.specs.Showing.{shown, held, in_syntax, size_of, surrogate}
 use Rattle.ztarget.specs.Faults as faults
 use Rattle.ztarget.specs.Responding.{due_count, records_of}
-use Rattle.ztarget.specs.Initialising as initialising
 use Rattle.ztarget.specs.Replies.{replies}
 use Rattle.ztarget.specs.Laws.{KeptSets, WhatFits}
 use Rattle.zoom_questions.specs.declared.question.Question.{Question}
@@ -89,8 +88,8 @@ none_due named q (suc m) =
     let ge : int_lt (pos (suc m)) (pos 1) ≡ false = grind (arith, ints) in
     ap (λ (b : Bool). if not b then suc m else
     if not (int_lt (pos (suc m)) (pos 1)) || int_lt (pos 0) (pos 0) then 0 else min (suc m)
-    (initialising.natural (pos 0))) lt
-    ∙ ap (λ (b : Bool). if not b || int_lt (pos 0) (pos 0) then 0 else min (suc m) (initialising.natural (pos 0))) ge
+    (natural (pos 0))) lt
+    ∙ ap (λ (b : Bool). if not b || int_lt (pos 0) (pos 0) then 0 else min (suc m) (natural (pos 0))) ge
 
 -- the facts of the answer to the search
 abbrev first_facts : ℕ → List Found → Option Reason → List Fact
