@@ -7,7 +7,7 @@ use Rattle.zoom_io.proofs.talk_steps.take_message.Goals as goal
 
 pub returns-in-Ok-clause-hears : goal.returns-in-Ok-clause-hears
 returns-in-Ok-clause-hears c =
-    subst (λ z. AfterTakeMessage c.args.c z c.args.meta.now c.take.new.self) (sym c.turn_of.ensures)
+    subst (λ z. AfterTakeMessage c.args.c z c.args.meta.now c.take.new.self) (sym c.receipt_of.ensures)
     (taken_step c.up_to.ensures c.one_transcript.ensures c.one_input.ensures c.args.c c.args.meta.now c.take.new.self
     c.requires c.in-Ok.step c.in-Ok.ensures.answer (c.in-Ok.ensures.after tt))
 
