@@ -15,7 +15,7 @@ returns g c =
           c.deref_mut.result.now c.talk_at_once-talked.new.halves
           c.in_ok-meta.meta c.open_all.new.meta c.talk_at_once-talked.new.meta after
           (c.in_ok-links.ensures.links ∙ c.requires.equal) c.in_ok-links.ensures.opens
-          (subst (λ z. (i : ℕ) → is_present z i ≡ is_present c.in_ok-links.links.items i) (sym same) c.in_ok-halves.ensures.has)
+          (subst (λ z. (i : ℕ) → is_present z i ≡ is_present c.in_ok-links.links.items i) (sym same) c.in_ok-halves.ensures.is_present)
           c.in_ok-talked.ensures.talks;
     }
 

@@ -14,7 +14,7 @@ loop-link-preserved g c =
       append_assoc at.yielded (c.in-Some.link ∷ []) _ ∙ rw (← steps) at.invariant.0,
       λ i.
           subst (λ z. is_present z i ≡ is_present (at.yielded ++ c.in-Some.link ∷ []) i) (sym c.in_ok-push.ensures.items)
-          (has_push at.all.items at.yielded c.halves_if.result c.in-Some.link at.invariant.3 at.invariant.1 c.halves_if.ensures.has i),
+          (has_push at.all.items at.yielded c.halves_if.result c.in-Some.link at.invariant.3 at.invariant.1 c.halves_if.ensures.is_present i),
       subst (λ z. AreAtPhase phases.Due z) (sym c.in_ok-push.ensures.items)
           (at_push phases.Due at.all.items c.halves_if.result at.invariant.2 c.halves_if.ensures.due),
       let ours = length-append at.all.items (c.halves_if.result ∷ []) in
@@ -27,8 +27,8 @@ loop-link-preserved g c =
           omega arith,
     )
 
-pub returns-clause-has : goal.returns-clause-has
-returns-clause-has g c i =
+pub returns-clause-is_present : goal.returns-clause-is_present
+returns-clause-is_present g c i =
     let at = c.loop-link in
     let short = c.in-None.ensures.steps.0 in
     let none : into_iter_items at.link-iterator ≡ [] = none_left (into_iter_items at.link-iterator) (omega (arith, short, at.invariant.4)) in
