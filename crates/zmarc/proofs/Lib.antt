@@ -1,0 +1,10 @@
+pub mod BriefTheory
+pub mod Cuts
+pub mod FieldTheory
+pub mod LawTheory
+pub mod NothingTheory
+pub mod SafeTheory
+pub mod ShownTheory
+pub mod Steps
+pub mod SubfieldTheory
+pub mod WrittenTheory

@@ -1,0 +1,59 @@
+-- Laws of the definitions, in the terms of the standards.
+use Rattle.std.specs.Prelude.{◌≡◌, ◌≢◌, ℕ, ◌+◌, ◌≤◌, ◌<◌, false, length, List, [], ◌∷◌, ◌++◌, All}
+use Rattle.std.specs.Char.{IsScalar}
+use Rattle.std.specs.List.{flat_map}
+use Rattle.std.specs.Str.{encode_utf8_all}
+use Rattle.unicode_normalization.specs.Forms.{nfc}
+use Rattle.zmarc.specs.declared.charset.Charset.{Charset}
+use Rattle.zmarc.specs.declared.charset.Charset.TheVariants.{Utf8}
+use Rattle.zmarc.specs.declared.marc8.Mode.TheVariants.{Plain}
+use Rattle.zmarc.specs.declared.marc8.Step.TheVariants.{Mark, Letter}
+use Rattle.zmarc.specs.Shown.{IsSafe}
+use Rattle.zmarc.specs.Charsets.{text}
+use Rattle.zmarc.specs.Marc8.{meaning, marc8}
+use Rattle.zmarc.specs.declared.format.Format.{Format}
+use Rattle.zmarc.specs.Briefs.{brief}
+use Rattle.zmarc.specs.Records.{is_record, fields, entry_count, lost_count}
+use Rattle.zmarc.specs.Subfields.{Subfield, subfields}
+
+-- ---- what is shown
+
+abbrev pub IsPrintable : ℕ → Type 0
+IsPrintable x = (0x20 ≤ x) × (x < 0x7F)
+
+pub record TextLaws : Type 0 where
+  -- of characters in UTF-8 their composed form is shown as it stands, where it is safe
+  pub stands : (cs : List ℕ) → All IsScalar cs → All IsSafe (nfc cs)
+      → text Utf8 (encode_utf8_all cs) ≡ encode_utf8_all (nfc cs)
+  -- so is printable ASCII, whatever the set is
+  pub ascii_stands : (set : Charset) (octets : List ℕ) → All IsPrintable octets → text set octets ≡ octets
+  -- in MARC-8 a mark stands before its letter, and goes behind it
+  pub mark_behind : (x y m c : ℕ) (octets : List ℕ) → meaning Plain x ≡ Mark m → meaning Plain y ≡ Letter c Plain
+      → marc8 (x ∷ y ∷ octets) ≡ c ∷ m ∷ marc8 octets
+  -- of what stands in another set there is one U+FFFD
+  pub foreign : (set : ℕ) (there octets : List ℕ) → set ≢ 0x42 → All (λ x. x ≢ 0x1B) there
+      → marc8 (0x1B ∷ 0x28 ∷ set ∷ there ++ 0x1B ∷ 0x28 ∷ 0x42 ∷ octets) ≡ 0xFFFD ∷ marc8 octets
+
+-- ---- subfields
+
+abbrev pub NoDelimiter : List ℕ → Type 0
+NoDelimiter octets = All (λ x. x ≢ 0x1F) octets
+
+-- a subfield as a field has it
+abbrev pub subfield_octets : Subfield → List ℕ
+subfield_octets s = 0x1F ∷ s.code ∷ s.octets
+
+-- the subfields of a field are those that it was made of
+abbrev pub SubfieldLaw : Type 0
+SubfieldLaw = (indicators : List ℕ) (made : List Subfield) → NoDelimiter indicators
+    → All (λ s. NoDelimiter (s.code ∷ s.octets)) made → subfields (indicators ++ flat_map subfield_octets made) ≡ made
+
+-- ---- records
+
+-- each entry of the directory tells of a field, or is counted as lost
+abbrev pub CountLaw : Type 0
+CountLaw = (octets : List ℕ) → length (fields octets) + lost_count octets ≡ entry_count octets
+
+-- of octets that are no record nothing is shown
+abbrev pub NothingLaw : Type 0
+NothingLaw = (format : Format) (octets : List ℕ) → is_record octets ≡ false → brief format octets ≡ []

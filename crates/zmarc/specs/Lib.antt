@@ -1,0 +1,12 @@
+pub mod Briefs
+pub mod Charsets
+pub mod Isbns
+pub mod Laws
+pub mod Marc8
+pub mod Numbers
+pub mod Records
+pub mod References
+pub mod Shown
+pub mod Subfields
+pub mod Written
+pub mod Years

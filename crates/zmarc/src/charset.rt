@@ -1,0 +1,93 @@
+//! The characters that octets mean, and the text that is shown of them.
+ghost use Rattle.std.specs.Prelude.{◌≡◌, ◌++◌, map, OnOk, IfOk, string_bytes};
+ghost use Rattle.std.specs.Str.{chars, is_utf8};
+ghost use Rattle.std.specs.Str.Lossy.{utf8_lossy};
+ghost use Rattle.zmarc.specs.Marc8.{ascii};
+ghost use Rattle.zmarc.specs.Charsets.{is_beyond_ascii, is_utf8_beyond_ascii, characters, text};
+
+use crate::marc8::{map_ascii, read_marc8};
+use crate::shown::put_chars;
+use std::alloc::{AllocError, Global};
+use unicode_normalization::slice::extend_nfc;
+
+/// Sets of characters that records are written in.
+#[derive(Clone, Copy, Debug, PartialEq, Eq)]
+pub enum Charset {
+    /// UTF-8.
+    Utf8,
+    /// MARC-8 as far as ASCII and ANSEL go.
+    Marc8,
+    /// ASCII alone.
+    Ascii,
+}
+
+/// Whether there are octets above those of ASCII.
+fn is_beyond_ascii(octets: &[u8]) -> bool
+    ensures { result ≡ is_beyond_ascii octets.now }
+{
+    octets.iter().any(|octet| *octet > 0x7F)
+}
+
+/// Whether the octets are UTF-8.
+fn is_utf8(octets: &[u8]) -> bool
+    ensures { result ≡ is_utf8 octets.now }
+{
+    str::from_utf8(octets).is_ok()
+}
+
+/// Whether the octets are UTF-8, and more than ASCII.
+pub(crate) fn is_utf8_beyond_ascii(octets: &[u8]) -> bool
+    ensures { result ≡ is_utf8_beyond_ascii octets.now }
+{
+    is_beyond_ascii(octets) && is_utf8(octets)
+}
+
+/// Reads the characters of octets of ASCII.
+fn read_ascii(alloc: Global, octets: &[u8]) -> Result<Vec<char>, AllocError>
+    ensures { IfOk result (λ read. read.items ≡ map ascii octets.now) }
+{
+    let mut read = Vec::new(alloc);
+    for octet in octets {
+        read.push(map_ascii(*octet))?;
+    }
+    Ok(read)
+}
+
+/// Reads the characters of octets of UTF-8.
+fn read_utf8(alloc: Global, octets: &[u8]) -> Result<Vec<char>, AllocError>
+    ensures { IfOk result (λ read. read.items ≡ chars (utf8_lossy octets.now)) }
+{
+    let text = String::from_utf8_lossy(alloc, octets)?;
+    let mut read = Vec::new(alloc);
+    for c in text.as_str().chars() {
+        read.push(c)?;
+    }
+    Ok(read)
+}
+
+/// Reads the characters of octets in a set.
+fn read_characters(alloc: Global, charset: Charset, octets: &[u8]) -> Result<Vec<char>, AllocError>
+    ensures { IfOk result (λ read. read.items ≡ characters charset octets.now) }
+{
+    match charset {
+        Charset::Utf8 => read_utf8(alloc, octets),
+        Charset::Marc8 => read_marc8(alloc, octets),
+        Charset::Ascii => read_ascii(alloc, octets),
+    }
+}
+
+/// Appends the text that is shown of octets: their characters, composed as in NFC.
+#[tactic(auto, unfolding(crate::specs::Charsets::text))]
+pub(crate) fn put_text(
+    alloc: Global,
+    charset: Charset,
+    octets: &[u8],
+    line: &mut String,
+) -> Result<(), AllocError>
+    ensures { OnOk result (string_bytes line.new ≡ string_bytes line.old ++ text charset octets.now) }
+{
+    let read = read_characters(alloc, charset, octets)?;
+    let mut composed = Vec::new(alloc);
+    extend_nfc(&mut composed, &read)?;
+    put_chars(&composed, line)
+}

@@ -1,0 +1,80 @@
+//! Formats of records, and where each has what is shown.
+ghost use Rattle.std.specs.Prelude.{◌≡◌};
+ghost use Rattle.std.specs.Option.{option_copied};
+ghost use Rattle.zmarc.specs.Briefs.{title_tag, title_codes, mark_before, maker_code, other_charset};
+ghost use Rattle.zmarc.specs.Isbns.{isbn_tag};
+
+use crate::charset::Charset;
+
+/// Formats of bibliographic records.
+#[derive(Clone, Copy, Debug, PartialEq, Eq)]
+pub enum Format {
+    /// MARC 21, and what is of its family.
+    Marc21,
+    /// UNIMARC.
+    Unimarc,
+}
+
+impl Format {
+    /// The tag of the title.
+    pub(crate) fn title_tag(self) -> &'static [u8]
+        ensures { result.now ≡ title_tag self }
+    {
+        match self {
+            Self::Marc21 => b"245",
+            Self::Unimarc => b"200",
+        }
+    }
+
+    /// The codes of the subfields that are shown of the title.
+    pub(crate) fn title_codes(self) -> &'static [u8]
+        ensures { result.now ≡ title_codes self }
+    {
+        match self {
+            Self::Marc21 => b"abnpc",
+            Self::Unimarc => b"aefg",
+        }
+    }
+
+    /// The mark of ISBD that stands before a subfield of the title: in UNIMARC it is not in the data.
+    pub(crate) fn mark_before(self, code: u8) -> Option<&'static [u8]>
+        ensures { option_copied result ≡ mark_before self code }
+    {
+        match (self, code) {
+            (Self::Unimarc, b'e') => Some(b":"),
+            (Self::Unimarc, b'f') => Some(b"/"),
+            (Self::Unimarc, b'g') => Some(b";"),
+            _ => None,
+        }
+    }
+
+    /// The code of the subfield of the title that says who made it.
+    pub(crate) fn maker_code(self) -> u8
+        ensures { result ≡ maker_code self }
+    {
+        match self {
+            Self::Marc21 => b'c',
+            Self::Unimarc => b'f',
+        }
+    }
+
+    /// The set of characters of a record that is not in UTF-8.
+    pub(crate) fn other_charset(self) -> Charset
+        ensures { result ≡ other_charset self }
+    {
+        match self {
+            Self::Marc21 => Charset::Marc8,
+            Self::Unimarc => Charset::Ascii,
+        }
+    }
+
+    /// The tag of the ISBN.
+    pub(crate) fn isbn_tag(self) -> &'static [u8]
+        ensures { result.now ≡ isbn_tag self }
+    {
+        match self {
+            Self::Marc21 => b"020",
+            Self::Unimarc => b"010",
+        }
+    }
+}

@@ -1,0 +1,23 @@
+//! Bibliographic records of ISO 2709 (ANSI/NISO Z39.2) as one readable line each: the year, the title and who made it,
+//! and the ISBN, of records in MARC 21 and UNIMARC. The line is text that is safe to print, whatever the octets are.
+#![tactic(auto)]
+
+mod brief;
+mod charset;
+mod format;
+mod isbn;
+pub mod laws;
+mod marc8;
+mod numbers;
+mod pieces;
+mod records;
+mod shown;
+mod subfields;
+#[cfg(test)]
+mod tests;
+mod year;
+
+pub use brief::put_brief;
+pub use format::Format;
+pub use records::{count_lost, first_field, is_record};
+pub use subfields::subfield_in;

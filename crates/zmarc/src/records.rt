@@ -1,0 +1,209 @@
+//! Records of ISO 2709 (ANSI/NISO Z39.2): a leader of 24 octets, a directory of entries, and fields.
+ghost use Rattle.std.specs.Prelude.{◌≡◌, ◌≤◌, ◌+◌, ◌++◌, length, OnOk, IfOk, IfSome};
+ghost use Rattle.std.specs.List.{before_first};
+ghost use Rattle.std.specs.Option.{option_copied, option_to_list};
+ghost use Rattle.zmarc.specs.Records.{base_address, is_record, is_end, length_digits, start_digits, other_octets};
+ghost use Rattle.zmarc.specs.Records.{octets_of, tagged_octets, tagged_fields, first_field, lost_count};
+ghost use Rattle.zmarc.specs.References.{behind_each};
+
+use crate::numbers::{read_digit_or, read_number};
+use std::alloc::{AllocError, Global};
+
+/// The octets of a leader.
+const LEADER_LEN: usize = 24;
+/// The octets of a tag.
+const TAG_LEN: usize = 3;
+/// The field terminator.
+const FIELD_END: u8 = 0x1E;
+/// The record terminator.
+const RECORD_END: u8 = 0x1D;
+
+/// The base address of the data, where the leader is whole and tells one.
+#[tactic(auto, unfolding(crate::specs::Records::base_address))]
+fn read_base_address(octets: &[u8]) -> Option<usize>
+    ensures value { result ≡ base_address octets.now }
+    ensures within { IfSome result (λ at. (24 ≤ at) × (at ≤ length octets.now)) }
+{
+    if octets.len() < LEADER_LEN {
+        return None;
+    }
+    let at = read_number(&octets[12..17])?;
+    if LEADER_LEN <= at && at <= octets.len() {
+        Some(at)
+    } else {
+        None
+    }
+}
+
+/// Tells whether the octets are a record: they have a leader of 24 octets, whose positions 12 to 16 are five digits,
+/// and these tell a base address that is at least 24 and at most the number of octets. Nothing else of the leader is
+/// looked at.
+pub fn is_record(octets: &[u8]) -> bool
+    ensures { result ≡ is_record octets.now }
+{
+    read_base_address(octets).is_some()
+}
+
+/// What stands before the first terminator.
+fn cut_before_end(octets: &[u8]) -> &[u8]
+    ensures { result.now ≡ before_first is_end octets.now }
+{
+    match octets
+        .iter()
+        .position(|octet| *octet == FIELD_END || *octet == RECORD_END)
+    {
+        Some(at) => &octets[..at],
+        None => octets,
+    }
+}
+
+/// How the entries of a directory are laid out behind their tags.
+#[derive(Clone, Copy)]
+struct Layout {
+    length_digits: usize,
+    start_digits: usize,
+    other_octets: usize,
+}
+
+/// How the leader lays the entries out.
+fn read_entry_layout(octets: &[u8]) -> Layout
+    requires { 24 ≤ length octets.now }
+    ensures length { result.length_digits ≡ length_digits octets.now }
+    ensures start { result.start_digits ≡ start_digits octets.now }
+    ensures other { result.other_octets ≡ other_octets octets.now }
+    ensures short { (result.length_digits ≤ 9) × (result.start_digits ≤ 9) × (result.other_octets ≤ 9) }
+{
+    Layout {
+        length_digits: read_digit_or(4, octets[20]),
+        start_digits: read_digit_or(5, octets[21]),
+        other_octets: read_digit_or(0, octets[22]),
+    }
+}
+
+/// The octets that an entry tells of, where it tells of any.
+#[tactic(auto, unfolding(crate::specs::Records::octets_of))]
+fn read_entry<'a>(contents: &'a [u8], layout: Layout, entry: &[u8]) -> Option<&'a [u8]>
+    requires whole { 3 + layout.length_digits + layout.start_digits ≤ length entry.now }
+    requires short { (layout.length_digits ≤ 9) × (layout.start_digits ≤ 9) }
+    ensures { option_copied result ≡ octets_of contents.now layout.length_digits layout.start_digits entry.now }
+{
+    let (told_length, told_start) = entry[TAG_LEN..].split_at(layout.length_digits);
+    let len = read_number(told_length)?;
+    let start = read_number(&told_start[..layout.start_digits])?;
+    if start + len <= contents.len() {
+        Some(cut_before_end(&contents[start..start + len]))
+    } else {
+        None
+    }
+}
+
+/// The octets that an entry tells of, where it has this tag and tells of any.
+fn read_tagged_entry<'a>(
+    contents: &'a [u8],
+    layout: Layout,
+    tag: &[u8],
+    entry: &[u8],
+) -> Option<&'a [u8]>
+    requires whole { 3 + layout.length_digits + layout.start_digits ≤ length entry.now }
+    requires short { (layout.length_digits ≤ 9) × (layout.start_digits ≤ 9) }
+    ensures { option_copied result
+        ≡ tagged_octets contents.now layout.length_digits layout.start_digits tag.now entry.now }
+{
+    if &entry[..TAG_LEN] == tag {
+        read_entry(contents, layout, entry)
+    } else {
+        None
+    }
+}
+
+/// Takes the octets that an entry tells of, where it has this tag and tells of any.
+fn take_tagged<'a>(
+    contents: &'a [u8],
+    layout: Layout,
+    tag: &[u8],
+    entry: &[u8],
+    found: &mut Vec<&'a [u8]>,
+) -> Result<(), AllocError>
+    requires whole { 3 + layout.length_digits + layout.start_digits ≤ length entry.now }
+    requires short { (layout.length_digits ≤ 9) × (layout.start_digits ≤ 9) }
+    ensures { OnOk result (behind_each found.new.items ≡ behind_each found.old.items
+        ++ option_to_list (tagged_octets contents.now layout.length_digits layout.start_digits tag.now entry.now)) }
+{
+    if let Some(field) = read_tagged_entry(contents, layout, tag, entry) {
+        found.push(field)?;
+    }
+    Ok(())
+}
+
+/// Finds the octets of the first field that has this tag, in the order of the directory. A tag has three octets; no
+/// field has a tag of another length. The octets end before the field's terminator, and begin with the indicators where
+/// the field has any. They are the record's own: nothing is copied, and nothing makes them safe to print.
+///
+/// The answer is `None` where the octets are no record, and where no field has the tag. An entry of the directory that
+/// tells of no field (`count_lost`) is left out.
+#[tactic(auto, unfolding(crate::specs::Records::first_field), using(crate::proofs::FieldTheory::first_field_none))]
+pub fn first_field<'a>(octets: &'a [u8], tag: &[u8]) -> Option<&'a [u8]>
+    ensures { option_copied result ≡ first_field tag.now octets.now }
+{
+    let at = read_base_address(octets)?;
+    let contents = &octets[at..];
+    let mut rest = cut_before_end(&octets[LEADER_LEN..at]);
+    let layout = read_entry_layout(octets);
+    let len = TAG_LEN + layout.length_digits + layout.start_digits + layout.other_octets;
+    for _ in 0..rest.len() / len {
+        let (entry, behind) = rest.split_at(len);
+        if let Some(field) = read_tagged_entry(contents, layout, tag, entry) {
+            return Some(field);
+        }
+        rest = behind;
+    }
+    None
+}
+
+/// The octets of each field that has this tag, in the order of the directory.
+#[tactic(auto, unfolding(crate::specs::Records::tagged_fields), using(crate::proofs::FieldTheory::tagged_fields_none))]
+pub(crate) fn gather_tagged_fields<'a>(
+    alloc: Global,
+    octets: &'a [u8],
+    tag: &[u8],
+) -> Result<Vec<&'a [u8]>, AllocError>
+    ensures { IfOk result (λ found. behind_each found.items ≡ tagged_fields tag.now octets.now) }
+{
+    let mut found = Vec::new(alloc);
+    let Some(at) = read_base_address(octets) else {
+        return Ok(found);
+    };
+    let contents = &octets[at..];
+    let mut rest = cut_before_end(&octets[LEADER_LEN..at]);
+    let layout = read_entry_layout(octets);
+    let len = TAG_LEN + layout.length_digits + layout.start_digits + layout.other_octets;
+    for _ in 0..rest.len() / len {
+        let (entry, behind) = rest.split_at(len);
+        take_tagged(contents, layout, tag, entry, &mut found)?;
+        rest = behind;
+    }
+    Ok(found)
+}
+
+/// Counts the entries of the directory that tell of no field: their length or their start is no number, or together
+/// they lead beyond the octets. Of octets that are no record the count is 0.
+pub fn count_lost(octets: &[u8]) -> usize
+    ensures { result ≡ lost_count octets.now }
+{
+    let Some(at) = read_base_address(octets) else {
+        return 0;
+    };
+    let contents = &octets[at..];
+    let mut rest = cut_before_end(&octets[LEADER_LEN..at]);
+    let layout = read_entry_layout(octets);
+    let len = TAG_LEN + layout.length_digits + layout.start_digits + layout.other_octets;
+    let mut lost = 0;
+    for _ in 0..rest.len() / len {
+        let (entry, behind) = rest.split_at(len);
+        if read_entry(contents, layout, entry).is_none() {
+            lost += 1;
+        }
+        rest = behind;
+    }
+    lost
+}
