@@ -1,4 +1,4 @@
--- What decoding answers.
+-- The results of decoding.
 use Rattle.std.proofs.Common.{◌≡◌, ℕ, zero, suc, ◌-◌, ◌<◌, ◌≤◌, List, [], ◌∷◌, ◌++◌, length, take, Some, None, Result, Ok, Err, refl, sym, ap, subst, ◌∙◌, append_assoc, length-append, arith}
 use Rattle.std.proofs.lemmas.List.{take_at}
 use Rattle.zber.specs.AsnTags.{AsnTag}
@@ -45,7 +45,7 @@ misfit_at kind ns r m =
         let text : take k ns ++ h.2 ≡ m.front ++ l.0 ∷ (l.2 ++ h.2) = past_text ns m.front r l.2 h.2 l.0 k m.parts l.4 in
         m.stops l.0 l.1 l.3 h.0 (l.2 ++ h.2) (h.1, subst (λ (x : List Element). parts_of h.0 x) text h.3)
 
--- ---- the answers
+-- ---- the results
 
 pub decodes_ok : (n : Element) (t : AsnTag) (ns : List Element) (kind : Kind) (v : Apdu) → n ≡ cons t ns → kind_at t ≡ Some kind → apdu_at kind ns ≡ Ok v → Writes v n
 decodes_ok n t ns kind v e k r =
@@ -66,7 +66,7 @@ pub decodes_none : (n : Element) → kind_at (tag_of n) ≡ None → IsNoApdu n
 decodes_none (Primitive t b) e = tt
 decodes_none (Constructed t f) e = λ kind h. let found : kind_at t ≡ Some kind = rw h (kind_at-tag_of_kind kind) in cc
 
--- the same of elements that are given away
+-- the same for elements that are consumed
 
 stopped : (kind : Kind) (ns : List Element) (k : ℕ) → counted (apdu_at kind ns) ≡ Err k → (r : List Element) × (apdu_at kind ns ≡ Err r) × (length r ≡ k)
 stopped kind ns k h = by_reading (apdu_at kind ns) refl h

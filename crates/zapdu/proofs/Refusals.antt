@@ -1,4 +1,4 @@
--- An element is refused in one way.
+-- An element has one error, with one place.
 use Rattle.std.proofs.Common.{◌≡◌, ℕ, inl, inr, List, Some, subst}
 use Rattle.std.proofs.lemmas.Bool.{cases_order}
 use Rattle.zber.specs.AsnTags.{AsnTag}

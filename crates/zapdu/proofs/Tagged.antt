@@ -1,4 +1,4 @@
--- Elements whose tag is another's.
+-- Elements with another tag.
 use Rattle.std.proofs.Common.{◌≡◌, Bool, true, false, List, subst}
 use Rattle.zber.specs.AsnTags.{AsnTag}
 use Rattle.zber.specs.Elements.{Element, tag_of}

@@ -1,5 +1,6 @@
--- Which element stands for an APDU (Z39.50-2003, 4.1), and where an element that stands for none goes wrong.
-use Rattle.std.specs.Prelude.{◌≡◌, ℕ, ◌<◌, ◌≤◌, List, [], ◌∷◌, ◌++◌, length, take, Option, Some, None, Result, Ok, Err, if◌then◌else◌}
+-- Which element stands for an APDU (Z39.50-2003, 4.1), and the first wrong place of an element that stands for none.
+use Rattle.std.specs.Prelude.{◌≡◌, ℕ, ◌<◌, ◌≤◌, List, [], ◌∷◌, ◌++◌, length, take}
+use Rattle.std.specs.Prelude.{Option, Some, None, Result, Ok, Err, if◌then◌else◌}
 use Rattle.zber.specs.AsnTags.{AsnTag, context}
 use Rattle.zber.specs.Elements.{Element, Primitive, Constructed, elements}
 use Rattle.zber.specs.Tags.{same_tag}
@@ -29,6 +30,7 @@ kind_of (apdus.PresentRequest v) = kinds.PresentRequest
 kind_of (apdus.PresentResponse v) = kinds.PresentResponse
 kind_of (apdus.Close v) = kinds.Close
 
+-- the tag of the APDUs of a kind
 abbrev pub tag_of_kind : Kind → AsnTag
 tag_of_kind kinds.InitRequest = context 20
 tag_of_kind kinds.InitResponse = context 21
@@ -52,46 +54,49 @@ parts_of (apdus.Close v) = close_parts.stand v
 abbrev pub Writes : Apdu → Element → Type 0
 Writes v n = sequence (tag_of_kind (kind_of v)) (parts_of v) n
 
--- the kind that a tag names
+-- the kinds, in the order of their tags
 abbrev pub kinds_in_order : List Kind
 kinds_in_order =
     kinds.InitRequest ∷ kinds.InitResponse ∷ kinds.SearchRequest ∷ kinds.SearchResponse ∷ kinds.PresentRequest
     ∷ kinds.PresentResponse ∷ kinds.Close ∷ []
 
+-- the first of these kinds that has this tag
 abbrev pub kind_among : AsnTag → List Kind → Option Kind
 kind_among t [] = None
 kind_among t (k ∷ ks) = if same_tag t (tag_of_kind k) then Some k else kind_among t ks
 
+-- the kind of APDU that has this tag
 abbrev pub kind_at : AsnTag → Option Kind
 kind_at t = kind_among t kinds_in_order
 
--- some APDU of the kind has these elements and then more
+-- the elements of some APDU of the kind begin with these
 abbrev pub BeginsWith : Kind → List Element → Type 0
 BeginsWith kind ns = (v : Apdu) × (kind_of v ≡ kind) × (more : List Element) × parts_of v (ns ++ more)
 
--- the largest number of first elements with which some APDU of the kind begins
+-- `at` is the largest number of first elements of `ns` with which some APDU of the kind begins
 pub record IsMisfitAt (kind : Kind) (ns : List Element) (at : ℕ) : Type 0 where
   pub within : at ≤ length ns
   pub begins : BeginsWith kind (take at ns)
   pub largest : (k : ℕ) → at < k → k ≤ length ns → BeginsWith kind (take k ns) → ⊥
 
+-- the element has the kind's tag, and its first wrong place is `at`
 abbrev pub IsMalformed : Kind → ℕ → Element → Type 0
 IsMalformed kind at (Primitive t xs) = ⊥
 IsMalformed kind at (Constructed t f) = (t ≡ tag_of_kind kind) × IsMisfitAt kind (elements f) at
 
--- not constructed, or with the tag of no APDU
+-- the element is primitive, or has the tag of no APDU
 abbrev pub IsNoApdu : Element → Type 0
 IsNoApdu (Primitive t xs) = Unit {0}
 IsNoApdu (Constructed t f) = (kind : Kind) → t ≡ tag_of_kind kind → ⊥
 
--- what decoding answers
+-- the result of decoding an element
 abbrev pub Decodes : Element → Result Apdu ApduError → Type 0
 Decodes n (Ok v) = Writes v n
 Decodes n (Err errors.NotApdu) = IsNoApdu n
 Decodes n (Err (errors.Malformed kind at)) = ((v : Apdu) → Writes v n → ⊥) × IsMalformed kind at n
 Decodes n (Err errors.Memory) = Unit {0}
 
--- reading the elements of an APDU of the kind, and building those of an APDU
+-- the APDU of this kind that has these elements, or the elements left at the first wrong place
 abbrev pub apdu_at : Kind → List Element → Result Apdu (List Element)
 apdu_at kinds.InitRequest ns = init_request_parts.at ns >>= λ v. Ok (apdus.InitRequest v)
 apdu_at kinds.InitResponse ns = init_response_parts.at ns >>= λ v. Ok (apdus.InitResponse v)
@@ -101,6 +106,7 @@ apdu_at kinds.PresentRequest ns = present_request_parts.at ns >>= λ v. Ok (apdu
 apdu_at kinds.PresentResponse ns = present_response_parts.at ns >>= λ v. Ok (apdus.PresentResponse v)
 apdu_at kinds.Close ns = close_parts.at ns >>= λ v. Ok (apdus.Close v)
 
+-- the elements of an APDU
 abbrev pub apdu_made : Apdu → Option (List Element)
 apdu_made (apdus.InitRequest v) = init_request_parts.made v []
 apdu_made (apdus.InitResponse v) = init_response_parts.made v []
@@ -110,10 +116,12 @@ apdu_made (apdus.PresentRequest v) = present_request_parts.made v []
 apdu_made (apdus.PresentResponse v) = present_response_parts.made v []
 apdu_made (apdus.Close v) = close_parts.made v []
 
+-- the element that is built for an APDU
 abbrev pub apdu_spelt : Apdu → Option Element
 apdu_spelt v = around (tag_of_kind (kind_of v)) (apdu_made v)
 
--- an element is refused in one way, and only where it stands for no APDU
+-- An element that stands for an APDU is not `NotApdu`. No element is both `NotApdu` and `Malformed`, and a malformed
+-- one has one kind and one place.
 pub record OneRefusal : Type 0 where
   pub written : (v : Apdu) (n : Element) → Writes v n → IsNoApdu n → ⊥
   pub known : (kind : Kind) (at : ℕ) (n : Element) → IsNoApdu n → IsMalformed kind at n → ⊥

@@ -50,7 +50,8 @@ pub enum Kind {
 }
 
 impl Kind {
-    /// Its name in the PDU choice of the standard (Z39.50-2003, 4.1), as `presentResponse`. It takes no memory.
+    /// Returns the kind's name in the PDU choice of the standard (Z39.50-2003, 4.1), for example `presentResponse`. It
+    /// takes no memory.
     pub fn word(self) -> &'static str
         ensures { result.now ≡ kind_word self }
     {
@@ -69,11 +70,11 @@ impl Kind {
 /// Why an element is no APDU.
 #[derive(Clone, Copy, Debug, PartialEq, Eq, Error)]
 pub enum ApduError {
-    /// The element is primitive, or its tag is none of an APDU.
+    /// The element is primitive, or has the tag of no APDU.
     #[error("not an APDU")]
     NotApdu,
-    /// The element has the tag of an APDU of this kind, and is none: its first `at` elements are the first `at`
-    /// elements of some APDU of the kind, and no more are.
+    /// The element has the tag of an APDU of this kind, but stands for none. `at` is the largest number of its first
+    /// elements with which some APDU of this kind begins.
     #[error("{kind:?} malformed at {at}")]
     Malformed { kind: Kind, at: usize },
     /// No memory was found.
@@ -82,7 +83,7 @@ pub enum ApduError {
 }
 
 impl ApduError {
-    /// The name of the variant, as in `NotApdu`. It takes no memory.
+    /// Returns the variant's name, for example `NotApdu`. It takes no memory.
     pub fn word(self) -> &'static str
         ensures { result.now ≡ error_word self }
     {

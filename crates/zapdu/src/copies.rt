@@ -1,4 +1,4 @@
-//! Equal values, kept apart.
+//! Copies of APDUs and their parts.
 ghost use Rattle.std.specs.Prelude.{◌≡◌, IfOk};
 
 use crate::apdu::Apdu;
@@ -19,8 +19,8 @@ use crate::productions::search_response::SearchResponse;
 use std::alloc::{AllocError, Global};
 use zber::Duplicate;
 
-/// Two equal values. Of many fields a few at a time are duplicated, so that few steps can fail where much would be to
-/// drop.
+/// Duplicates two values. A struct's fields are duplicated a few at a time: few steps can then fail while many fields
+/// are to be dropped.
 fn two<A: Duplicate + Drop, B: Duplicate + Drop>(
     alloc: Global,
     a: &A,
@@ -33,7 +33,7 @@ fn two<A: Duplicate + Drop, B: Duplicate + Drop>(
     Ok((a, b))
 }
 
-/// Three equal values.
+/// Duplicates three values.
 fn three<A: Duplicate + Drop, B: Duplicate + Drop, C: Duplicate + Drop>(
     alloc: Global,
     a: &A,
@@ -395,7 +395,7 @@ impl Duplicate for Apdu {
 }
 
 impl Apdu {
-    /// An equal APDU, or the refusal of the memory for it.
+    /// Returns an equal APDU, or `AllocError` if no memory is found.
     pub fn copy(&self, alloc: Global) -> Result<Apdu, AllocError>
         ensures { IfOk result (λ copy. copy ≡ self.now) }
     {
@@ -404,7 +404,7 @@ impl Apdu {
 }
 
 impl Record {
-    /// An equal record, or the refusal of the memory for it.
+    /// Returns an equal record, or `AllocError` if no memory is found.
     pub fn copy(&self, alloc: Global) -> Result<Record, AllocError>
         ensures { IfOk result (λ copy. copy ≡ self.now) }
     {
@@ -413,7 +413,7 @@ impl Record {
 }
 
 impl DiagRec {
-    /// An equal diagnostic, or the refusal of the memory for it.
+    /// Returns an equal diagnostic, or `AllocError` if no memory is found.
     pub fn copy(&self, alloc: Global) -> Result<DiagRec, AllocError>
         ensures { IfOk result (λ copy. copy ≡ self.now) }
     {

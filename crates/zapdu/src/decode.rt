@@ -1,4 +1,4 @@
-//! Elements read as APDUs, records and diagnostics.
+//! Reads elements as APDUs, records and diagnostics.
 ghost use Rattle.std.specs.Prelude.{◌≡◌, IfOk, IfSome, IfNone};
 ghost use Rattle.zasn.specs.Answers.{Finds, FindsAway, FindsSo};
 ghost use Rattle.zapdu.specs.declared.productions.record.Record.{Record};
@@ -21,6 +21,7 @@ use std::alloc::{AllocError, Global};
 use zasn::{OwnParts, PartError, Parts, Production, Tagged, Taken};
 use zber::{Body, Node, Tag};
 
+/// Returns the kind of APDU that has this tag, if there is one.
 fn kind_of_tag(tag: Tag) -> Option<Kind>
     ensures { result ≡ kind_at tag }
 {
@@ -43,7 +44,7 @@ fn kind_of_tag(tag: Tag) -> Option<Kind>
     }
 }
 
-/// The APDU of a kind whose elements these are.
+/// Reads these elements as those of an APDU of this kind.
 fn apdu_of(alloc: Global, kind: Kind, parts: &mut Parts<'_>) -> Result<Apdu, PartError>
     ensures { Finds (apdu_at kind parts.old) result parts.new }
 {
@@ -93,8 +94,8 @@ fn take_present_response(alloc: Global, parts: &mut OwnParts) -> Result<Apdu, Pa
     Ok(Apdu::PresentResponse(apdu))
 }
 
-/// The APDU of a kind whose elements these are, and how many are left where it is none. The responses that bring
-/// records take them over.
+/// Reads these elements as those of an APDU of this kind. Returns the APDU, or the error, with the number of elements
+/// that are left. The responses that can have records take the elements over.
 fn take_apdu(alloc: Global, kind: Kind, nodes: Vec<Node>) -> (Result<Apdu, PartError>, usize)
     ensures { FindsSo (apdu_at kind nodes.items) result.0 result.1 }
 {
@@ -117,10 +118,10 @@ fn take_apdu(alloc: Global, kind: Kind, nodes: Vec<Node>) -> (Result<Apdu, PartE
     }
 }
 
-/// The APDU that an element stands for (Z39.50-2003, 4.1).
+/// Returns the APDU that the element stands for (Z39.50-2003, 4.1).
 ///
-/// Refused as `NotApdu` where the element is primitive or has the tag of no APDU, as `Malformed` where its elements are
-/// not those of an APDU of its kind, and as `Memory`.
+/// Returns `NotApdu` if the element is primitive or has the tag of no APDU. Returns `Malformed` if its elements are not
+/// those of an APDU of its kind. Returns `Memory` if no memory is found.
 pub fn from_node(alloc: Global, node: &Node) -> Result<Apdu, ApduError>
     ensures { Decodes node.now result }
 {
@@ -143,8 +144,8 @@ pub fn from_node(alloc: Global, node: &Node) -> Result<Apdu, ApduError>
     }
 }
 
-/// The APDU that an element stands for, which is given away: records in syntaxes of elements are moved into the APDU,
-/// where `from_node` copies them. Its answers are those of `from_node`.
+/// Returns the APDU that the element stands for, and consumes the element. Records in syntaxes of elements are moved
+/// into the APDU; `from_node` copies them. Results and errors are those of `from_node`.
 pub fn from_element(alloc: Global, node: Node) -> Result<Apdu, ApduError>
     ensures { Decodes node result }
 {
@@ -166,7 +167,8 @@ pub fn from_element(alloc: Global, node: Node) -> Result<Apdu, ApduError>
     }
 }
 
-/// The value of an element that may be another.
+/// Returns the value that the element stands for. Returns `None` if it stands for none, and `AllocError` if no memory
+/// is found.
 fn tagged_of<T: Tagged>(alloc: Global, node: &Node) -> Result<Option<T>, AllocError>
     ensures some { IfOk result (λ o. IfSome o (λ v. T.place.stands v node.now)) }
     ensures none { IfOk result (λ o. IfNone o ((v : T) → T.place.stands v node.now → ⊥)) }
@@ -181,8 +183,8 @@ fn tagged_of<T: Tagged>(alloc: Global, node: &Node) -> Result<Option<T>, AllocEr
     }
 }
 
-/// The record that an element stands for (NamePlusRecord), or `None` for another element, or the refusal of the memory
-/// for it.
+/// Returns the record that the element stands for (Z39.50-2003, 4.1: NamePlusRecord). Returns `None` if it stands for
+/// none, and `AllocError` if no memory is found.
 pub fn record_of(alloc: Global, node: &Node) -> Result<Option<Record>, AllocError>
     ensures some { IfOk result (λ o. IfSome o (λ r. WritesRecord r node.now)) }
     ensures none { IfOk result (λ o. IfNone o ((r : Record) → WritesRecord r node.now → ⊥)) }
@@ -190,8 +192,8 @@ pub fn record_of(alloc: Global, node: &Node) -> Result<Option<Record>, AllocErro
     tagged_of(alloc, node)
 }
 
-/// The diagnostic that an element stands for (DiagRec), or `None` for another element, or the refusal of the memory for
-/// it.
+/// Returns the diagnostic that the element stands for (Z39.50-2003, 4.1: DiagRec). Returns `None` if it stands for
+/// none, and `AllocError` if no memory is found.
 pub fn diag_of(alloc: Global, node: &Node) -> Result<Option<DiagRec>, AllocError>
     ensures some { IfOk result (λ o. IfSome o (λ d. WritesDiag d node.now)) }
     ensures none { IfOk result (λ o. IfNone o ((d : DiagRec) → WritesDiag d node.now → ⊥)) }

@@ -1,4 +1,4 @@
-//! APDUs, records and diagnostics built as elements.
+//! Builds the elements of APDUs, records and diagnostics.
 ghost use Rattle.zasn.specs.Answers.{Makes, IsWritten};
 ghost use Rattle.zapdu.specs.Productions.Records.{WritesRecord, record_spelt};
 ghost use Rattle.zapdu.specs.Productions.Diagnostics.{WritesDiag, diag_spelt};
@@ -11,7 +11,7 @@ use std::alloc::Global;
 use zasn::{BuildError, Tagged, write_within};
 use zber::{Node, Tag};
 
-/// The element of an APDU, under the tag of its kind.
+/// Builds the element of an APDU, with the tag of its kind.
 fn write_apdu(alloc: Global, apdu: &Apdu) -> Result<Node, BuildError>
     ensures { Makes (apdu_spelt apdu.now) result }
 {
@@ -26,12 +26,12 @@ fn write_apdu(alloc: Global, apdu: &Apdu) -> Result<Node, BuildError>
     }
 }
 
-/// The element that stands for an APDU (Z39.50-2003, 4.1), with the contents octets of the canonical encoding: TRUE is
-/// FF, an INTEGER has as few octets as hold it, and unused bits are zero. What the APDU keeps as an element stands as
-/// it is.
+/// Builds the element that stands for an APDU (Z39.50-2003, 4.1), with the contents octets of the canonical encoding.
+/// TRUE is FF, an INTEGER has as few octets as possible, and unused bits are zero. A part that the APDU keeps as an
+/// element is copied unchanged.
 ///
-/// Refused as `NotSpellable` where a part that the APDU keeps as an element has no lawful tag or form for its place,
-/// and as `Memory`.
+/// Returns `NotSpellable` if a part that the APDU keeps as an element has no lawful tag or form for its place, and
+/// `Memory` if no memory is found.
 pub fn to_node(alloc: Global, apdu: &Apdu) -> Result<Node, BuildError>
     ensures exact { Makes (apdu_spelt apdu.now) result }
     ensures written { IsWritten (Writes apdu.now) result }
@@ -39,6 +39,7 @@ pub fn to_node(alloc: Global, apdu: &Apdu) -> Result<Node, BuildError>
     write_apdu(alloc, apdu)
 }
 
+/// Builds the element that stands for a value.
 fn element_of<T: Tagged>(alloc: Global, value: &T) -> Result<Node, BuildError>
     ensures exact { Makes (T.place.spelt value.now) result }
     ensures written { IsWritten (T.place.stands value.now) result }
@@ -46,7 +47,8 @@ fn element_of<T: Tagged>(alloc: Global, value: &T) -> Result<Node, BuildError>
     value.to_element(alloc)
 }
 
-/// The element that stands for a record (NamePlusRecord). Its contents octets, and refusals, are as those of `to_node`.
+/// Builds the element that stands for a record (Z39.50-2003, 4.1: NamePlusRecord). Contents octets and errors are as
+/// those of `to_node`.
 pub fn record_node(alloc: Global, value: &Record) -> Result<Node, BuildError>
     ensures exact { Makes (record_spelt value.now) result }
     ensures written { IsWritten (WritesRecord value.now) result }
@@ -54,7 +56,8 @@ pub fn record_node(alloc: Global, value: &Record) -> Result<Node, BuildError>
     element_of(alloc, value)
 }
 
-/// The element that stands for a diagnostic (DiagRec). Its contents octets, and refusals, are as those of `to_node`.
+/// Builds the element that stands for a diagnostic (Z39.50-2003, 4.1: DiagRec). Contents octets and errors are as those
+/// of `to_node`.
 pub fn diag_node(alloc: Global, diag: &DiagRec) -> Result<Node, BuildError>
     ensures exact { Makes (diag_spelt diag.now) result }
     ensures written { IsWritten (WritesDiag diag.now) result }

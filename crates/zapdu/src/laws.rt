@@ -24,22 +24,23 @@ pub fn one_diagnostic()
     ensures { (v w : DiagRec) (n : Element) → WritesDiag v n → WritesDiag w n → v ≡ w }
 {}
 
-/// An element that stands for no APDU is refused in one way.
+/// An element that stands for an APDU is not `NotApdu`. No element is both `NotApdu` and `Malformed`, and a malformed
+/// one has one kind and one place.
 pub fn one_refusal()
     ensures { OneRefusal }
 {}
 
-/// Reading the element that was built of an APDU gives it back.
+/// Reading the element that was built of an APDU returns this APDU, unless no memory is found.
 pub fn apdu_read_back()
     ensures { ApduReadBack }
 {}
 
-/// Reading the element that was built of a record gives it back.
+/// Reading the element that was built of a record returns this record.
 pub fn record_read_back()
     ensures { RecordReadBack }
 {}
 
-/// Reading the element that was built of a diagnostic gives it back.
+/// Reading the element that was built of a diagnostic returns this diagnostic.
 pub fn diagnostic_read_back()
     ensures { DiagReadBack }
 {}

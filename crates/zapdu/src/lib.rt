@@ -1,5 +1,5 @@
-//! The APDUs of Z39.50-2003 that this client speaks, with records and diagnostics, between elements and values, and
-//! their texts.
+//! The APDUs of Z39.50-2003 that this client speaks, with their records and diagnostics: reads them from elements,
+//! builds their elements, and prints their texts.
 #![tactic(auto)]
 
 mod apdu;

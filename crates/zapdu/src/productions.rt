@@ -1,4 +1,4 @@
-//! The productions of the protocol, one in each file with the table of its places (Z39.50-2003, 4.1).
+//! The productions of the protocol, each in its own file, with the table of its places (Z39.50-2003, 4.1).
 
 pub mod close;
 pub mod delivery;

@@ -1,4 +1,4 @@
-//! The printed texts of octets, diagnostics and records.
+//! Prints the texts of octets, diagnostics and records.
 ghost use Rattle.std.specs.Prelude.{◌≡◌, ◌≤◌, ◌<◌, ◌∷◌, [], ◌++◌, length, take, IsTrue, IfOk, Bool, OnOk, OnErr, Option, MatchOption, Some, None};
 ghost use Rattle.std.specs.List.{flat_map};
 ghost use Rattle.hex.specs.Hex.{encode_lower};
@@ -15,7 +15,7 @@ use zasn::{BuildError, Tagged};
 use zber::text::{put_number, put_oid};
 use zber::{Duplicate, Node, Oid};
 
-/// The octet behind a backslash, as two hexadecimal digits behind `\x`, or as it is.
+/// Appends an octet as it stands in quotes: behind a backslash, as `\x` and two hexadecimal digits, or unchanged.
 #[tactic(auto, unfolding(crate::specs::Text::shown))]
 fn put_octet(octet: u8, out: &mut Vec<u8>) -> Result<(), AllocError>
     ensures { OnOk result (out.new.items ≡ out.old.items ++ shown octet) }
@@ -36,8 +36,8 @@ fn put_octet(octet: u8, out: &mut Vec<u8>) -> Result<(), AllocError>
     }
 }
 
-/// Appends the octets in hexadecimal, two lower-case digits each. Where no memory is found, nothing
-/// is appended.
+/// Appends the octets in hexadecimal, two lower-case digits each. Returns `AllocError` if no memory is found; `out` is
+/// then unchanged.
 pub fn put_hex(alloc: Global, octets: &[u8], out: &mut Vec<u8>) -> Result<(), AllocError>
     ensures ok { OnOk result (out.new.items ≡ out.old.items ++ encode_lower octets.now) }
     ensures err { OnErr result (out.new.items ≡ out.old.items) }
@@ -46,7 +46,7 @@ pub fn put_hex(alloc: Global, octets: &[u8], out: &mut Vec<u8>) -> Result<(), Al
     out.extend_from_slice(text.as_bytes())
 }
 
-/// Whether the octet stands in quotes as it is.
+/// Whether the octet stands unchanged in quotes.
 #[tactic(auto, unfolding(crate::specs::Text::shown))]
 fn is_plain(octet: u8) -> bool
     ensures { IsTrue result → shown octet ≡ octet ∷ [] }
@@ -54,7 +54,7 @@ fn is_plain(octet: u8) -> bool
     32 <= octet && octet <= 126 && octet != b'"' && octet != b'\\'
 }
 
-/// How many octets stand in quotes as they are before the first that does not.
+/// Returns the number of octets before the first that does not stand unchanged in quotes.
 fn plain_front(octets: &[u8]) -> usize
     ensures within { result ≤ length octets.now }
     ensures plain { flat_map shown (take result octets.now) ≡ take result octets.now }
@@ -67,7 +67,7 @@ fn plain_front(octets: &[u8]) -> usize
     octets.len()
 }
 
-/// Appends the octets up to the first that does not stand as it is, and that one, and returns the rest.
+/// Appends the octets up to and with the first that does not stand unchanged in quotes. Returns the others.
 fn put_run<'a>(octets: &'a [u8], out: &mut Vec<u8>) -> Result<&'a [u8], AllocError>
     ensures whole { IfOk result (λ rest.
         out.new.items ++ flat_map shown rest.now ≡ out.old.items ++ flat_map shown octets.now) }
@@ -104,8 +104,8 @@ fn put_quoted_or_dash(text: &Option<Bytes>, out: &mut Vec<u8>) -> Result<(), All
     }
 }
 
-/// Appends the element's canonical encoding in hexadecimal. Where no memory is found, nothing is
-/// appended.
+/// Appends the element's canonical encoding in hexadecimal. Returns `AllocError` if no memory is found; `out` is then
+/// unchanged.
 pub fn put_node(alloc: Global, node: &Node, out: &mut Vec<u8>) -> Result<(), AllocError>
     ensures ok { OnOk result (out.new.items ≡ out.old.items ++ encode_lower (canonical node.now)) }
     ensures err { OnErr result (out.new.items ≡ out.old.items) }
@@ -115,6 +115,7 @@ pub fn put_node(alloc: Global, node: &Node, out: &mut Vec<u8>) -> Result<(), All
     put_hex(alloc, octets.as_slice(), out)
 }
 
+/// Appends `ber` and the canonical encoding of the value's element; only `ber` if no element stands for the value.
 fn put_given_ber<T: Tagged>(alloc: Global, value: T, out: &mut Vec<u8>) -> Result<(), AllocError>
     ensures { OnOk result (out.new.items ≡ out.old.items ++ ber_text (T.place.spelt value)) }
 {
@@ -126,6 +127,7 @@ fn put_given_ber<T: Tagged>(alloc: Global, value: T, out: &mut Vec<u8>) -> Resul
     }
 }
 
+/// Does the same for a value that stays.
 fn put_ber<T: Tagged + Duplicate>(
     alloc: Global,
     value: &T,
@@ -161,8 +163,8 @@ fn put_diag(alloc: Global, diag: &DiagRec, out: &mut Vec<u8>) -> Result<(), Allo
     }
 }
 
-/// The syntax of a record and its octets, where the EXTERNAL has no more than a direct reference and octet-aligned
-/// contents (Z39.50-2003, 3.6; X.690, 8.18). It takes no memory.
+/// Returns the syntax of a record and its octets if the EXTERNAL has only a direct reference and octet-aligned contents
+/// (Z39.50-2003, 3.6; X.690, 8.18). Returns `None` for any other EXTERNAL. It takes no memory.
 pub fn octet_aligned(external: &External) -> Option<(&Oid, &Bytes)>
     ensures { let v = external.now in
         MatchOption result (octets_alone v.direct v.indirect v.descriptor v.content ≡ None)
@@ -228,7 +230,7 @@ fn put_record(alloc: Global, value: &Record, hex: bool, out: &mut Vec<u8>) -> Re
     }
 }
 
-/// Whether the record is printed as `ber`.
+/// Whether the record is printed as `ber`, in each mode.
 fn is_ber(value: &Record) -> bool
     ensures { IsTrue result → (hex : Bool) → record_text hex value.now ≡ ber_text (whole_record.spelt value.now) }
 {
@@ -254,8 +256,9 @@ fn put_given_record(
     }
 }
 
-/// Appends the octets in quotes: 20 to 7E as they are, with a backslash before `"` and backslash, others as `\x` and
-/// two lower-case hexadecimal digits. Where no memory is found, nothing is appended.
+/// Appends the octets in quotes. The octets 20 to 7E stand unchanged, with a backslash before `"` and before a
+/// backslash; others stand as `\x` and two lower-case hexadecimal digits. Returns `AllocError` if no memory is found;
+/// `out` is then unchanged.
 pub fn quote(alloc: Global, octets: &[u8], out: &mut Vec<u8>) -> Result<(), AllocError>
     ensures ok { OnOk result (out.new.items ≡ out.old.items ++ quoted octets.now) }
     ensures err { OnErr result (out.new.items ≡ out.old.items) }
@@ -266,7 +269,7 @@ pub fn quote(alloc: Global, octets: &[u8], out: &mut Vec<u8>) -> Result<(), Allo
 }
 
 /// Appends a diagnostic: `OID CONDITION "INFO"`, or `ber` and the canonical encoding of an EXTERNAL in hexadecimal.
-/// Where no memory is found, nothing is appended.
+/// Returns `AllocError` if no memory is found; `out` is then unchanged.
 pub fn print_diag(alloc: Global, diag: &DiagRec, out: &mut Vec<u8>) -> Result<(), AllocError>
     ensures ok { OnOk result (out.new.items ≡ out.old.items ++ diag_text diag.now) }
     ensures err { OnErr result (out.new.items ≡ out.old.items) }
@@ -276,7 +279,8 @@ pub fn print_diag(alloc: Global, diag: &DiagRec, out: &mut Vec<u8>) -> Result<()
     out.extend_from_slice(&text)
 }
 
-/// Appends a diagnostic in the default format: `OID CONDITION "INFO"`. Where no memory is found, nothing is appended.
+/// Appends a diagnostic in the default format: `OID CONDITION "INFO"`. Returns `AllocError` if no memory is found;
+/// `out` is then unchanged.
 pub fn print_default_diag(
     alloc: Global,
     diag: &DefaultDiag,
@@ -290,10 +294,10 @@ pub fn print_default_diag(
     out.extend_from_slice(&text)
 }
 
-/// Appends a record: `rec OID DB TEXT` where it is octets in a named syntax, `diag DB DIAG` where it is a surrogate,
-/// else `ber` and its canonical encoding in hexadecimal; no digits follow `ber` where a program built a record for
-/// which no element stands. DB is quoted, or `-`; TEXT is quoted, or hexadecimal where `hex` is set. Where no memory is
-/// found, nothing is appended.
+/// Appends a record: `rec OID DB TEXT` if it is octets in a named syntax, `diag DB DIAG` if it is a surrogate, and
+/// otherwise `ber` and its canonical encoding in hexadecimal. No digits follow `ber` if no element stands for a record
+/// that a program built. DB is in quotes, or `-`. TEXT is in quotes, or hexadecimal if `hex` is set. Returns
+/// `AllocError` if no memory is found; `out` is then unchanged.
 pub fn print_record(
     alloc: Global,
     value: &Record,
@@ -308,7 +312,8 @@ pub fn print_record(
     out.extend_from_slice(&text)
 }
 
-/// Appends a record that is given away, as `print_record` does, which copies the elements of one that prints as `ber`.
+/// Appends a record as `print_record` does, and consumes it. If a record prints as `ber`, `print_record` copies its
+/// elements; this call does not.
 pub fn print_given_record(
     alloc: Global,
     value: Record,

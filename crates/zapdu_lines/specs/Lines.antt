@@ -1,4 +1,4 @@
--- The lines of an APDU, as `show` prints them.
+-- The lines of an APDU, as the command `show` prints them.
 use Rattle.std.specs.Prelude.{ℕ, List, [], ◌∷◌, ◌++◌, Option, Some, None, false, codes}
 use Rattle.std.specs.List.{flat_map}
 use Rattle.zapdu.specs.Text.{quoted, record_text, default_text, diag_text}
@@ -26,7 +26,7 @@ record_line r = codes "  " ++ record_text false r ++ codes "\n"
 abbrev pub record_lines : List Record → List ℕ
 record_lines rs = flat_map record_line rs
 
--- a diagnostic that stands for no record
+-- the beginning of the line of a nonsurrogate diagnostic
 unfoldable pub nonsurrogate : List ℕ
 nonsurrogate = codes "  nonsurrogate "
 
@@ -66,6 +66,7 @@ init_response_text v =
     ++ numbers_text (v.preferred_message_size ∷ v.exceptional_record_size ∷ []) ++ truth_text v.result
     ++ name_text v.implementation_name ++ codes "\n"
 
+-- the first line of a SearchResponse
 abbrev pub found_line : SearchResponse → List ℕ
 found_line v =
     start_text kinds.SearchResponse v.reference_id
@@ -101,6 +102,7 @@ optional_info (Some octets) = info_text octets
 abbrev pub close_text : Close → List ℕ
 close_text v = head_line kinds.Close v.reference_id (v.close_reason ∷ []) ++ optional_info v.diagnostic_information
 
+-- the lines of an APDU
 abbrev pub apdu_text : Apdu → List ℕ
 apdu_text (apdus.InitRequest v) = init_request_text v
 apdu_text (apdus.InitResponse v) = init_response_text v

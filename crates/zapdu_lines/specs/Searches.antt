@@ -1,4 +1,4 @@
--- The lines of a SearchRequest, as `show` prints them.
+-- The lines of a SearchRequest, as the command `show` prints them.
 use Rattle.std.specs.Prelude.{ℕ, List, [], ◌∷◌, ◌++◌, Option, Some, None, if◌then◌else◌, codes}
 use Rattle.std.specs.List.{flat_map}
 use Rattle.zber.specs.Dotted.{dotted}
@@ -22,7 +22,7 @@ abbrev pub optional_syntax : Option (List ℕ) → List ℕ
 optional_syntax None = []
 optional_syntax (Some arcs) = codes "  syntax " ++ dotted arcs ++ codes "\n"
 
--- a query in the prefix notation; where that has no text for it, its element
+-- a query in the prefix notation, or its element if the notation has no text for it
 abbrev pub type_1_text : RpnQuery → List ℕ
 type_1_text q = if printable q then query_text q else ber_text (query_spelt q)
 
@@ -33,6 +33,7 @@ sought_text (queries.Other n) = ber_text (Some n)
 abbrev pub query_line : SearchQuery → List ℕ
 query_line q = codes "  query " ++ sought_text q ++ codes "\n"
 
+-- the first line of a SearchRequest
 unfoldable pub search_line : SearchRequest → List ℕ
 search_line v =
     start_text kinds.SearchRequest v.reference_id

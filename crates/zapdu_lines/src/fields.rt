@@ -1,4 +1,4 @@
-//! The fields of an APDU's line.
+//! Prints the fields of an APDU's line.
 ghost use Rattle.std.specs.Prelude.{◌≡◌, ◌++◌, OnOk};
 ghost use Rattle.zapdu_lines.specs.Fields.{reference_text, numbers_text, number_text, bits_text, truth_text, name_text, start_text};
 
@@ -8,7 +8,7 @@ use zapdu::{Kind, put_hex, quote};
 use zber::Bits;
 use zber::text::put_number;
 
-/// The word of the kind, and the reference id.
+/// Appends the kind's name, a space and the reference id.
 #[tactic(auto, unfolding(crate::specs::Fields::start_text))]
 pub(crate) fn put_start(
     alloc: Global,
@@ -23,7 +23,7 @@ pub(crate) fn put_start(
     put_reference(alloc, reference, text)
 }
 
-/// Bits as digits, behind a space.
+/// Appends a space and the bits as digits.
 pub(crate) fn put_bits(bits: &Bits, text: &mut Vec<u8>) -> Result<(), AllocError>
     ensures { OnOk result (text.new.items ≡ text.old.items ++ bits_text bits.now) }
 {
@@ -34,7 +34,7 @@ pub(crate) fn put_bits(bits: &Bits, text: &mut Vec<u8>) -> Result<(), AllocError
     Ok(())
 }
 
-/// A truth value as a word, behind a space.
+/// Appends a space and `true` or `false`.
 pub(crate) fn put_truth(value: bool, text: &mut Vec<u8>) -> Result<(), AllocError>
     ensures { OnOk result (text.new.items ≡ text.old.items ++ truth_text value) }
 {
@@ -45,7 +45,7 @@ pub(crate) fn put_truth(value: bool, text: &mut Vec<u8>) -> Result<(), AllocErro
     }
 }
 
-/// A name in quotes, or a dash, behind a space.
+/// Appends a space and the name in quotes, or a dash if there is none.
 pub(crate) fn put_name(
     alloc: Global,
     name: &Option<Bytes>,
@@ -60,7 +60,7 @@ pub(crate) fn put_name(
     }
 }
 
-/// A reference id in hexadecimal, or a dash.
+/// Appends the reference id in hexadecimal, or a dash if there is none.
 pub(crate) fn put_reference(
     alloc: Global,
     reference: &Option<Bytes>,
@@ -74,7 +74,7 @@ pub(crate) fn put_reference(
     }
 }
 
-/// Numbers, each behind a space.
+/// Appends the numbers, each behind a space.
 pub(crate) fn put_numbers(
     alloc: Global,
     numbers: &[i64],
@@ -88,6 +88,7 @@ pub(crate) fn put_numbers(
     Ok(())
 }
 
+/// Appends a space and the number.
 fn put_field(alloc: Global, number: i64, text: &mut Vec<u8>) -> Result<(), AllocError>
     ensures { OnOk result (text.new.items ≡ text.old.items ++ number_text number) }
 {

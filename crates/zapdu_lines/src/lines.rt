@@ -1,4 +1,4 @@
-//! The lines of an APDU, as `show` prints them.
+//! Prints the lines of an APDU, as the command `show` does.
 ghost use Rattle.std.specs.Prelude.{◌≡◌, ◌++◌, OnOk, OnErr};
 ghost use Rattle.zapdu_lines.specs.Fields.{head_line};
 ghost use Rattle.zapdu_lines.specs.Lines.{apdu_text, init_request_text, init_response_text, found_line, search_response_text, present_request_text, range_line, range_lines, response_text, close_text, records_text, optional_records, record_lines, record_line, nonsurrogate, default_line, diag_lines, diag_line, info_text};
@@ -14,8 +14,9 @@ use zapdu::{
 };
 use zber::Seq;
 
-/// Appends the lines of an APDU: its word and its fields in their order, and an indented line for each record or text.
-/// A reference id is hexadecimal, and what is absent is `-`. After a failure the text is unchanged.
+/// Appends the lines of an APDU: the name of its kind with its fields in order, and an indented line for each record or
+/// text. A reference id is in hexadecimal; an absent field is `-`. Returns `AllocError` if no memory is found; `text`
+/// is then unchanged.
 pub fn print_apdu(alloc: Global, apdu: Apdu, text: &mut Vec<u8>) -> Result<(), AllocError>
     ensures ok { OnOk result (text.new.items ≡ text.old.items ++ apdu_text apdu) }
     ensures err { OnErr result (text.new.items ≡ text.old.items) }
@@ -28,7 +29,7 @@ pub fn print_apdu(alloc: Global, apdu: Apdu, text: &mut Vec<u8>) -> Result<(), A
 fn put_apdu(alloc: Global, apdu: Apdu, text: &mut Vec<u8>) -> Result<(), AllocError>
     ensures { OnOk result (text.new.items ≡ text.old.items ++ apdu_text apdu) }
 {
-    // what is only looked at is dropped by one call, so that its drops are not written out here
+    // one call drops each value that is only read, so that the drops of its fields are not written out here
     match apdu {
         Apdu::InitRequest(request) => {
             let told = put_init_request(alloc, &request, text);
@@ -99,7 +100,7 @@ fn put_init_response(
     text.extend_from_slice(b"\n")
 }
 
-/// The line of a SearchResponse.
+/// Appends the first line of a SearchResponse.
 fn put_found(alloc: Global, response: &SearchResponse, text: &mut Vec<u8>) -> Result<(), AllocError>
     ensures { OnOk result (text.new.items ≡ text.old.items ++ found_line response.now) }
 {
@@ -216,7 +217,7 @@ fn put_close(alloc: Global, close: &Close, text: &mut Vec<u8>) -> Result<(), All
     }
 }
 
-/// The line of an APDU's word, its reference id and its numbers.
+/// Appends the line of the kind's name, the reference id and the numbers.
 #[tactic(auto, unfolding(crate::specs::Fields::head_line))]
 fn put_head(
     alloc: Global,

@@ -1,4 +1,4 @@
-//! The lines of a SearchRequest.
+//! Prints the lines of a SearchRequest.
 ghost use Rattle.std.specs.Prelude.{◌≡◌, ◌++◌, Some, OnOk};
 ghost use Rattle.zquery.specs.Element.Type1Reading.{query_spelt};
 ghost use Rattle.zapdu.specs.Text.{ber_text};
@@ -92,7 +92,7 @@ fn put_sought(alloc: Global, query: &SearchQuery, text: &mut Vec<u8>) -> Result<
     }
 }
 
-/// A query in the prefix notation; where that has no text for it, its element.
+/// Appends a query in the prefix notation, or its element if the notation has no text for it.
 fn put_type_1(alloc: Global, query: &Query, text: &mut Vec<u8>) -> Result<(), AllocError>
     ensures { OnOk result (text.new.items ≡ text.old.items ++ type_1_text query.now) }
 {
@@ -103,6 +103,7 @@ fn put_type_1(alloc: Global, query: &Query, text: &mut Vec<u8>) -> Result<(), Al
     }
 }
 
+/// Appends `ber` and the canonical encoding of the query's element; only `ber` if no element stands for the query.
 fn put_spelling(alloc: Global, query: &Query, text: &mut Vec<u8>) -> Result<(), AllocError>
     ensures { OnOk result (text.new.items ≡ text.old.items ++ ber_text (query_spelt query.now)) }
 {
@@ -113,7 +114,7 @@ fn put_spelling(alloc: Global, query: &Query, text: &mut Vec<u8>) -> Result<(), 
     }
 }
 
-/// The canonical encoding of an element.
+/// Appends `ber` and the canonical encoding of an element.
 fn put_element(alloc: Global, node: &Node, text: &mut Vec<u8>) -> Result<(), AllocError>
     ensures { OnOk result (text.new.items ≡ text.old.items ++ ber_text (Some node.now)) }
 {

@@ -1,4 +1,4 @@
--- The names of why elements were not read, or not built.
+-- The names of the reasons why elements were not read, or not built.
 use Rattle.std.specs.Prelude.{ℕ, List, codes}
 use Rattle.zasn.specs.declared.error.PartError.{PartError}
 use Rattle.zasn.specs.declared.error.PartError.TheVariants as parts

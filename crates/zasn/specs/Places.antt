@@ -48,7 +48,7 @@ lawful {P = P} {tags = tags} {meaning = meaning} {spelt = spelt} place spelled =
   none = spelled.none;
 }
 
--- OCTET STRING and the character strings, whose octets are kept as they are; OBJECT IDENTIFIER; BIT STRING
+-- OCTET STRING and the character strings, with their octets unchanged; OBJECT IDENTIFIER; BIT STRING
 abbrev pub octets : AsnTag → Place (List ℕ)
 octets tag =
     lawful {P = tagged tag octets_of} {tags = tag ∷ []} {meaning = octets_of} {spelt = octets_spelt tag}
@@ -75,7 +75,7 @@ boolean tag =
     lawful {P = tagged tag bool_of} {tags = tag ∷ []} {meaning = bool_of} {spelt = bool_spelt tag} (bool_place tag)
     (bool_spelled tag)
 
--- a constructed element, kept with whatever it holds
+-- a constructed element, kept with whatever it contains
 abbrev pub opaque : AsnTag → Place Element
 opaque tag =
     lawful {P = tagged tag constructed} {tags = tag ∷ []} {meaning = constructed} {spelt = constructed_spelt tag}
@@ -94,13 +94,13 @@ alone p = of_table (required p (λ x. x) ended) (λ x. x) (λ x. refl) (λ x. re
 abbrev pub explicit : {A : Type 0} → AsnTag → Place A → Place A
 explicit tag p = within tag (alone p)
 
--- whichever element, within an element with the tag
+-- any element, within an element with the tag
 abbrev pub any : AsnTag → Place Element
 any tag =
     lawful {P = λ m. sequence tag (one itself m no_more)} {tags = tag ∷ []} {meaning = sequence_of any_at}
     {spelt = λ m. around tag (Some (m ∷ []))} (any_place tag) (any_spelled tag)
 
--- an element with one of the tags, of either form, kept as it stands
+-- an element with one of the tags, of either form, kept unchanged
 abbrev pub kept : AsnTag → List AsnTag → Place Element
 kept tag tags =
     lawful {P = is_kept (tag ∷ tags)} {tags = tag ∷ tags} {meaning = λ n. Some n}
@@ -113,7 +113,7 @@ list tag p =
     lawful {P = λ xs. sequence tag (each p.stands xs)} {tags = tag ∷ []} {meaning = list_of (whole_of p)}
     {spelt = λ xs. around tag (all_spelt p.spelt xs)} (list_place p tag) (list_spelled p tag)
 
--- the same of strings that all have the inner tag
+-- SEQUENCE OF strings that all have the inner tag
 abbrev pub text_under : AsnTag → Element → Option (List ℕ)
 text_under tag n = if among (tag_of n) (tag ∷ []) then octets_of n else None
 

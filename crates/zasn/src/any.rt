@@ -1,4 +1,4 @@
-//! Elements that a production keeps as they stand.
+//! Elements that a production keeps unchanged.
 ghost use Rattle.std.specs.Prelude.{◌≡◌, [], ◌∷◌, Some, None, IfSome, IfNone};
 ghost use Rattle.zasn_tables.specs.Within.{any_at, around, sequence_of};
 ghost use Rattle.zasn_tables.specs.Place.{Place};
@@ -10,7 +10,8 @@ use crate::error::{BuildError, PartError};
 use std::alloc::Global;
 use zber::{Body, Node, Tag};
 
-/// The one element within an element, or `None` where it is primitive, or holds none or several.
+/// Returns the one element within an element. Returns `None` if the outer one is primitive, or contains none or
+/// several.
 pub fn sole(node: &Node) -> Option<&Node>
     ensures some { IfSome result (λ only. sequence_of any_at node.now ≡ Some only.now) }
     ensures none { IfNone result (sequence_of any_at node.now ≡ None) }
@@ -25,9 +26,9 @@ pub fn sole(node: &Node) -> Option<&Node>
     }
 }
 
-/// The one element within an element, whichever it is.
+/// Returns a copy of the one element within an element, whatever it is.
 ///
-/// `Misfit` where it is primitive, or holds none or several; `Memory` where no memory was found.
+/// Returns `Misfit` if the outer one is primitive, or contains none or several. Returns `Memory` if no memory is found.
 pub fn read_any(alloc: Global, node: &Node) -> Result<Node, PartError>
     ensures { Means (sequence_of any_at node.now) result }
 {
@@ -37,7 +38,8 @@ pub fn read_any(alloc: Global, node: &Node) -> Result<Node, PartError>
     }
 }
 
-/// The element with the tag around one element. `Memory` where no memory was found; it is never `NotSpellable`.
+/// Returns the element with the tag around this one element. Returns `Memory` if no memory is found, and never
+/// `NotSpellable`.
 pub fn write_around(alloc: Global, node: Node, tag: Tag) -> Result<Node, BuildError>
     ensures { Makes (around tag (Some (node ∷ []))) result }
 {
@@ -46,7 +48,8 @@ pub fn write_around(alloc: Global, node: Node, tag: Tag) -> Result<Node, BuildEr
     Ok(out.into_node(tag))
 }
 
-/// The element with the tag around an equal element. `Memory` where no memory was found; it is never `NotSpellable`.
+/// Returns the element with the tag around a copy of this element. Returns `Memory` if no memory is found, and never
+/// `NotSpellable`.
 pub fn write_any(alloc: Global, node: &Node, tag: Tag) -> Result<Node, BuildError>
     ensures { Makes (around tag (Some (node.now ∷ []))) result }
 {
@@ -54,7 +57,8 @@ pub fn write_any(alloc: Global, node: &Node, tag: Tag) -> Result<Node, BuildErro
     write_around(alloc, copy, tag)
 }
 
-/// An element with the tag, of either form.
+/// Returns a copy of an element of either form that has the tag. Returns `NotSpellable` if it has another tag, and
+/// `Memory` if no memory is found.
 pub(crate) fn write_kept(alloc: Global, node: &Node, tag: Tag) -> Result<Node, BuildError>
     ensures { Makes ((kept tag []).spelt node.now) result }
 {

@@ -17,7 +17,7 @@ use std::alloc::Global;
 use std::marker::Model;
 use zber::{Node, Seq, Tag};
 
-/// The elements of a production that are built so far. A step that is refused adds none.
+/// The elements of a production that are built so far. A step that returns an error adds none.
 #[derive(Drop)]
 pub struct PartsBuf {
     nodes: Vec<Node>,
@@ -37,7 +37,7 @@ impl Model for PartsBuf {
 }
 
 impl PartsBuf {
-    /// No element yet.
+    /// Creates a buffer without elements.
     pub fn new(alloc: Global) -> PartsBuf
         ensures { result ≡ [] }
     {
@@ -46,7 +46,7 @@ impl PartsBuf {
         }
     }
 
-    /// Adds an element. `Memory` where no memory was found; it is never `NotSpellable`.
+    /// Adds an element. Returns `Memory` if no memory is found, and never `NotSpellable`.
     pub fn push(&mut self, node: Node) -> Result<(), BuildError>
         ensures puts { Puts (Some (self.old ++ node ∷ [])) result self.new }
         ensures err { OnErr result (self.new ≡ self.old) }
@@ -57,7 +57,7 @@ impl PartsBuf {
 
     /// Adds the element of a value under the tag.
     ///
-    /// `NotSpellable` where the value has none, `Memory` where no memory was found.
+    /// Returns `NotSpellable` if the value has none, and `Memory` if no memory is found.
     pub fn required<T: Contents>(
         &mut self,
         alloc: Global,
@@ -71,9 +71,9 @@ impl PartsBuf {
         self.push(node)
     }
 
-    /// Adds the element of a value under the tag, where there is one.
+    /// Adds the element of a value under the tag, if there is a value.
     ///
-    /// `NotSpellable` where the value has none, `Memory` where no memory was found.
+    /// Returns `NotSpellable` if the value has none, and `Memory` if no memory is found.
     pub fn optional<T: Contents>(
         &mut self,
         alloc: Global,
@@ -91,7 +91,7 @@ impl PartsBuf {
 
     /// Adds the element of a value with a tag of its own.
     ///
-    /// `NotSpellable` where the value has none, `Memory` where no memory was found.
+    /// Returns `NotSpellable` if the value has none, and `Memory` if no memory is found.
     pub fn required_tagged<T: Tagged>(&mut self, alloc: Global, value: &T) -> Result<(), BuildError>
         ensures puts { Puts (required_put T.place.spelt value.now self.old) result self.new }
         ensures err { OnErr result (self.new ≡ self.old) }
@@ -100,9 +100,9 @@ impl PartsBuf {
         self.push(node)
     }
 
-    /// Adds the element of a value with a tag of its own, where there is one.
+    /// Adds the element of a value with a tag of its own, if there is a value.
     ///
-    /// `NotSpellable` where the value has none, `Memory` where no memory was found.
+    /// Returns `NotSpellable` if the value has none, and `Memory` if no memory is found.
     pub fn optional_tagged<T: Tagged>(
         &mut self,
         alloc: Global,
@@ -117,9 +117,9 @@ impl PartsBuf {
         }
     }
 
-    /// Adds the element with the outer tag around that of a value under the inner tag, where there is one.
+    /// Adds the element with the outer tag around the element of a value under the inner tag, if there is a value.
     ///
-    /// `NotSpellable` where the value has none, `Memory` where no memory was found.
+    /// Returns `NotSpellable` if the value has none, and `Memory` if no memory is found.
     pub fn optional_explicit<T: Contents>(
         &mut self,
         alloc: Global,
@@ -139,9 +139,9 @@ impl PartsBuf {
         }
     }
 
-    /// Adds the element with the outer tag around that of a value with a tag of its own.
+    /// Adds the element with the outer tag around the element of a value with a tag of its own.
     ///
-    /// `NotSpellable` where the value has none, `Memory` where no memory was found.
+    /// Returns `NotSpellable` if the value has none, and `Memory` if no memory is found.
     pub fn required_explicit_tagged<T: Tagged>(
         &mut self,
         alloc: Global,
@@ -155,9 +155,9 @@ impl PartsBuf {
         self.push(node)
     }
 
-    /// Adds the element with the outer tag around that of a value with a tag of its own, where there is one.
+    /// Adds the element with the outer tag around the element of a value with a tag of its own, if there is a value.
     ///
-    /// `NotSpellable` where the value has none, `Memory` where no memory was found.
+    /// Returns `NotSpellable` if the value has none, and `Memory` if no memory is found.
     pub fn optional_explicit_tagged<T: Tagged>(
         &mut self,
         alloc: Global,
@@ -173,8 +173,8 @@ impl PartsBuf {
         }
     }
 
-    /// Adds the element with the outer tag around those of texts, each under the inner tag. `Memory` where no memory
-    /// was found; it is never `NotSpellable`.
+    /// Adds the element with the outer tag around those of texts, each under the inner tag. Returns `Memory` if no
+    /// memory is found, and never `NotSpellable`.
     pub fn required_texts(
         &mut self,
         alloc: Global,
@@ -189,8 +189,8 @@ impl PartsBuf {
         self.push(node)
     }
 
-    /// Adds the element with the tag around an element, where there is one. `Memory` where no memory was found; it is
-    /// never `NotSpellable`.
+    /// Adds the element with the tag around a copy of an element, if there is one. Returns `Memory` if no memory is
+    /// found, and never `NotSpellable`.
     pub fn optional_any(
         &mut self,
         alloc: Global,
@@ -209,9 +209,9 @@ impl PartsBuf {
         }
     }
 
-    /// Adds an element that has the tag, of either form, where there is one.
+    /// Adds a copy of an element of either form that has the tag, if there is one.
     ///
-    /// `NotSpellable` where it has another tag, `Memory` where no memory was found.
+    /// Returns `NotSpellable` if it has another tag, and `Memory` if no memory is found.
     pub fn optional_kept(
         &mut self,
         alloc: Global,
@@ -230,9 +230,9 @@ impl PartsBuf {
         }
     }
 
-    /// Adds the element of a value with a tag of its own that is given away.
+    /// Adds the element of a value with a tag of its own, and takes the value over.
     ///
-    /// `NotSpellable` where the value has none, `Memory` where no memory was found.
+    /// Returns `NotSpellable` if the value has none, and `Memory` if no memory is found.
     pub fn give_tagged<T: Tagged>(&mut self, alloc: Global, value: T) -> Result<(), BuildError>
         ensures puts { Puts (required_put T.place.spelt value self.old) result self.new }
         ensures err { OnErr result (self.new ≡ self.old) }
@@ -241,9 +241,10 @@ impl PartsBuf {
         self.push(node)
     }
 
-    /// Adds the element with the outer tag around that of a value with a tag of its own that is given away.
+    /// Adds the element with the outer tag around the element of a value with a tag of its own, and takes the value
+    /// over.
     ///
-    /// `NotSpellable` where the value has none, `Memory` where no memory was found.
+    /// Returns `NotSpellable` if the value has none, and `Memory` if no memory is found.
     pub fn give_explicit_tagged<T: Tagged>(
         &mut self,
         alloc: Global,
@@ -257,7 +258,7 @@ impl PartsBuf {
         self.push(node)
     }
 
-    /// The constructed element with the tag around these.
+    /// Returns the constructed element with the tag around these elements.
     pub fn into_node(self, tag: Tag) -> Node
         ensures { result ≡ cons tag self }
     {

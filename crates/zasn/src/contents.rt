@@ -1,4 +1,4 @@
-//! Values that stand in one element.
+//! Values that one element holds.
 ghost use Rattle.std.specs.Prelude.{◌≡◌};
 ghost use Rattle.zber.specs.AsnTags.{AsnTag};
 ghost use Rattle.zber.specs.Elements.{tag_of};
@@ -14,29 +14,31 @@ use zber::{Bits, Body, Node, Oid, Tag};
 
 /// A value whose element has the tag that its place gives it (implicit tagging).
 pub trait Contents: Sized + Drop {
-    /// Its place under a tag.
+    /// The place of the value under a tag.
     ghost place: { AsnTag → Place Self };
 
-    /// The value that the element stands for, whatever its tag.
+    /// Returns the value of the element, whatever its tag.
     ///
-    /// `Misfit` where it stands for none, `Memory` where no memory was found.
+    /// Returns `Misfit` if the element has no such value, and `Memory` if no memory is found.
     fn of_node(alloc: Global, node: &Node) -> Result<Self, PartError>
         ensures { Means ((place (tag_of node.now)).meaning node.now) result };
 
-    /// The same of an element that is given away, with the same refusals: what the value keeps of it is moved.
+    /// Does the same with an element that it takes over, and returns the same errors. What the value keeps of the
+    /// element is moved, not copied.
     fn take_node(alloc: Global, node: Node) -> Result<Self, PartError>
         ensures { Means ((place (tag_of node)).meaning node) result }
     {
         Self::of_node(alloc, &node)
     }
 
-    /// The element with the tag that stands for the value.
+    /// Returns the element of the value under the tag.
     ///
-    /// `NotSpellable` where the value has none, `Memory` where no memory was found.
+    /// Returns `NotSpellable` if the value has none, and `Memory` if no memory is found.
     fn to_node(&self, alloc: Global, tag: Tag) -> Result<Node, BuildError>
         ensures { Makes ((place tag).spelt self.now) result };
 
-    /// The same of a value that is given away, with the same refusals: what it keeps of elements is moved.
+    /// Does the same with a value that it takes over, and returns the same errors. What the value keeps of elements is
+    /// moved, not copied.
     fn into_node(self, alloc: Global, tag: Tag) -> Result<Node, BuildError>
         ensures { Makes ((place tag).spelt self) result }
     {
@@ -46,33 +48,35 @@ pub trait Contents: Sized + Drop {
 
 /// A value whose element has a tag of its own: a choice, or a type with its own tag.
 pub trait Tagged: Sized + Drop {
-    /// Its place.
+    /// The place of the value.
     ghost place: { Place Self };
 
-    /// Whether an element with the tag may stand for such a value.
+    /// Whether an element with the tag may be that of such a value.
     fn has(tag: Tag) -> bool
         ensures { result ≡ among tag place.tags };
 
-    /// The value that the element stands for, where it has such a tag.
+    /// Returns the value of an element that has such a tag.
     ///
-    /// `Misfit` where it stands for none, `Memory` where no memory was found.
+    /// Returns `Misfit` if the element has no such value, and `Memory` if no memory is found.
     fn of_element(alloc: Global, node: &Node) -> Result<Self, PartError>
         ensures { Means (place.meaning node.now) result };
 
-    /// The same of an element that is given away, with the same refusals: what the value keeps of it is moved.
+    /// Does the same with an element that it takes over, and returns the same errors. What the value keeps of the
+    /// element is moved, not copied.
     fn take_element(alloc: Global, node: Node) -> Result<Self, PartError>
         ensures { Means (place.meaning node) result }
     {
         Self::of_element(alloc, &node)
     }
 
-    /// The element that stands for the value.
+    /// Returns the element of the value.
     ///
-    /// `NotSpellable` where the value has none, `Memory` where no memory was found.
+    /// Returns `NotSpellable` if the value has none, and `Memory` if no memory is found.
     fn to_element(&self, alloc: Global) -> Result<Node, BuildError>
         ensures { Makes (place.spelt self.now) result };
 
-    /// The same of a value that is given away, with the same refusals: what it keeps of elements is moved.
+    /// Does the same with a value that it takes over, and returns the same errors. What the value keeps of elements is
+    /// moved, not copied.
     fn into_element(self, alloc: Global) -> Result<Node, BuildError>
         ensures { Makes (place.spelt self) result }
     {
@@ -131,7 +135,7 @@ impl Contents for Oid {
     }
 
     fn to_node(&self, alloc: Global, tag: Tag) -> Result<Node, BuildError> {
-        // Tells that the arcs are those of an identifier.
+        // Its contract states that the arcs are an identifier's.
         let _arcs = self.arcs();
         Ok(Node::of_oid(alloc, tag, self)?)
     }
@@ -150,7 +154,7 @@ impl Contents for Bits {
     }
 }
 
-/// A constructed element that is kept with whatever it holds.
+/// A constructed element, kept with whatever it contains.
 impl Contents for Node {
     ghost place = { opaque };
 

@@ -10,7 +10,7 @@ use zber::ValueError;
 /// Why elements were not read.
 #[derive(Clone, Copy, Debug, PartialEq, Eq, Error)]
 pub enum PartError {
-    /// An element is missing, is one too many, or is not one that the production has here.
+    /// An element is missing, is one too many, or is not one that the production allows here.
     #[error("misfit")]
     Misfit,
     /// No memory was found.
@@ -19,7 +19,7 @@ pub enum PartError {
 }
 
 impl PartError {
-    /// The name of the variant, as in `Misfit`. It takes no memory.
+    /// Returns the name of the variant, as in `Misfit`. It takes no memory.
     pub fn word(self) -> &'static str
         ensures { result.now ≡ part_word self }
     {
@@ -78,7 +78,7 @@ pub enum BuildError {
 }
 
 impl BuildError {
-    /// The name of the variant, as in `NotSpellable`. It takes no memory.
+    /// Returns the name of the variant, as in `NotSpellable`. It takes no memory.
     pub fn word(self) -> &'static str
         ensures { result.now ≡ build_word self }
     {

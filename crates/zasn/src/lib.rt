@@ -1,4 +1,4 @@
-//! Productions of ASN.1 over elements: a SEQUENCE is read place by place from a cursor and built place by place.
+//! Productions of ASN.1 over elements. A SEQUENCE is read place by place from a cursor, and built place by place.
 #![tactic(auto)]
 
 mod any;

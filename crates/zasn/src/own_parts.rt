@@ -1,4 +1,4 @@
-//! The elements of a production that are given away, read from left to right: what a value keeps of them is moved.
+//! The elements of a production, taken over and read from left to right: what a value keeps of them is moved.
 ghost use Rattle.std.specs.Prelude.{◌≡◌, [], ◌∷◌, true, false, length, IfSome, IfNone, IfOk, IfErr, OnOk, OnErr};
 ghost use Rattle.zber.specs.AsnTags.{context};
 ghost use Rattle.zber.specs.Elements.{prim, tag_of};
@@ -17,9 +17,10 @@ use std::collections::VecDeque;
 use std::marker::Model;
 use zber::{Node, Tag};
 
-/// The elements of a production that are not yet read, and are given away to its value. Where the next one misfits, as
-/// many are left as before: the first stands for it, and need not be equal to it, and those behind it are as they were.
-/// Where no memory is found, the next one is lost, and those behind it are left.
+/// The elements of a production that are not yet read, and that its value takes over.
+///
+/// After `Misfit` as many are left as before. The first takes the place of the one at fault, and need not be equal to
+/// it; the others are unchanged. After `Memory` the next one is lost, and the others are left.
 #[derive(Drop)]
 pub struct OwnParts {
     left: VecDeque<Node>,
@@ -39,7 +40,7 @@ impl Model for OwnParts {
 }
 
 impl OwnParts {
-    /// All elements within one.
+    /// Starts at the first of these elements.
     pub fn new(nodes: Vec<Node>) -> OwnParts
         ensures { result ≡ nodes.items }
     {
@@ -48,7 +49,7 @@ impl OwnParts {
         }
     }
 
-    /// How many are not yet read.
+    /// Returns how many elements are not yet read.
     pub fn len(&self) -> usize
         ensures { result ≡ length self.now }
     {
@@ -75,7 +76,7 @@ impl OwnParts {
         }
     }
 
-    /// The next element.
+    /// Removes the next element and returns it. Returns `None` if none is left.
     pub(crate) fn next(&mut self) -> Option<Node>
         ensures some { IfSome result (λ n. self.old ≡ n ∷ self.new) }
         ensures none { IfNone result ((self.old ≡ []) × (self.new ≡ [])) }
@@ -83,7 +84,7 @@ impl OwnParts {
         self.left.pop_front()
     }
 
-    /// The next element, where it has the tag.
+    /// Removes the next element and returns it, if it has the tag. Otherwise returns `None`, and nothing changes.
     fn next_with(&mut self, tag: Tag) -> Option<Node>
         ensures some { IfSome result (λ n. begins tag self.old ≡ true × self.old ≡ n ∷ self.new) }
         ensures none { IfNone result ((begins tag self.old ≡ false) × (self.new ≡ self.old)) }
@@ -91,7 +92,8 @@ impl OwnParts {
         if self.begins(tag) { self.next() } else { None }
     }
 
-    /// An element comes in the place of one that was refused.
+    /// Adds an element in front, for one that was at fault. Returns an error if no memory is found; the elements are
+    /// unchanged.
     fn stand_in(&mut self) -> Result<(), AllocError>
         ensures ok { OnOk result (self.new ≡ prim (context 0) [] ∷ self.old) }
         ensures err { OnErr result (self.new ≡ self.old) }
@@ -101,9 +103,10 @@ impl OwnParts {
         Ok(())
     }
 
-    /// The value of the next element, where it has the tag; `None` where none is left or it has another.
+    /// Returns the value of the next element, if that has the tag. Returns `None` if none is left, or it has another
+    /// tag.
     ///
-    /// `Misfit` where it has the tag and stands for no such value, `Memory` where no memory was found.
+    /// Returns `Misfit` if it has the tag and no such value, and `Memory` if no memory is found.
     pub fn optional<T: Contents>(&mut self, alloc: Global, tag: Tag) -> Result<Option<T>, PartError>
         ensures { TakesAway (optional_at (tag ∷ []) (T.place tag).meaning self.old) result self.old self.new }
     {
@@ -120,9 +123,9 @@ impl OwnParts {
         }
     }
 
-    /// The value of the next element, which has the tag.
+    /// Returns the value of the next element, which must have the tag.
     ///
-    /// `Misfit` where none is left, or it has another tag or stands for no such value; `Memory` where no memory was
+    /// Returns `Misfit` if none is left, or if it has another tag or no such value. Returns `Memory` if no memory is
     /// found.
     pub fn required<T: Contents>(&mut self, alloc: Global, tag: Tag) -> Result<T, PartError>
         ensures { TakesAway (required_at (tag ∷ []) (T.place tag).meaning self.old) result self.old self.new }
@@ -130,10 +133,10 @@ impl OwnParts {
         self.optional(alloc, tag)?.ok_or(PartError::Misfit)
     }
 
-    /// The value of the next element, where it has one of the value's tags; `None` where none is left or it has
-    /// another.
+    /// Returns the value of the next element, if that has one of the value's tags. Returns `None` if none is left, or
+    /// it has another tag.
     ///
-    /// `Misfit` where it has one and stands for no such value, `Memory` where no memory was found.
+    /// Returns `Misfit` if it has such a tag and no such value, and `Memory` if no memory is found.
     pub fn optional_tagged<T: Tagged>(&mut self, alloc: Global) -> Result<Option<T>, PartError>
         ensures { TakesAway (optional_at T.place.tags T.place.meaning self.old) result self.old self.new }
     {
@@ -153,9 +156,9 @@ impl OwnParts {
         }
     }
 
-    /// The value of the next element, which has one of the value's tags.
+    /// Returns the value of the next element, which must have one of the value's tags.
     ///
-    /// `Misfit` where none is left, or it has another tag or stands for no such value; `Memory` where no memory was
+    /// Returns `Misfit` if none is left, or if it has another tag or no such value. Returns `Memory` if no memory is
     /// found.
     pub fn required_tagged<T: Tagged>(&mut self, alloc: Global) -> Result<T, PartError>
         ensures { TakesAway (required_at T.place.tags T.place.meaning self.old) result self.old self.new }
@@ -163,10 +166,11 @@ impl OwnParts {
         self.optional_tagged(alloc)?.ok_or(PartError::Misfit)
     }
 
-    /// The value of the one element within the next, which has the outer tag; that element has a tag of its own.
+    /// Returns the value of the one element within the next, which must have the outer tag. The inner element has a tag
+    /// of its own.
     ///
-    /// `Misfit` where none is left, or it has another tag, is primitive, or holds anything but one element of such a
-    /// value; `Memory` where no memory was found.
+    /// Returns `Misfit` if none is left, or if the next has another tag or is primitive. Also returns `Misfit` if it
+    /// contains anything but one element of such a value. Returns `Memory` if no memory is found.
     pub fn required_explicit_tagged<T: Tagged>(
         &mut self,
         alloc: Global,
@@ -188,7 +192,7 @@ impl OwnParts {
         }
     }
 
-    /// Nothing is left; `Misfit` where an element is. It changes nothing.
+    /// Checks that nothing is left; returns `Misfit` if an element is. It changes nothing.
     pub fn end(&self) -> Result<(), PartError>
         ensures finds { Finds (ended_at self.now) result self.now }
         ensures none { IfOk result (λ _. self.now ≡ []) }

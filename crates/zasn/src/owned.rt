@@ -1,4 +1,4 @@
-//! Values of elements that are given away: what a value keeps of them is moved, and not copied.
+//! Values of elements that are taken over: what a value keeps of them is moved, and not copied.
 ghost use Rattle.std.specs.Prelude.{◌≡◌, [], ◌∷◌, IfOk};
 ghost use Rattle.zasn_tables.specs.Table.{Elements};
 ghost use Rattle.zasn_tables.specs.Place.{Place};
@@ -15,31 +15,37 @@ use crate::parts::Parts;
 use std::alloc::Global;
 use zber::{Body, Node, Tag};
 
-/// A value of several elements in order that takes them over.
+/// A value of several elements in order that takes the elements over.
 pub trait Taken: Sized + Drop {
-    /// Its table.
+    /// The table of the production.
     ghost table: { Elements Self };
 
-    /// The value of all elements that are left. `Misfit` where one misfits: as many are left as from that one on.
-    /// `Memory` where no memory was found: nothing is promised of those that are.
+    /// Returns the value of all elements that are left; then none is left.
+    ///
+    /// Returns `Misfit` if one misfits; as many elements are left as from that one on. Returns `Memory` if no memory is
+    /// found; nothing is promised of the elements left.
     fn take(alloc: Global, parts: &mut OwnParts) -> Result<Self, PartError>
         ensures finds { FindsAway (table.at parts.old) result parts.new }
         ensures none { IfOk result (λ _. parts.new ≡ []) };
 }
 
-/// A value of several elements in order that is given away to them.
+/// A value of several elements in order that the elements take over.
 pub trait Given: Sized + Drop {
-    /// Its table.
+    /// The table of the production.
     ghost table: { Elements Self };
 
-    /// Adds the elements of the value. `NotSpellable` where it has none, `Memory` where no memory was found: nothing is
-    /// promised of `out` then.
+    /// Adds the elements of the value.
+    ///
+    /// Returns `NotSpellable` if the value has none, and `Memory` if no memory is found. Then nothing is promised of
+    /// `out`.
     fn give(self, alloc: Global, out: &mut PartsBuf) -> Result<(), BuildError>
         ensures { Puts (table.made self out.old) result out.new };
 }
 
-/// The value of equal elements. `Misfit` where one misfits: it is the first that is left. `Memory` where no memory was
-/// found: nothing is promised of those that are.
+/// Returns the value of copies of all elements that are left; then none is left.
+///
+/// Returns `Misfit` if one misfits; it is the first that is left. Returns `Memory` if no memory is found; nothing is
+/// promised of the elements left.
 pub fn read_copies<T: Taken>(alloc: Global, parts: &mut Parts<'_>) -> Result<T, PartError>
     ensures finds { Finds (T.table.at parts.old) result parts.new }
     ensures none { IfOk result (λ _. parts.new ≡ []) }
@@ -50,9 +56,10 @@ pub fn read_copies<T: Taken>(alloc: Global, parts: &mut Parts<'_>) -> Result<T, 
     answer
 }
 
-/// The value of the elements within one, whatever its tag.
+/// Returns the value of the elements within one, whatever its tag.
 ///
-/// `Misfit` where it is primitive, or those within stand for none; `Memory` where no memory was found.
+/// Returns `Misfit` if the outer one is primitive, or if those within have no such value. Returns `Memory` if no memory
+/// is found.
 pub fn take_within<T: Taken>(alloc: Global, node: Node) -> Result<T, PartError>
     ensures { Means (sequence_of T.table.at node) result }
 {
@@ -65,10 +72,10 @@ pub fn take_within<T: Taken>(alloc: Global, node: Node) -> Result<T, PartError>
     }
 }
 
-/// The value of the one element within an element, under the tag (explicit tagging).
+/// Returns the value of the one element within an element, under the tag (explicit tagging).
 ///
-/// `Misfit` where it is primitive, or holds anything but one element of such a value under the tag; `Memory` where no
-/// memory was found.
+/// Returns `Misfit` if the outer one is primitive, or contains anything but one element of such a value under the tag.
+/// Returns `Memory` if no memory is found.
 pub fn take_alone<T: Contents>(alloc: Global, node: Node, tag: Tag) -> Result<T, PartError>
     ensures { Means (sequence_of (alone_at (tag ∷ []) (T.place tag).meaning) node) result }
 {
@@ -83,10 +90,10 @@ pub fn take_alone<T: Contents>(alloc: Global, node: Node, tag: Tag) -> Result<T,
     }
 }
 
-/// The value of the one element within an element, with a tag of its own.
+/// Returns the value of the one element within an element, with a tag of its own.
 ///
-/// `Misfit` where it is primitive, or holds anything but one element of such a value; `Memory` where no memory was
-/// found.
+/// Returns `Misfit` if the outer one is primitive, or contains anything but one element of such a value. Returns
+/// `Memory` if no memory is found.
 pub fn take_alone_tagged<T: Tagged>(alloc: Global, node: Node) -> Result<T, PartError>
     ensures { Means (sequence_of (alone_at T.place.tags T.place.meaning) node) result }
 {
@@ -101,7 +108,8 @@ pub fn take_alone_tagged<T: Tagged>(alloc: Global, node: Node) -> Result<T, Part
     }
 }
 
-/// The one element within an element, whichever it is, or `None` where it is primitive, or holds none or several.
+/// Returns the one element within an element, whatever it is. Returns `None` if the outer one is primitive, or contains
+/// none or several.
 pub fn take_any(node: Node) -> Option<Node>
     ensures { result ≡ sequence_of any_at node }
 {
@@ -115,8 +123,8 @@ pub fn take_any(node: Node) -> Option<Node>
     }
 }
 
-/// The element with the tag around the elements of the value. `NotSpellable` where it has none, `Memory` where no
-/// memory was found.
+/// Returns the element with the tag around the elements of the value. Returns `NotSpellable` if the value has none, and
+/// `Memory` if no memory is found.
 pub fn give_within<T: Given>(alloc: Global, value: T, tag: Tag) -> Result<Node, BuildError>
     ensures { Makes (around tag (T.table.made value [])) result }
 {
@@ -125,8 +133,8 @@ pub fn give_within<T: Given>(alloc: Global, value: T, tag: Tag) -> Result<Node, 
     Ok(out.into_node(tag))
 }
 
-/// The element with the outer tag around the element of the value under the inner one. `NotSpellable` where the value
-/// has none, `Memory` where no memory was found.
+/// Returns the element with the outer tag around the element of the value under the inner tag. Returns `NotSpellable`
+/// if the value has none, and `Memory` if no memory is found.
 pub fn give_alone<T: Contents>(
     alloc: Global,
     value: T,
@@ -139,8 +147,8 @@ pub fn give_alone<T: Contents>(
     write_around(alloc, node, outer)
 }
 
-/// The element with the outer tag around the element of the value, which has a tag of its own. `NotSpellable` where the
-/// value has none, `Memory` where no memory was found.
+/// Returns the element with the outer tag around the element of the value, which has a tag of its own. Returns
+/// `NotSpellable` if the value has none, and `Memory` if no memory is found.
 pub fn give_alone_tagged<T: Tagged>(alloc: Global, value: T, outer: Tag) -> Result<Node, BuildError>
     ensures { Makes ((explicit outer T.place).spelt value) result }
 {

@@ -18,7 +18,7 @@ use std::alloc::{AllocError, Global};
 use std::marker::Model;
 use zber::{Node, Seq, Tag};
 
-/// The elements of a production that are not yet read. A step that is refused leaves them as they were, so that the
+/// The elements of a production that are not yet read. A step that returns an error leaves them unchanged, so that the
 /// first of them is the one that failed.
 #[derive(Drop)]
 pub struct Parts<'a> {
@@ -39,21 +39,21 @@ impl<'a> Model for Parts<'a> {
 }
 
 impl<'a> Parts<'a> {
-    /// All elements within one.
+    /// Starts at the first of these elements.
     pub fn new(left: &'a [Node]) -> Self
         ensures { result ≡ left.now }
     {
         Parts { left }
     }
 
-    /// How many are not yet read.
+    /// Returns how many elements are not yet read.
     pub fn len(&self) -> usize
         ensures { result ≡ length self.now }
     {
         self.left.len()
     }
 
-    /// Equal elements.
+    /// Returns copies of the elements.
     pub(crate) fn copies(&self, alloc: Global) -> Result<OwnParts, AllocError>
         ensures { IfOk result (λ own. own ≡ self.now) }
     {
@@ -64,14 +64,14 @@ impl<'a> Parts<'a> {
         Ok(OwnParts::new(copies))
     }
 
-    /// Passes over all but the last so many, if there are more.
+    /// Goes past all elements but the last `count`, if there are more.
     pub(crate) fn leave(&mut self, count: usize)
         ensures { self.new ≡ drop (length self.old - count) self.old }
     {
         self.left = &self.left[self.left.len().saturating_sub(count)..];
     }
 
-    /// The next element and those behind it, where it has the tag.
+    /// Returns the next element and those after it, if the next has the tag.
     fn next_with(&self, tag: Tag) -> Option<(&'a Node, &'a [Node])>
         ensures some { IfSome result (λ n. begins tag self.now ≡ true × self.now ≡ n.0.now ∷ n.1.now) }
         ensures none { IfNone result (begins tag self.now ≡ false) }
@@ -82,9 +82,10 @@ impl<'a> Parts<'a> {
         }
     }
 
-    /// The value of the next element, where it has the tag; `None` where none is left or it has another.
+    /// Returns the value of the next element, if that has the tag. Returns `None` if none is left, or it has another
+    /// tag.
     ///
-    /// `Misfit` where it has the tag and stands for no such value, `Memory` where no memory was found.
+    /// Returns `Misfit` if it has the tag and no such value, and `Memory` if no memory is found.
     pub fn optional<T: Contents>(&mut self, alloc: Global, tag: Tag) -> Result<Option<T>, PartError>
         ensures takes { Takes (optional_at (tag ∷ []) (T.place tag).meaning self.old) result self.new }
         ensures err { OnErr result (self.new ≡ self.old) }
@@ -97,9 +98,9 @@ impl<'a> Parts<'a> {
         Ok(Some(value))
     }
 
-    /// The value of the next element, which has the tag.
+    /// Returns the value of the next element, which must have the tag.
     ///
-    /// `Misfit` where none is left, or it has another tag or stands for no such value; `Memory` where no memory was
+    /// Returns `Misfit` if none is left, or if it has another tag or no such value. Returns `Memory` if no memory is
     /// found.
     pub fn required<T: Contents>(&mut self, alloc: Global, tag: Tag) -> Result<T, PartError>
         ensures takes { Takes (required_at (tag ∷ []) (T.place tag).meaning self.old) result self.new }
@@ -108,10 +109,10 @@ impl<'a> Parts<'a> {
         self.optional(alloc, tag)?.ok_or(PartError::Misfit)
     }
 
-    /// The value of the next element, where it has one of the value's tags; `None` where none is left or it has
-    /// another.
+    /// Returns the value of the next element, if that has one of the value's tags. Returns `None` if none is left, or
+    /// it has another tag.
     ///
-    /// `Misfit` where it has one and stands for no such value, `Memory` where no memory was found.
+    /// Returns `Misfit` if it has such a tag and no such value, and `Memory` if no memory is found.
     pub fn optional_tagged<T: Tagged>(&mut self, alloc: Global) -> Result<Option<T>, PartError>
         ensures takes { Takes (optional_at T.place.tags T.place.meaning self.old) result self.new }
         ensures err { OnErr result (self.new ≡ self.old) }
@@ -129,9 +130,9 @@ impl<'a> Parts<'a> {
         }
     }
 
-    /// The value of the next element, which has one of the value's tags.
+    /// Returns the value of the next element, which must have one of the value's tags.
     ///
-    /// `Misfit` where none is left, or it has another tag or stands for no such value; `Memory` where no memory was
+    /// Returns `Misfit` if none is left, or if it has another tag or no such value. Returns `Memory` if no memory is
     /// found.
     pub fn required_tagged<T: Tagged>(&mut self, alloc: Global) -> Result<T, PartError>
         ensures takes { Takes (required_at T.place.tags T.place.meaning self.old) result self.new }
@@ -140,11 +141,11 @@ impl<'a> Parts<'a> {
         self.optional_tagged(alloc)?.ok_or(PartError::Misfit)
     }
 
-    /// The value of the one element within the next, where that has the outer tag (explicit tagging); `None` where none
-    /// is left or it has another.
+    /// Returns the value of the one element within the next, if the next has the outer tag (explicit tagging). Returns
+    /// `None` if none is left, or it has another tag.
     ///
-    /// `Misfit` where it has the outer tag and is primitive, or holds anything but one element of such a value under
-    /// the inner tag; `Memory` where no memory was found.
+    /// Returns `Misfit` if it has the outer tag and is primitive, or contains anything but one element of such a value
+    /// under the inner tag. Returns `Memory` if no memory is found.
     pub fn optional_explicit<T: Contents>(
         &mut self,
         alloc: Global,
@@ -163,10 +164,11 @@ impl<'a> Parts<'a> {
         Ok(Some(value))
     }
 
-    /// The value of the one element within the next, which has the outer tag; that element has a tag of its own.
+    /// Returns the value of the one element within the next, which must have the outer tag. The inner element has a tag
+    /// of its own.
     ///
-    /// `Misfit` where none is left, or it has another tag, is primitive, or holds anything but one element of such a
-    /// value; `Memory` where no memory was found.
+    /// Returns `Misfit` if none is left, or if the next has another tag or is primitive. Also returns `Misfit` if it
+    /// contains anything but one element of such a value. Returns `Memory` if no memory is found.
     pub fn required_explicit_tagged<T: Tagged>(
         &mut self,
         alloc: Global,
@@ -180,11 +182,11 @@ impl<'a> Parts<'a> {
             .ok_or(PartError::Misfit)
     }
 
-    /// The value of the one element within the next, where that has the outer tag; that element has a tag of its own.
-    /// `None` where none is left or it has another.
+    /// Returns the value of the one element within the next, if the next has the outer tag. The inner element has a tag
+    /// of its own. Returns `None` if none is left, or the next has another tag.
     ///
-    /// `Misfit` where it has the outer tag and is primitive, or holds anything but one element of such a value;
-    /// `Memory` where no memory was found.
+    /// Returns `Misfit` if the next has the outer tag and is primitive, or contains anything but one element of such a
+    /// value. Returns `Memory` if no memory is found.
     pub fn optional_explicit_tagged<T: Tagged>(
         &mut self,
         alloc: Global,
@@ -201,10 +203,11 @@ impl<'a> Parts<'a> {
         Ok(Some(value))
     }
 
-    /// The texts of the elements within the next, which has the outer tag; each of them has the inner one.
+    /// Returns the texts of the elements within the next, which must have the outer tag. Each of them must have the
+    /// inner tag.
     ///
-    /// `Misfit` where none is left, or it has another tag or is primitive, or an element within has another tag or is
-    /// no string; `Memory` where no memory was found.
+    /// Returns `Misfit` if none is left, or if the next has another tag or is primitive. Also returns `Misfit` if an
+    /// element within has another tag or is no string. Returns `Memory` if no memory is found.
     pub fn required_texts(
         &mut self,
         alloc: Global,
@@ -222,10 +225,11 @@ impl<'a> Parts<'a> {
         Ok(texts)
     }
 
-    /// The one element within the next, whichever it is, where the next has the tag (explicit tagging of ANY); `None`
-    /// where none is left or it has another.
+    /// Returns a copy of the one element within the next, whatever it is, if the next has the tag (explicit tagging of
+    /// ANY). Returns `None` if none is left, or the next has another tag.
     ///
-    /// `Misfit` where it has the tag and is primitive, or holds none or several; `Memory` where no memory was found.
+    /// Returns `Misfit` if the next has the tag and is primitive, or contains none or several. Returns `Memory` if no
+    /// memory is found.
     pub fn optional_any(&mut self, alloc: Global, tag: Tag) -> Result<Option<Node>, PartError>
         ensures takes { Takes (optional_at (tag ∷ []) (sequence_of any_at) self.old) result self.new }
         ensures err { OnErr result (self.new ≡ self.old) }
@@ -238,10 +242,10 @@ impl<'a> Parts<'a> {
         Ok(Some(value))
     }
 
-    /// The next element as it stands, of either form, where it has the tag; `None` where none is left or it has
-    /// another.
+    /// Returns a copy of the next element, of either form, if it has the tag. Returns `None` if none is left, or it has
+    /// another tag.
     ///
-    /// `Memory` where no memory was found. It is never `Misfit`.
+    /// Returns `Memory` if no memory is found, and never `Misfit`.
     pub fn optional_kept(&mut self, alloc: Global, tag: Tag) -> Result<Option<Node>, PartError>
         ensures takes { Takes (optional_at (tag ∷ []) (kept tag []).meaning self.old) result self.new }
         ensures err { OnErr result (self.new ≡ self.old) }
@@ -254,7 +258,7 @@ impl<'a> Parts<'a> {
         Ok(Some(value))
     }
 
-    /// Nothing is left; `Misfit` where an element is. It changes nothing.
+    /// Checks that nothing is left; returns `Misfit` if an element is. It changes nothing.
     pub fn end(&self) -> Result<(), PartError>
         ensures finds { Finds (ended_at self.now) result self.now }
         ensures none { IfOk result (λ _. self.now ≡ []) }

@@ -15,24 +15,29 @@ use zber::{Body, Node, Tag};
 
 /// A value of several elements in order.
 pub trait Production: Sized + Drop {
-    /// Its table.
+    /// The table of the production.
     ghost table: { Elements Self };
 
-    /// The value of all elements that are left. `Misfit` where one misfits: it is the first that is left. `Memory`
-    /// where no memory was found: nothing is promised of those that are.
+    /// Returns the value of all elements that are left; then none is left.
+    ///
+    /// Returns `Misfit` if one misfits; it is the first that is left. Returns `Memory` if no memory is found; nothing
+    /// is promised of the elements left.
     fn read(alloc: Global, parts: &mut Parts<'_>) -> Result<Self, PartError>
         ensures finds { Finds (table.at parts.old) result parts.new }
         ensures none { IfOk result (λ _. parts.new ≡ []) };
 
-    /// Adds the elements of the value. `NotSpellable` where it has none, `Memory` where no memory was found: nothing is
-    /// promised of `out` then.
+    /// Adds the elements of the value.
+    ///
+    /// Returns `NotSpellable` if the value has none, and `Memory` if no memory is found. Then nothing is promised of
+    /// `out`.
     fn write(&self, alloc: Global, out: &mut PartsBuf) -> Result<(), BuildError>
         ensures { Puts (table.made self.now out.old) result out.new };
 }
 
-/// The value of the elements within one, whatever its tag.
+/// Returns the value of the elements within one, whatever its tag.
 ///
-/// `Misfit` where it is primitive, or those within stand for none; `Memory` where no memory was found.
+/// Returns `Misfit` if the outer one is primitive, or if those within have no such value. Returns `Memory` if no memory
+/// is found.
 pub fn read_within<T: Production>(alloc: Global, node: &Node) -> Result<T, PartError>
     ensures { Means (sequence_of T.table.at node.now) result }
 {
@@ -45,8 +50,8 @@ pub fn read_within<T: Production>(alloc: Global, node: &Node) -> Result<T, PartE
     }
 }
 
-/// The element with the tag around the elements of the value. `NotSpellable` where it has none, `Memory` where no
-/// memory was found.
+/// Returns the element with the tag around the elements of the value. Returns `NotSpellable` if the value has none, and
+/// `Memory` if no memory is found.
 pub fn write_within<T: Production>(alloc: Global, value: &T, tag: Tag) -> Result<Node, BuildError>
     ensures { Makes (around tag (T.table.made value.now [])) result }
 {
@@ -55,10 +60,10 @@ pub fn write_within<T: Production>(alloc: Global, value: &T, tag: Tag) -> Result
     Ok(out.into_node(tag))
 }
 
-/// The value of the one element within an element, under the tag (explicit tagging).
+/// Returns the value of the one element within an element, under the tag (explicit tagging).
 ///
-/// `Misfit` where it is primitive, or holds anything but one element of such a value under the tag; `Memory` where no
-/// memory was found.
+/// Returns `Misfit` if the outer one is primitive, or contains anything but one element of such a value under the tag.
+/// Returns `Memory` if no memory is found.
 pub fn read_alone<T: Contents>(alloc: Global, node: &Node, tag: Tag) -> Result<T, PartError>
     ensures { Means (sequence_of (alone_at (tag ∷ []) (T.place tag).meaning) node.now) result }
 {
@@ -73,10 +78,10 @@ pub fn read_alone<T: Contents>(alloc: Global, node: &Node, tag: Tag) -> Result<T
     }
 }
 
-/// The value of the one element within an element, with a tag of its own.
+/// Returns the value of the one element within an element, with a tag of its own.
 ///
-/// `Misfit` where it is primitive, or holds anything but one element of such a value; `Memory` where no memory was
-/// found.
+/// Returns `Misfit` if the outer one is primitive, or contains anything but one element of such a value. Returns
+/// `Memory` if no memory is found.
 pub fn read_alone_tagged<T: Tagged>(alloc: Global, node: &Node) -> Result<T, PartError>
     ensures { Means (sequence_of (alone_at T.place.tags T.place.meaning) node.now) result }
 {
@@ -91,8 +96,8 @@ pub fn read_alone_tagged<T: Tagged>(alloc: Global, node: &Node) -> Result<T, Par
     }
 }
 
-/// The element with the outer tag around the element of the value under the inner one. `NotSpellable` where the value
-/// has none, `Memory` where no memory was found.
+/// Returns the element with the outer tag around the element of the value under the inner tag. Returns `NotSpellable`
+/// if the value has none, and `Memory` if no memory is found.
 pub fn write_alone<T: Contents>(
     alloc: Global,
     value: &T,
@@ -106,8 +111,8 @@ pub fn write_alone<T: Contents>(
     Ok(out.into_node(outer))
 }
 
-/// The element with the outer tag around the element of the value, which has a tag of its own. `NotSpellable` where the
-/// value has none, `Memory` where no memory was found.
+/// Returns the element with the outer tag around the element of the value, which has a tag of its own. Returns
+/// `NotSpellable` if the value has none, and `Memory` if no memory is found.
 pub fn write_alone_tagged<T: Tagged>(
     alloc: Global,
     value: &T,

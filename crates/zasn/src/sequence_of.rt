@@ -10,7 +10,7 @@ use crate::error::{BuildError, PartError};
 use std::alloc::Global;
 use zber::{Body, Node, Seq, Tag};
 
-/// The values of elements, in order.
+/// Returns the values of elements, in order.
 fn all_in<T: Tagged>(alloc: Global, nodes: &[Node]) -> Result<Seq<T>, PartError>
     ensures { Means (all_of (whole_of T.place) nodes.now) result }
 {
@@ -25,7 +25,7 @@ fn all_in<T: Tagged>(alloc: Global, nodes: &[Node]) -> Result<Seq<T>, PartError>
     Ok(Seq::from_vec(values))
 }
 
-/// The same of elements that are given away.
+/// Does the same with elements that it takes over.
 fn all_taken<T: Tagged>(alloc: Global, nodes: Vec<Node>) -> Result<Seq<T>, PartError>
     ensures { Means (all_of (whole_of T.place) nodes.items) result }
 {
@@ -40,7 +40,7 @@ fn all_taken<T: Tagged>(alloc: Global, nodes: Vec<Node>) -> Result<Seq<T>, PartE
     Ok(Seq::from_vec(values))
 }
 
-/// The elements of values, in order.
+/// Returns the elements of values, in order.
 fn all_of_them<T: Tagged>(alloc: Global, values: &[T]) -> Result<PartsBuf, BuildError>
     ensures { Makes (all_spelt T.place.spelt values.now) result }
 {

@@ -42,10 +42,11 @@ fn all_of_them(alloc: Global, texts: &[Bytes], tag: Tag) -> Result<PartsBuf, Bui
     Ok(out)
 }
 
-/// The texts of the elements within one, each of which has the tag: SEQUENCE OF one kind of string (X.690, 8.10).
+/// Returns the texts of the elements within one, each of which has the tag: SEQUENCE OF one kind of string (X.690,
+/// 8.10).
 ///
-/// `Misfit` where it is primitive, or an element within has another tag or is no string; `Memory` where no memory was
-/// found.
+/// Returns `Misfit` if the outer one is primitive, or if an element within has another tag or is no string. Returns
+/// `Memory` if no memory is found.
 pub fn read_texts(alloc: Global, node: &Node, tag: Tag) -> Result<Seq<Bytes>, PartError>
     ensures { Means (list_of (text_under tag) node.now) result }
 {
@@ -55,8 +56,8 @@ pub fn read_texts(alloc: Global, node: &Node, tag: Tag) -> Result<Seq<Bytes>, Pa
     }
 }
 
-/// The element with the outer tag around those of texts, each under the inner tag. `Memory` where no memory was found;
-/// it is never `NotSpellable`.
+/// Returns the element with the outer tag around those of texts, each under the inner tag. Returns `Memory` if no
+/// memory is found, and never `NotSpellable`.
 pub fn write_texts(
     alloc: Global,
     texts: &Seq<Bytes>,

@@ -1,4 +1,4 @@
--- Building a production from left to right: what is written so far, or nothing where a part has no spelling.
+-- Building a production from left to right: the elements written so far, or nothing if a part has no spelling.
 use Rattle.std.specs.Prelude.{List, [], ◌∷◌, ◌++◌, Option, Some, None, if◌then◌else◌}
 use Rattle.zber.specs.AsnTags.{AsnTag}
 use Rattle.zber.specs.Elements.{Element, Primitive, Constructed}
@@ -10,11 +10,12 @@ abbrev pub ◌>>=◌ : {A B : Type 0} → Option A → (A → Option B) → Opti
 (Some x) >>= f = f x
 None >>= f = None
 
--- an opaque element is its own spelling, where the place takes it
+-- an opaque element is its own spelling, if it has the tag
 abbrev pub constructed_spelt : AsnTag → Element → Option Element
 constructed_spelt tag (Primitive t b) = None
 constructed_spelt tag (Constructed t f) = if same_tag t tag then Some (Constructed t f) else None
 
+-- adds the element of a value, and the same if there is a value
 abbrev pub required_put : {A : Type 0} → (A → Option Element) → A → List Element → Option (List Element)
 required_put spelt x out = option_map (λ n. out ++ n ∷ []) (spelt x)
 

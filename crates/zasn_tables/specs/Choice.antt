@@ -1,4 +1,4 @@
--- A value of several kinds, each with its own place.
+-- CHOICE: a value of several kinds, each with its own place.
 use Rattle.std.specs.Prelude.{List, ◌++◌, Option, None, Bool, true, ◌&&◌, ◌⊎◌, if◌then◌else◌}
 use Rattle.std.proofs.Common.{inl, inr}
 use Rattle.zber.specs.AsnTags.{AsnTag}
@@ -7,34 +7,40 @@ use Rattle.zber.specs.Tags.{among, apart}
 use Rattle.zasn_tables.specs.Reading.{option_map}
 use Rattle.zasn_tables.specs.Place.{Place}
 
+-- The kinds in order, each with its place and what makes the value of it.
 pub data Choice (C : Type 0) : Type 1 where
   finally : {A : Type 0} → Place A → (A → C) → Choice C
   either : {A : Type 0} → Place A → (A → C) → Choice C → Choice C
 
--- which kind it is, and its value
+-- the kind of a value, and the value of that kind
 abbrev pub Pick : {C : Type 0} → Choice C → Type 0
 Pick (finally {A = A} p wrap) = A
 Pick (either {A = A} p wrap more) = A ⊎ Pick more
 
+-- the value of a kind and its value
 abbrev pub picked : {C : Type 0} (c : Choice C) → Pick c → C
 picked (finally p wrap) x = wrap x
 picked (either p wrap more) (inl x) = wrap x
 picked (either p wrap more) (inr y) = picked more y
 
+-- the element has this value of the choice
 abbrev pub Says : {C : Type 0} (c : Choice C) → Pick c → Element → Type 0
 Says (finally p wrap) x n = p.stands x n
 Says (either p wrap more) (inl x) n = p.stands x n
 Says (either p wrap more) (inr y) n = Says more y n
 
+-- what an element means, by the first kind that has its tag
 abbrev pub choice_of : {C : Type 0} → Choice C → Element → Option C
 choice_of (finally p wrap) n = if among (tag_of n) p.tags then option_map wrap (p.meaning n) else None
 choice_of (either p wrap more) n = if among (tag_of n) p.tags then option_map wrap (p.meaning n) else choice_of more n
 
+-- the element of a value
 abbrev pub choice_spelt : {C : Type 0} (c : Choice C) → Pick c → Option Element
 choice_spelt (finally p wrap) x = p.spelt x
 choice_spelt (either p wrap more) (inl x) = p.spelt x
 choice_spelt (either p wrap more) (inr y) = choice_spelt more y
 
+-- the tags of all kinds
 abbrev pub choice_tags : {C : Type 0} → Choice C → List AsnTag
 choice_tags (finally p wrap) = p.tags
 choice_tags (either p wrap more) = p.tags ++ choice_tags more

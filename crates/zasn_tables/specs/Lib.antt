@@ -1,4 +1,4 @@
--- Productions of ASN.1 as tables of places: how elements stand, how they are read and how they are built.
+-- Productions of ASN.1 as tables of places: which elements they have, how these are read, and how they are built.
 pub mod Building
 pub mod Choice
 pub mod Laws

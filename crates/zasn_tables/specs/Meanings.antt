@@ -1,4 +1,4 @@
--- What elements mean as values, and the one element under a tag that spells a value.
+-- The values that elements mean, and the one element under a tag that spells a value.
 use Rattle.std.specs.Prelude.{ℕ, ℤ, pos, negsuc, ◌^◌, nat_lt, Bool, List, Option, Some, None, Result, Ok, Err, if◌then◌else◌}
 use Rattle.zber.specs.declared.value.ValueError.{ValueError}
 use Rattle.zber.specs.AsnTags.{AsnTag}
@@ -8,7 +8,7 @@ use Rattle.zber.specs.Integers.{as_int, integer_octets}
 use Rattle.zber.specs.Oids.{as_oid, is_oid, oid_octets}
 use Rattle.zber.specs.Bits.{as_bits, bit_octets}
 
--- what a reader answers, where only the value counts
+-- the value that a reader returns, if any; the kind of error does not count
 abbrev pub meant : {A : Type 0} → Result A ValueError → Option A
 meant (Ok x) = Some x
 meant (Err e) = None
@@ -34,7 +34,7 @@ bits_of e = meant (as_bits e)
 abbrev pub bits_spelt : AsnTag → List Bool → Option Element
 bits_spelt tag bits = Some (Primitive tag (bit_octets bits))
 
--- INTEGER (X.690, 8.3), within 64 bits
+-- INTEGER (X.690, 8.3), if it fits 64 bits
 abbrev pub is_i64 : ℤ → Bool
 is_i64 (pos n) = nat_lt n (2 ^ 63)
 is_i64 (negsuc n) = nat_lt n (2 ^ 63)

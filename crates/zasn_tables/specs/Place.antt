@@ -1,5 +1,5 @@
--- A place of a production: which elements stand at it, what they say, and how they are spelled, with the laws that tie
--- these together.
+-- A place of a production: which element has which value, what an element means, and how a value is spelled. Laws
+-- connect these.
 use Rattle.std.specs.Prelude.{◌≡◌, List, Option, Some, None, true}
 use Rattle.zber.specs.AsnTags.{AsnTag}
 use Rattle.zber.specs.Elements.{Element, tag_of}
@@ -8,11 +8,11 @@ use Rattle.zber.specs.Tags.{among}
 pub record Place (A : Type 0) : Type 1 where
   -- the tags of its elements
   pub tags : List AsnTag
-  -- the element says the value
+  -- the element has the value
   pub stands : A → Element → Type 0
-  -- what an element with one of the tags says
+  -- the value that an element with one of the tags means
   pub meaning : Element → Option A
-  -- the element that says the value
+  -- the element that is written for the value
   pub spelt : A → Option Element
   pub some : (x : A) × (n : Element) × stands x n
   pub begins : (x : A) (n : Element) → stands x n → among (tag_of n) tags ≡ true
@@ -21,6 +21,6 @@ pub record Place (A : Type 0) : Type 1 where
   pub makes : (x : A) (n : Element) → spelt x ≡ Some n → stands x n
   pub none : (x : A) → spelt x ≡ None → (n : Element) → stands x n → ⊥
 
--- some element stands for the value
+-- some element has the value
 abbrev pub IsSpellable : {A : Type 0} → Place A → A → Type 0
 IsSpellable p x = (n : Element) × p.stands x n

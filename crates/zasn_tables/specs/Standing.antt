@@ -1,9 +1,9 @@
--- How the elements of a production stand: each place is filled or left out, and the next places follow.
+-- The elements of a production: each place is filled or left out, and the next places follow.
 use Rattle.std.specs.Prelude.{◌≡◌, List, [], ◌∷◌, Option, Some, None}
 use Rattle.zber.specs.AsnTags.{AsnTag}
 use Rattle.zber.specs.Elements.{Element, Primitive, Constructed, elements, tag_of}
 
--- an element with this tag, whose contents mean the value
+-- an element with this tag that means the value
 abbrev pub tagged : {A : Type 0} → AsnTag → (Element → Option A) → A → Element → Type 0
 tagged tag meaning x n = (tag_of n ≡ tag) × (meaning n ≡ Some x)
 
@@ -12,7 +12,7 @@ abbrev pub required : {A : Type 0} → (A → Element → Type 0) → A → (Lis
 required P x rest [] = ⊥
 required P x rest (n ∷ ns) = P x n × rest ns
 
--- the same where there is a value, else only the rest
+-- the same if there is a value, otherwise only the rest
 abbrev pub optional : {A : Type 0} → (A → Element → Type 0) → Option A → (List Element → Type 0) → List Element → Type 0
 optional P None rest ns = rest ns
 optional P (Some x) rest ns = required P x rest ns

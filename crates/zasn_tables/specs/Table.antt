@@ -1,4 +1,4 @@
--- A production is a table: its places in order, each with the field that holds the value.
+-- A production as a table: its places in order, each with the field that holds the value.
 use Rattle.std.specs.Prelude.{List, [], ◌++◌, Option, Some, Result, Ok, Bool, true, ◌&&◌}
 use Rattle.zber.specs.AsnTags.{AsnTag}
 use Rattle.zber.specs.Elements.{Element}
@@ -9,7 +9,7 @@ use Rattle.zasn_tables.specs.Building.{◌>>=◌ as and_then, required_put, opti
 use Rattle.zasn_tables.specs.Place.{Place}
 use Rattle.zasn_tables.specs.Laws.{IsRead, IsMade}
 
--- the elements of a value of V, up to the last: which they are, how they are read, and how they are built
+-- The elements of a value of V, up to the last: which they are, how they are read, and how they are built.
 pub record Elements (V : Type 0) : Type 1 where
   pub tags : List AsnTag
   pub stand : V → List Element → Type 0
@@ -18,6 +18,7 @@ pub record Elements (V : Type 0) : Type 1 where
   pub read : IsRead stand (λ v. v) at tags
   pub build : IsMade stand (λ out v. made v out)
 
+-- The places in order, up to the end or to a table of the last places.
 pub data ComponentTable (V : Type 0) : Type 1 where
   ended : ComponentTable V
   required : {A : Type 0} → Place A → (V → A) → ComponentTable V → ComponentTable V
@@ -29,7 +30,7 @@ infixr 5 ◌⨾◌
 abbrev pub ◌⨾◌ : {V : Type 0} → (ComponentTable V → ComponentTable V) → ComponentTable V → ComponentTable V
 place ⨾ more = place more
 
--- the values of the places
+-- the values of the places, and these values in a value of V
 abbrev pub Fields : {V : Type 0} → ComponentTable V → Type 0
 Fields ended = Unit {0}
 Fields (required {A = A} p get more) = A × Fields more
@@ -42,20 +43,21 @@ fields (required p get more) v = (get v, fields more v)
 fields (optional p get more) v = (get v, fields more v)
 fields (also e get) v = get v
 
--- what makes a W of the places' values, one after the other
+-- what makes a W of the values of the places, one after the other
 abbrev pub Maker : {V : Type 0} → ComponentTable V → Type 0 → Type 0
 Maker ended W = W
 Maker (required {A = A} p get more) W = A → Maker more W
 Maker (optional {A = A} p get more) W = Option A → Maker more W
 Maker (also {W = B} e get) W = B → W
 
+-- the W that it makes
 abbrev pub make_of : {V W : Type 0} (t : ComponentTable V) → Maker t W → Fields t → W
 make_of ended make x = make
 make_of (required p get more) make x = make_of more (make x.0) x.1
 make_of (optional p get more) make x = make_of more (make x.0) x.1
 make_of (also e get) make x = make x
 
--- the elements say these values, place by place
+-- the elements have these values, place by place
 abbrev pub Stand : {V : Type 0} (t : ComponentTable V) → Fields t → List Element → Type 0
 Stand ended x = no_more
 Stand (required p get more) x = one p.stands x.0 (Stand more x.1)
@@ -76,13 +78,14 @@ put (required p get more) x out = and_then (required_put p.spelt x.0 out) (λ a.
 put (optional p get more) x out = and_then (optional_put p.spelt x.0 out) (λ a. put more x.1 a)
 put (also e get) x out = e.made x out
 
+-- the tags of all places
 abbrev pub tags_of : {V : Type 0} → ComponentTable V → List AsnTag
 tags_of ended = []
 tags_of (required p get more) = p.tags ++ tags_of more
 tags_of (optional p get more) = p.tags ++ tags_of more
 tags_of (also e get) = e.tags
 
--- what may be left out has no tag of what may follow
+-- no place that may be left out has a tag of what may follow it
 abbrev pub clear : {V : Type 0} → ComponentTable V → Bool
 clear ended = true
 clear (required p get more) = clear more

@@ -6,16 +6,17 @@ use Rattle.zber.specs.Tags.{among}
 use Rattle.zasn_tables.specs.Reading.{◌>>=◌, option_map, required_at, ended_at}
 use Rattle.zasn_tables.specs.Place.{Place}
 
+-- the value that reading gives, if any
 abbrev pub found : {A : Type 0} → Result A (List Element) → Option A
 found (Ok x) = Some x
 found (Err r) = None
 
--- what the elements within say
+-- what the elements within an element mean
 abbrev pub sequence_of : {A : Type 0} → (List Element → Result A (List Element)) → Element → Option A
 sequence_of walk (Primitive t b) = None
 sequence_of walk (Constructed t f) = found (walk (elements f))
 
--- the element around these
+-- the element with the tag around these elements
 abbrev pub around : AsnTag → Option (List Element) → Option Element
 around tag made = option_map (λ ns. Constructed tag (forest ns)) made
 
@@ -23,7 +24,7 @@ around tag made = option_map (λ ns. Constructed tag (forest ns)) made
 abbrev pub alone_at : {A : Type 0} → List AsnTag → (Element → Option A) → List Element → Result A (List Element)
 alone_at tags meaning ns = required_at tags meaning ns >>= λ a. ended_at a.1 >>= λ end. Ok a.0
 
--- one element, whichever it is
+-- any element, as its own value
 abbrev pub itself : Element → Element → Type 0
 itself m n = n ≡ m
 
@@ -32,34 +33,38 @@ any_at [] = Err []
 any_at (n ∷ []) = Ok n
 any_at (n ∷ m ∷ ns) = Err (m ∷ ns)
 
--- an element that is kept as it stands, with one of the tags
+-- an element with one of the tags, as its own value
 abbrev pub is_kept : List AsnTag → Element → Element → Type 0
 is_kept tags m n = (n ≡ m) × (among (tag_of n) tags ≡ true)
 
--- each element says one value, in order
+-- each element has one value, in order
 abbrev pub each : {A : Type 0} → (A → Element → Type 0) → List A → List Element → Type 0
 each P [] [] = Unit {0}
 each P (x ∷ xs) (n ∷ ns) = P x n × each P xs ns
 each P [] (n ∷ ns) = ⊥
 each P (x ∷ xs) [] = ⊥
 
+-- the value and the others, if all are there
 abbrev pub onto : {A : Type 0} → Option A → Option (List A) → Option (List A)
 onto (Some x) (Some xs) = Some (x ∷ xs)
 onto (Some x) None = None
 onto None o = None
 
+-- what elements mean, if each means a value
 abbrev pub all_of : {A : Type 0} → (Element → Option A) → List Element → Option (List A)
 all_of meaning [] = Some []
 all_of meaning (n ∷ ns) = onto (meaning n) (all_of meaning ns)
 
+-- what the elements within an element mean, in order
 abbrev pub list_of : {A : Type 0} → (Element → Option A) → Element → Option (List A)
 list_of meaning (Primitive t b) = None
 list_of meaning (Constructed t f) = all_of meaning (elements f)
 
--- what an element says, if it has one of the place's tags
+-- what an element means, if it has one of the place's tags
 abbrev pub whole_of : {A : Type 0} → Place A → Element → Option A
 whole_of p n = if among (tag_of n) p.tags then p.meaning n else None
 
+-- the elements of values, if each has one
 abbrev pub all_spelt : {A : Type 0} → (A → Option Element) → List A → Option (List Element)
 all_spelt spelt [] = Some []
 all_spelt spelt (x ∷ xs) = onto (spelt x) (all_spelt spelt xs)

@@ -7,7 +7,7 @@ pub record AsnTag : Type 0 where
   pub class : Class
   pub number : ℕ
 
--- the tags that elements have: each number fits 32 bits, and UNIVERSAL 0 is none
+-- the tags that elements have: the number fits 32 bits, and UNIVERSAL 0 is no tag
 pub record IsTag (n : AsnTag) : Type 0 where
   pub named : n.class ≡ Universal → 0 < n.number
   pub fits : n.number < 2 ^ 32

@@ -1,4 +1,4 @@
--- The names of what can be wrong with a header.
+-- The names of the kinds of faults.
 use Rattle.std.specs.Prelude.{ℕ, List, codes}
 use Rattle.zber.specs.declared.fault.FaultKind.{FaultKind}
 use Rattle.zber.specs.declared.fault.FaultKind.TheVariants as kind

@@ -1,4 +1,4 @@
--- What the front of a header says of its octets, and what one more octet makes of it.
+-- What the front of a header means, and what one more octet makes of it.
 use Rattle.std.specs.Prelude.{◌≡◌, ◌≢◌, ℕ, ◌+◌, ◌^◌, ◌<◌, ◌≤◌, Bool, true, List, [], ◌∷◌, ◌++◌, length}
 use Rattle.zber.specs.declared.fault.HeaderPlace.{HeaderPlace}
 use Rattle.zber.specs.declared.front.Front.{Front}
@@ -8,7 +8,7 @@ use Rattle.zber.specs.declared.front.Step.TheVariants.{On, End, Whole, Bad}
 use Rattle.zber.specs.Spelling.{groups_from, first, lead, octets_from, Identifier}
 use Rattle.zber.specs.Headers.{GoOn, Header, HeaderShows}
 
--- the groups so far form the number, and go on
+-- the groups so far form the number, and more follow
 pub record Formed (xs : List ℕ) (number : ℕ) : Type 0 where
   pub go_on : GoOn xs
   pub shortest : first xs ≢ 128
@@ -16,18 +16,18 @@ pub record Formed (xs : List ℕ) (number : ℕ) : Type 0 where
   pub fits : number < 2 ^ 32
   pub some : 0 < length xs → 0 < number
 
--- a number of so many octets
+-- the number fits `k` octets
 abbrev pub Below : ℕ → ℕ → Type 0
 Below n k = n < 256 ^ k
 
--- the octets of a size so far form this, and so many are to come
+-- the octets of a length so far form this number, and `left` more are to come
 pub record SizeFront (xs : List ℕ) (left size : ℕ) : Type 0 where
   pub some : 0 < left
   pub few : length xs + left ≤ 8
   pub value : size ≡ octets_from 0 xs
   pub below : Below size (length xs)
 
--- the octets are the front of a header that goes on
+-- the octets are the front of a header that is not whole, as `Front` describes it
 abbrev pub FrontIs : Bool → Front → List ℕ → Type 0
 FrontIs marked Nothing xs = xs ≡ []
 FrontIs marked HalfEnd xs = (marked ≡ true) × (xs ≡ 0 ∷ [])
@@ -36,7 +36,8 @@ FrontIs marked (NoLength n c) xs = Identifier n c xs
 FrontIs marked (SizeOctets n c left size) xs =
     (i gs : List ℕ) × Identifier n c i × (xs ≡ i ++ (128 + (length gs + left)) ∷ gs) × SizeFront gs left size
 
--- the octets go on, are the end of an element of indefinite length or a whole header, or show a fault whatever follows
+-- The octets are a front, a whole header, or the end of an element of indefinite length. Or they show a fault, whatever
+-- follows.
 abbrev pub StepIs : Bool → List ℕ → Step → Type 0
 StepIs marked xs (On front) = FrontIs marked front xs
 StepIs marked xs End = (marked ≡ true) × (xs ≡ 0 ∷ 0 ∷ [])

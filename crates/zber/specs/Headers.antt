@@ -1,4 +1,4 @@
--- Headers (X.690, 8.1.2 and 8.1.3), and what is wrong with them.
+-- Headers (X.690, 8.1.2 and 8.1.3), and the faults in them.
 use Rattle.std.specs.Prelude.{◌≡◌, ◌≢◌, ℕ, ◌+◌, ◌^◌, ◌<◌, ◌≤◌, ◌⊎◌, Bool, true, false, Option, Some, None, List, [], ◌∷◌, ◌++◌, length}
 use Rattle.zber.specs.declared.tag.Class.{Class}
 use Rattle.zber.specs.declared.fault.FaultKind.{FaultKind}
@@ -7,23 +7,23 @@ use Rattle.zber.specs.declared.fault.HeaderPlace.{HeaderPlace}
 use Rattle.zber.specs.AsnTags.{AsnTag}
 use Rattle.zber.specs.Spelling.{groups_from, first, lead, Identifier, Length}
 
--- groups that go on: each octet has the high bit
+-- groups of seven bits before the last: each octet has the high bit
 abbrev pub GoOn : List ℕ → Type 0
 GoOn [] = Unit {0}
 GoOn (x ∷ xs) = (128 ≤ x) × (x < 256) × GoOn xs
 
--- an idle front, or a number that stands in the low five bits
+-- the first group of a tag number is idle, or is a number that belongs in the low five bits
 abbrev pub BeginsBadly : List ℕ → Type 0
 BeginsBadly [] = ⊥
 BeginsBadly (x ∷ xs) = (x ≡ 128) ⊎ (x < 31)
 
--- a whole header: of a definite length, or of the indefinite one
+-- a whole header, with a definite length or with the indefinite one
 pub data Header : AsnTag → Bool → Option ℕ → List ℕ → Type 0 where
   of_size : {n : AsnTag} {c : Bool} {size : ℕ} {i l : List ℕ}
       → Identifier n c i → Length size l → Header n c (Some size) (i ++ l)
   of_mark : {n : AsnTag} {i : List ℕ} → Identifier n true i → Header n true None (i ++ (128 ∷ []))
 
--- the front of a header, with nothing wrong yet; 0 directly within an indefinite element may be half of its end
+-- The front of a header, with no fault yet. An octet 0 directly within an indefinite element may be half of its end.
 pub data IsFront (marked : Bool) : List ℕ → Type 0 where
   nothing : IsFront marked []
   half_end : marked ≡ true → IsFront marked (0 ∷ [])
@@ -33,7 +33,7 @@ pub data IsFront (marked : Bool) : List ℕ → Type 0 where
   short_length : {n : AsnTag} {c : Bool} {i : List ℕ} (k : ℕ) (xs : List ℕ)
       → Identifier n c i → k ≤ 8 → length xs < k → IsFront marked (i ++ ((128 + k) ∷ xs))
 
--- the first fault of a header at the place, in the order in which they are tested
+-- the first fault of a header at the place, in the order of the tests
 pub data HeaderShows (p : HeaderPlace) : List ℕ → FaultKind → Type 0 where
   tag_form : (class : Class) (c : Bool) (xs : List ℕ)
       → BeginsBadly xs → HeaderShows p (lead class c 31 ∷ xs) kind.TagForm

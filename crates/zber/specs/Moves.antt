@@ -1,4 +1,4 @@
--- How a move ends, and what is found.
+-- What a step of the scan does, and what a scan finds.
 use Rattle.std.specs.Prelude.{◌≡◌, ℕ, ◌+◌, ◌*◌, ◌-◌, ◌<◌, ◌≤◌, List, length}
 use Rattle.zber.specs.declared.scan.Scan.{Scan}
 use Rattle.zber.specs.declared.scan.Move.{Move}
@@ -11,20 +11,23 @@ use Rattle.zber.specs.Shown.{Shows}
 use Rattle.zber.specs.Unfinished.{IsUnfinished}
 use Rattle.zber.specs.Scans.{Holds, len_of}
 
--- where a scan stands, and what is left to do
+-- how many octets the scan has gone over
 abbrev pub pos : Scan → ℕ
 pos s = s.at + len_of s.reading
 
+-- what is left to do with what was read
 abbrev pub load : Reading → ℕ
 load (Front front len) = 0
 load (Head n c size len) = 2
 load End = 2
 load Whole = 0
 
+-- what is left to do in `n` octets: it falls at each step
 abbrev pub weight : ℕ → Scan → ℕ
 weight n s = 3 * (n - pos s) + length s.opened.items + load s.reading
 
--- it stands at a place, with so many contents octets before it
+-- The scan is at the start of a header, or has the whole message. So many contents octets come before it, and so many
+-- elements are open.
 pub record StandsAt (s : Scan) (at contents opened : ℕ) : Type 0 where
   pub at_is : s.at ≡ at
   pub len : len_of s.reading ≡ 0
@@ -32,16 +35,18 @@ pub record StandsAt (s : Scan) (at contents opened : ℕ) : Type 0 where
   pub contents_are : s.contents ≡ contents
   pub open_are : length s.opened.items ≡ opened
 
--- it is further on, or where it was
+-- after `look_on` the scan still covers the octets, and has no more left to do
 pub record WentOn (limit : ℕ) (xs : List ℕ) (old s : Scan) : Type 0 where
   pub holds : Holds limit xs s
   pub no_heavier : weight (length xs) s ≤ weight (length xs) old
 
+-- after a step: the scan went on, it lacks octets, or the octets show a fault
 abbrev pub MoveIs : ℕ → List ℕ → Scan → Scan → Move → Type 0
 MoveIs limit xs old s On = Holds limit xs s × (weight (length xs) s < weight (length xs) old)
 MoveIs limit xs old s Lack = (s ≡ old) × IsUnfinished limit xs
 MoveIs limit xs old s (Fault k) = Shows limit xs k s.at
 
+-- after a scan: the message is whole, the octets are unfinished, or they show a fault
 abbrev pub FoundIs : ℕ → List ℕ → Scan → Found → Type 0
 FoundIs limit xs s Message = Holds limit xs s × (s.reading ≡ Whole)
 FoundIs limit xs s FoundFront = Holds limit xs s × IsUnfinished limit xs

@@ -1,4 +1,4 @@
--- A `Node` seen as its element.
+-- The element that a `Node` is.
 use Rattle.zber.specs.declared.node.Node.TheInside.{Inside}
 use Rattle.zber.specs.declared.node.Body.{Body}
 use Rattle.zber.specs.declared.node.Body.TheVariants.{Prim, Cons}

@@ -1,4 +1,4 @@
--- The header places of a message, told along one path from its first octet.
+-- The places of headers in a message. One path leads to each, from the first octet.
 use Rattle.std.specs.Prelude.{◌≡◌, ℕ, suc, ◌+◌, ◌-◌, ◌<◌, ◌≤◌, true, false, Some, None, List, [], ◌++◌, length}
 use Rattle.zber.specs.declared.fault.FaultKind.TheVariants as kind
 use Rattle.zber.specs.declared.fault.HeaderPlace.{HeaderPlace}
@@ -7,35 +7,37 @@ use Rattle.zber.specs.Elements.{Element}
 use Rattle.zber.specs.Spelling.{SpellsAll, deepest}
 use Rattle.zber.specs.Headers.{Header}
 
--- where a message begins
+-- the place where a message begins
 abbrev pub start : ℕ → HeaderPlace
 start limit = record { size = limit; past = kind.TooLong; marked = false; room = deepest }
 
--- the first place inside an element that opens: of definite length, and of indefinite length behind so many octets
+-- the first place inside an element that opens: of definite length, and of indefinite length after a header of `len`
+-- octets
 abbrev pub within_size : ℕ → ℕ → HeaderPlace
 within_size size room = record { size = size; past = kind.Overrun; marked = false; room = room }
 
 abbrev pub within_mark : HeaderPlace → ℕ → ℕ → HeaderPlace
 within_mark p len room = record { size = p.size - len; past = p.past; marked = true; room = room }
 
--- the place so many octets further on in the same element
+-- the place `n` octets further on in the same element
 abbrev pub after : HeaderPlace → ℕ → HeaderPlace
 after p n = record { size = p.size - n; past = p.past; marked = p.marked; room = p.room }
 
--- at a place, a lawful header opens an element, and the first place inside it is this
+-- at the place, this lawful header opens an element, and the first place inside it is this one
 pub data Opens (p : HeaderPlace) (n : AsnTag) : List ℕ → HeaderPlace → Type 0 where
   definite : {size room : ℕ} {h : List ℕ}
       → Header n true (Some size) h → length h + size ≤ p.size → p.room ≡ suc room → Opens p n h (within_size size room)
   indefinite : {room : ℕ} {h : List ℕ}
       → Header n true None h → length h ≤ p.size → p.room ≡ suc room → Opens p n h (within_mark p (length h) room)
 
--- The octets lead to the place: headers of open elements, each with whole elements behind it that stand within it.
+-- The octets lead to the place. They are the headers of the open elements, each followed by the whole elements within
+-- it so far.
 pub data Reached (limit : ℕ) : List ℕ → HeaderPlace → Type 0 where
   top : Reached limit [] (start limit)
   inside : {p q : HeaderPlace} {n : AsnTag} {es : List Element} {xs h ys : List ℕ}
       → Reached limit xs p → Opens p n h q → SpellsAll q.room es ys → length ys ≤ q.size
       → Reached limit (xs ++ (h ++ ys)) (after q (length ys))
 
--- a header stands at the place: its element is not at its end
+-- there can be a header at the place: its element is not at its end
 abbrev pub IsHere : HeaderPlace → Type 0
 IsHere p = p.marked ≡ false → 0 < p.size

@@ -1,4 +1,4 @@
--- A message as its octets come: what is told of its finished elements, and where its open ones stand.
+-- A message as its octets come: the list of its finished elements, and the places of its open ones.
 use Rattle.std.specs.Prelude.{◌≡◌, ℕ, zero, suc, ◌⊎◌, ◌+◌, ◌<◌, ◌≤◌, true, false, Option, Some, None, IfSome, List, [], ◌∷◌, ◌++◌, length, take, drop}
 use Rattle.zber.specs.declared.fault.HeaderPlace.{HeaderPlace}
 use Rattle.zber.specs.declared.fault.FaultKind.TheVariants as kind
@@ -17,8 +17,8 @@ use Rattle.zber.specs.Headers.{Header}
 use Rattle.zber.specs.Fronts.{FrontIs}
 use Rattle.zber.specs.Paths.{start, after, Opens}
 
--- What is told of finished elements makes these of those: contents are a range of the octets, and children the elements
--- behind so many.
+-- From the first elements, the list of finished elements makes the second ones. Contents are a range of the octets.
+-- Children are all elements so far but the first `behind`.
 pub data IsAssembly (xs : List ℕ) : List Element → List Finished → List Element → Type 0 where
   none : {es : List Element} → IsAssembly xs es [] es
   with_primitive : {n : _} {from size : ℕ} {es ds : List Element} {fs : List Finished}
@@ -28,13 +28,13 @@ pub data IsAssembly (xs : List ℕ) : List Element → List Finished → List El
       → behind ≤ length es → IsAssembly xs (take behind es ++ cons n (drop behind es) ∷ []) fs ds
       → IsAssembly xs es (Cons n behind ∷ fs) ds
 
--- the window that a place has, behind so many octets
+-- the window is that of the place, which is `at` octets from the start
 pub record WindowIs (w : Window) (at : ℕ) (p : HeaderPlace) : Type 0 where
   pub end_is : w.end ≡ at + p.size
   pub past_is : w.past ≡ p.past
   pub marked_is : w.marked ≡ p.marked
 
--- Octets lead to a place, through the open elements; these elements are finished and stand in none that is.
+-- Octets lead to a place, through the open elements. These elements are finished, and are within no finished element.
 pub data Path (limit : ℕ) : List Open → List ℕ → List Element → HeaderPlace → Type 0 where
   top : Path limit [] [] [] (start limit)
   inside : {o : Open} {os : List Open} {xs h ys : List ℕ} {es fs : List Element} {p q : HeaderPlace}
@@ -42,6 +42,7 @@ pub data Path (limit : ℕ) : List Open → List ℕ → List Element → Header
       → Opens p o.tag h q → SpellsAll q.room fs ys → length ys ≤ q.size
       → Path limit (os ++ o ∷ []) (xs ++ (h ++ ys)) (es ++ fs) (after q (length ys))
 
+-- The scan is at this place, and these elements are finished.
 pub record Going (limit : ℕ) (xs : List ℕ) (s : Scan) (es : List Element) (p : HeaderPlace) : Type 0 where
   pub within : s.at ≤ length xs
   pub path : Path limit s.opened.items (take s.at xs) es p
@@ -50,14 +51,14 @@ pub record Going (limit : ℕ) (xs : List ℕ) (s : Scan) (es : List Element) (p
   pub count : s.count ≡ length es
   pub contents : s.contents ≡ contents_in (forest es)
 
--- so many octets stand behind the place
+-- how many octets were read at the place
 abbrev pub len_of : Reading → ℕ
 len_of (Front front len) = len
 len_of (Head n c size len) = len
 len_of End = 2
 len_of Whole = 0
 
--- these octets stand at the place
+-- these octets at the place are what was read
 abbrev pub ReadingIs : HeaderPlace → List ℕ → Reading → Type 0
 ReadingIs p hs (Front front len) = (len ≡ length hs) × FrontIs p.marked front hs × (len ≤ p.size)
 ReadingIs p hs (Head n c size len) =
@@ -69,6 +70,7 @@ ReadingIs p hs (Head n c size len) =
 ReadingIs p hs End = (p.marked ≡ true) × (hs ≡ 0 ∷ 0 ∷ []) × (2 ≤ p.size)
 ReadingIs p hs Whole = ⊥
 
+-- the scan has this whole message
 pub record IsWhole (limit : ℕ) (xs : List ℕ) (s : Scan) (e : Element) : Type 0 where
   pub within : s.at ≤ length xs
   pub none_open : s.opened.items ≡ []
@@ -76,6 +78,7 @@ pub record IsWhole (limit : ℕ) (xs : List ℕ) (s : Scan) (e : Element) : Type
   pub assembled : IsAssembly (take s.at xs) [] s.finished.items (e ∷ [])
   pub contents : s.contents ≡ contents_in (forest (e ∷ []))
 
+-- the message is not whole, and this was read of its next header or end
 pub record IsGoing (limit : ℕ) (xs : List ℕ) (s : Scan) (r : Reading) : Type 0 where
   pub es : List Element
   pub place : HeaderPlace
@@ -83,7 +86,7 @@ pub record IsGoing (limit : ℕ) (xs : List ℕ) (s : Scan) (r : Reading) : Type
   pub looked : s.at + len_of r ≤ length xs
   pub reading : ReadingIs place (take (len_of r) (drop s.at xs)) r
 
--- what stands behind an element that is finished, with so many others open
+-- what was read after a finished element, if so many others are open
 abbrev pub behind_reading : ℕ → Reading
 behind_reading zero = Whole
 behind_reading (suc n) = Front Nothing 0
@@ -93,7 +96,7 @@ abbrev pub inner_window : Window → ℕ → Option ℕ → Window
 inner_window w at (Some size) = record { end = at + size; past = kind.Overrun; marked = false }
 inner_window w at None = record { end = w.end; past = w.past; marked = true }
 
--- the same, but for room in the vectors
+-- the scans are the same, apart from the capacity of their vectors
 pub record Same (s t : Scan) : Type 0 where
   pub at : s.at ≡ t.at
   pub window : s.window ≡ t.window
@@ -103,7 +106,7 @@ pub record Same (s t : Scan) : Type 0 where
   pub count : s.count ≡ t.count
   pub contents : s.contents ≡ t.contents
 
--- a whole header at the place, whose contents have come
+-- before `pass`: a whole header is at the place, and its contents have come
 pub record IsPassed (limit : ℕ) (xs : List ℕ) (s : Scan) (n : AsnTag) (len size : ℕ) : Type 0 where
   pub es : List Element
   pub place : HeaderPlace
@@ -112,7 +115,7 @@ pub record IsPassed (limit : ℕ) (xs : List ℕ) (s : Scan) (n : AsnTag) (len s
   pub fits : len + size ≤ place.size
   pub come : s.at + len + size ≤ length xs
 
--- an element that opens at the place
+-- before `enter`: an element opens at the place
 pub record IsEntered (limit : ℕ) (xs : List ℕ) (s : Scan) (n : AsnTag) (size : Option ℕ) (len : ℕ) : Type 0 where
   pub es : List Element
   pub place : HeaderPlace
@@ -123,14 +126,14 @@ pub record IsEntered (limit : ℕ) (xs : List ℕ) (s : Scan) (n : AsnTag) (size
   pub room : 0 < place.room
   pub come : s.at + len ≤ length xs
 
--- an element ends at the place, with so many of these octets: where its window does, or by the mark
+-- an element ends at the place, and its end has `len` octets: its length ends it, or the end-of-contents octets do
 abbrev pub EndsBySize : HeaderPlace → ℕ → Type 0
 EndsBySize p len = (len ≡ 0) × (p.marked ≡ false) × (p.size ≡ 0)
 
 abbrev pub EndsByMark : HeaderPlace → ℕ → List ℕ → Type 0
 EndsByMark p len ys = (len ≡ 2) × (p.marked ≡ true) × (2 ≤ p.size) × (take 2 ys ≡ 0 ∷ 0 ∷ [])
 
--- the innermost open element ends here, with so many octets
+-- before `close`: the innermost open element ends here, and its end has `len` octets
 pub record IsClosed (limit : ℕ) (xs : List ℕ) (s : Scan) (len : ℕ) : Type 0 where
   pub es : List Element
   pub place : HeaderPlace
@@ -139,12 +142,13 @@ pub record IsClosed (limit : ℕ) (xs : List ℕ) (s : Scan) (len : ℕ) : Type 
   pub come : s.at + len ≤ length xs
   pub end_is : EndsBySize place len ⊎ EndsByMark place len (drop s.at xs)
 
+-- the scan covers the octets, and has read this of the next header
 abbrev pub HoldsBy : ℕ → List ℕ → Scan → Reading → Type 0
 HoldsBy limit xs s (Front front len) = IsGoing limit xs s (Front front len)
 HoldsBy limit xs s (Head n c size len) = IsGoing limit xs s (Head n c size len)
 HoldsBy limit xs s End = IsGoing limit xs s End
 HoldsBy limit xs s Whole = (e : Element) × IsWhole limit xs s e
 
--- the octets are looked at so far
+-- the scan is what looking at these octets made
 abbrev pub Holds : ℕ → List ℕ → Scan → Type 0
 Holds limit xs s = HoldsBy limit xs s s.reading

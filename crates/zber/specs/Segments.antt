@@ -20,12 +20,12 @@ joined end = []
 joined (leaf n xs rest) = xs ++ joined rest
 joined (branch n f rest) = joined f ++ joined rest
 
--- a string is primitive, or all that stands within it are segments
+-- a string is primitive, or all elements within it are segments
 abbrev pub is_string : Element → Bool
 is_string (Primitive n xs) = true
 is_string (Constructed n f) = are_segments f
 
--- its octets
+-- the octets of a string
 abbrev pub string_octets : Element → List ℕ
 string_octets (Primitive n xs) = xs
 string_octets (Constructed n f) = joined f

@@ -5,20 +5,19 @@ use Rattle.zber.specs.Elements.{Element, prim, cons, height}
 use Rattle.zber.specs.Canonical.{identifier, size, canonical, IsLawful}
 use Rattle.zber.specs.Spelling.{Identifier, Length, Spells}
 
--- numbers that are octets, as those of a law's list need not be
+-- each number is an octet; the numbers of a law's list need not be
 abbrev pub AreOctets : List ℕ → Type 0
 AreOctets xs = All (λ x. x < 256) xs
 
--- octets that spell a length are no fewer than those of the canonical encoding (8.1.3, 10.1)
+-- no octets that spell a length are fewer than those of the canonical encoding (8.1.3, 10.1)
 abbrev pub ShortestLength : Type 0
 ShortestLength = (n : ℕ) (xs : List ℕ) → Length n xs → AreOctets xs → length (size n) ≤ length xs
 
--- a tag has one identifier in each form, so none is shorter (8.1.2)
+-- a tag has exactly one identifier in each form, so none is shorter (8.1.2)
 abbrev pub OneIdentifier : Type 0
 OneIdentifier = (n : AsnTag) (c : Bool) (xs : List ℕ) → Identifier n c xs → xs ≡ identifier n c
 
--- The octets spell the element with definite lengths alone (8.1.3.3), and at most this many constructed elements
--- stand within one another.
+-- The octets spell the element with definite lengths alone (8.1.3.3). At most `room` constructed elements are nested.
 mutual
   pub data SpellsDefinite : ℕ → Element → List ℕ → Type 0 where
     primitive : {room : ℕ} {n : AsnTag} {i l xs : List ℕ}
@@ -36,23 +35,23 @@ mutual
 abbrev pub DefiniteIsSpelling : Type 0
 DefiniteIsSpelling = (room : ℕ) (e : Element) (xs : List ℕ) → SpellsDefinite room e xs → Spells room e xs
 
--- the canonical encoding of an element of so many levels at most is one with definite lengths alone
+-- if an element has at most `room` levels, its canonical encoding is a spelling with definite lengths alone
 abbrev pub CanonicalIsDefinite : Type 0
 CanonicalIsDefinite = (room : ℕ) (e : Element) → IsLawful e → height e ≤ room → SpellsDefinite room e (canonical e)
 
--- No spelling with definite lengths alone is shorter than the canonical encoding (10.1). It is false of indefinite
--- lengths (8.1.3.6): one takes three octets, 80 before the contents and 00 00 after them in hexadecimal, however long
--- these are, and the canonical length of 65,536 octets and more takes four and more.
+-- No spelling with definite lengths alone is shorter than the canonical encoding (10.1). With indefinite lengths this
+-- is false (8.1.3.6). An indefinite length takes three octets, however long the contents are: hexadecimal 80 before
+-- them and 00 00 after them. The canonical length of 65,536 octets or more takes four octets or more.
 abbrev pub ShortestSpelling : Type 0
 ShortestSpelling = (room : ℕ) (e : Element) (xs : List ℕ)
     → SpellsDefinite room e xs → AreOctets xs → length (canonical e) ≤ length xs
 
--- no spelling, with indefinite lengths too, is shorter than a canonical encoding of 65,535 octets and fewer
+-- no spelling, even with indefinite lengths, is shorter than a canonical encoding of at most 65,535 octets
 abbrev pub ShortestWithin : Type 0
 ShortestWithin = (room : ℕ) (e : Element) (xs : List ℕ)
     → Spells room e xs → AreOctets xs → length (canonical e) ≤ 65535 → length (canonical e) ≤ length xs
 
--- what the canonical encoding is among all spellings
+-- how the canonical encoding compares with all spellings
 pub record ShortestLaws : Type 0 where
   pub one_identifier : OneIdentifier
   pub shortest_length : ShortestLength

@@ -5,8 +5,9 @@ use Rattle.zber.specs.declared.fault.HeaderPlace.{HeaderPlace}
 use Rattle.zber.specs.Headers.{HeaderShows}
 use Rattle.zber.specs.Paths.{Reached, IsHere}
 
--- The octets show the fault at the header that stands behind so many of them: a path leads there, and the header shows
--- it by the octets up to the end of the innermost open element of definite length, else up to the limit.
+-- The octets show the fault at the header that comes after `at` octets. A path leads there. The header shows it by the
+-- octets up to the end of the innermost open element of definite length. If no such element is open, by those up to the
+-- limit.
 pub record Shows (limit : ℕ) (xs : List ℕ) (k : FaultKind) (at : ℕ) : Type 0 where
   pub front : List ℕ
   pub rest : List ℕ

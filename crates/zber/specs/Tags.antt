@@ -14,11 +14,12 @@ same_class _ _ = false
 abbrev pub same_tag : AsnTag → AsnTag → Bool
 same_tag t u = same_class t.class u.class && (t.number == u.number)
 
+-- whether the tag is in the list
 abbrev pub among : AsnTag → List AsnTag → Bool
 among t [] = false
 among t (u ∷ us) = same_tag t u || among t us
 
--- no tag of the one list is in the other
+-- whether no tag of the one list is in the other
 abbrev pub apart : List AsnTag → List AsnTag → Bool
 apart [] vs = true
 apart (u ∷ us) vs = if among u vs then false else apart us vs

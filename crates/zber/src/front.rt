@@ -1,4 +1,4 @@
-//! The front of a header, which goes on octet by octet.
+//! The front of a header, read octet by octet.
 ghost use Rattle.std.specs.Prelude.{◌≡◌, ◌≢◌, ◌⊎◌, ◌≤◌, true, false, ◌+◌, length, ◌<◌, ◌++◌, ◌∷◌, [], List, ℕ, Bool};
 ghost use Rattle.zber.specs.Spelling.{lead, Identifier};
 ghost use Rattle.zber.specs.Fronts.{Formed, SizeFront, FrontIs, StepIs};
@@ -12,7 +12,7 @@ pub(crate) enum Front {
     Nothing,
     /// 0 directly within an element of indefinite length: half of its end, if 0 follows.
     HalfEnd,
-    /// The number that the groups so far form: 0 where none has come.
+    /// A tag number in groups of seven bits. `number` is what the groups so far form: 0 if none has come.
     Groups {
         class: Class,
         constructed: bool,
@@ -22,7 +22,7 @@ pub(crate) enum Front {
         tag: Tag,
         constructed: bool,
     },
-    /// A length in the long form, of which so many octets are still to come.
+    /// A length in the long form: `left` octets are still to come, and those that came form `size`.
     SizeOctets {
         tag: Tag,
         constructed: bool,
@@ -45,7 +45,7 @@ pub(crate) enum Step {
     Bad(FaultKind),
 }
 
-/// The parts of an identifier's first octet.
+/// Returns the parts of an identifier's first octet: the class, whether the form is constructed, and the low five bits.
 fn parts(x: u8) -> (Class, bool, u8)
     ensures { (x ≡ lead result.0 result.1 result.2) × (result.2 < 32) }
 {
@@ -81,7 +81,8 @@ fn first_octet(marked: bool, x: u8) -> Step
     }
 }
 
-/// Whether a first group is idle, or the whole of a number that stands in the low five bits.
+/// Whether a first group of a tag number is idle, or is the whole of a number below 31, which belongs in the low five
+/// bits.
 fn begins_badly(number: u32, x: u8) -> bool
     ensures yes { result ≡ true → (number ≡ 0) × ((x ≡ 128) ⊎ (x < 31)) }
     ensures no { result ≡ false → number ≡ 0 → (x ≢ 128) × (31 ≤ x) }
@@ -167,7 +168,7 @@ fn size_octet(tag: Tag, constructed: bool, left: usize, size: usize, x: u8) -> S
     })
 }
 
-/// What the next octet makes of the front of a header.
+/// Returns what the next octet makes of the front of a header.
 #[inline(always)]
 pub(crate) fn advance(front: Front, marked: bool, x: u8) -> Step
     requires { (xs : List ℕ) × FrontIs marked front xs }

@@ -1,4 +1,4 @@
-//! A message as its octets come: the elements that are open, and those that are finished.
+//! Reads a message as its octets come: which elements are open, and which are finished.
 ghost use Rattle.std.specs.Prelude.{◌≡◌, ◌≢◌, ◌+◌, ◌-◌, ◌<◌, ◌≤◌, ◌^◌, ◌++◌, ◌∷◌, [], List, ℕ, Bool, true, false, length, take, drop, get_or, min, IfOk, IfErr, OnOk, OnErr, IfSome, Ok, Err, IsTrue, ◌↔◌};
 ghost use Rattle.zber.specs.Elements.{Element};
 ghost use Rattle.zber.specs.declared.fault.HeaderPlace.{HeaderPlace};
@@ -15,21 +15,21 @@ use crate::front::{Front, Step, advance};
 use crate::tag::Tag;
 use std::alloc::{AllocError, Global};
 
-/// An element that is finished, told behind those within it.
+/// An element that is finished. In the list it comes after the elements within it.
 #[derive(Clone, Copy)]
 pub(crate) enum Finished {
-    /// Its contents are so many octets, so far behind the first of the message.
+    /// A primitive element. Its contents are `size` octets, `from` octets after the start of the message.
     Prim { tag: Tag, from: usize, size: usize },
-    /// It holds the elements that stand behind so many others.
+    /// A constructed element. It holds all finished elements but the first `behind`.
     Cons { tag: Tag, behind: usize },
 }
 
-/// Where elements may stand.
+/// The octets that elements may occupy, up to an end.
 #[derive(Clone, Copy)]
 pub(crate) struct Window {
-    /// Its end, so far behind the first octet of the message.
+    /// The end, in octets from the start of the message.
     pub end: usize,
-    /// The fault where a header, or the contents that it announces, pass that end.
+    /// The fault if a header, or the contents that it announces, pass that end.
     pub past: FaultKind,
     /// Whether an element of indefinite length ends here, by the end-of-contents octets (X.690, 8.1.5).
     pub marked: bool,
@@ -39,21 +39,21 @@ pub(crate) struct Window {
 #[derive(Clone, Copy)]
 pub(crate) struct Open {
     pub tag: Tag,
-    /// The window that it stands in.
+    /// The window around this element.
     pub outer: Window,
-    /// How many elements stood there when it opened.
+    /// How many elements were finished when it opened.
     pub behind: usize,
 }
 
-/// What stands at the place that was reached.
+/// What the octets at the current place are.
 #[derive(Clone, Copy)]
 pub(crate) enum Reading {
-    /// The front of a header, so many octets.
+    /// The front of a header: `len` octets of it were read.
     Front {
         front: Front,
         len: usize,
     },
-    /// A whole header of so many octets.
+    /// A whole header of `len` octets.
     Head {
         tag: Tag,
         constructed: bool,
@@ -66,7 +66,7 @@ pub(crate) enum Reading {
     Whole,
 }
 
-/// How one move ended.
+/// How one step of the scan ended: it went on, it lacks octets, or it found a fault.
 #[derive(Clone, Copy)]
 enum Move {
     On,
@@ -74,7 +74,7 @@ enum Move {
     Fault(FaultKind),
 }
 
-/// What octets are, as far as they were looked at.
+/// What the octets are: they begin with a message, they are the front of one, or they show a fault.
 #[derive(Clone, Copy)]
 pub(crate) enum Found {
     Message,
@@ -84,19 +84,19 @@ pub(crate) enum Found {
 
 #[derive(Drop)]
 pub(crate) struct Scan {
-    /// How many octets stand before the header in hand.
+    /// How many octets come before the header that is being read.
     pub at: usize,
     pub window: Window,
     pub reading: Reading,
     pub opened: Vec<Open>,
     pub finished: Vec<Finished>,
-    /// How many elements are finished, and within none that is finished.
+    /// How many elements are finished and not within a finished element.
     pub count: usize,
-    /// How many of the octets are primitive contents.
+    /// How many of the octets are contents of primitive elements.
     pub contents: usize,
 }
 
-/// Looks at one octet.
+/// Looks at one octet, and counts it.
 fn examine(octets: &[u8], at: usize, examined: &mut u64) -> u8
     requires { at < length octets.now }
     ensures octet { result ≡ get_or octets.now at 0 }
@@ -106,7 +106,7 @@ fn examine(octets: &[u8], at: usize, examined: &mut u64) -> u8
     octets[at]
 }
 
-/// What the next octet of a header makes of it.
+/// Returns what the next octet makes of a header, or the fault that it shows.
 #[inline(always)]
 fn look(front: Front, len: usize, place: HeaderPlace, x: u8) -> Result<Reading, FaultKind>
     requires { (xs : List ℕ) × FrontIs place.marked front xs × (len ≡ length xs) × (len < place.size) }
@@ -143,7 +143,7 @@ fn look(front: Front, len: usize, place: HeaderPlace, x: u8) -> Result<Reading, 
     }
 }
 
-/// What stands behind an element that is finished, with so many others open.
+/// Returns what follows a finished element, if `opened` elements are open around it.
 fn reading_behind(opened: usize) -> Reading
     ensures { result ≡ behind_reading opened }
 {
@@ -157,14 +157,14 @@ fn reading_behind(opened: usize) -> Reading
     }
 }
 
-/// Whether an element of definite length ends at a place.
+/// Whether an element of definite length ends at this place.
 fn is_at_end(place: HeaderPlace, len: usize, opened: usize) -> bool
     ensures { IsTrue result ↔ ((len ≡ 0) × (place.marked ≡ false) × (place.size ≡ 0) × (0 < opened)) }
 {
     len == 0 && !place.marked && place.size == 0 && opened > 0
 }
 
-/// The window inside an element that opens, behind its header.
+/// Returns the window inside an element that opens. `at` is where its contents begin.
 fn inner(outer: Window, at: usize, size: Option<usize>) -> Window
     requires { IfSome size (λ z. at + z ≤ outer.end) }
     ensures { result ≡ inner_window outer at size }
@@ -184,7 +184,7 @@ fn inner(outer: Window, at: usize, size: Option<usize>) -> Window
 }
 
 impl Scan {
-    /// Of messages of at most so many octets, of which nothing was looked at yet. It takes no memory.
+    /// Makes the scan of a message of at most `limit` octets, before its first octet. It takes no memory.
     pub fn new(alloc: Global, limit: u32) -> Scan
         ensures holds { (xs : List ℕ) → Holds limit xs result }
         ensures begins { (pos result ≡ 0) × (result.contents ≡ 0) }
@@ -214,7 +214,7 @@ impl Scan {
         matches!(self.reading, Reading::Whole)
     }
 
-    /// Begins at the next message.
+    /// Starts again, at the next message.
     pub fn restart(&mut self, limit: u32)
         requires { self.old.opened.items ≡ [] }
         ensures holds { (xs : List ℕ) → Holds limit xs self.new }
@@ -235,6 +235,7 @@ impl Scan {
         self.contents = 0;
     }
 
+    /// Returns the place of the header that is being read.
     fn place(&self) -> HeaderPlace
         requires end { self.now.at ≤ self.now.window.end }
         requires few { length self.now.opened.items ≤ 64 }
@@ -249,7 +250,8 @@ impl Scan {
         }
     }
 
-    /// Finishes the innermost open element, whose end is so many octets.
+    /// Finishes the innermost open element, whose end takes `len` octets. Returns an error if no memory is found; the
+    /// scan is the same.
     fn close(&mut self, len: usize) -> Result<(), AllocError>
         requires { (limit : ℕ) × (xs : List ℕ) × IsClosed limit xs self.old len × (length xs < 2 ^ 64) }
         ensures ok { OnOk result ((limit : ℕ) (xs : List ℕ)
@@ -273,7 +275,8 @@ impl Scan {
         Ok(())
     }
 
-    /// Goes on behind the contents of a primitive element.
+    /// Goes past a primitive element: its header of `len` octets and its contents of `size` octets. Returns an error if
+    /// no memory is found; the scan is the same.
     fn pass(&mut self, tag: Tag, len: usize, size: usize) -> Result<(), AllocError>
         requires { (limit : ℕ) × (xs : List ℕ) × IsPassed limit xs self.old tag len size × (length xs < 2 ^ 64) }
         ensures ok { OnOk result ((limit : ℕ) (xs : List ℕ)
@@ -294,7 +297,8 @@ impl Scan {
         Ok(())
     }
 
-    /// Goes on inside a constructed element.
+    /// Goes into a constructed element, after its header of `len` octets. Returns an error if no memory is found; the
+    /// scan is the same.
     fn enter(&mut self, tag: Tag, size: Option<usize>, len: usize) -> Result<(), AllocError>
         requires { (limit : ℕ)
             × (xs : List ℕ)
@@ -321,7 +325,7 @@ impl Scan {
         Ok(())
     }
 
-    /// Goes on at a whole header.
+    /// Takes one step at a whole header. Returns an error if no memory is found; the scan is the same.
     fn go_head(
         &mut self,
         octets: &[u8],
@@ -352,7 +356,7 @@ impl Scan {
         Ok(Move::On)
     }
 
-    /// Looks at the first octet of a length, where that stands next and has come.
+    /// If the next octet is the first of a length and has come, looks at it. Otherwise changes nothing.
     fn look_on(&mut self, octets: &[u8], examined: &mut u64) -> Result<(), FaultKind>
         requires holds { (limit : ℕ) × Holds limit octets.now self.old × (limit < 2 ^ 32) }
         ensures ok { OnOk result ((limit : ℕ) → Holds limit octets.now self.old
@@ -384,7 +388,7 @@ impl Scan {
         }
     }
 
-    /// Goes on in the front of a header.
+    /// Takes one step in the front of a header. Returns an error if no memory is found; the scan is the same.
     fn go_front(
         &mut self,
         octets: &[u8],
@@ -392,12 +396,15 @@ impl Scan {
         front: Front,
         len: usize,
     ) -> Result<Move, AllocError>
+        // where the scan is
         requires going { (limit : ℕ) × IsGoing limit octets.now self.old (AtFront front len) × (limit < 2 ^ 32) }
         requires reads { self.old.reading ≡ AtFront front len }
         requires some { 0 < length octets.now }
+        // the step
         ensures ok { IfOk result (λ m. (limit : ℕ)
             → IsGoing limit octets.now self.old (AtFront front len) → MoveIs limit octets.now self.old self.new m) }
         ensures err { OnErr result (Same self.old self.new) }
+        // how many octets were examined
         ensures counts { IfOk result
             (λ m. MoveCounts (length octets.now) self.old self.new examined.old examined.new m) }
         ensures idle { OnErr result (examined.new ≡ examined.old) }
@@ -426,13 +433,17 @@ impl Scan {
         }
     }
 
+    /// Takes one step. Returns an error if no memory is found; the scan is the same.
     fn go(&mut self, octets: &[u8], examined: &mut u64) -> Result<Move, AllocError>
+        // where the scan is
         requires holds { (limit : ℕ) × Holds limit octets.now self.old × (limit < 2 ^ 32) }
         requires some { 0 < length octets.now }
         requires going { self.old.reading ≢ Whole }
+        // the step
         ensures ok { IfOk result (λ m. (limit : ℕ)
             → Holds limit octets.now self.old → MoveIs limit octets.now self.old self.new m) }
         ensures err { OnErr result (Same self.old self.new) }
+        // how many octets were examined
         ensures counts { IfOk result
             (λ m. MoveCounts (length octets.now) self.old self.new examined.old examined.new m) }
         ensures idle { OnErr result (examined.new ≡ examined.old) }
@@ -454,13 +465,18 @@ impl Scan {
         }
     }
 
-    /// Looks at the octets that have come since, up to a message's end or a fault.
+    /// Looks at the octets that have come since the last call, up to the end of a message or a fault.
+    ///
+    /// Returns an error if no memory is found. The scan keeps its progress.
     pub fn scan(&mut self, octets: &[u8], examined: &mut u64) -> Result<Found, AllocError>
+        // where the scan is
         requires holds { (limit : ℕ) × Holds limit octets.now self.old × (limit < 2 ^ 32) }
         requires some { 0 < length octets.now }
+        // what was found
         ensures ok { IfOk result (λ f. (limit : ℕ)
             → Holds limit octets.now self.old → FoundIs limit octets.now self.new f) }
         ensures err { OnErr result ((limit : ℕ) → Holds limit octets.now self.old → Holds limit octets.now self.new) }
+        // how many octets were examined
         ensures counts { IfOk result
             (λ f. FoundCounts (length octets.now) self.old self.new examined.old examined.new f) }
         ensures stopped { OnErr result (Counts self.old self.new examined.old examined.new) }

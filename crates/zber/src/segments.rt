@@ -1,4 +1,4 @@
-//! Strings, primitive or cut into segments (X.690 8.7, 8.23).
+//! Strings, primitive or cut into segments (X.690, 8.7 and 8.23).
 ghost use Rattle.std.specs.Prelude.{◌≡◌, ◌++◌, true, false, IfSome, IfNone, OnOk};
 ghost use Rattle.zber.specs.Segments.{is_segment, is_string, string_octets};
 ghost use Rattle.zber.specs.Values.{as_octets, Gives};
@@ -9,7 +9,7 @@ use crate::value::ValueError;
 use bytes::Bytes;
 use std::alloc::{AllocError, Global};
 
-/// Whether an element with the tag is a segment.
+/// Whether an element with this tag is a segment.
 fn is_segment(tag: Tag) -> bool
     ensures { result ≡ is_segment tag }
 {
@@ -17,8 +17,8 @@ fn is_segment(tag: Tag) -> bool
 }
 
 impl Node {
-    /// The room that the octets of a string take, at most `usize::MAX`, or `None` where an element within it is no
-    /// segment.
+    /// Returns the room that the octets of a string take, at most `usize::MAX`. Returns `None` if an element within it
+    /// is no segment.
     fn string_room(&self) -> Option<usize>
         ensures some { IfSome result (λ room. is_string self.now ≡ true) }
         ensures none { IfNone result (is_string self.now ≡ false) }
@@ -38,7 +38,7 @@ impl Node {
         }
     }
 
-    /// The contents of the only segment.
+    /// Returns the contents of the only segment. Returns `None` if there are none or several.
     fn only_segment(&self) -> Option<&Bytes>
         ensures { IfSome result (λ contents. contents.now ≡ string_octets self.now) }
     {
@@ -66,13 +66,13 @@ impl Node {
         }
     }
 
-    /// The octets of an OCTET STRING, or of any string, whatever its tag (X.690 8.7, 8.23): the contents octets where
-    /// the element is primitive. Where it is constructed, the elements within it are segments, each an OCTET STRING in
-    /// either form, and the octets are those of the segments in order.
+    /// Returns the octets of an OCTET STRING, or of any string, whatever its tag (X.690, 8.7 and 8.23). If the element
+    /// is primitive, they are its contents octets. If it is constructed, the elements within it are segments, each an
+    /// OCTET STRING in either form, and the octets are those of the segments in order.
     ///
     /// The octets of a single segment are shared with it. Others are copied once, into room of their length.
     ///
-    /// `WrongForm` where an element within, at any depth, is no OCTET STRING; `Memory` where none was found.
+    /// Returns `WrongForm` if an element within, at any depth, is no OCTET STRING, and `Memory` if no memory is found.
     pub fn as_octets(&self, alloc: Global) -> Result<Bytes, ValueError>
         ensures { Gives result (as_octets self.now) }
     {

@@ -1,4 +1,4 @@
-//! The printed texts of numbers and object identifiers, and how octets are printed.
+//! Printed texts of numbers and object identifiers, and the modes of printing octets.
 ghost use Rattle.std.specs.Prelude.{◌≡◌, ◌++◌, OnOk, OnErr};
 ghost use Rattle.std.specs.Fmt.{signed_decimal};
 ghost use Rattle.zber.specs.Dotted.{dotted};
@@ -15,8 +15,8 @@ pub enum Mode {
     Hex,
 }
 
-/// Appends the number in decimal, with a minus where it is negative. Where no memory is found,
-/// nothing is appended.
+/// Appends the number in decimal, with a minus sign if it is negative. Returns an error if no memory is found; nothing
+/// is appended.
 pub fn put_number(alloc: Global, number: i64, out: &mut Vec<u8>) -> Result<(), AllocError>
     ensures ok { OnOk result (out.new.items ≡ out.old.items ++ signed_decimal number) }
     ensures err { OnErr result (out.new.items ≡ out.old.items) }
@@ -25,8 +25,8 @@ pub fn put_number(alloc: Global, number: i64, out: &mut Vec<u8>) -> Result<(), A
     out.extend_from_slice(text.as_bytes())
 }
 
-/// Appends the arcs in decimal with a dot between each two, as `1.2.840.10003.5.10`. Where no
-/// memory is found, nothing is appended.
+/// Appends the arcs in decimal, with a dot between each two, as in `1.2.840.10003.5.10`. Returns an error if no memory
+/// is found; nothing is appended.
 pub fn put_oid(alloc: Global, oid: &Oid, out: &mut Vec<u8>) -> Result<(), AllocError>
     ensures ok { OnOk result (out.new.items ≡ out.old.items ++ dotted oid.now) }
     ensures err { OnErr result (out.new.items ≡ out.old.items) }

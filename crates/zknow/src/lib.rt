@@ -1,4 +1,4 @@
-//! What is known of the targets' result sets: facts, joins, the printed list and its rows, and the saved file.
+//! Knowledge of the targets' result sets: facts, joins, the printed list and its rows, and the saved file.
 #![tactic(auto)]
 
 mod encoding;

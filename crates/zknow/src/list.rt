@@ -25,6 +25,7 @@ use zapdu::{DiagRec, Record, print_diag, print_record, quote};
 use zber::Mode;
 use zber::text::put_number;
 
+/// Appends a number in decimal.
 fn put_natural(alloc: Global, number: u32, out: &mut Vec<u8>) -> Result<(), AllocError>
     ensures { OnOk result (out.new.items ≡ out.old.items ++ decimal number) }
 {
@@ -32,6 +33,7 @@ fn put_natural(alloc: Global, number: u32, out: &mut Vec<u8>) -> Result<(), Allo
     out.extend_from_slice(text.as_bytes())
 }
 
+/// Appends the quoted name of a target, or # and its number if it has no name.
 fn put_name(alloc: Global, names: &Names, target: u32, out: &mut Vec<u8>) -> Result<(), AllocError>
     ensures { OnOk result (out.new.items ≡ out.old.items ++ name_text names.now target) }
 {
@@ -62,6 +64,7 @@ fn put_line(
     out.extend_from_slice(b"\n")
 }
 
+/// Appends a line for each count.
 fn put_counts(
     alloc: Global,
     names: &Names,
@@ -81,6 +84,7 @@ fn put_counts(
     Ok(())
 }
 
+/// Appends the line of a failure, if the mark is set.
 fn put_failed(
     alloc: Global,
     names: &Names,
@@ -117,6 +121,7 @@ fn put_diag(
     put_line(alloc, names, key, &tail, out)
 }
 
+/// Appends a line for each diagnostic at one place.
 fn put_diags(
     alloc: Global,
     names: &Names,
@@ -135,6 +140,7 @@ fn put_diags(
     Ok(())
 }
 
+/// Appends a line for each diagnostic, by place.
 fn put_all_diags(
     alloc: Global,
     names: &Names,
@@ -152,7 +158,7 @@ fn put_all_diags(
     Ok(())
 }
 
-/// Appends the lines of the counts.
+/// Appends the lines of the counts of a block.
 fn put_counts_at(
     alloc: Global,
     names: &Names,
@@ -170,7 +176,7 @@ fn put_counts_at(
     }
 }
 
-/// Appends the line of the failure.
+/// Appends the line of the failure of a block, if there is one.
 fn put_failed_at(
     alloc: Global,
     names: &Names,
@@ -188,7 +194,7 @@ fn put_failed_at(
     }
 }
 
-/// Appends the lines of the diagnostics.
+/// Appends the lines of the diagnostics of a block.
 fn put_diags_at(
     alloc: Global,
     names: &Names,
@@ -222,6 +228,7 @@ fn put_block(
     put_diags_at(alloc, names, tables, key, out)
 }
 
+/// Appends a line for each record of a conflict.
 fn put_records(
     alloc: Global,
     hex: bool,
@@ -239,7 +246,7 @@ fn put_records(
     Ok(())
 }
 
-/// Appends what stands in a row after its set: a record, or a conflict and its records.
+/// Appends the end of a row: its record, or a conflict and its records.
 fn put_entry(
     alloc: Global,
     hex: bool,
@@ -286,6 +293,7 @@ fn put_row(
     put_entry(alloc, hex, &known, out)
 }
 
+/// Appends all blocks.
 fn put_blocks(
     alloc: Global,
     names: &Names,
@@ -304,6 +312,7 @@ fn put_blocks(
     Ok(())
 }
 
+/// Appends all rows.
 fn put_rows(
     alloc: Global,
     names: &Names,
@@ -321,9 +330,10 @@ fn put_rows(
     Ok(())
 }
 
-/// Appends the list: for each target and set its counts, its failure and its diagnostics, a line each; then for each
-/// position, target and set its record, or a conflict and all its records. A target is named by `names`, or by `#` and
-/// its number; `mode` says how octets of records are printed. Where no memory is found, nothing is appended.
+/// Appends the list. It has for each target and set a line for each count, the failure and each diagnostic. It then has
+/// for each position, target and set the record, or a conflict and all its records. A target has its name in `names`,
+/// else `#` and its number. `mode` says how octets of records are printed. Returns `AllocError` if no memory is found;
+/// nothing is appended.
 pub fn print_list(
     alloc: Global,
     knowledge: &Knowledge,

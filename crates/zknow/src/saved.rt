@@ -1,4 +1,4 @@
-//! The saved file of what is known: elements that stand for facts, written and read.
+//! The saved file of a knowledge: it is written and read as elements of names and facts.
 
 pub mod fits;
 pub mod front;

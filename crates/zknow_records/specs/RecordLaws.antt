@@ -1,4 +1,4 @@
--- The laws of the records that are taken, of their octets and of what is left out.
+-- Laws of the records that are taken, of their octets and of what is left out.
 use Rattle.std.specs.Prelude.{◌≡◌, ◌↔◌, ◌+◌, ℕ, Bool, true, false, is_some, Option, List, length, Contains}
 use Rattle.std.specs.List.{count_by}
 use Rattle.zapdu.specs.declared.productions.record.Record.{Record}
@@ -9,8 +9,8 @@ use Rattle.zknow.specs.Facts.{AreFacts}
 use Rattle.zknow.specs.List.ListLaws.{IsConflict, StandsIn}
 use Rattle.zknow_records.specs.Records.{is_wanted, own_octets, record_octets, all_taken, records_octets, left_out}
 
--- the record is seen at a position, it is not one of another syntax than the one that is asked for, and two different
--- records are seen there only if conflicts are asked for
+-- facts have the record at a position; it is not of another syntax than the one asked for; and facts have two different
+-- records there only if conflicts are asked for
 pub record IsTaken (asked : Option (List ℕ)) (conflicts : Bool) (facts : List Fact) (r : Record) : Type 0 where
   pub row : RowKey
   pub seen : Contains facts (Seen row.target row.set row.position r)
@@ -21,8 +21,8 @@ pub record IsTaken (asked : Option (List ℕ)) (conflicts : Bool) (facts : List 
 abbrev pub written : List Record → ℕ
 written records = count_by (λ r. is_some (own_octets r)) records
 
--- the records that are taken are these, and no others; the octets of each stand among those that are written; and each
--- is one that has octets, or is counted once: as a surrogate diagnostic, or as another
+-- The records taken are these, and no others. The octets of each are among those written. Each has octets, or is
+-- counted once: as a surrogate diagnostic, or as another.
 pub record RecordLaws (asked : Option (List ℕ)) (conflicts : Bool) (facts : List Fact) : Type 0 where
   pub members : AreFacts facts → (r : Record)
       → Contains (all_taken asked conflicts facts) r ↔ IsTaken asked conflicts facts r
@@ -32,5 +32,6 @@ pub record RecordLaws (asked : Option (List ℕ)) (conflicts : Bool) (facts : Li
       + (left_out asked conflicts facts).diagnostics + (left_out asked conflicts facts).others
       ≡ length (all_taken asked conflicts facts)
 
+-- the laws, for any syntax, with and without conflicts, and for any facts
 abbrev pub AllRecordLaws : Type 0
 AllRecordLaws = (asked : Option (List ℕ)) (conflicts : Bool) (facts : List Fact) → RecordLaws asked conflicts facts

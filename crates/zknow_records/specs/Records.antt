@@ -1,5 +1,4 @@
--- The octets of the records that are known, one record after the other, and what is left out of them, as functions of
--- the facts.
+-- The octets of the known records, one record after the other, and what is left out, as functions of the facts.
 use Rattle.std.specs.Prelude.{ℕ, Bool, true, false, not, ◌&&◌, nat_lt, if◌then◌else◌, Option, Some, None, is_some, unwrap_or, List, [], length, map, filter}
 use Rattle.std.specs.Borrow.{Bor}
 use Rattle.std.specs.List.{flat_map, filter_map, count_by}
@@ -18,7 +17,7 @@ use Rattle.zknow_records.specs.declared.left_out.LeftOut.{LeftOut}
 
 -- ---- one record
 
--- no syntax is asked for, or the EXTERNAL names none, or names the one that is asked for
+-- no syntax is asked for, or the EXTERNAL names none, or it names the one asked for
 abbrev pub is_in_syntax : Option (List ℕ) → Option (List ℕ) → Bool
 is_in_syntax None direct = true
 is_in_syntax (Some asked) None = true
@@ -29,7 +28,7 @@ is_body_wanted asked (Retrieval v) = is_in_syntax asked v.direct
 is_body_wanted asked (Surrogate d) = true
 is_body_wanted asked (Fragment m) = true
 
--- the record is not one of another syntax than the one that is asked for
+-- the record is not of another syntax than the one asked for
 abbrev pub is_wanted : Option (List ℕ) → Record → Bool
 is_wanted asked r = is_body_wanted asked r.body
 
@@ -42,7 +41,7 @@ body_octets (Fragment m) = None
 abbrev pub own_octets : Record → Option (List ℕ)
 own_octets r = body_octets r.body
 
--- the octets that are written of a record
+-- the octets that are written for a record, empty if it has none
 abbrev pub record_octets : Record → List ℕ
 record_octets r = unwrap_or (own_octets r) []
 
@@ -51,11 +50,11 @@ is_surrogate (Retrieval v) = false
 is_surrogate (Surrogate d) = true
 is_surrogate (Fragment m) = false
 
--- a surrogate diagnostic stands in the place of the record
+-- the record is a surrogate diagnostic
 abbrev pub is_diagnostic : Record → Bool
 is_diagnostic r = is_surrogate r.body
 
--- neither octets nor a surrogate diagnostic: a fragment, or another EXTERNAL
+-- the record has no octets and is no surrogate diagnostic: it is a fragment, or another EXTERNAL
 abbrev pub is_other : Record → Bool
 is_other r = not (is_some (own_octets r)) && not (is_diagnostic r)
 
@@ -65,13 +64,12 @@ is_other r = not (is_some (own_octets r)) && not (is_diagnostic r)
 abbrev pub is_conflict : List Record → Bool
 is_conflict records = nat_lt 1 (length records)
 
--- what is taken of the records at a position: nothing of a conflict, if conflicts are not asked for, else the records
--- that are wanted
+-- the records taken at a position: none of a conflict if conflicts are not asked for, else all of the right syntax
 abbrev pub taken : Option (List ℕ) → Bool → List Record → List Record
 taken asked conflicts records =
     if is_conflict records && not conflicts then [] else filter (is_wanted asked) records
 
--- the records that are known in a row of the list
+-- the known records of a row of the list
 abbrev pub records_in : List Fact → RowKey → List Record
 records_in facts k = records_at k.target k.set k.position facts
 
@@ -89,11 +87,11 @@ all_taken asked conflicts facts = flat_map (λ k. taken asked conflicts (records
 abbrev pub records_octets : Option (List ℕ) → Bool → List Fact → List ℕ
 records_octets asked conflicts facts = flat_map record_octets (all_taken asked conflicts facts)
 
--- how many positions are in conflict and left out
+-- how many positions are left out because of a conflict
 abbrev pub conflicts_left : Bool → List Fact → ℕ
 conflicts_left conflicts facts = if conflicts then 0 else count_by (λ k. is_conflict (records_in facts k)) (rows facts)
 
--- what is left out of the octets: conflicts, and what is taken and has no octets
+-- counts of what is left out: conflicts, and records taken that have no octets
 abbrev pub left_out : Option (List ℕ) → Bool → List Fact → LeftOut
 left_out asked conflicts facts =
     record {

@@ -1,15 +1,14 @@
-//! What is left out of the records that are written.
+//! Counts of the records that are left out.
 
-/// What was left out of the records that were written. What stands at a position that is left out counts as that
-/// position alone. A record of another syntax than the one that was asked for counts nowhere else.
+/// Counts of what was left out of the octets written. A position that is left out is counted once, and its records are
+/// not counted. A record of another syntax than the one asked for is not counted, except with such a position.
 #[derive(Clone, Copy, Debug, PartialEq, Eq, Default)]
 pub struct LeftOut {
-    /// Positions at which several records are known, whatever their syntaxes, where conflicts were not asked for; else
-    /// 0.
+    /// How many positions have several records, whatever their syntaxes; 0 if conflicts were asked for.
     pub conflicts: u64,
-    /// Surrogate diagnostics that were taken: each stands in the place of a record (Z39.50-2003, 4.1: NamePlusRecord).
+    /// How many surrogate diagnostics were taken. Each takes the place of a record (Z39.50-2003, 4.1: NamePlusRecord).
     pub diagnostics: u64,
-    /// Records that were taken and have no octets of their own: fragments, and EXTERNALs with anything but a syntax and
-    /// octets.
+    /// How many other records without octets of their own were taken: fragments, and EXTERNALs with anything but a
+    /// syntax and octets.
     pub others: u64,
 }

@@ -1,5 +1,5 @@
-//! The octets of the records that are known, one record after the other. Records of ISO 2709 tell their own lengths, so
-//! a file of them is one that tools for such records read.
+//! The octets of the known records, one record after the other. Records of ISO 2709 begin with their lengths, so tools
+//! for such records can read a file of them.
 #![tactic(auto)]
 
 pub mod laws;

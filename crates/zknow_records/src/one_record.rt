@@ -1,4 +1,4 @@
-//! What one record is, where records are written.
+//! The kind and the octets of one record.
 ghost use Rattle.std.specs.Prelude.{◌≡◌};
 ghost use Rattle.std.specs.Option.{option_copied};
 ghost use Rattle.zknow_records.specs.Records.{is_in_syntax, is_wanted, own_octets, is_diagnostic, is_other};
@@ -7,7 +7,7 @@ use bytes::Bytes;
 use zapdu::{Record, RecordBody, octet_aligned};
 use zber::Oid;
 
-/// Whether no syntax is asked for, or none is named, or the one that is asked for.
+/// Whether no syntax is asked for, or the EXTERNAL names none, or it names the one asked for.
 fn is_in_syntax(asked: Option<&Oid>, direct: &Option<Oid>) -> bool
     ensures { result ≡ is_in_syntax (option_copied asked.entry) direct.now }
 {
@@ -17,7 +17,7 @@ fn is_in_syntax(asked: Option<&Oid>, direct: &Option<Oid>) -> bool
     }
 }
 
-/// Whether the record is not one of another syntax than the one that is asked for.
+/// Whether the record is not of another syntax than the one asked for.
 pub(crate) fn is_wanted(asked: Option<&Oid>, record: &Record) -> bool
     ensures { result ≡ is_wanted (option_copied asked.entry) «record».now }
 {
@@ -27,7 +27,7 @@ pub(crate) fn is_wanted(asked: Option<&Oid>, record: &Record) -> bool
     }
 }
 
-/// The octets of a record that has octets of its own (Z39.50-2003, 3.6; X.690, 8.18).
+/// Returns the octets of a record that has octets of its own, else `None` (Z39.50-2003, 3.6; X.690, 8.18).
 pub(crate) fn own_octets(record: &Record) -> Option<&Bytes>
     ensures { option_copied result ≡ own_octets «record».now }
 {
@@ -40,7 +40,7 @@ pub(crate) fn own_octets(record: &Record) -> Option<&Bytes>
     }
 }
 
-/// Whether a surrogate diagnostic stands in the place of the record (Z39.50-2003, 4.1: NamePlusRecord).
+/// Whether the record is a surrogate diagnostic (Z39.50-2003, 4.1: NamePlusRecord).
 pub(crate) fn is_diagnostic(record: &Record) -> bool
     ensures { result ≡ is_diagnostic «record».now }
 {

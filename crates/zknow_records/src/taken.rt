@@ -11,13 +11,14 @@ use zapdu::Record;
 use zber::Oid;
 use zknow::{Knowledge, Known, RowKey};
 
-/// What is known of the record in a row of the list.
+/// Returns what is known of the record in a row of the list.
 fn known_in<'a>(knowledge: &'a Knowledge, row: &RowKey) -> Known<'a, Record>
     ensures { Shows result (records_in knowledge.now row.now) }
 {
     knowledge.at(row.target, row.set, row.position)
 }
 
+/// Appends the records that are not of another syntax than the one asked for.
 fn take_wanted<'a>(
     asked: Option<&Oid>,
     records: &'a [Record],
@@ -34,7 +35,7 @@ fn take_wanted<'a>(
     Ok(())
 }
 
-/// Takes the records in a row.
+/// Appends the records that are taken from a row. Returns `AllocError` if no memory is found.
 fn take_row<'a>(
     knowledge: &'a Knowledge,
     row: &RowKey,
@@ -58,7 +59,7 @@ fn take_row<'a>(
     }
 }
 
-/// The records that are taken, row by row.
+/// Returns the records that are taken, row by row. Returns `AllocError` if no memory is found.
 pub(crate) fn take_rows<'a>(
     alloc: Global,
     knowledge: &'a Knowledge,
@@ -86,7 +87,7 @@ fn is_conflict(knowledge: &Knowledge, row: &RowKey) -> bool
     }
 }
 
-/// In how many of the rows several records are known.
+/// Counts the rows in which several records are known.
 pub(crate) fn count_conflicts(knowledge: &Knowledge, rows: &[RowKey]) -> u64
     ensures { result ≡ count_by (λ k. is_conflict (records_in knowledge.now k)) rows.now }
 {

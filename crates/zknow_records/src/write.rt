@@ -1,4 +1,4 @@
-//! The records are written.
+//! Writing the octets of the known records.
 ghost use Rattle.std.specs.Prelude.{◌≡◌, ◌++◌, IfOk, OnOk, OnErr};
 ghost use Rattle.std.specs.List.{flat_map, count_by};
 ghost use Rattle.std.specs.Option.{option_copied};
@@ -22,6 +22,7 @@ fn put_record(record: &Record, out: &mut Vec<u8>) -> Result<(), AllocError>
     }
 }
 
+/// Appends the octets of records.
 fn put_records(taken: &[&Record], out: &mut Vec<u8>) -> Result<(), AllocError>
     ensures { OnOk result (out.new.items ≡ out.old.items ++ flat_map record_octets (behind taken.now)) }
 {
@@ -31,6 +32,7 @@ fn put_records(taken: &[&Record], out: &mut Vec<u8>) -> Result<(), AllocError>
     Ok(())
 }
 
+/// Counts the surrogate diagnostics.
 fn count_diagnostics(taken: &[&Record]) -> u64
     ensures { result ≡ count_by is_diagnostic (behind taken.now) }
 {
@@ -43,6 +45,7 @@ fn count_diagnostics(taken: &[&Record]) -> u64
     count
 }
 
+/// Counts the records that have no octets and are no surrogate diagnostics.
 fn count_others(taken: &[&Record]) -> u64
     ensures { result ≡ count_by is_other (behind taken.now) }
 {
@@ -55,7 +58,7 @@ fn count_others(taken: &[&Record]) -> u64
     count
 }
 
-/// How many conflicts are left out.
+/// Counts the conflicts that are left out.
 fn conflicts_left(knowledge: &Knowledge, keys: &[RowKey], conflicts: bool) -> u64
     requires { keys.now ≡ rows knowledge.now }
     ensures { result ≡ conflicts_left conflicts knowledge.now }
@@ -67,13 +70,13 @@ fn conflicts_left(knowledge: &Knowledge, keys: &[RowKey], conflicts: bool) -> u6
     }
 }
 
-/// Appends the octets of the records that are known, one record after the other, and tells what was left out.
+/// Appends the octets of the known records, one record after the other, and returns counts of what was left out.
 ///
-/// They come in the order of the rows of the list: by position, target and set. A position at which several records are
-/// known is left out, or with `conflicts` has all of them, in order of their canonical encodings. Where `syntax` has
-/// one, no record of another syntax is written. Only an EXTERNAL with a direct reference and octet-aligned contents,
-/// and nothing else, has octets to write (Z39.50-2003, 3.6; X.690, 8.18); a surrogate diagnostic has none (4.1:
-/// NamePlusRecord). Where no memory is found, nothing is appended.
+/// The records are in the order of the rows of the list: by position, target and set. If several records are known at a
+/// position, they are left out; with `conflicts` all of them are written, in the order of their canonical encodings. If
+/// `syntax` is given, records of another syntax are left out. Only an EXTERNAL with a direct reference, octet-aligned
+/// contents and nothing else has octets to write (Z39.50-2003, 3.6; X.690, 8.18). A surrogate diagnostic has none (4.1:
+/// NamePlusRecord). Returns `AllocError` if no memory is found; nothing is appended.
 pub fn write_records(
     alloc: Global,
     knowledge: &Knowledge,

@@ -1,4 +1,4 @@
--- Which replies are accepted, said of the whole log and not step by step (Z39.50-2003, 3.4).
+-- Which replies are accepted, stated for the whole log and not step by step (Z39.50-2003, 3.4).
 use Rattle.std.specs.Prelude.{◌≡◌, ℕ, true, false, List, [], ◌∷◌, ◌++◌, Option, None, Some, Contains}
 use Rattle.zapdu.specs.declared.apdu.Apdu.{Apdu}
 use Rattle.zapdu.specs.declared.apdu.Apdu.TheVariants as apdus
@@ -20,14 +20,15 @@ id_of (apdus.PresentRequest v) = v.reference_id
 id_of (apdus.PresentResponse v) = v.reference_id
 id_of (apdus.Close v) = v.reference_id
 
--- The reference id is the operation's, or is absent where concurrency is not in force and no other operation is
--- outstanding.
+-- The reference id is the operation's; or it is absent, concurrent operations are not in force, and no other operation
+-- is outstanding.
 abbrev pub Refers : Past → Asked → Option (List ℕ) → Type 0
 Refers p q (Some id) = id ≡ reference_id q.op
 Refers p q None = ((force_after (opening p)).concurrent ≡ false) × (outstanding p ≡ q ∷ [])
 
--- The reply was taken after a part of the log in which its request was admitted, was not answered yet, and replies were
--- taken (so no message before it was refused); its reference id names the request; and it fits it.
+-- The reply was taken after a part of the log. In that part its request was admitted and not answered, and the origin
+-- took replies, so no message before this one was refused. The reply's reference id names the request, and the reply
+-- fits it.
 pub record IsAccepted (settings : Settings) (log : Log) (answer : Answer) : Type 0 where
   pub later : Log
   pub earlier : Log

@@ -1,6 +1,5 @@
--- How a call that is admitted, and an APDU that is taken, change where a connection stands (Z39.50-2003, 3.2 and 3.4).
--- Public clauses take from here `FailsFor` alone, and else speak of logs (Log.antt, which takes from here what one call
--- or reply says).
+-- How an admitted call and a taken APDU change an origin (Z39.50-2003, 3.2 and 3.4). Public clauses use `FailsFor`
+-- alone; all others are about logs. Log.antt imports from here what one call or reply changes.
 use Rattle.std.specs.Prelude.{◌≡◌, ◌≢◌, ℕ, nat_eq, ◌==◌, Bool, true, false, slice_index_or, if◌then◌else◌, List, Option, Some, None, Result, Ok, Err}
 use Rattle.std.specs.Map.{set_value}
 use Rattle.indexmap.specs.IndexMap.{insert_entry, shift_remove_entry}
@@ -35,18 +34,20 @@ search_asked op set = record { op = op; set = set; what = what.Search }
 abbrev pub present_asked : ℕ → ℕ → List Range → Asked
 present_asked op set ranges = record { op = op; set = set; what = what.Present ranges }
 
--- what is kept of a search that is not answered yet
+-- the record of a search that is not answered yet
 abbrev pub unanswered : ℕ → ℕ → Ask → Searched
 unanswered op set ask = record { op = op; set = set; syntax = ask.syntax; elements = ask.elements; outcome = None }
 
 -- ---- calls
 
+-- the origin with one admitted operation more
 abbrev pub with_asked : Standing → Asked → Standing
 with_asked s asked = record s {
   used = insert_key nat_eq s.used asked.op;
   outstanding = insert_entry nat_eq s.outstanding asked.op asked;
 }
 
+-- the origin after a call that is admitted
 abbrev pub admitted_at : Standing → Call → Standing
 admitted_at s Init = record (with_asked s init_asked) { state = states.Initialising }
 admitted_at s (Search op set ask) = record (with_asked s (search_asked op set)) {
@@ -59,13 +60,13 @@ abbrev pub admitted_unless : Standing → Call → Option CallRefused → Standi
 admitted_unless s call None = admitted_at s call
 admitted_unless s call (Some reason) = s
 
--- the standing after a call
+-- the origin after a call
 abbrev pub called_at : Standing → Call → Standing
 called_at s call = admitted_unless s call (refusal s call)
 
 -- ---- replies
 
--- what a response to Init puts in force: what was offered and it has
+-- what a response to Init puts in force: the options and the version that it has
 abbrev pub force_in : InitResponse → InForce
 force_in v = record {
   search = slice_index_or v.options 0 false;
@@ -75,7 +76,7 @@ force_in v = record {
   named = slice_index_or v.options 14 false;
 }
 
--- what came of a search, by its answer
+-- the outcome of a search, by the reply to it
 abbrev pub outcome_in : Apdu → Option Outcome
 outcome_in (apdus.SearchResponse v) =
     if v.search_status then Some (outcomes.Found v.result_count) else Some outcomes.Failed
@@ -90,19 +91,20 @@ noted_at asked outcome searches None = searches
 noted_at asked outcome searches (Some searched) =
     set_value (nat_eq asked.set) searches (noted_if (searched.op == asked.op) outcome searched)
 
--- the searches once the operation was answered: that of its set has the outcome, where it is the operation
+-- the searches after the operation was answered: the search of its set has the outcome, if it is this operation
 abbrev pub noted : Asked → Option Outcome → List (ℕ × Searched) → List (ℕ × Searched)
 noted asked outcome searches = noted_at asked outcome searches (search_of searches asked.set)
 
--- the operation is outstanding no more
+-- the operation is no longer outstanding
 abbrev pub without : Standing → ℕ → Standing
 without s op = record s { outstanding = shift_remove_entry (nat_eq op) s.outstanding }
 
+-- the origin after a response to Init that accepts the association
 abbrev pub opened_at : Standing → Apdu → Standing
 opened_at s (apdus.InitResponse v) = record s { state = ready (force_in v); force = force_in v }
 opened_at s _ = s
 
--- the standing after the verdict
+-- the origin after a verdict
 abbrev pub settled_at : Standing → Result Taken Refused → Standing
 settled_at s (Ok (taken.Opened answer)) = opened_at (without s answer.asked.op) answer.reply
 settled_at s (Ok (taken.Rejected answer)) = record (without s answer.asked.op) { state = states.Closed }
@@ -112,7 +114,7 @@ settled_at s (Ok (taken.Answered answer)) = record (without s answer.asked.op) {
 settled_at s (Ok taken.Closed) = record s { state = states.Closed }
 settled_at s (Err reason) = if is_open s.state then record s { state = states.Failed reason } else s
 
--- it failed for this reason, and is else as it was; but not where the state or want of memory is the reason
+-- unless the reason is the state or memory, the origin failed for this reason and is otherwise unchanged
 abbrev pub FailsFor : Standing → Standing → Refused → Type 0
 FailsFor old new reason =
     reason ≢ refused.WrongState → reason ≢ refused.Memory → new ≡ record old { state = states.Failed reason }

@@ -1,4 +1,4 @@
--- What a reply that answers an operation says of the target's result sets (Z39.50-2003, 3.2.1.1, 3.2.2.1 and 3.2.3.1).
+-- The facts of an answer, about the target's result sets (Z39.50-2003, 3.2.1.1, 3.2.2.1 and 3.2.3.1).
 use Rattle.std.specs.Prelude.{◌≡◌, ℕ, ℤ, pos, ◌+ℤ◌, Bool, true, if◌then◌else◌, List, [], ◌∷◌, ◌++◌, map, zip}
 use Rattle.std.specs.List.{AllByRecursion, enumerate_from}
 use Rattle.zapdu.specs.declared.apdu.Apdu.{Apdu}
@@ -21,32 +21,35 @@ use Rattle.zplan.specs.Positions.{first_of}
 use Rattle.zplan.specs.Ranges.{positions}
 use Rattle.zorigin.specs.Fitting.{Fits, records_in, diagnostics_in}
 
--- record j stands at the j-th position from the first
+-- the facts of records at consecutive positions, the first of them at this position
 abbrev pub seen_from : ℕ → ℕ → ℤ → List Record → List Fact
 seen_from target set first records =
     map (λ (e : ℕ × Record). Seen target set (first +ℤ pos e.0) e.1) (enumerate_from 0 records)
 
--- record j stands at the j-th of the positions
+-- the facts of records, record j at the j-th of the positions
 abbrev pub seen_at : ℕ → ℕ → List ℕ → List Record → List Fact
 seen_at target set asked records = map (λ (e : ℕ × Record). Seen target set (pos e.0) e.1) (zip asked records)
 
--- a diagnostic of the search has place 0, one of a Present the first position that was asked
+-- the facts of diagnostics; the place is 0 for a search, and the first position asked for a Present
 abbrev pub told_at : ℕ → ℕ → ℤ → List DiagRec → List Fact
 told_at target set place diags = map (λ diag. Diag target set place diag) diags
 
+-- the fact of a search: its count, or that it failed
 abbrev pub count_or_failed : ℕ → ℕ → Bool → ℤ → Fact
 count_or_failed target set status count = if status then Count target set count else Failed target set
 
+-- a rejected association is a failure of set 0
 abbrev pub init_facts : ℕ → InitResponse → List Fact
 init_facts target v = if v.result then [] else Failed target 0 ∷ []
 
+-- the facts of the response to a search of this set
 abbrev pub search_facts : ℕ → ℕ → SearchResponse → List Fact
 search_facts target set v =
     (count_or_failed target set v.search_status v.result_count ∷ [])
     ++ seen_from target set (pos 1) (records_in v.records)
     ++ told_at target set (pos 0) (diagnostics_in v.records)
 
--- of the positions that were asked for
+-- the facts of the response to a Present of these positions
 abbrev pub present_facts : ℕ → ℕ → List ℕ → PresentResponse → List Fact
 present_facts target set asked v =
     seen_at target set asked (records_in v.records)
@@ -58,35 +61,36 @@ facts_by target set what.Search (apdus.SearchResponse v) = search_facts target s
 facts_by target set (what.Present ranges) (apdus.PresentResponse v) = present_facts target set (positions ranges) v
 facts_by _ _ _ _ = []
 
+-- the facts of an answer of the target with this number
 abbrev pub facts_of : ℕ → Answer → List Fact
 facts_of target answer = facts_by target answer.asked.set answer.asked.what answer.reply
 
--- what is asked for can be, whatever the set's count is
+-- the ranges of a Present can be asked for, whatever the set's count is
 abbrev pub asks_positions : What → Bool
 asks_positions (what.Present ranges) = are_ranges ranges
 asks_positions _ = true
 
--- the reply fits, and the positions that were asked are some
+-- the reply fits its request, and the ranges of a Present can be asked for
 pub record IsShowable (answer : Answer) : Type 0 where
   pub fits : Fits answer.asked.what answer.reply
   pub positions : asks_positions answer.asked.what ≡ true
 
--- the answer has this reply, and is such
+-- the answer has this reply, and fits
 abbrev pub IsShown : Apdu → Answer → Type 0
 IsShown reply answer = (answer.reply ≡ reply) × IsShowable answer
 
--- the answer in it, if it has one, is
+-- the answer in it, if it has one, has this reply and fits
 abbrev pub HasShowable : Apdu → Taken → Type 0
 HasShowable reply (taken.Opened answer) = IsShown reply answer
 HasShowable reply (taken.Rejected answer) = IsShown reply answer
 HasShowable reply (taken.Answered answer) = IsShown reply answer
 HasShowable reply taken.Closed = Unit {0}
 
--- the positions that outstanding operations ask for are some
+-- the ranges of all outstanding Presents can be asked for
 abbrev pub AskPositions : List (ℕ × Asked) → Type 0
 AskPositions outstanding = AllByRecursion (λ (e : ℕ × Asked). asks_positions e.1.what ≡ true) outstanding
 
--- the records of a response of either kind
+-- the records of a response to a search or a Present
 abbrev pub records_of : Apdu → List Record
 records_of (apdus.SearchResponse v) = records_in v.records
 records_of (apdus.PresentResponse v) = records_in v.records

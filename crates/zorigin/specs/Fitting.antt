@@ -1,5 +1,4 @@
--- What a reply has to be like to answer an operation (Z39.50-2003, 3.2.2.1, 3.2.3.1), and what is wrong with one that
--- does not.
+-- Which replies fit an operation, and the fault of a reply that does not (Z39.50-2003, 3.2.2.1 and 3.2.3.1).
 use Rattle.std.specs.Prelude.{◌≡◌, ◌≢◌, ◌⊎◌, ℕ, ℤ, pos, negsuc, ◌≤◌, ◌≤ℤ◌, int_lt, nat_lt, ◌==◌, Bool, true, false, not, ◌||◌, ◌&&◌, if◌then◌else◌, List, [], ◌∷◌, length, Option, Some, None}
 use Rattle.std.specs.List.{list_any}
 use Rattle.zapdu.specs.declared.apdu.Apdu.{Apdu}
@@ -24,7 +23,7 @@ abbrev pub records_in : Option Records → List Record
 records_in (Some (kinds.List records)) = records
 records_in _ = []
 
--- the diagnostics that stand for no record
+-- the nonsurrogate diagnostics of a response
 abbrev pub diagnostics_in : Option Records → List DiagRec
 diagnostics_in (Some (kinds.OneDiag diag)) = Default diag ∷ []
 diagnostics_in (Some (kinds.ManyDiags diags)) = diags
@@ -38,30 +37,31 @@ abbrev pub is_fragment : RecordBody → Bool
 is_fragment (bodies.Fragment node) = true
 is_fragment _ = false
 
--- a part of a record, which only segmentation would give a meaning
+-- a fragment is among the records; only segmentation would give it a meaning
 abbrev pub has_fragment : Option Records → Bool
 has_fragment records = list_any (λ (r : Record). is_fragment r.body) (records_in records)
 
 -- ---- what fits
 
--- diagnostics came, or the number is that of the records
+-- diagnostics came, or this is the number of the records
 abbrev pub IsCounted : Option Records → ℤ → Type 0
 IsCounted records n = (diagnostics_in records ≢ []) ⊎ (n ≡ pos (length (records_in records)))
 
+-- the response fits a search
 pub record FitsSearch (v : SearchResponse) : Type 0 where
   pub counted : IsCounted v.records v.number_of_records_returned
   pub positive : pos 0 ≤ℤ v.result_count
   pub within : pos (length (records_in v.records)) ≤ℤ v.result_count
   pub entire : has_fragment v.records ≡ false
 
--- of the positions that were asked for
+-- the response fits a Present of these positions
 pub record FitsPresent (asked : List ℕ) (v : PresentResponse) : Type 0 where
   pub counted : IsCounted v.records v.number_of_records_returned
   pub within : length (records_in v.records) ≤ length asked
   pub entire : has_fragment v.records ≡ false
   pub some : (records_in v.records ≢ []) ⊎ (diagnostics_in v.records ≢ [])
 
--- the reply, its reference id aside, can answer such an operation
+-- the reply fits such an operation, its reference id aside
 abbrev pub Fits : What → Apdu → Type 0
 Fits what.Init (apdus.InitResponse v) = Unit {0}
 Fits what.Search (apdus.SearchResponse v) = FitsSearch v
@@ -70,17 +70,17 @@ Fits _ _ = ⊥
 
 -- ---- what does not, row by row
 
--- the first row that holds
+-- the first row that is true
 abbrev pub first_row : {R : Type 0} → List (Bool × R) → Option R
 first_row [] = None
 first_row (row ∷ rows) = if row.0 then Some row.1 else first_row rows
 
--- the number is that of so many
+-- the number is this one
 abbrev pub is_number : ℤ → ℕ → Bool
 is_number (pos n) k = n == k
 is_number (negsuc n) k = false
 
--- there are more than the number
+-- the first number is above the second
 abbrev pub exceeds : ℕ → ℤ → Bool
 exceeds k (pos n) = nat_lt n k
 exceeds k (negsuc n) = true
@@ -112,7 +112,7 @@ present_fault asked v = first_row (
     ∷ (bad_present asked v, refused.BadShape)
     ∷ [])
 
--- why the reply can't answer such an operation
+-- why the reply does not fit such an operation
 abbrev pub fault_of : What → Apdu → Option Refused
 fault_of what.Init (apdus.InitResponse v) = None
 fault_of what.Search (apdus.SearchResponse v) = search_fault v

@@ -1,4 +1,4 @@
--- What each log keeps, and what an admitted call comes to (Z39.50-2003, 3.2 and 3.4).
+-- What is true of each log, and the result of an admitted call (Z39.50-2003, 3.2 and 3.4).
 use Rattle.std.specs.Prelude.{◌≡◌, ℕ, nat_eq, true, map, Some, Ok, Contains}
 use Rattle.std.specs.List.{IsDistinct}
 use Rattle.zapdu.specs.declared.apdu.Apdu.{Apdu}
@@ -16,6 +16,7 @@ use Rattle.zorigin.specs.Log.{Past, asked, op_of, searches_in}
 abbrev pub set_of : Searched → ℕ
 set_of searched = searched.set
 
+-- the number of the operation that the reply is to
 abbrev pub answered_op : Answer → ℕ
 answered_op answer = answer.asked.op
 
@@ -31,19 +32,20 @@ pub record IsOpened (p : Past) : Type 0 where
   pub init : answer.asked.what ≡ what.Init
   pub accepts : Accepts answer.reply
 
+-- what is true of the past of each log
 pub record IsOrderly (p : Past) : Type 0 where
-  -- no two operations have one number, and no two searches one set
+  -- no two operations have the same number, and no two searches the same set
   pub operations : IsDistinct nat_eq (map op_of (asked p))
   pub sets : IsDistinct nat_eq (map set_of (searches_in p))
-  -- an accepted reply is to an operation that was admitted, and no two are to one
+  -- an accepted reply is to an admitted operation, and no two are to the same one
   pub known : (answer : Answer) → Contains p.accepted answer → Contains (asked p) answer.asked
   pub once : IsDistinct nat_eq (map answered_op p.accepted)
-  -- positions that were asked for are some
+  -- the ranges of each Present can be asked for
   pub positions : (q : Asked) → Contains (asked p) q → asks_positions q.what ≡ true
   -- Close was called only once the association was accepted
   pub closing : Contains p.admitted Close → IsOpened p
 
--- the call has a request, and is answered with it
+-- the call has a request, and its result is that request
 pub record IsSent (s : Standing) (call : Call) : Type 0 where
   pub request : Apdu
   pub made : request_of s call ≡ Some request

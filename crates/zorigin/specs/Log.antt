@@ -1,6 +1,5 @@
--- What was done to one origin (Z39.50-2003, 3.2 and 3.4), as a list, and what it amounts to: the calls that were
--- admitted and
--- the replies that were accepted.
+-- The log of one origin, and its past: the calls that were admitted and the replies that were accepted (Z39.50-2003,
+-- 3.2 and 3.4).
 use Rattle.std.specs.Prelude.{◌≡◌, ◌≢◌, ℕ, ◌==◌, Bool, true, false, not, if◌then◌else◌, List, [], ◌∷◌, ◌++◌, map, filter, Option, None, Some, Result, Ok, Err}
 use Rattle.std.specs.List.{list_any, find, flat_map}
 use Rattle.zapdu.specs.declared.apdu.Apdu.{Apdu}
@@ -28,7 +27,7 @@ use Rattle.zorigin.specs.Calls.{refusal, call_answer}
 use Rattle.zorigin.specs.Replies.{verdict}
 use Rattle.zorigin.specs.Changes.{init_asked, search_asked, present_asked, unanswered, force_in, outcome_in}
 
--- A call that was made, or an APDU that was taken. A call answered for want of memory is none.
+-- A call that was made, or an APDU that was taken. A call or take whose result is `Memory` makes no entry.
 pub data Entry : Type 0 where
   Made : Call → Entry
   Got : Apdu → Entry
@@ -37,9 +36,8 @@ pub data Entry : Type 0 where
 abbrev pub Log : Type 0
 Log = List Entry
 
--- What the log amounts to: the calls admitted, the requests sent for them and the replies accepted, in order; whether a
--- Close
--- was taken, and the latest fault.
+-- What a log amounts to: the calls admitted, the requests sent for them and the replies accepted, in order; whether a
+-- Close was taken; and the latest fault.
 pub record Past : Type 0 where
   pub settings : Settings
   pub admitted : List Call
@@ -48,11 +46,13 @@ pub record Past : Type 0 where
   pub closed : Bool
   pub fault : Option Refused
 
+-- the past of no entries
 abbrev pub nothing : Settings → Past
 nothing settings = record { settings = settings; admitted = []; sent = []; accepted = []; closed = false; fault = None }
 
 -- ---- the operations
 
+-- the operation of a call, none for Close
 abbrev pub operation_of : Call → List Asked
 operation_of Init = init_asked ∷ []
 operation_of (Search op set ask) = search_asked op set ∷ []
@@ -63,10 +63,11 @@ operation_of Close = []
 abbrev pub asked : Past → List Asked
 asked p = flat_map operation_of p.admitted
 
--- the answer is to the operation with this number
+-- the reply is to the operation with this number
 abbrev pub answers : ℕ → Answer → Bool
 answers op answer = answer.asked.op == op
 
+-- a reply to the operation with this number was accepted
 abbrev pub is_answered : Past → ℕ → Bool
 is_answered p op = list_any (answers op) p.accepted
 
@@ -108,18 +109,18 @@ abbrev pub state_by : Apdu → State
 state_by (apdus.InitResponse v) = if v.result then ready (force_in v) else states.Closed
 state_by _ = states.Closed
 
--- Fresh where no Init was admitted, Initialising where it is unanswered, then what its reply says
+-- Fresh if no Init was admitted; Initialising while it is unanswered; then what its reply says
 abbrev pub opened_state : Bool → Option Answer → State
 opened_state begun None = if begun then states.Initialising else states.Fresh
 opened_state begun (Some answer) = state_by answer.reply
 
--- Closing where Close was admitted, unless the association was rejected
+-- Closing if Close was admitted, unless the association was rejected
 abbrev pub closing_state : Bool → State → State
 closing_state closing (states.Ready v3 concurrent named) =
     if closing then states.Closing else states.Ready v3 concurrent named
 closing_state closing other = other
 
--- Failed where there was a fault
+-- Failed if there was a fault
 abbrev pub failed_or : State → Option Refused → State
 failed_or other None = other
 failed_or other (Some reason) = states.Failed reason
@@ -128,7 +129,7 @@ abbrev pub state_from : Option Refused → Bool → Bool → Bool → Option Ans
 state_from fault closed closing begun answer =
     failed_or (if closed then states.Closed else closing_state closing (opened_state begun answer)) fault
 
--- of several states that hold the last named stands
+-- the state; of several that are true it is the last of Fresh, Initialising, Ready, Closing, Closed, Failed
 abbrev pub state_of : Past → State
 state_of p =
     state_from p.fault p.closed (list_any is_close_call p.admitted) (list_any is_init_call p.admitted) (opening p)
@@ -143,10 +144,11 @@ abbrev pub outcome_by : Option Answer → Option Outcome
 outcome_by None = None
 outcome_by (Some answer) = outcome_in answer.reply
 
--- a search with what came of it
+-- a search with its outcome
 abbrev pub with_outcome : List Answer → Searched → Searched
 with_outcome accepted searched = record searched { outcome = outcome_by (find (answers searched.op) accepted) }
 
+-- the searches that were admitted, in order, each with its outcome
 abbrev pub searches_in : Past → List Searched
 searches_in p = map (with_outcome p.accepted) (flat_map search_in p.admitted)
 
@@ -161,6 +163,7 @@ filed searched = (searched.set, searched)
 abbrev pub op_of : Asked → ℕ
 op_of q = q.op
 
+-- the origin after this past
 abbrev pub standing : Past → Standing
 standing p = record {
   settings = p.settings;
@@ -177,6 +180,7 @@ abbrev pub request_list : Option Apdu → List Apdu
 request_list None = []
 request_list (Some apdu) = apdu ∷ []
 
+-- the past with one admitted call more
 abbrev pub admit : Past → Call → Past
 admit p call = record p {
   admitted = p.admitted ++ call ∷ [];
@@ -187,9 +191,11 @@ abbrev pub admit_unless : Past → Call → Option CallRefused → Past
 admit_unless p call None = admit p call
 admit_unless p call (Some reason) = p
 
+-- the past with one accepted reply more
 abbrev pub accept : Past → Answer → Past
 accept p answer = record p { accepted = p.accepted ++ answer ∷ [] }
 
+-- the past after a verdict on an APDU
 abbrev pub after_verdict : Past → Result Taken Refused → Past
 after_verdict p (Ok (taken.Opened answer)) = accept p answer
 after_verdict p (Ok (taken.Rejected answer)) = accept p answer
@@ -197,11 +203,12 @@ after_verdict p (Ok (taken.Answered answer)) = accept p answer
 after_verdict p (Ok taken.Closed) = record p { closed = true }
 after_verdict p (Err reason) = if is_open (state_of p) then record p { fault = Some reason } else p
 
+-- the past after one entry more
 abbrev pub with_entry : Entry → Past → Past
 with_entry (Made call) p = admit_unless p call (refusal (standing p) call)
 with_entry (Got reply) p = after_verdict p (verdict (standing p) reply)
 
--- by induction on the length of the log
+-- the past of a log, by induction on its length
 abbrev pub past : Settings → Log → Past
 past settings [] = nothing settings
 past settings (e ∷ log) = with_entry e (past settings log)
@@ -212,41 +219,49 @@ pub record After (settings : Settings) (log : Log) (origin : Standing) : Type 0 
 
 -- ---- memory aside
 
+-- the result is not `Memory`, so the call makes an entry
 abbrev pub IsCalled : {X : Type 0} → Result X CallRefused → Type 0
 IsCalled (Ok x) = Unit {0}
 IsCalled (Err reason) = reason ≢ calls.Memory
 
--- the answer is the one given, unless memory was wanting
+-- the result is the given one, unless it is `Memory`
 abbrev pub Answers : {X : Type 0} → Result X CallRefused → Result X CallRefused → Type 0
 Answers given answer = IsCalled answer → answer ≡ given
 
+-- the result is not `Memory`, so the take makes an entry
 abbrev pub IsTaken : Result Taken Refused → Type 0
 IsTaken (Ok x) = Unit {0}
 IsTaken (Err reason) = reason ≢ refused.Memory
 
+-- the verdict is the given one, unless it is `Memory`
 abbrev pub Tells : Result Taken Refused → Result Taken Refused → Type 0
 Tells given answer = IsTaken answer → answer ≡ given
 
 -- ---- what holds for each log that can have left the origin
 
+-- for each log that can have left the origin, the result is that of the call after it
 abbrev pub AnswersCall : Standing → Call → Result Sent CallRefused → Type 0
 AnswersCall origin call answer =
     (settings : Settings) (log : Log) → After settings log origin
     → Answers (call_answer (standing (past settings log)) call) answer
 
+-- before and after a call: each log that can have left the old origin, with the call, can have left the new one
 abbrev pub LeavesCall : Standing → Call → Result Sent CallRefused → Standing → Type 0
 LeavesCall old call answer new =
     (settings : Settings) (log : Log) → After settings log old → IsCalled answer → After settings (Made call ∷ log) new
 
+-- for each log that can have left the origin, the result is the verdict on the APDU after it
 abbrev pub TellsReply : Standing → Apdu → Result Taken Refused → Type 0
 TellsReply origin reply answer =
     (settings : Settings) (log : Log) → After settings log origin
     → Tells (verdict (standing (past settings log)) reply) answer
 
+-- before and after a take: each log that can have left the old origin, with the APDU, can have left the new one
 abbrev pub LeavesReply : Standing → Apdu → Result Taken Refused → Standing → Type 0
 LeavesReply old reply answer new =
     (settings : Settings) (log : Log) → After settings log old → IsTaken answer → After settings (Got reply ∷ log) new
 
+-- for each log that can have left the origin, this is its state
 abbrev pub IsState : Standing → State → Type 0
 IsState origin state =
     (settings : Settings) (log : Log) → After settings log origin → state ≡ state_of (past settings log)

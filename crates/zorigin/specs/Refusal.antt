@@ -5,7 +5,7 @@ use Rattle.zorigin.specs.declared.refusal.CallRefused.TheVariants as calls
 use Rattle.zorigin.specs.declared.refusal.Refused.{Refused}
 use Rattle.zorigin.specs.declared.refusal.Refused.TheVariants as replies
 
--- of a call
+-- the name of the refusal of a call
 abbrev pub call_word : CallRefused → List ℕ
 call_word calls.WrongState = codes "WrongState"
 call_word calls.NotOffered = codes "NotOffered"
@@ -19,7 +19,7 @@ call_word calls.Busy = codes "Busy"
 call_word calls.Unsendable = codes "Unsendable"
 call_word calls.Memory = codes "Memory"
 
--- of a reply
+-- the name of the refusal of a reply
 abbrev pub reply_word : Refused → List ℕ
 reply_word replies.WrongState = codes "WrongState"
 reply_word replies.WrongKind = codes "WrongKind"

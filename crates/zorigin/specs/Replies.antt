@@ -1,4 +1,4 @@
--- The table of replies (Z39.50-2003, 3.4): which are refused, row by row, and what one that is accepted comes to.
+-- The table of replies: which are refused, row by row, and the result of one that is accepted (Z39.50-2003, 3.4).
 use Rattle.std.specs.Prelude.{◌≡◌, ◌≢◌, ℕ, nat_eq, if◌then◌else◌, List, [], ◌∷◌, Option, Some, None, Result, Ok, Err}
 use Rattle.std.specs.Map.{lookup}
 use Rattle.zapdu.specs.declared.apdu.Apdu.{Apdu}
@@ -13,7 +13,7 @@ use Rattle.zorigin.specs.References.{number_of}
 use Rattle.zorigin.specs.Standings.{Standing, is_open}
 use Rattle.zorigin.specs.Fitting.{fault_of}
 
--- the one operation that is outstanding, if it is one
+-- the only outstanding operation, if there is exactly one
 abbrev pub only_of : List (ℕ × Asked) → Option Asked
 only_of (e ∷ []) = Some e.1
 only_of _ = None
@@ -22,13 +22,13 @@ abbrev pub numbered_as : List (ℕ × Asked) → Option ℕ → Option Asked
 numbered_as outstanding None = None
 numbered_as outstanding (Some op) = lookup (nat_eq op) outstanding
 
--- the outstanding operation that a reference id names; an absent one names the only operation, where concurrency is not
--- in force
+-- the outstanding operation that a reference id names; an absent one names the only operation, if concurrent operations
+-- are not in force
 abbrev pub named : Standing → Option (List ℕ) → Option Asked
 named s (Some id) = numbered_as s.outstanding (number_of id)
 named s None = if s.force.concurrent then None else only_of s.outstanding
 
--- the target accepted the association, or rejected it, or answered another operation
+-- the result for an accepted reply: it accepts the association, rejects it, or is to another operation
 abbrev pub taken_by : Answer → Apdu → Taken
 taken_by answer (apdus.InitResponse v) = if v.result then taken.Opened answer else taken.Rejected answer
 taken_by answer _ = taken.Answered answer
@@ -36,15 +36,17 @@ taken_by answer _ = taken.Answered answer
 abbrev pub taken_as : Answer → Taken
 taken_as answer = taken_by answer answer.reply
 
+-- the verdict on a reply, by its fault
 abbrev pub judged : Answer → Option Refused → Result Taken Refused
 judged answer (Some reason) = Err reason
 judged answer None = Ok (taken_as answer)
 
+-- the verdict on a reply to an operation, if it names one
 abbrev pub against : Option Asked → Apdu → Result Taken Refused
 against None reply = Err refused.UnknownReference
 against (Some asked) reply = judged (record { asked = asked; reply = reply }) (fault_of asked.what reply)
 
--- a reply against the operation that it names; a Close without these tests
+-- the verdict while replies are taken: a reply is judged against the operation that it names, a Close is accepted
 abbrev pub answered : Standing → Apdu → Result Taken Refused
 answered s (apdus.InitResponse v) = against (named s v.reference_id) (apdus.InitResponse v)
 answered s (apdus.SearchResponse v) = against (named s v.reference_id) (apdus.SearchResponse v)
@@ -52,15 +54,16 @@ answered s (apdus.PresentResponse v) = against (named s v.reference_id) (apdus.P
 answered s (apdus.Close v) = Ok taken.Closed
 answered s _ = Err refused.WrongKind
 
--- what taking the APDU answers
+-- the verdict on an APDU, which is the result of a take
 unfoldable pub verdict : Standing → Apdu → Result Taken Refused
 verdict s reply = if is_open s.state then answered s reply else Err refused.WrongState
 
--- the operation that a reply answers, none for a Close, or the same refusal; memory aside
+-- the result is the operation that the reply is to, or the reason of the verdict, memory aside
 abbrev pub JudgesBy : Result Taken Refused → Apdu → Result Asked Refused → Type 0
 JudgesBy given reply (Ok asked) = given ≡ Ok (taken_as (record { asked = asked; reply = reply }))
 JudgesBy given reply (Err reason) = reason ≢ refused.Memory → given ≡ Err reason
 
+-- the same for any APDU, with no operation for a Close
 abbrev pub Judges : Result Taken Refused → Apdu → Result (Option Asked) Refused → Type 0
 Judges given reply (Ok None) = given ≡ Ok taken.Closed
 Judges given reply (Ok (Some asked)) = given ≡ Ok (taken_as (record { asked = asked; reply = reply }))

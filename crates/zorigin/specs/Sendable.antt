@@ -1,4 +1,4 @@
--- Which requests can always be sent (Z39.50-2003, 3.2.1.1, 3.2.3.1, 3.2.11.1).
+-- Which requests can always be sent (Z39.50-2003, 3.2.1.1, 3.2.3.1 and 3.2.11.1).
 use Rattle.std.specs.Prelude.{◌≡◌, ℕ, ◌≤◌, Bool, true, false, List, ◌∷◌, length, Some}
 use Rattle.zplan.specs.declared.range.Range.{Range}
 use Rattle.zorigin.specs.declared.settings.Ask.{Ask}
@@ -8,9 +8,9 @@ use Rattle.zorigin.specs.Ranges.{are_ranges}
 use Rattle.zorigin.specs.Sending.{is_unsendable, init_request, search_request, present_request, close_request}
 
 pub record SendableLaws : Type 0 where
-  -- an Init, where the origin's name is not too long
+  -- an Init, if the origin's name has at most 2,000,000 octets
   pub init : (settings : Settings) → length settings.name ≤ 2000000 → is_unsendable (init_request settings) ≡ false
-  -- a Present of not too many ranges, in the syntax and with the element set of a search that can be sent
+  -- a Present of at most 1,000 ranges, with the syntax and the element set of a search that can be sent
   pub present : (named : Bool) (op set next : ℕ) (ask : Ask) (searched : Searched) (r : Range) (rs : List Range)
       → is_unsendable (search_request named op set ask) ≡ false
       → ((arcs : List ℕ) → ask.syntax ≡ Some arcs → length arcs ≤ 1000)

@@ -1,4 +1,5 @@
--- The APDU that is sent for a call (Z39.50-2003, 3.2.1.1, 3.2.2.1, 3.2.3.1, 3.2.11.1), and which can be sent at all.
+-- The request that is sent for a call, and which requests can be sent (Z39.50-2003, 3.2.1.1, 3.2.2.1, 3.2.3.1 and
+-- 3.2.11.1).
 use Rattle.std.specs.Prelude.{◌≡◌, ℕ, pos, nat_lt, Bool, true, false, ◌||◌, if◌then◌else◌, List, [], ◌∷◌, ◌++◌, length, map, Option, Some, None, Result, Ok, Err, codes}
 use Rattle.std.specs.Option.{option_map}
 use Rattle.std.specs.Fmt.{decimal}
@@ -57,7 +58,7 @@ init_value settings = record {
 abbrev pub init_request : Settings → Apdu
 init_request settings = apdus.InitRequest (init_value settings)
 
--- a set's name is its number in decimal where names are in force
+-- the name of a set: its number in decimal if named result sets are in force, else `default`
 abbrev pub set_name : Bool → ℕ → List ℕ
 set_name named set = if named then decimal set else codes "default"
 
@@ -93,7 +94,7 @@ search_request named op set ask = apdus.SearchRequest (search_value named op set
 abbrev pub sent_range : Range → SentRange
 sent_range r = record { starting_position = r.start; number_of_records = r.n }
 
--- the ranges after the first, where there are some
+-- the ranges after the first, if there are some
 abbrev pub additional : List Range → Option (List SentRange)
 additional [] = None
 additional (r ∷ rs) = Some (map sent_range (r ∷ rs))
@@ -131,7 +132,7 @@ close_value = record {
 abbrev pub close_request : Apdu
 close_request = apdus.Close close_value
 
--- none for a Present of a set that no search made, or of no range
+-- the request of a call; none for a Present of a set that no search made, or of no range
 abbrev pub request_of : Standing → Call → Option Apdu
 request_of s Init = Some (init_request s.settings)
 request_of s (Search op set ask) = Some (search_request s.force.named op set ask)
@@ -139,48 +140,52 @@ request_of s (Present op set []) = None
 request_of s (Present op set (r ∷ rs)) = option_map (present_request s.force.named op r rs) (search_of s.searches set)
 request_of s Close = Some close_request
 
--- ---- which can be sent
+-- ---- which requests can be sent
 
+-- there is no element, or it is too deep or too long to be sent
 abbrev pub too_large : Option Element → Bool
 too_large None = true
 too_large (Some n) = nat_lt 64 (height n) || nat_lt MESSAGE_LIMIT (length (canonical n))
 
--- the APDU has no spelling, more than 64 constructed elements within one another, or more than 2,097,152 octets
+-- the APDU has no element, more than 64 levels of constructed elements, or more than 2,097,152 octets
 unfoldable pub is_unsendable : Apdu → Bool
 is_unsendable apdu = too_large (apdu_spelt apdu)
 
+-- the canonical encoding of an element, empty if there is none
 abbrev pub octets_of : Option Element → List ℕ
 octets_of None = []
 octets_of (Some n) = canonical n
 
--- the canonical encoding
+-- the canonical encoding of an APDU, empty if it has no element
 unfoldable pub encoding_of : Apdu → List ℕ
 encoding_of apdu = octets_of (apdu_spelt apdu)
 
--- what encoding an element answers, memory aside
+-- the result of encoding an element, memory aside
 abbrev pub Encodes : Element → Result (List ℕ) CallRefused → Type 0
 Encodes n (Ok octets) = (too_large (Some n) ≡ false) × (octets ≡ canonical n)
 Encodes n (Err refused.Unsendable) = too_large (Some n) ≡ true
 Encodes n (Err refused.Memory) = Unit {0}
 Encodes n (Err _) = ⊥
 
+-- the APDU with its canonical encoding
 abbrev pub sent_of : Apdu → Sent
 sent_of apdu = record { apdu = apdu; octets = encoding_of apdu }
 
--- what sending an APDU answers, memory aside
+-- the result of sending an APDU, memory aside
 abbrev pub Sends : Apdu → Result Sent CallRefused → Type 0
 Sends apdu (Ok sent) = (is_unsendable apdu ≡ false) × (sent ≡ sent_of apdu)
 Sends apdu (Err refused.Unsendable) = is_unsendable apdu ≡ true
 Sends apdu (Err refused.Memory) = Unit {0}
 Sends apdu (Err _) = ⊥
 
--- ---- what is sent is read back
+-- ---- the receiver reads what was sent
 
--- whatever follows, the octets begin with the element, within the limit of a message
+-- whatever octets come after them, the octets begin with the element, within the limit of a message
 abbrev pub IsFramed : Element → List ℕ → Type 0
 IsFramed n octets = (more : List ℕ) → Begins MESSAGE_LIMIT (octets ++ more) n more
 
--- the octets begin, whatever follows, with the one element that is made of the APDU, and it stands for the APDU
+-- whatever octets come after them, the octets begin with the element of the APDU, and the element has this APDU as its
+-- value
 pub record IsReadBack (sent : Sent) : Type 0 where
   pub element : Element
   pub made : apdu_spelt sent.apdu ≡ Some element

@@ -1,4 +1,4 @@
--- What a log amounts to, as the tables ask it, and the calls (Z39.50-2003, 3.2 and 3.4).
+-- The calls, and what the tables of calls and replies use of an origin (Z39.50-2003, 3.2 and 3.4).
 use Rattle.std.specs.Prelude.{ℕ, nat_eq, Bool, true, false, List, Option, Some}
 use Rattle.std.specs.Map.{lookup}
 use Rattle.zorigin.specs.declared.settings.Settings.{Settings}
@@ -12,21 +12,22 @@ use Rattle.zorigin.specs.declared.state.Outcome.{Outcome}
 use Rattle.zorigin.specs.declared.state.Outcome.TheVariants as outcomes
 use Rattle.zorigin.specs.declared.state.Searched.{Searched}
 
--- a call: a search with its operation, its set and what it asks for; a Present with its operation, its set and the
--- ranges of positions
+-- a call: a search has its operation, its set and what it asks for; a Present has its operation, its set and the ranges
+-- of its positions
 pub data Call : Type 0 where
   Init : Call
   Search : ℕ → ℕ → Ask → Call
   Present : ℕ → ℕ → List Range → Call
   Close : Call
 
+-- the value of an origin, as contracts see it
 pub record Standing : Type 0 where
   pub settings : Settings
   pub state : State
   pub force : InForce
   -- the numbers of the operations that were admitted
   pub used : List ℕ
-  -- the searches that were admitted, by set, in the order of their calls, each with what came of it
+  -- the searches that were admitted, by set, in the order of their calls, each with its outcome
   pub searches : List (ℕ × Searched)
   -- the operations that are admitted and unanswered, by number, in the order of their calls
   pub outstanding : List (ℕ × Asked)
@@ -39,7 +40,7 @@ abbrev pub is_ready : State → Bool
 is_ready (states.Ready v3 concurrent named) = true
 is_ready _ = false
 
--- replies are taken
+-- the origin takes replies
 abbrev pub is_open : State → Bool
 is_open states.Initialising = true
 is_open (states.Ready v3 concurrent named) = true

@@ -1,4 +1,4 @@
-//! What a call that is admitted changes.
+//! What an admitted call changes.
 ghost use Rattle.std.specs.Prelude.{◌≡◌, true, nat_eq, IfErr, OnOk, OnErr};
 ghost use Rattle.indexmap.specs.IndexMap.{insert_entry};
 ghost use Rattle.indexmap.specs.IndexSet.{insert_key};
@@ -15,7 +15,8 @@ use indexmap::{IndexMap, IndexSet};
 use zber::{Duplicate, Seq};
 use zplan::Range;
 
-/// Notes an operation as admitted.
+/// Adds an operation to those admitted and those outstanding. Returns `Memory` if no memory is found; both are then
+/// unchanged.
 fn admit(
     used: &mut IndexSet<u32>,
     outstanding: &mut IndexMap<u32, Asked>,
@@ -35,6 +36,7 @@ fn admit(
 }
 
 impl Origin {
+    /// Notes that Init was admitted. Returns `Memory` if no memory is found; the origin is unchanged.
     pub(crate) fn admit_init(&mut self) -> Result<(), CallRefused>
         ensures memory { IfErr result (λ e. e ≡ CallRefused.Memory) }
         ensures ok { OnOk result (self.new ≡ admitted_at self.old Init) }
@@ -50,6 +52,7 @@ impl Origin {
         Ok(())
     }
 
+    /// Notes that a search was admitted. Returns `Memory` if no memory is found; the origin is unchanged.
     pub(crate) fn admit_search(&mut self, op: u32, set: u32, ask: &Ask) -> Result<(), CallRefused>
         ensures memory { IfErr result (λ e. e ≡ CallRefused.Memory) }
         ensures ok { OnOk result (self.new ≡ admitted_at self.old (Search op set ask.now)) }
@@ -73,6 +76,7 @@ impl Origin {
         Ok(())
     }
 
+    /// Notes that a Present was admitted. Returns `Memory` if no memory is found; the origin is unchanged.
     pub(crate) fn admit_present(
         &mut self,
         op: u32,

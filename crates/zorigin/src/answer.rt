@@ -15,7 +15,7 @@ pub enum What {
     Search,
     /// Records of the set.
     Present {
-        /// Their positions: one range at least, each beginning after the end of the one before.
+        /// The ranges of their positions: one at least; each begins after the end of the one before.
         ranges: Seq<Range>,
     },
 }
@@ -23,7 +23,7 @@ pub enum What {
 /// An operation that was admitted.
 #[derive(Drop)]
 pub struct Asked {
-    /// Its number, which its reference id spells; 0 for Init.
+    /// Its number, which its reference id has; 0 for Init.
     pub op: u32,
     /// Its result set; 0 for Init.
     pub set: u32,
@@ -53,16 +53,16 @@ impl Duplicate for Asked {
     }
 }
 
-/// A reply with the operation that it answers.
+/// An accepted reply with the operation that it is to.
 #[derive(Drop)]
 pub struct Answer {
     /// The operation.
     pub asked: Asked,
-    /// The reply, as it came.
+    /// The reply, unchanged.
     pub reply: Apdu,
 }
 
-/// What an APDU that was taken comes to.
+/// The result for an APDU that was accepted.
 #[derive(Drop)]
 pub enum Taken {
     /// The target accepted the association.
@@ -80,7 +80,7 @@ pub enum Taken {
 pub struct Sent {
     /// The request.
     pub apdu: Apdu,
-    /// Its canonical encoding: a framer of messages of at most 2,097,152 octets gives its element back, whatever
-    /// follows.
+    /// Its canonical encoding. A framer of messages of at most 2,097,152 octets returns the request's element from it,
+    /// whatever octets come after it.
     pub octets: Bytes,
 }

@@ -1,4 +1,4 @@
-//! Calls: the request that one sends, or why it is refused.
+//! Calls: each returns the request to be sent, or why it is refused.
 ghost use Rattle.std.specs.Prelude.{◌≡◌, IfOk, OnErr};
 ghost use Rattle.zorigin.specs.Standings.{Init, Search, Present, Close};
 ghost use Rattle.zorigin.specs.Ranges.{one_range};
@@ -18,6 +18,7 @@ use crate::state::State;
 use zplan::Range;
 
 impl Origin {
+    /// The request of Init, whatever the state. Returns `Unsendable`, or `Memory` if no memory is found.
     fn init_sent(&self) -> Result<Sent, CallRefused>
         ensures exact { SendsFor self.now Init result }
         ensures framed { IfOk result IsReadBack }
@@ -26,6 +27,7 @@ impl Origin {
         send(self.alloc, apdu)
     }
 
+    /// The request of a search, whatever the state. Returns `Unsendable`, or `Memory` if no memory is found.
     fn search_sent(&self, op: u32, set: u32, ask: &Ask) -> Result<Sent, CallRefused>
         ensures exact { SendsFor self.now (Search op set ask.now) result }
         ensures framed { IfOk result IsReadBack }
@@ -34,6 +36,8 @@ impl Origin {
         send(self.alloc, apdu)
     }
 
+    /// The request of a Present, whatever the state. Returns `SetUnknown` if no search made the set or no range is
+    /// asked for, else `Unsendable`, or `Memory` if no memory is found.
     fn present_sent(&self, op: u32, set: u32, ranges: &[Range]) -> Result<Sent, CallRefused>
         ensures exact { SendsFor self.now (Present op set ranges.now) result }
         ensures framed { IfOk result IsReadBack }
@@ -119,11 +123,12 @@ impl Origin {
         Ok(sent)
     }
 
-    /// Asks for the association: versions 1 to 3, the options search, present, concurrent operations and named result
-    /// sets, sizes of 1,048,576 octets, and the origin's name (Z39.50-2003, 3.2.1.1). It is operation 0.
+    /// Asks for the association, as operation 0 (Z39.50-2003, 3.2.1.1). The request offers versions 1 to 3, the options
+    /// search, present, concurrent operations and named result sets, and sizes of 1,048,576 octets. It has the origin's
+    /// name.
     ///
-    /// Refused as `WrongState` elsewhere than in Fresh; as `Unsendable` where the name is too long; as `Memory`. The
-    /// origin is then as it was.
+    /// Returns `WrongState` if the state is not Fresh, `Unsendable` if the name is too long, and `Memory` if no memory
+    /// is found. The origin is then unchanged.
     pub fn init(&mut self) -> Result<Sent, CallRefused>
         ensures answer { AnswersCall self.old Init result }
         ensures after { LeavesCall self.old Init result self.new }
@@ -133,11 +138,10 @@ impl Origin {
         self.make_init()
     }
 
-    /// Searches, as operation `op`, for what is asked, and names the result set `set` (Z39.50-2003, 3.2.2.1). The set's
-    /// name is its number in decimal where named result sets are in force, else `default`; a set of that name is
-    /// replaced.
+    /// Searches, as operation `op`, and makes result set `set` (Z39.50-2003, 3.2.2.1). If named result sets are in
+    /// force, the name of the set is its number in decimal, else `default`. A set of that name is replaced.
     ///
-    /// `CallRefused` says when it is refused, in its order; the origin is then as it was.
+    /// `CallRefused` lists when the call is refused, in its order. The origin is then unchanged.
     pub fn search(&mut self, op: u32, set: u32, ask: &Ask) -> Result<Sent, CallRefused>
         ensures answer { AnswersCall self.old (Search op set ask.now) result }
         ensures after { LeavesCall self.old (Search op set ask.now) result self.new }
@@ -147,10 +151,10 @@ impl Origin {
         self.make_search(op, set, ask)
     }
 
-    /// Asks, as operation `op`, for `n` records of the set from position `start` on, as `present_ranges` does for this
-    /// one range.
+    /// Asks, as operation `op`, for `n` records of the set from position `start` on. It does what `present_ranges` does
+    /// for this one range.
     ///
-    /// `CallRefused` says when it is refused, in its order; the origin is then as it was.
+    /// `CallRefused` lists when the call is refused, in its order. The origin is then unchanged.
     pub fn present(&mut self, op: u32, set: u32, start: i64, n: i64) -> Result<Sent, CallRefused>
         ensures answer { AnswersCall self.old (Present op set (one_range start n)) result }
         ensures after { LeavesCall self.old (Present op set (one_range start n)) result self.new }
@@ -160,11 +164,11 @@ impl Origin {
         self.present_ranges(op, set, &[Range { start, n }])
     }
 
-    /// Asks, as operation `op`, for the records of the set at the positions of all ranges, in their order, with the
-    /// syntax and the element set of the set's search (Z39.50-2003, 3.2.3.1). Positions count from 1. The first range
+    /// Asks, as operation `op`, for the records of the set at the positions of all ranges, in their order (Z39.50-2003,
+    /// 3.2.3.1). Positions count from 1. The syntax and the element set are those of the set's search. The first range
     /// is sent as resultSetStartPoint and numberOfRecordsRequested, the others as additionalRanges.
     ///
-    /// `CallRefused` says when it is refused, in its order; the origin is then as it was.
+    /// `CallRefused` lists when the call is refused, in its order. The origin is then unchanged.
     pub fn present_ranges(
         &mut self,
         op: u32,
@@ -179,10 +183,11 @@ impl Origin {
         self.make_present(op, set, ranges)
     }
 
-    /// Ends the association, with reason 0 (finished) and no reference id (Z39.50-2003, 3.2.11.1). Outstanding replies
-    /// are still taken.
+    /// Ends the association, with reason 0 (finished) and no reference id (Z39.50-2003, 3.2.11.1). The origin still
+    /// takes the replies to outstanding operations.
     ///
-    /// Refused as `WrongState` elsewhere than in Ready, and as `Memory`; the origin is then as it was.
+    /// Returns `WrongState` if the state is not Ready, and `Memory` if no memory is found. The origin is then
+    /// unchanged.
     pub fn close(&mut self) -> Result<Sent, CallRefused>
         ensures answer { AnswersCall self.old Close result }
         ensures after { LeavesCall self.old Close result self.new }

@@ -1,4 +1,4 @@
-//! What a reply says of a target's result sets.
+//! The facts of an answer, about the target's result sets.
 ghost use Rattle.std.specs.Prelude.{◌≡◌, true, ◌++◌, ℤ, pos, ◌+ℤ◌, ◌≤ℤ◌, ◌<ℤ◌, length, IfOk, OnOk};
 ghost use Rattle.zknow.specs.declared.fact.Fact.TheVariants.{Seen};
 ghost use Rattle.zorigin.specs.Ranges.{are_ranges};
@@ -15,7 +15,7 @@ use zber::Duplicate;
 use zknow::Fact;
 use zplan::Range;
 
-/// What a record says that stands so far behind the first position.
+/// The fact of a record at position `first + index`.
 fn seen_at(
     alloc: Global,
     target: u32,
@@ -36,7 +36,7 @@ fn seen_at(
     })
 }
 
-/// Appends what the records say, the first of them at this position.
+/// Appends the facts of records at consecutive positions, the first of them at `first`.
 fn put_seen(
     alloc: Global,
     target: u32,
@@ -55,7 +55,7 @@ fn put_seen(
     Ok(())
 }
 
-/// Appends what diagnostics say.
+/// Appends the facts of diagnostics at this place.
 fn put_diags(
     alloc: Global,
     target: u32,
@@ -77,7 +77,7 @@ fn put_diags(
     Ok(())
 }
 
-/// Appends what the diagnostics say that stand for no record.
+/// Appends the facts of the nonsurrogate diagnostics of a response.
 fn put_told(
     alloc: Global,
     target: u32,
@@ -110,6 +110,7 @@ fn put_told(
     }
 }
 
+/// The facts of a response to Init. A rejected association is the failure of set 0.
 fn init_facts(alloc: Global, target: u32, response: &InitResponse) -> Result<Vec<Fact>, AllocError>
     ensures { IfOk result (λ facts. facts.items ≡ init_facts target response.now) }
 {
@@ -120,6 +121,7 @@ fn init_facts(alloc: Global, target: u32, response: &InitResponse) -> Result<Vec
     Ok(facts)
 }
 
+/// The fact of a search: its count, or its failure.
 fn count_or_failed(target: u32, set: u32, response: &SearchResponse) -> Fact
     ensures { result ≡ count_or_failed target set response.now.search_status response.now.result_count }
 {
@@ -134,6 +136,7 @@ fn count_or_failed(target: u32, set: u32, response: &SearchResponse) -> Fact
     }
 }
 
+/// The facts of a response to a search of this set.
 fn search_facts(
     alloc: Global,
     target: u32,
@@ -157,7 +160,7 @@ fn search_facts(
     Ok(facts)
 }
 
-/// Appends what the records say, each of them at the next position of the ranges.
+/// Appends the facts of records, each at the next position of the ranges.
 fn put_seen_in(
     alloc: Global,
     target: u32,
@@ -178,6 +181,7 @@ fn put_seen_in(
     Ok(())
 }
 
+/// The facts of a response to a Present of these ranges.
 fn present_facts(
     alloc: Global,
     target: u32,
@@ -196,13 +200,14 @@ fn present_facts(
     Ok(facts)
 }
 
-/// The facts of a reply, of the target with this number: of a rejected Init, that the connection failed; of a search,
-/// its count, or that it failed; each record at its position, record j of a Present at the j-th that was asked for;
-/// each diagnostic that stands for no record, of a search at place 0, of a Present at the first position that was asked
-/// for.
+/// Returns the facts of an answer of the target with this number (Z39.50-2003, 3.2.1.1, 3.2.2.1 and 3.2.3.1).
 ///
-/// The answer is one that `take` or `peek` gave, or fits what was asked for likewise, with ranges that can be asked for
-/// (Z39.50-2003, 3.2.1.1, 3.2.2.1 and 3.2.3.1). An error only where no memory was found.
+/// A rejected Init gives the failure of set 0. A search gives its count, or its failure. Each record gives a fact at
+/// its position: record j of a Present at the j-th position asked for. Each nonsurrogate diagnostic gives a fact: at
+/// place 0 for a search, at the first position asked for a Present.
+///
+/// The answer is one that `take` or `peek` returned, or another whose reply fits its request and whose ranges can be
+/// asked for. Returns `AllocError` if no memory is found.
 pub fn facts_of(alloc: Global, target: u32, answer: &Answer) -> Result<Vec<Fact>, AllocError>
     requires { IsShowable answer.now }
     ensures { IfOk result (λ facts. facts.items ≡ facts_of target answer.now) }

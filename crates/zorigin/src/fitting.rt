@@ -1,4 +1,4 @@
-//! Whether a reply can answer an operation.
+//! Whether a reply fits an operation.
 ghost use Rattle.std.specs.Prelude.{◌≡◌, not, length};
 ghost use Rattle.zplan.specs.Ranges.{positions};
 ghost use Rattle.zorigin.specs.Fitting.{records_in, diagnostics_in, is_empty, is_fragment, has_fragment, is_number, exceeds, count_mismatch, bad_number, bad_search, bad_present, search_fault, present_fault, fault_of};
@@ -19,7 +19,7 @@ pub(crate) fn records_in(records: &Option<Records>) -> &[Record]
     }
 }
 
-/// Whether diagnostics came that stand for no record.
+/// Whether nonsurrogate diagnostics came.
 fn has_diagnostics(records: &Option<Records>) -> bool
     ensures { result ≡ not (is_empty (diagnostics_in records.now)) }
 {
@@ -30,38 +30,42 @@ fn has_diagnostics(records: &Option<Records>) -> bool
     }
 }
 
+/// Whether the record is a fragment.
 fn is_fragment(given: &Record) -> bool
     ensures { result ≡ is_fragment given.now.body }
 {
     matches!(&given.body, RecordBody::Fragment(_))
 }
 
+/// Whether a fragment is among the records.
 fn has_fragment(records: &Option<Records>) -> bool
     ensures { result ≡ has_fragment records.now }
 {
     records_in(records).iter().any(|given| is_fragment(given))
 }
 
-/// Whether the number is that of so many.
+/// Whether the number equals the length.
 fn is_number(number: i64, len: usize) -> bool
     ensures { result ≡ is_number number len }
 {
     number >= 0 && number as usize == len
 }
 
-/// Whether there are more than the number.
+/// Whether the length is above the number.
 fn exceeds(len: usize, number: i64) -> bool
     ensures { result ≡ exceeds len number }
 {
     number < 0 || (number as usize) < len
 }
 
+/// Whether no diagnostics came, and numberOfRecordsReturned is not the number of records.
 fn is_count_mismatch(records: &Option<Records>, returned: i64) -> bool
     ensures { result ≡ count_mismatch records.now returned }
 {
     !has_diagnostics(records) && !is_number(returned, records_in(records).len())
 }
 
+/// Whether the response to a search has more records than resultCount, or a fragment.
 fn is_bad_search(response: &SearchResponse) -> bool
     ensures { result ≡ bad_search response.now }
 {
@@ -69,6 +73,7 @@ fn is_bad_search(response: &SearchResponse) -> bool
         || has_fragment(&response.records)
 }
 
+/// Whether the response to a Present has more records than asked for, a fragment, or neither records nor diagnostics.
 fn is_bad_present(ranges: &[Range], response: &PresentResponse) -> bool
     ensures { result ≡ bad_present (positions ranges.now) response.now }
 {
@@ -78,6 +83,7 @@ fn is_bad_present(ranges: &[Range], response: &PresentResponse) -> bool
         || (records.is_empty() && !has_diagnostics(&response.records))
 }
 
+/// Why the response does not fit a search, or `None` if it fits.
 fn search_fault(response: &SearchResponse) -> Option<Refused>
     ensures { result ≡ search_fault response.now }
 {
@@ -93,6 +99,7 @@ fn search_fault(response: &SearchResponse) -> Option<Refused>
     None
 }
 
+/// Why the response does not fit a Present of these ranges, or `None` if it fits.
 fn present_fault(ranges: &[Range], response: &PresentResponse) -> Option<Refused>
     ensures { result ≡ present_fault (positions ranges.now) response.now }
 {
@@ -106,7 +113,7 @@ fn present_fault(ranges: &[Range], response: &PresentResponse) -> Option<Refused
     None
 }
 
-/// Why the reply can't answer an operation that asked for this; none where it fits.
+/// Why the reply does not fit an operation that asks for this, or `None` if it fits.
 pub(crate) fn fault_of(what: &What, reply: &Apdu) -> Option<Refused>
     ensures { result ≡ fault_of what.now reply.now }
 {

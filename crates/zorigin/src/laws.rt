@@ -1,4 +1,4 @@
-//! Laws of the definitions, each the contract of a function that does nothing.
+//! Laws of the definitions. Each is the contract of a function that does nothing.
 ghost use Rattle.std.specs.Prelude.{◌≡◌, ℕ, None, Contains};
 ghost use Rattle.zorigin.specs.declared.settings.Settings.{Settings};
 ghost use Rattle.zorigin.specs.declared.answer.Answer.{Answer};
@@ -14,8 +14,9 @@ ghost use Rattle.zapdu.specs.Writes.{Writes};
 ghost use Rattle.zknow.specs.Facts.{IsFact};
 ghost use Rattle.zorigin.specs.Facts.{facts_of, IsShowable};
 
-/// A log's accepted replies are exactly those that were taken after a part of it in which their request was admitted
-/// and not answered, while replies were taken, by a reference id that names the request, and that fit it.
+/// The accepted replies of a log are exactly those for which all of the following is true. The reply was taken after a
+/// part of the log in which its request was admitted and not answered. The origin took replies then. The reply's
+/// reference id names the request, and the reply fits the request.
 pub fn accepted_replies()
     ensures accepted { (settings : Settings) (log : Log) (answer : Answer)
         → Contains (past settings log).accepted answer → IsAccepted settings log answer }
@@ -23,29 +24,28 @@ pub fn accepted_replies()
         → IsAccepted settings log answer → Contains (past settings log).accepted answer }
 {}
 
-/// Of each log: no two operations have one number, and no two searches one set; an accepted reply is to an operation
-/// that was admitted, and no two are to one; a Present asked for positions that there can be; and Close was called only
-/// once the target had accepted the association.
+/// In each log no two operations have the same number, and no two searches the same set. An accepted reply is to an
+/// admitted operation, and no two are to the same one. The ranges of each Present can be asked for. Close was called
+/// only after the target accepted the association.
 pub fn orderly_logs()
     ensures { (settings : Settings) (log : Log) → IsOrderly (past settings log) }
 {}
 
-/// A call that no row of the table refuses has a request, and is answered with it.
+/// A call that no row of the table refuses has a request, and its result is that request.
 pub fn sent_requests()
     ensures { (s : Standing) (call : Call) → refusal s call ≡ None → IsSent s call }
 {}
 
-/// The facts of a reply that an element stands for, as one does for each reply that was read, can be added to what is
-/// known.
+/// If the reply has an element, as each reply that was read has, the facts of the answer can be added to a knowledge.
 pub fn known_facts()
     ensures { (target : ℕ) (answer : Answer) (n : Element)
         → IsShowable answer → Writes answer.reply n → AllByRecursion IsFact (facts_of target answer) }
 {}
 
-/// An Init can be sent where the origin's name has at most 2,000,000 octets. Where a search can be sent, and asks for a
-/// syntax of at most 1,000 arcs or for none, so can each Present of at most 1,000 ranges that can be asked for, in that
-/// syntax and with the search's element set, whatever the numbers of its set and of its operation. A Close can always
-/// be sent.
+/// An Init can be sent if the origin's name has at most 2,000,000 octets. If a search can be sent, and asks for no
+/// syntax or one of at most 1,000 arcs, a Present of its set can be sent too. The Present has that syntax, the search's
+/// element set, and at most 1,000 ranges that can be asked for; the numbers of its set and operation are any. A Close
+/// can always be sent.
 pub fn sendable_requests()
     ensures { SendableLaws }
 {}

@@ -1,4 +1,4 @@
-//! The origin's machine: which calls are admitted, what is sent for them, and which replies are accepted.
+//! The origin: which calls are admitted, the requests that are sent for them, and which replies are accepted.
 #![tactic(auto)]
 
 mod admitting;

@@ -1,4 +1,4 @@
-//! An origin: what it keeps, and where it stands.
+//! An origin: what it keeps, and its state.
 ghost use Rattle.std.specs.Prelude.{[]};
 ghost use Rattle.zorigin.specs.Log.{After, IsState};
 
@@ -9,16 +9,16 @@ use indexmap::{IndexMap, IndexSet};
 use std::alloc::Global;
 use std::marker::Model;
 
-/// An origin: one connection's operations (Z39.50-2003, 3.2 and 3.4). It sends and receives nothing itself: a call
-/// gives the request to be sent, and what was received is taken.
+/// An origin: the operations of one connection (Z39.50-2003, 3.2 and 3.4). It sends and receives nothing itself: a call
+/// returns the request to be sent, and `take` is given each APDU that was received.
 ///
-/// Contracts speak of each log, the list of the calls and APDUs so far, that can have left it.
+/// A log is a list of the calls made and the APDUs taken. Contracts are about each log that can have left the origin.
 #[derive(Drop)]
 pub struct Origin {
     pub(crate) alloc: Global,
     pub(crate) settings: Settings,
     pub(crate) state: State,
-    /// What is in force; it lasts while the connection closes.
+    /// The options and version in force. They stay in force while the association closes.
     pub(crate) force: InForce,
     /// The numbers of the operations that were admitted, in the order of their calls.
     pub(crate) used: IndexSet<u32>,
@@ -47,7 +47,7 @@ impl Model for Origin {
 }
 
 impl Origin {
-    /// An origin in state Fresh. It takes no memory.
+    /// Returns an origin in state Fresh. It takes no memory.
     pub fn new(alloc: Global, settings: Settings) -> Self
         ensures { After settings [] result }
     {
@@ -68,7 +68,7 @@ impl Origin {
         }
     }
 
-    /// Its state. It takes no memory.
+    /// Returns the origin's state. It takes no memory.
     pub fn state(&self) -> State
         ensures { IsState self.now result }
     {

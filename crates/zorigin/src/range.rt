@@ -9,14 +9,14 @@ use zplan::Range;
 /// The highest position that can be asked for.
 const LAST_POSITION: i64 = 2_147_483_647;
 
-/// 0 in the place of a negative number.
+/// Returns the number, or 0 if it is negative.
 pub(crate) fn natural(number: i64) -> usize
     ensures { result ≡ natural number }
 {
     if number < 0 { 0 } else { number as usize }
 }
 
-/// Whether it begins at 1 or later, has a position, and none past the highest.
+/// Whether the range begins at 1 or later, has a position, and none above the highest.
 fn is_range(range: Range) -> bool
     ensures { result ≡ is_range range }
 {
@@ -26,7 +26,7 @@ fn is_range(range: Range) -> bool
         && range.n - 1 <= LAST_POSITION - range.start
 }
 
-/// Its last position.
+/// The last position of a range.
 fn last_of(range: Range) -> i64
     requires { is_range range ≡ true }
     ensures { result ≡ last_of range }
@@ -34,7 +34,8 @@ fn last_of(range: Range) -> i64
     range.start + range.n - 1
 }
 
-/// Whether there is a range, and each begins after the end of the one before, whatever the count.
+/// Whether a Present can ask for the ranges, whatever the set's count: there is one, and each begins after the end of
+/// the one before.
 pub(crate) fn are_ranges(ranges: &[Range]) -> bool
     ensures { result ≡ are_ranges ranges.now }
 {
@@ -48,7 +49,7 @@ pub(crate) fn are_ranges(ranges: &[Range]) -> bool
     !ranges.is_empty()
 }
 
-/// Whether one of its positions is past the count.
+/// Whether one of the positions of a range is above the count.
 fn ends_past(range: Range, count: i64) -> bool
     ensures { result ≡ is_past count (positions_of range) }
 {
@@ -56,7 +57,7 @@ fn ends_past(range: Range, count: i64) -> bool
     range.n >= 1 && (count < start || range.n - 1 > count - start)
 }
 
-/// Whether one of the positions is past the count.
+/// Whether one of the positions of ranges is above the count.
 pub(crate) fn are_past(ranges: &[Range], count: i64) -> bool
     ensures { result ≡ is_past count (positions ranges.now) }
 {
@@ -68,7 +69,7 @@ pub(crate) fn are_past(ranges: &[Range], count: i64) -> bool
     false
 }
 
-/// Whether there are more than the positions.
+/// Whether `len` is above the number of positions.
 pub(crate) fn exceed_positions(len: usize, ranges: &[Range]) -> bool
     ensures { result ≡ nat_lt (length (positions ranges.now)) len }
 {
@@ -83,7 +84,7 @@ pub(crate) fn exceed_positions(len: usize, ranges: &[Range]) -> bool
     left > 0
 }
 
-/// The first position.
+/// The first position of the ranges.
 pub(crate) fn first_of(ranges: &[Range]) -> i64
     requires { are_ranges ranges.now ≡ true }
     ensures { result ≡ pos (first_of (positions ranges.now)) }

@@ -5,7 +5,8 @@ ghost use Rattle.zorigin.specs.References.{reference_id, number_of};
 use bytes::Bytes;
 use std::alloc::{AllocError, Global};
 
-/// The reference id of an operation: its number in four octets, the greatest place first.
+/// Returns the reference id of an operation: its number in four octets, the most significant first. Returns
+/// `AllocError` if no memory is found.
 pub(crate) fn reference_id(alloc: Global, op: u32) -> Result<Bytes, AllocError>
     ensures { IfOk result (λ id. id ≡ reference_id op) }
 {
@@ -18,7 +19,7 @@ pub(crate) fn reference_id(alloc: Global, op: u32) -> Result<Bytes, AllocError>
     Bytes::copy_from_slice(alloc, &octets)
 }
 
-/// The number that a reference id spells; none where it has not four octets.
+/// The number in a reference id, or `None` if it does not have four octets.
 pub(crate) fn number_of(id: &Bytes) -> Option<u32>
     ensures { result ≡ number_of id.now }
 {

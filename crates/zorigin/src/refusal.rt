@@ -5,17 +5,17 @@ ghost use Rattle.zorigin.specs.Refusal.{call_word, reply_word};
 use std::alloc::{AllocError, AllocFailed};
 use thiserror::Error;
 
-/// Why a call is not admitted. Of several reasons it is the first here. The origin is as it was.
+/// Why a call is refused. Of several reasons it is the first here. The origin is unchanged.
 #[derive(Clone, Copy, Debug, PartialEq, Eq, Error)]
 pub enum CallRefused {
-    /// `init` elsewhere than in Fresh, another call elsewhere than in Ready.
+    /// `init` was called and the state is not Fresh, or another call was made and the state is not Ready.
     #[error("not in this state")]
     WrongState,
-    /// The search or present option is not in force; or a Present asks for two or more ranges, and version 3 is not in
+    /// The search or present option is not in force; or a Present asks for two or more ranges and version 3 is not in
     /// force.
     #[error("the option is not in force")]
     NotOffered,
-    /// An earlier admitted call had this number. That of `init` is 0.
+    /// An earlier admitted call had this operation number. The number of `init` is 0.
     #[error("the operation's number was used")]
     OpUsed,
     /// An earlier admitted search had this set.
@@ -30,34 +30,34 @@ pub enum CallRefused {
     /// Named result sets are not in force, and a later search was admitted.
     #[error("the set was replaced")]
     SetReplaced,
-    /// A search of set 0, with a negative bound, or with a large bound not above the small one. A Present of no range,
-    /// of a range whose start or number is below 1 or that does not begin after the end of the one before, or that asks
-    /// for a position past the count or past 2,147,483,647.
+    /// A search is of set 0, has a negative bound, or has a large bound not above the small one. Or a Present has no
+    /// range; has a range whose start or number is below 1, or that does not begin after the end of the one before; or
+    /// asks for a position above the count or above 2,147,483,647.
     #[error("out of range")]
     OutOfRange,
-    /// An operation is outstanding, and either concurrent operations are not in force, or the call is a search, named
-    /// result sets are not in force and an earlier search was admitted.
+    /// An operation is outstanding, and concurrent operations are not in force. Or an operation is outstanding, the
+    /// call is a search, named result sets are not in force, and an earlier search was admitted.
     #[error("an operation is outstanding")]
     Busy,
-    /// The APDU has no spelling, more than 64 constructed elements within one another, or more than 2,097,152 octets.
+    /// The request has no element, more than 64 levels of constructed elements, or more than 2,097,152 octets.
     #[error("the request can't be sent")]
     Unsendable,
-    /// No memory was found. It may come in the place of a reason not yet found.
+    /// No memory was found. It may be returned although another reason is true too.
     #[error("out of memory")]
     Memory,
 }
 
-/// Why an APDU is not accepted. Of several reasons it is the first here, but that a reply of another kind than its
-/// operation comes after an unknown reference. The origin has then failed, unless said otherwise.
+/// Why an APDU is refused. Of several reasons it is the first here, with one exception: for a reply of another kind
+/// than its operation, an unknown reference comes first. The origin has then failed, if not stated otherwise.
 #[derive(Clone, Copy, Debug, PartialEq, Eq, Error)]
 pub enum Refused {
-    /// The origin is Fresh, Closed or Failed, and is as it was.
+    /// The origin is Fresh, Closed or Failed. It is unchanged.
     #[error("not in this state")]
     WrongState,
-    /// A request, or a reply of another kind than its operation.
+    /// The APDU is a request, or a reply of another kind than its operation.
     #[error("not the kind of reply")]
     WrongKind,
-    /// The reference id is not four octets that name an outstanding operation, or it is absent and concurrent
+    /// The reference id is not four octets that name an outstanding operation. Or it is absent, and concurrent
     /// operations are in force or not exactly one operation is outstanding.
     #[error("the reference id names no outstanding operation")]
     UnknownReference,
@@ -67,17 +67,17 @@ pub enum Refused {
     /// resultCount is negative.
     #[error("a negative number")]
     BadNumber,
-    /// More records than resultCount or than asked, a fragment of a record, or a Present's answer with neither a record
-    /// nor a diagnostic.
+    /// The reply has more records than resultCount or than asked for, or a fragment of a record; or the reply to a
+    /// Present has neither a record nor a diagnostic.
     #[error("not the records that were asked for")]
     BadShape,
-    /// No memory was found; the origin is as it was.
+    /// No memory was found. The origin is unchanged.
     #[error("out of memory")]
     Memory,
 }
 
 impl CallRefused {
-    /// Its name, as it is written here, in ASCII letters. It takes no memory.
+    /// Returns the variant's name in ASCII letters. It takes no memory.
     pub fn word(&self) -> &'static str
         ensures { result.now ≡ call_word self.now }
     {
@@ -98,7 +98,7 @@ impl CallRefused {
 }
 
 impl Refused {
-    /// Its name, as it is written here, in ASCII letters. It takes no memory.
+    /// Returns the variant's name in ASCII letters. It takes no memory.
     pub fn word(&self) -> &'static str
         ensures { result.now ≡ reply_word self.now }
     {

@@ -1,4 +1,4 @@
-//! Replies: which is accepted, and what it changes.
+//! Replies: which are accepted, and what they change.
 ghost use Rattle.std.specs.Prelude.{◌≡◌, ◌==◌, Ok, Err, IfOk, IfErr};
 ghost use Rattle.std.specs.Option.{option_map};
 ghost use Rattle.zorigin.specs.declared.refusal.Refused.TheVariants.{Memory};
@@ -19,7 +19,7 @@ use indexmap::IndexMap;
 use zapdu::{Apdu, InitResponse};
 use zber::Duplicate;
 
-/// Whether replies are taken.
+/// Whether the origin takes replies in this state.
 fn is_open(state: State) -> bool
     ensures { result ≡ is_open state }
 {
@@ -29,7 +29,7 @@ fn is_open(state: State) -> bool
     )
 }
 
-/// What a response to Init puts in force: what the origin offered, and the response has.
+/// The options and version that a response to Init puts in force.
 fn force_in(response: &InitResponse) -> InForce
     ensures { result ≡ force_in response.now }
 {
@@ -42,6 +42,7 @@ fn force_in(response: &InitResponse) -> InForce
     }
 }
 
+/// The state Ready with what is in force.
 fn ready(force: InForce) -> State
     ensures { result ≡ ready force }
 {
@@ -52,7 +53,7 @@ fn ready(force: InForce) -> State
     }
 }
 
-/// What came of a search, by its answer.
+/// The outcome of a search, by the reply to it.
 fn outcome_in(reply: &Apdu) -> Option<Outcome>
     ensures { result ≡ outcome_in reply.now }
 {
@@ -68,7 +69,7 @@ fn outcome_in(reply: &Apdu) -> Option<Outcome>
     }
 }
 
-/// Notes what came of the search, if it is the one with this operation.
+/// Notes the outcome of the search, if it is the one with this operation.
 fn note_if(searched: &mut Searched, op: u32, outcome: Option<Outcome>)
     ensures { searched.new ≡ noted_if (searched.old.op == op) outcome searched.old }
 {
@@ -77,7 +78,7 @@ fn note_if(searched: &mut Searched, op: u32, outcome: Option<Outcome>)
     }
 }
 
-/// Notes what came of the operation's search, if it is one.
+/// Notes the outcome of the operation's search, if it is one.
 fn note(searches: &mut IndexMap<u32, Searched>, asked: &Asked, outcome: Option<Outcome>)
     ensures { searches.new.entries ≡ noted asked.now outcome searches.old.entries }
 {
@@ -86,7 +87,7 @@ fn note(searches: &mut IndexMap<u32, Searched>, asked: &Asked, outcome: Option<O
     }
 }
 
-/// The answer, by what the reply is.
+/// The result for an accepted reply.
 fn taken_as(answer: Answer) -> Taken
     ensures { result ≡ taken_as answer }
 {
@@ -102,7 +103,7 @@ fn taken_as(answer: Answer) -> Taken
 }
 
 impl Origin {
-    /// The one operation that is outstanding, if it is one.
+    /// The only outstanding operation, if there is exactly one.
     fn only(&self) -> Option<&Asked>
         ensures { option_map (λ r. r.now) result ≡ only_of self.now.outstanding }
     {
@@ -113,7 +114,8 @@ impl Origin {
         }
     }
 
-    /// The outstanding operation that a reference id names.
+    /// The outstanding operation that a reference id names. An absent one names the only operation, if concurrent
+    /// operations are not in force.
     fn operation_of<'a>(&'a self, id: &Option<Bytes>) -> Option<&'a Asked>
         ensures { option_map (λ r. r.now) result ≡ named self.now id.now }
     {
@@ -132,7 +134,7 @@ impl Origin {
         }
     }
 
-    /// The operation that a reply answers, by the reference id in it.
+    /// Returns the operation that a reply is to, by the reference id in it, or why the reply is refused.
     fn against(&self, id: &Option<Bytes>, reply: &Apdu) -> Result<Asked, Refused>
         ensures { JudgesBy (against (named self.now id.now) reply.now) reply.now result }
     {
@@ -148,7 +150,7 @@ impl Origin {
         }
     }
 
-    /// The operation that an APDU answers, none for a Close; or why it is not accepted.
+    /// Returns the operation that an APDU is to, `None` for a Close, or why it is refused.
     #[tactic(auto, unfolding(crate::specs::Replies::verdict))]
     fn judge(&self, reply: &Apdu) -> Result<Option<Asked>, Refused>
         ensures { Judges (verdict self.now reply.now) reply.now result }
@@ -171,6 +173,7 @@ impl Origin {
         }
     }
 
+    /// Returns the verdict on an APDU, with a copy of it as the answer's reply.
     fn verdict(&self, reply: &Apdu) -> Result<Taken, Refused>
         ensures answer { Tells (verdict self.now reply.now) result }
         ensures showable { IfOk result (HasShowable reply.now) }
@@ -185,14 +188,14 @@ impl Origin {
         }
     }
 
-    /// The operation is outstanding no more.
+    /// Removes an operation from those outstanding.
     fn remove_operation(&mut self, op: u32)
         ensures { self.new ≡ without self.old op }
     {
         self.outstanding.shift_remove(&op);
     }
 
-    /// What the response to Init has is in force.
+    /// Puts in force what the response to Init has.
     fn open(&mut self, reply: &Apdu)
         ensures { self.new ≡ opened_at self.old reply.now }
     {
@@ -202,6 +205,7 @@ impl Origin {
         }
     }
 
+    /// Changes the origin for an accepted APDU.
     fn accept(&mut self, taken: &Taken)
         ensures { self.new ≡ settled_at self.old (Ok taken.now) }
     {
@@ -222,6 +226,7 @@ impl Origin {
         }
     }
 
+    /// Makes the origin Failed for this reason, if it takes replies.
     fn fail(&mut self, reason: Refused)
         ensures { self.new ≡ settled_at self.old (Err reason) }
     {
@@ -230,6 +235,7 @@ impl Origin {
         }
     }
 
+    /// Changes the origin for a verdict. `Memory` leaves it unchanged.
     fn settle(&mut self, taken: &Result<Taken, Refused>)
         ensures after { IsTaken taken.now → self.new ≡ settled_at self.old taken.now }
         ensures memory { taken.now ≡ Err Memory → self.new ≡ self.old }
@@ -241,7 +247,7 @@ impl Origin {
         }
     }
 
-    /// What `take` would answer, with a copy of the APDU as the answer's reply. It changes nothing.
+    /// Returns what `take` would return for this APDU, and changes nothing. The answer's reply is a copy of the APDU.
     pub fn peek(&self, reply: &Apdu) -> Result<Taken, Refused>
         ensures answer { TellsReply self.now reply.now result }
         ensures showable { IfOk result (HasShowable reply.now) }
@@ -249,18 +255,20 @@ impl Origin {
         self.verdict(reply)
     }
 
-    /// Takes an APDU that came from the target: a reply is accepted where its reference id names an outstanding
-    /// operation, or is absent where concurrent operations are not in force and one is outstanding, and where it fits
-    /// what that operation asked for (Z39.50-2003, 3.4). The answer's reply is a copy of the APDU, and `facts_of` takes
-    /// the answer. A Close is taken wherever replies are, whatever it holds; the origin is then Closed, and sends none
-    /// in answer.
+    /// Takes an APDU that came from the target (Z39.50-2003, 3.4). A reply is accepted if its reference id names an
+    /// outstanding operation and it fits what that operation asked for. The id may be absent if concurrent operations
+    /// are not in force and exactly one operation is outstanding. The answer's reply is a copy of the APDU, and
+    /// `facts_of` accepts the answer. A Close is accepted whenever replies are, whatever its contents; the origin is
+    /// then Closed, and sends no Close itself.
     ///
-    /// `Refused` says when it is refused, in its order. The origin has then failed for that reason, and is else as it
-    /// was; after `WrongState` and `Memory` it is wholly as it was.
+    /// `Refused` lists when the APDU is refused, in its order. The origin has then failed for that reason, and is
+    /// otherwise unchanged. After `WrongState` and `Memory` it is wholly unchanged.
     pub fn take(&mut self, reply: &Apdu) -> Result<Taken, Refused>
+        // the result, and the origin after it
         ensures answer { TellsReply self.old reply.now result }
         ensures after { LeavesReply self.old reply.now result self.new }
         ensures showable { IfOk result (HasShowable reply.now) }
+        // what a refusal leaves
         ensures failed { IfErr result (FailsFor self.old self.new) }
         ensures wrong_state { result ≡ Err Refused.WrongState → self.new ≡ self.old }
         ensures memory { result ≡ Err Refused.Memory → self.new ≡ self.old }

@@ -14,7 +14,7 @@ use zapdu::{
 use zber::{Bits, Duplicate, Seq};
 use zplan::Range;
 
-/// The size that is offered for records and for one record.
+/// The size in octets that is offered for records and for one record.
 const SIZE: i64 = 1_048_576;
 
 /// Versions 1 to 3.
@@ -26,6 +26,7 @@ const OPTIONS: [bool; 15] = [
     true,
 ];
 
+/// Returns the request of Init. Returns `AllocError` if no memory is found.
 pub(crate) fn init_request(alloc: Global, settings: &Settings) -> Result<Apdu, AllocError>
     ensures { IfOk result (λ apdu. apdu ≡ init_request settings.now) }
 {
@@ -44,7 +45,7 @@ pub(crate) fn init_request(alloc: Global, settings: &Settings) -> Result<Apdu, A
     }))
 }
 
-/// A set's name: its number in decimal where names are in force.
+/// The name of a set: its number in decimal if named result sets are in force, else `default`.
 fn set_name(alloc: Global, named: bool, set: u32) -> Result<Bytes, AllocError>
     ensures { IfOk result (λ name. name ≡ set_name named set) }
 {
@@ -69,6 +70,7 @@ fn element_set(
     }
 }
 
+/// Returns the request of a search. Returns `AllocError` if no memory is found.
 pub(crate) fn search_request(
     alloc: Global,
     named: bool,
@@ -119,7 +121,7 @@ fn sent_range(range: Range) -> SentRange
     }
 }
 
-/// The ranges after the first, where there are some.
+/// The ranges after the first, if there are some.
 fn additional(alloc: Global, others: &[Range]) -> Result<Option<Seq<SentRange>>, AllocError>
     ensures { IfOk result (λ ranges. ranges ≡ additional others.now) }
 {
@@ -133,6 +135,8 @@ fn additional(alloc: Global, others: &[Range]) -> Result<Option<Seq<SentRange>>,
     Ok(Some(Seq::from_vec(ranges)))
 }
 
+/// Returns the request of a Present, with the syntax and the element set of its search. Returns `AllocError` if no
+/// memory is found.
 pub(crate) fn present_request(
     alloc: Global,
     named: bool,
@@ -158,6 +162,7 @@ pub(crate) fn present_request(
     }))
 }
 
+/// The request of a Close, with reason 0 (finished).
 pub(crate) fn close_request() -> Apdu
     ensures { result ≡ close_request }
 {

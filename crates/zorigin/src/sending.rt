@@ -9,7 +9,8 @@ use std::alloc::Global;
 use zapdu::{Apdu, BuildError, to_node};
 use zber::{EncodeError, MESSAGE_LIMIT, Node};
 
-/// The octets of an element.
+/// Returns the canonical encoding of an element. Returns `Unsendable` if it is too deep or too long, and `Memory` if no
+/// memory is found.
 fn encode(alloc: Global, node: &Node) -> Result<Bytes, CallRefused>
     ensures exact { Encodes node.now result }
     ensures framed { IfOk result (IsFramed node.now) }
@@ -22,8 +23,8 @@ fn encode(alloc: Global, node: &Node) -> Result<Bytes, CallRefused>
     }
 }
 
-/// The APDU with its canonical octets. `Unsendable` where it has no spelling, more than 64 constructed elements within
-/// one another or more octets than the limit; `Memory`.
+/// Returns the APDU with its canonical encoding. Returns `Unsendable` if it has no element, more than 64 levels of
+/// constructed elements, or more octets than the limit. Returns `Memory` if no memory is found.
 #[tactic(auto, unfolding(crate::specs::Sending::is_unsendable, crate::specs::Sending::encoding_of))]
 pub(crate) fn send(alloc: Global, apdu: Apdu) -> Result<Sent, CallRefused>
     ensures exact { Sends apdu result }

@@ -1,13 +1,13 @@
-//! What an origin is told: its settings, and what a search asks for.
+//! The settings of an origin, and what a search asks for.
 
 use bytes::Bytes;
 use zber::{Oid, Seq};
 use zquery::Query;
 
-/// What holds for one connection.
+/// The settings of one connection.
 #[derive(Drop)]
 pub struct Settings {
-    /// implementationName: what the origin calls itself. With at most 2,000,000 octets the Init can always be sent.
+    /// The origin's implementationName. If it has at most 2,000,000 octets, the Init can always be sent.
     pub name: Bytes,
 }
 
@@ -16,16 +16,16 @@ pub struct Settings {
 pub struct Ask {
     /// The databases that are searched.
     pub databases: Seq<Bytes>,
-    /// What is searched for.
+    /// The query of the search.
     pub query: Query,
-    /// The syntax that records are asked for in, here and in each Present of the set.
+    /// The preferred record syntax, of the search and of each Present of the set.
     pub syntax: Option<Oid>,
-    /// The element set that records are asked for with, here and in each Present of the set.
+    /// The element set name, of the search and of each Present of the set.
     pub elements: Option<Bytes>,
-    /// smallSetUpperBound: up to so many matches all records are to come with the response. Not negative.
+    /// smallSetUpperBound: if at most so many records are found, all are to come with the response. Not negative.
     pub small: i64,
-    /// largeSetLowerBound: from so many matches on no record is to come with it. Above `small`.
+    /// largeSetLowerBound: if at least so many records are found, none is to come with the response. Above `small`.
     pub large: i64,
-    /// mediumSetPresentNumber: how many records are to come with it between these bounds. Not negative.
+    /// mediumSetPresentNumber: how many records are to come with the response between these bounds. Not negative.
     pub medium: i64,
 }

@@ -1,15 +1,15 @@
-//! Where a connection stands.
+//! The states of an origin, and what it keeps of searches.
 
 use crate::refusal::Refused;
 use bytes::Bytes;
 use zber::Oid;
 
-/// The state of an origin. Of several that hold the last one here stands.
+/// The state of an origin. Of several that are true it is the last one here.
 #[derive(Clone, Copy, Debug, PartialEq, Eq)]
 pub enum State {
     /// Init was not called.
     Fresh,
-    /// Init was called, and its answer has not come.
+    /// Init was called, and the reply has not come.
     Initialising,
     /// The target accepted the association (Z39.50-2003, 3.2.1.1).
     Ready {
@@ -20,15 +20,15 @@ pub enum State {
         /// Named result sets are in force.
         named: bool,
     },
-    /// Close was called; outstanding replies are still taken.
+    /// Close was called. The origin still takes the replies to outstanding operations.
     Closing,
-    /// The target rejected the association, or its Close was taken.
+    /// The target rejected the association, or the target's Close was taken.
     Closed,
     /// A reply was refused, for this reason.
     Failed(Refused),
 }
 
-/// What is in force: what the origin offered and the response to its Init has.
+/// The options and version in force: those that the origin offered and the response to Init has.
 #[derive(Clone, Copy, Debug, PartialEq, Eq)]
 pub(crate) struct InForce {
     pub search: bool,
@@ -38,10 +38,10 @@ pub(crate) struct InForce {
     pub named: bool,
 }
 
-/// What came of a search.
+/// The outcome of a search.
 #[derive(Clone, Copy, Debug, PartialEq, Eq)]
 pub(crate) enum Outcome {
-    /// searchStatus was true, and the set has so many records.
+    /// searchStatus was true. The set has so many records.
     Found(i64),
     /// searchStatus was false.
     Failed,
@@ -54,6 +54,6 @@ pub(crate) struct Searched {
     pub set: u32,
     pub syntax: Option<Oid>,
     pub elements: Option<Bytes>,
-    /// `None` where its answer has not come.
+    /// `None` while its reply has not come.
     pub outcome: Option<Outcome>,
 }

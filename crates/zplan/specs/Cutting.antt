@@ -1,4 +1,4 @@
--- How ranges are read as the lists that are asked.
+-- How ranges are cut into lists, and the parts that are read from them.
 use Rattle.std.specs.Prelude.{◌≡◌, ◌⊎◌, ℕ, zero, suc, ◌+◌, ◌-◌, ◌^◌, ◌<◌, ◌≤◌, drop, Bool, false, ◌||◌, List, [], ◌∷◌, ◌++◌, length}
 use Rattle.zplan.specs.declared.span.Span.{Span}
 use Rattle.zplan.specs.declared.part.Place.{Place}
@@ -7,30 +7,31 @@ use Rattle.zplan.specs.declared.part.Run.{Run}
 use Rattle.zplan.specs.Positions.{put, follows, IsFrom}
 use Rattle.zplan.specs.Ranges.{places, places_of, IsApart, AllHave, IsBounded}
 
--- The lists that positions are cut into, all at once: a list has at most last + 1 positions, and m may still join the
--- first one.
+-- The lists that positions are cut into. A list has at most last + 1 positions, the first one at most m + 1. With
+-- version 3 (`three`) a list may have gaps, else it is one run.
 abbrev pub deal : (three : Bool) (last : ℕ) → ℕ → List ℕ → List (List ℕ)
 deal three last m [] = []
 deal three last zero (p ∷ ps) = put false p (deal three last last ps)
 deal three last (suc m) (p ∷ ps) = put (three || follows p ps) p (deal three last m ps)
 
--- what stands at a place of ranges and after it
+-- the positions at a place of ranges and after it
 abbrev pub left_at : List Span → Place → List ℕ
 left_at ranges place = drop place.used (places (drop place.at ranges))
 
+-- fewer positions are used than the first range has, if there is one
 abbrev pub IsUsed : ℕ → List Span → Type 0
 IsUsed used [] = Unit {0}
 IsUsed used (s ∷ ss) = used < s.n
 
--- not all of the range at the place is behind
+-- the range at the place, if there is one, has positions that are not yet read
 abbrev pub IsPlace : List Span → Place → Type 0
 IsPlace ranges place = IsUsed place.used (drop place.at ranges)
 
--- a gap comes after the part
+-- after the part comes a gap, or no position
 abbrev pub EndsIn : List Span → Part → Type 0
 EndsIn ranges part = IsFrom (part.range.start + part.range.n + 1) (left_at ranges part.next)
 
--- A part is what comes next; it is as long as it may be, or a gap comes after it.
+-- A part has the next positions. It has `room` positions, or a gap comes after it.
 pub record IsPart (ranges : List Span) (place : Place) (room : ℕ) (part : Part) : Type 0 where
   pub comes : left_at ranges place ≡ places_of part.range ++ left_at ranges part.next
   pub some : 0 < part.range.n
@@ -39,7 +40,8 @@ pub record IsPart (ranges : List Span) (place : Place) (room : ℕ) (part : Part
   pub stays : IsPlace ranges part.next
   pub bounded : part.range.start + part.range.n ≤ 2 ^ 31
 
--- with version 3: as many positions as a list has, over several ranges, with a gap between them
+-- With version 3: the list has the next positions, `step` of them or all that are left. Its ranges have gaps between
+-- them.
 pub record IsList (ranges : List Span) (place : Place) (step : ℕ) (list : List Span) (next : Place) : Type 0 where
   pub comes : left_at ranges place ≡ places list ++ left_at ranges next
   pub some : length list ≤ length (places list)
@@ -49,7 +51,7 @@ pub record IsList (ranges : List Span) (place : Place) (step : ℕ) (list : List
   pub stays : IsPlace ranges next
   pub bounded : IsBounded list
 
--- without version 3: one run, and how many positions may still be put into its list
+-- Without version 3: the run has the next positions. `run.room` is how many more its cut of `step` may have.
 pub record IsRun (ranges : List Span) (place : Place) (room step : ℕ) (run : Run) : Type 0 where
   pub comes : left_at ranges place ≡ places_of run.range ++ left_at ranges run.next
   pub first : deal false (step - 1) (room - 1) (left_at ranges place)

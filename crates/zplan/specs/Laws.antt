@@ -1,4 +1,4 @@
--- What holds of the plan, whatever the order in which replies come.
+-- Laws of the plan. They hold whatever the order in which replies come.
 use Rattle.std.specs.Prelude.{◌≡◌, ◌⊎◌, ℕ, ◌+◌, ◌<◌, ◌≤◌, Bool, true, false, List, [], ◌∷◌, length, None, Some, pos}
 use Rattle.zplan.specs.declared.range.Range.{Range}
 use Rattle.zplan.specs.Positions.{IsIn, IsWanted, up_to, cut_of}
@@ -7,30 +7,34 @@ use Rattle.zplan.specs.Plan.{Operation, Init, Search, Present, Reply, Opens, Fin
 use Rattle.zplan.specs.Cutting.{deal}
 use Rattle.zplan.specs.Agenda.{Agenda, IsAgenda, SameAgenda, IsSent, IsAnswered, whole_agenda}
 
--- what was answered in a complete history is what is asked
+-- in a complete history, the operations that were answered are exactly those that are planned
 pub record CompleteLaws : Type 0 where
   pub only : (wanted : List ℕ) (step : ℕ) (events : List Event) → IsComplete wanted step events
       → (a : Operation) (r : Reply) → replies_in events a ≡ Some r → IsAsked wanted step (replies_in events) a
   pub all : (wanted : List ℕ) (step : ℕ) (events : List Event) → IsComplete wanted step events
       → (a : Operation) → IsAsked wanted step (replies_in events) a → (r : Reply) × (replies_in events a ≡ Some r)
 
+-- two complete histories whose equal operations had equal replies have the same answered operations
 abbrev pub OrderLaw : Type 0
 OrderLaw =
     (wanted : List ℕ) (step : ℕ) (one other : List Event) → IsComplete wanted step one → IsComplete wanted step other
     → Agree (replies_in one) (replies_in other)
     → (a : Operation) (r : Reply) → replies_in one a ≡ Some r → replies_in other a ≡ Some r
 
+-- two planned operations with one number are equal
 abbrev pub NumberLaw : Type 0
 NumberLaw =
     (wanted : List ℕ) (step : ℕ) (replies : Replies) → IsWanted wanted → 0 < step → (a b : Operation)
     → IsAsked wanted step replies a → IsAsked wanted step replies b → number a ≡ number b → a ≡ b
 
+-- without version 3, a planned list is one run
 abbrev pub RunLaw : Type 0
 RunLaw =
     (wanted : List ℕ) (step : ℕ) (replies : Replies) → replies Init ≡ Some (Opens true false) → (l : List ℕ)
     → IsAsked wanted step replies (Present l) → IsRunList l
 
--- after a reply to what was sent and is unanswered
+-- after a reply to an operation that was sent and not answered, the operations planned are those before and those that
+-- the reply makes due
 pub record ReplyLaws : Type 0 where
   pub only : (wanted : List ℕ) (step : ℕ) (events : List Event) → IsDriven wanted step events
       → (a : Operation) (r : Reply) → IsIn a (asked_in events) → replies_in events a ≡ None → (b : Operation)
@@ -40,7 +44,7 @@ pub record ReplyLaws : Type 0 where
       → (a : Operation) (r : Reply) → IsIn a (asked_in events) → replies_in events a ≡ None → (b : Operation)
       → IsNew wanted step (replies_in events) a r b → IsAsked wanted step (replies_in (Receives a r ∷ events)) b
 
--- which positions are shown
+-- the positions shown are exactly the wanted ones up to the count, if each Present is answered with records
 pub record ShownLaws : Type 0 where
   pub all : (wanted : List ℕ) (step : ℕ) (replies : Replies) → 0 < step → IsServed wanted step replies
       → (count position : ℕ) → IsAsked wanted step replies Search → replies Search ≡ Some (Finds (Some count))
@@ -48,7 +52,7 @@ pub record ShownLaws : Type 0 where
   pub only : (wanted : List ℕ) (step : ℕ) (replies : Replies) → 0 < step → (position : ℕ)
       → IsShown wanted step replies position → IsIn position (up_to (count_in replies) wanted)
 
--- how much is sent
+-- how many requests are sent
 pub record BoundLaws : Type 0 where
   pub requests : (wanted : List ℕ) (step : ℕ) (events : List Event) → IsWanted wanted → 0 < step
       → IsDriven wanted step events
@@ -56,16 +60,17 @@ pub record BoundLaws : Type 0 where
   pub presents : (wanted : List ℕ) (step : ℕ) (events : List Event) → IsWanted wanted → 0 < step
       → IsDriven wanted step events
       → length (firsts (asked_in events)) ≤ length (up_to (count_in (replies_in events)) wanted)
-  -- a list that is asked has at most so many positions, and the search found each of them
+  -- a planned list has at most `step` positions, and the search found each of them
   pub lists : (wanted : List ℕ) (step : ℕ) (replies : Replies) (l : List ℕ)
       → IsAsked wanted step replies (Present l) → length l ≤ step
   pub found : (wanted : List ℕ) (step : ℕ) (replies : Replies) (l : List ℕ) (p : ℕ) → IsWanted wanted → 0 < step
       → IsAsked wanted step replies (Present l) → IsIn p l → (1 ≤ p) × (p ≤ count_in replies)
 
+-- no list is due, and none waits
 abbrev pub no_agenda : Bool → Agenda
 no_agenda three = record { due = []; waiting = []; ready = false; three = three }
 
--- what keeps an agenda exact
+-- the agenda stays exact, whatever is sent and received
 pub record AgendaLaws : Type 0 where
   -- before the count is known
   pub idle : (wanted : List ℕ) (step : ℕ) (three : Bool) (events : List Event) → IsWanted wanted → 0 < step
@@ -78,7 +83,7 @@ pub record AgendaLaws : Type 0 where
       → replies_in events Init ≡ Some (Opens true three)
       → IsAgenda wanted step (Receives Search (Finds (Some count)) ∷ events)
       (whole_agenda three step (up_to count wanted))
-  -- the Present of what stands first was sent
+  -- the Present of the first list due was sent
   pub sends : (wanted : List ℕ) (step : ℕ) (events : List Event) (a b : Agenda) → IsWanted wanted → 0 < step
       → IsDriven wanted step events → IsAgenda wanted step events a → (s : IsSent a b)
       → IsAgenda wanted step (Sends (Present s.list) ∷ events) b
@@ -90,7 +95,7 @@ pub record AgendaLaws : Type 0 where
   pub stays : (wanted : List ℕ) (step : ℕ) (events : List Event) (a b : Agenda) → IsWanted wanted → 0 < step
       → IsAgenda wanted step events a → SameAgenda a b → IsAgenda wanted step events b
 
--- what the driver does next
+-- what the driver does next, by its agenda
 pub record NextLaws : Type 0 where
   pub asks : (wanted : List ℕ) (step window : ℕ) (events : List Event) (a : Agenda) (l : List ℕ) (ls : List (List ℕ))
       → IsWanted wanted → 0 < step → IsDriven wanted step events → IsAgenda wanted step events a → a.due ≡ l ∷ ls
@@ -99,10 +104,11 @@ pub record NextLaws : Type 0 where
       → IsAgenda wanted step events a → a.due ≡ [] → IsIn Init (asked_in events) → IsIn Search (asked_in events)
       → outstanding_in events ≡ 0 → IsNext wanted step window events Closes
 
+-- the ranges of the example
 abbrev pub row : List Range
 row = record { start = pos 1; n = pos 2 } ∷ record { start = pos 5; n = pos 3 } ∷ []
 
--- positions 1 and 2, and 5 to 7, of 7, by 3
+-- an example: positions 1, 2 and 5 to 7 of a set of 7 records, cut by 3
 pub record RowLaws : Type 0 where
   pub with_three : deal true 2 2 (up_to 7 (positions row)) ≡ (1 ∷ 2 ∷ 5 ∷ []) ∷ (6 ∷ 7 ∷ []) ∷ []
   pub without_three : deal false 2 2 (up_to 7 (positions row)) ≡ (1 ∷ 2 ∷ []) ∷ (5 ∷ []) ∷ (6 ∷ 7 ∷ []) ∷ []

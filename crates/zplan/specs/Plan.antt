@@ -1,4 +1,4 @@
--- What is asked of one target, and what befalls a connection to it (Z39.50-2003, 3.2.1.1, 3.2.2.1 and 3.2.3.1).
+-- The operations planned for one target, and the events of its connection (Z39.50-2003, 3.2.1.1, 3.2.2.1 and 3.2.3.1).
 use Rattle.std.specs.Prelude.{◌≡◌, ◌⊎◌, ℕ, ◌+◌, ◌-◌, ◌*◌, ◌<◌, ◌≤◌, Bool, true, false, ◌&&◌, ◌==◌, if◌then◌else◌, List, [], ◌∷◌, length, take, drop, Option, None, Some}
 use Rattle.std.specs.List.{range_with_len}
 use Rattle.zplan.specs.Positions.{up_to, cut_of, presents, first_of, IsIn}
@@ -9,12 +9,13 @@ pub data Operation : Type 0 where
   Search : Operation
   Present : List ℕ → Operation
 
--- its reply, as far as it decides what is asked next
+-- the part of a reply that decides what is planned next
 pub data Reply : Type 0 where
-  Opens : (search three : Bool) → Reply  -- Init was accepted and the search can be sent; version 3 is in force
-  Finds : Option ℕ → Reply  -- the count, where the search succeeded and records can be asked for
-  Shows : ℕ → Reply  -- the number of records; 0 where diagnostics came
+  Opens : (search three : Bool) → Reply  -- whether the search can be sent; whether version 3 is in force
+  Finds : Option ℕ → Reply  -- the count, if the search succeeded and records can be asked for
+  Shows : ℕ → Reply  -- the number of records; 0 if diagnostics came
 
+-- the reply to each operation, if it has one
 abbrev pub Replies : Type 0
 Replies = Operation → Option Reply
 
@@ -24,8 +25,9 @@ number Init = 0
 number Search = 1
 number (Present l) = first_of l + 1
 
--- What is asked, the least set: Init; the search, where Init was accepted; the Presents for the lists that cut the
--- wanted positions up to the count by step; and a Present for what is left of each that was answered in part.
+-- The planned operations, the least set: Init; the search, if the reply to Init lets it be sent; the Presents of the
+-- lists that the wanted positions up to the count are cut into by step; and a Present of the rest of each list that was
+-- answered in part.
 pub data IsAsked (wanted : List ℕ) (step : ℕ) (replies : Replies) : Operation → Type 0 where
   first : IsAsked wanted step replies Init
   search : (three : Bool) → IsAsked wanted step replies Init → replies Init ≡ Some (Opens true three)
@@ -38,12 +40,14 @@ pub data IsAsked (wanted : List ℕ) (step : ℕ) (replies : Replies) : Operatio
   rest : (l : List ℕ) (k : ℕ) → IsAsked wanted step replies (Present l) → replies (Present l) ≡ Some (Shows k)
       → 0 < k → k < length l → IsAsked wanted step replies (Present (drop k l))
 
+-- the lists have the same positions, in the same order
 abbrev pub eq_list : List ℕ → List ℕ → Bool
 eq_list [] [] = true
 eq_list [] (q ∷ qs) = false
 eq_list (p ∷ ps) [] = false
 eq_list (p ∷ ps) (q ∷ qs) = (p == q) && eq_list ps qs
 
+-- the operations are equal
 abbrev pub same : Operation → Operation → Bool
 same Init Init = true
 same Search Search = true
@@ -55,7 +59,8 @@ same Search (Present m) = false
 same (Present l) Init = false
 same (Present l) Search = false
 
--- what befell one connection, the newest first: an operation was asked, its reply was accepted, Close was sent
+-- an event of one connection: an operation was sent, its reply was accepted, or Close was sent; lists of events have
+-- the newest first
 pub data Event : Type 0 where
   Sends : Operation → Event
   Receives : Operation → Reply → Event
@@ -68,7 +73,7 @@ replies_in (Sends b ∷ events) a = replies_in events a
 replies_in (Receives b r ∷ events) a = if same b a then Some r else replies_in events a
 replies_in (Closes ∷ events) a = replies_in events a
 
--- the operations asked so far
+-- the operations sent so far
 abbrev pub asked_in : List Event → List Operation
 asked_in [] = []
 asked_in (Sends b ∷ events) = b ∷ asked_in events
@@ -82,7 +87,7 @@ firsts (Init ∷ asks) = firsts asks
 firsts (Search ∷ asks) = firsts asks
 firsts (Present l ∷ asks) = first_of l ∷ firsts asks
 
--- the count, 0 before it is known
+-- the count in a reply, 0 if it has none
 abbrev pub found : Option Reply → ℕ
 found None = 0
 found (Some (Opens b t)) = 0
@@ -90,6 +95,7 @@ found (Some (Finds None)) = 0
 found (Some (Finds (Some count))) = count
 found (Some (Shows k)) = 0
 
+-- the count that the reply to the search has, or 0
 abbrev pub count_in : Replies → ℕ
 count_in replies = found (replies Search)
 
@@ -100,34 +106,34 @@ HasClosed (Sends a ∷ events) = HasClosed events
 HasClosed (Receives a r ∷ events) = HasClosed events
 HasClosed (Closes ∷ events) = Unit {0}
 
--- Init was answered so that nothing else is asked
+-- the reply to Init lets no search be sent
 abbrev pub WasRefused : Replies → Type 0
 WasRefused replies = (three : Bool) × (replies Init ≡ Some (Opens false three))
 
 module _ (wanted : List ℕ) (step : ℕ) where
-  -- due: in Asked, and not asked yet
+  -- the operation is planned, and not sent yet
   abbrev pub IsDue : List Event → Operation → Type 0
   IsDue events a = IsAsked wanted step (replies_in events) a × (IsIn a (asked_in events) → ⊥)
 
-  -- all that is asked was answered
+  -- all planned operations were answered
   abbrev pub IsAnsweredWhole : List Event → Type 0
   IsAnsweredWhole events =
       (a : Operation) → IsAsked wanted step (replies_in events) a → (r : Reply) × (replies_in events a ≡ Some r)
 
-  -- Only what is due is sent; a reply answers what was sent, once; and Close is sent once all that is asked was
-  -- answered. The window and the order of what is due decide when, and nothing else.
+  -- Only operations that are due are sent. Each reply is the only one to an operation that was sent. Close is sent only
+  -- after all planned operations were answered.
   abbrev pub IsDriven : List Event → Type 0
   IsDriven [] = Unit {0}
   IsDriven (Sends a ∷ events) = IsDue events a × IsDriven events
   IsDriven (Receives a r ∷ events) = IsIn a (asked_in events) × (replies_in events a ≡ None) × IsDriven events
   IsDriven (Closes ∷ events) = IsAnsweredWhole events × IsDriven events
 
-  -- Close was sent, or Init was answered so that nothing else is asked
+  -- Close was sent, or the reply to Init lets no search be sent
   pub record IsComplete (events : List Event) : Type 0 where
     pub driven : IsDriven events
     pub ended : HasClosed events ⊎ WasRefused (replies_in events)
 
-  -- what a reply makes due
+  -- the operations that a reply makes due
   pub data IsNew (replies : Replies) : Operation → Reply → Operation → Type 0 where
     new_search : (three : Bool) → IsNew replies Init (Opens true three) Search
     new_cut : (three : Bool) (count i : ℕ) (l : List ℕ) → replies Init ≡ Some (Opens true three)
@@ -135,13 +141,13 @@ module _ (wanted : List ℕ) (step : ℕ) where
         → IsNew replies Search (Finds (Some count)) (Present l)
     new_rest : (l : List ℕ) (k : ℕ) → 0 < k → k < length l → IsNew replies (Present l) (Shows k) (Present (drop k l))
 
-  -- each Present asked was answered with one record at least, and no more than asked
+  -- each planned Present was answered, with one record at least and no more than its list has positions
   abbrev pub IsServed : Replies → Type 0
   IsServed replies =
       (l : List ℕ) → IsAsked wanted step replies (Present l)
       → (k : ℕ) × (replies (Present l) ≡ Some (Shows k)) × (0 < k) × (k ≤ length l)
 
-  -- some Present asked shows the record at this position
+  -- the reply to some planned Present has the record at this position
   pub record IsShown (replies : Replies) (position : ℕ) : Type 0 where
     pub list : List ℕ
     pub shows : ℕ
@@ -149,7 +155,7 @@ module _ (wanted : List ℕ) (step : ℕ) where
     pub answered : replies (Present list) ≡ Some (Shows shows)
     pub among : IsIn position (take shows list)
 
--- equal operations had equal replies
+-- an operation that has a reply in both has the same reply in both
 abbrev pub Agree : Replies → Replies → Type 0
 Agree one other = (a : Operation) (r s : Reply) → one a ≡ Some r → other a ≡ Some s → r ≡ s
 
@@ -157,20 +163,21 @@ Agree one other = (a : Operation) (r s : Reply) → one a ≡ Some r → other a
 abbrev pub IsRunList : List ℕ → Type 0
 IsRunList l = l ≡ range_with_len (first_of l) (length l)
 
+-- the first position that an operation asks for; 0 for Init and the search
 abbrev pub start_of : Operation → ℕ
 start_of Init = 0
 start_of Search = 0
 start_of (Present l) = first_of l
 
--- the operations that wait for a reply
+-- how many operations wait for a reply
 abbrev pub outstanding_in : List Event → ℕ
 outstanding_in [] = 0
 outstanding_in (Sends a ∷ events) = outstanding_in events + 1
 outstanding_in (Receives a r ∷ events) = outstanding_in events - 1
 outstanding_in (Closes ∷ events) = outstanding_in events
 
--- What the driver does next: it sends what is due with the least first position, while the window has room; with
--- nothing due and nothing outstanding it closes.
+-- What the driver does next. While fewer operations than `window` are outstanding, it sends the operation that is due
+-- with the least first position. If nothing is due or outstanding, it sends Close.
 abbrev pub IsNext : List ℕ → ℕ → ℕ → List Event → Event → Type 0
 IsNext wanted step window events (Sends a) =
     IsDue wanted step events a × (outstanding_in events < window)

@@ -20,15 +20,15 @@ Ascends (p ∷ ps) = IsFrom (p + 1) ps × Ascends ps
 abbrev pub IsWanted : List ℕ → Type 0
 IsWanted wanted = IsFrom 1 wanted × Ascends wanted
 
--- those up to the count
+-- the wanted positions up to the count
 abbrev pub up_to : ℕ → List ℕ → List ℕ
 up_to count wanted = filter (λ p. nat_le p count) wanted
 
--- the list number i that positions are cut into by step; the last one is shorter
+-- the list with number i, from 0, that positions are cut into by step; the last list may be shorter
 abbrev pub cut_of : ℕ → List ℕ → ℕ → List ℕ
 cut_of step ps i = take step (drop (i * step) ps)
 
--- p goes in front of the first list where it joins it, else it is a list of its own
+-- the lists with p: in front of the first list if it joins it, else as a list of its own
 abbrev pub put : Bool → ℕ → List (List ℕ) → List (List ℕ)
 put joins p [] = (p ∷ []) ∷ []
 put false p (l ∷ ls) = (p ∷ []) ∷ l ∷ ls
@@ -44,12 +44,12 @@ abbrev pub runs : List ℕ → List (List ℕ)
 runs [] = []
 runs (p ∷ ps) = put (follows p ps) p (runs ps)
 
--- the Presents for a list: one with version 3 in force, else one for each run
+-- the lists of the Presents for a list: one if version 3 is in force, else one for each run
 abbrev pub presents : Bool → List ℕ → List (List ℕ)
 presents true l = l ∷ []
 presents false l = runs l
 
--- the first position, 0 where there is none
+-- the first position, 0 if there is none
 abbrev pub first_of : List ℕ → ℕ
 first_of [] = 0
 first_of (p ∷ ps) = p

@@ -4,7 +4,7 @@ use Rattle.std.specs.List.{range_with_len}
 use Rattle.zplan.specs.declared.range.Range.{Range}
 use Rattle.zplan.specs.declared.span.Span.{Span}
 
--- 0 in the place of a negative number
+-- the number; 0 if it is negative
 abbrev pub natural : ℤ → ℕ
 natural (pos n) = n
 natural (negsuc n) = 0
@@ -19,21 +19,25 @@ positions ranges = flat_map positions_of ranges
 
 -- ---- as they are kept
 
+-- the positions of a span, in order
 abbrev pub places_of : Span → List ℕ
 places_of s = range_with_len s.start s.n
 
+-- the positions of spans, in the order of the spans
 abbrev pub places : List Span → List ℕ
 places = flat_map places_of
 
+-- the span of a range
 abbrev pub span_of : Range → Span
 span_of r = record { start = natural r.start; n = natural r.n }
 
+-- the range of a span
 abbrev pub range_of : Span → Range
 range_of s = record { start = pos s.start; n = pos s.n }
 
 -- ---- which can be wanted
 
--- they ascend from low on, have positions, and do not touch or overlap
+-- they ascend from `low` on, have positions, and neither touch nor overlap
 abbrev pub IsApart : ℕ → List Span → Type 0
 IsApart low [] = Unit {0}
 IsApart low (s ∷ ss) = (low ≤ s.start) × (0 < s.n) × IsApart (s.start + s.n + 1) ss
@@ -53,29 +57,30 @@ abbrev pub IsBegun : List Span → Type 0
 IsBegun [] = ⊥
 IsBegun (s ∷ ss) = (0 < s.n) × AllHave ss
 
--- Ranges that can be wanted: from position 1 to 2,147,483,647, each with positions, in order, and with a gap between
--- them.
+-- Ranges that can be wanted: their positions are from 1 to 2,147,483,647; each has positions; they are in order, with
+-- gaps between them.
 pub record AreWanted (ranges : List Range) : Type 0 where
   pub apart : IsApart 1 (map span_of ranges)
   pub bounded : IsBounded (map span_of ranges)
 
--- ranges that begin after one another, from low on, each with positions
+-- each range has positions and begins after the end of the one before, the first at `low` or later
 abbrev pub InOrder : ℕ → List Range → Type 0
 InOrder low [] = Unit {0}
 InOrder low (r ∷ rs) =
     (low ≤ natural r.start) × (0 < natural r.n) × InOrder (natural r.start + natural r.n) rs
 
--- Ranges that a Present can ask for: some, that begin after one another from position 1 on; none passes 2,147,483,647.
+-- Ranges that a Present can ask for: there is one at least; each begins after the end of the one before, the first at
+-- position 1 or later; no position is above 2,147,483,647.
 pub record CanBeAsked (ranges : List Range) : Type 0 where
   pub some : ranges ≡ [] → ⊥
   pub order : InOrder 1 ranges
   pub bounded : IsBounded (map span_of ranges)
 
--- as many of its positions as the count has
+-- how many positions of the range are up to the count, if it begins there
 abbrev pub most_of : ℕ → Span → ℕ
 most_of count s = if nat_le s.n (count - s.start) then s.n else count - s.start + 1
 
--- the ranges as far as the count
+-- the ranges without the positions above the count
 abbrev pub clip : ℕ → List Span → List Span
 clip count [] = []
 clip count (s ∷ ss) =

@@ -1,4 +1,4 @@
--- What a schedule keeps, and the agenda that it stands for.
+-- What a schedule keeps, and its agenda.
 use Rattle.std.specs.Prelude.{◌≡◌, ℕ, zero, suc, ◌-◌, ◌<◌, Bool, true, false, not, ◌||◌, if◌then◌else◌, List, [], ◌∷◌, ◌++◌, length, Option, None, Some}
 use Rattle.std.specs.List.{concat}
 use Rattle.zplan.specs.declared.span.Span.{Span}
@@ -16,28 +16,30 @@ abbrev pub lists_of : List Entry → List (List ℕ)
 lists_of [] = []
 lists_of (e ∷ es) = places e.list.items ∷ lists_of es
 
--- of those that are due
+-- the positions of the lists that are due
 abbrev pub due_of : List Entry → List (List ℕ)
 due_of [] = []
 due_of (e ∷ es) = if e.sent then due_of es else places e.list.items ∷ due_of es
 
--- of those that wait
+-- the positions of the lists that wait
 abbrev pub waiting_of : List Entry → List (List ℕ)
 waiting_of [] = []
 waiting_of (e ∷ es) = if e.sent then places e.list.items ∷ waiting_of es else waiting_of es
 
--- one of them is due
+-- one of the lists is due
 abbrev pub has_due : List Entry → Bool
 has_due [] = false
 has_due (e ∷ es) = not e.sent || has_due es
 
--- what nothing was cut off yet, and the lists that it is cut into
+-- the positions that no list was cut off yet
 abbrev pub uncut_positions : Uncut → List ℕ
 uncut_positions u = left_at u.ranges.items u.place
 
+-- the lists that they are cut into
 abbrev pub uncut_lists : Uncut → List (List ℕ)
 uncut_lists u = deal u.three (u.step - 1) (u.room - 1) (uncut_positions u)
 
+-- the agenda of the lists that were cut off and of the positions that were not
 abbrev pub agenda_of : List Entry → Uncut → Agenda
 agenda_of entries u = record {
   due = due_of entries ++ uncut_lists u;
@@ -46,21 +48,23 @@ agenda_of entries u = record {
   three = u.three;
 }
 
--- one range, where version 3 is not in force
+-- the list is one range, if version 3 is not in force
 abbrev pub IsSingle : Bool → List Span → Type 0
 IsSingle three list = three ≡ false → length list ≡ 1
 
--- a list that can be asked
+-- a Present can ask for the list
 pub record IsListed (three : Bool) (list : List Span) : Type 0 where
   pub begun : IsBegun list
   pub gaps : IsApart 1 list
   pub bounded : IsBounded list
   pub single : IsSingle three list
 
+-- a Present can ask for each list
 abbrev pub AllListed : Bool → List Entry → Type 0
 AllListed three [] = Unit {0}
 AllListed three (e ∷ es) = IsListed three e.list.items × AllListed three es
 
+-- the ranges can be wanted, the place is one of them, and the limits are 1 or more
 pub record IsUncut (u : Uncut) : Type 0 where
   pub wanted : IsApart 1 u.ranges.items
   pub bounded : IsBounded u.ranges.items
@@ -69,43 +73,46 @@ pub record IsUncut (u : Uncut) : Type 0 where
   pub room : 0 < u.room
   pub whole : u.three ≡ true → u.room ≡ u.step
 
--- The lists that were cut off, and then what nothing was cut off yet, are positions in order.
+-- The positions of the lists that were cut off, and then those that are not cut yet, ascend.
 pub record IsSound (entries : List Entry) (u : Uncut) : Type 0 where
   pub uncut : IsUncut u
   pub listed : AllListed u.three entries
   pub rises : IsWanted (concat (lists_of entries) ++ uncut_positions u)
 
--- ---- what the parts answer
+-- ---- what the parts return
 
+-- the same, from another place on
 abbrev pub after_cut : Uncut → Place → ℕ → Uncut
 after_cut u place room = record u { place = place; room = room }
 
--- the list stands first, and the rest goes on there
+-- the list is the first of the uncut ones, and the others begin at the place of the cut
 pub record IsCut (u : Uncut) (cut : Cut) : Type 0 where
   pub listed : IsListed u.three cut.list.items
   pub first : uncut_lists u ≡ places cut.list.items ∷ uncut_lists (after_cut u cut.place cut.room)
   pub comes : uncut_positions u ≡ places cut.list.items ++ uncut_positions (after_cut u cut.place cut.room)
   pub rest : IsUncut (after_cut u cut.place cut.room)
 
+-- the cut is the first list; with none, no list is left
 abbrev pub IsCutOf : Uncut → Option Cut → Type 0
 IsCutOf u None = uncut_lists u ≡ []
 IsCutOf u (Some cut) = IsCut u cut
 
--- none before the place is due, and the one there is
+-- the list at this index is due, and none before it
 abbrev pub IsDueAt : List Entry → ℕ → Type 0
 IsDueAt [] at = ⊥
 IsDueAt (e ∷ es) zero = e.sent ≡ false
 IsDueAt (e ∷ es) (suc at) = (e.sent ≡ true) × IsDueAt es at
 
--- the one there waits, and begins at the position
+-- the list waits, and begins at this position
 abbrev pub IsWaitingFrom : ℕ → Entry → Type 0
 IsWaitingFrom first e = (e.sent ≡ true) × (first_of (places e.list.items) ≡ first)
 
+-- the list at this index waits, and begins at this position
 abbrev pub IsWaitingAt : ℕ → List Entry → ℕ → Type 0
 IsWaitingAt first [] at = ⊥
 IsWaitingAt first (e ∷ es) zero = IsWaitingFrom first e
 IsWaitingAt first (e ∷ es) (suc at) = IsWaitingAt first es at
 
--- none that waits begins at the position
+-- no list that waits begins at this position
 abbrev pub NoneWaits : ℕ → List Entry → Type 0
 NoneWaits first es = (l : List ℕ) → IsIn l (waiting_of es) → first_of l ≡ first → ⊥

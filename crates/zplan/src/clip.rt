@@ -1,4 +1,4 @@
-//! Ranges as far as a count.
+//! Ranges up to a count.
 ghost use Rattle.std.specs.Prelude.{◌≡◌, map, IfOk};
 ghost use Rattle.zplan.specs.Ranges.{IsBounded, span_of, clip};
 
@@ -6,7 +6,7 @@ use crate::range::Range;
 use crate::span::{Span, span_of};
 use std::alloc::{AllocError, Global};
 
-/// The ranges as far as the count.
+/// Returns the ranges without the positions above the count. Returns `AllocError` if no memory is found.
 pub(crate) fn clip(alloc: Global, wanted: &[Range], count: u64) -> Result<Vec<Span>, AllocError>
     requires { IsBounded (map span_of wanted.now) }
     ensures { IfOk result (λ v. v.items ≡ clip count (map span_of wanted.now)) }

@@ -7,7 +7,7 @@ ghost use Rattle.zplan.specs.Schedules.{IsListed, AllListed, IsDueAt, IsWaitingA
 use crate::span::Span;
 use crate::trim::trim;
 
-/// A list that was cut off: its Present was sent and is not answered, or it is due.
+/// A list that was cut off. It is due, or its Present was sent and is not answered.
 #[derive(Drop)]
 pub struct Entry {
     /// Whether its Present was sent.
@@ -17,7 +17,7 @@ pub struct Entry {
 }
 
 impl Entry {
-    /// Whether it waits, and begins at `first`.
+    /// Whether the list waits and begins at `first`.
     fn waits_from(&self, first: u32) -> bool
         requires { IsBegun self.now.list.items }
         ensures { result ≡ (self.now.sent && first_of (places self.now.list.items) == first) }
@@ -26,7 +26,7 @@ impl Entry {
     }
 }
 
-/// The place of the first that is due.
+/// The index of the first list that is due.
 pub(crate) fn first_due(entries: &[Entry]) -> Option<usize>
     ensures some { IfSome result (λ at. IsDueAt entries.now at) }
     ensures none { IfNone result (has_due entries.now ≡ false) }
@@ -39,7 +39,7 @@ pub(crate) fn first_due(entries: &[Entry]) -> Option<usize>
     None
 }
 
-/// The place of the one that waits and begins at `first`.
+/// The index of the list that waits and begins at `first`.
 pub(crate) fn place_of(entries: &[Entry], first: u32) -> Option<usize>
     requires { (three : Bool) × AllListed three entries.now }
     ensures some { IfSome result (λ at. IsWaitingAt first entries.now at) }
@@ -53,7 +53,7 @@ pub(crate) fn place_of(entries: &[Entry], first: u32) -> Option<usize>
     None
 }
 
-/// How many wait.
+/// How many lists wait.
 pub(crate) fn count_waiting(entries: &[Entry]) -> usize
     ensures { result ≡ length (waiting_of entries.now) }
 {
@@ -66,7 +66,8 @@ pub(crate) fn count_waiting(entries: &[Entry]) -> usize
     count
 }
 
-/// Whether an answer with `k` records leaves a part of the list, which is then due. It takes no memory.
+/// Takes the first `k` positions from the list. Returns whether some were taken and some are left; the list is then
+/// due. It takes no memory.
 pub(crate) fn leave(entry: &mut Entry, three: bool, k: usize) -> bool
     requires { IsListed three entry.old.list.items }
     ensures left { result ≡ (nat_lt 0 k && nat_lt k (length (places entry.old.list.items))) }

@@ -1,4 +1,4 @@
-//! Which requests are due of one target, and a queue of them that writes no position out.
+//! Which requests are due of one target, and a schedule of them that keeps ranges and no single positions.
 #![tactic(auto)]
 
 mod clip;

@@ -1,4 +1,4 @@
-//! Parts of ranges, one after another.
+//! Parts of ranges, read one after the other.
 ghost use Rattle.std.specs.Prelude.{◌≡◌, [], ◌<◌, IfSome, IfNone, IfOk};
 ghost use Rattle.zplan.specs.Ranges.{IsApart, IsBounded};
 ghost use Rattle.zplan.specs.Cutting.{left_at, IsPlace, IsPart, IsRun, IsList};
@@ -6,30 +6,33 @@ ghost use Rattle.zplan.specs.Cutting.{left_at, IsPlace, IsPart, IsRun, IsList};
 use crate::span::Span;
 use std::alloc::{AllocError, Global};
 
-/// Where ranges are read on: `used` positions of range `at` are behind.
+/// A place in a list of ranges: `used` positions of range `at`, and all ranges before it, were read.
 #[derive(Clone, Copy)]
 pub struct Place {
-    /// The range's place.
+    /// The range's index.
     pub at: usize,
-    /// How many of its positions are behind.
+    /// How many of its positions were read.
     pub used: u32,
 }
 
-/// Positions of one range, and where to read on.
+/// Positions of one range, and the place after them.
 #[derive(Clone, Copy)]
 pub struct Part {
     /// The positions.
     pub range: Span,
-    /// Where to read on.
+    /// The place after them.
     pub next: Place,
 }
 
-/// The next positions of one range, at most `room` of them.
+/// Returns the next positions of one range, at most `room` of them, or `None` if none is left.
 pub(crate) fn next_part(ranges: &[Span], place: Place, room: u32) -> Option<Part>
+    // ranges that can be wanted, and a place of theirs
     requires wanted { IsApart 1 ranges.now }
     requires bounded { IsBounded ranges.now }
     requires place { IsPlace ranges.now place }
+    // limits of 1 or more
     requires room { 0 < room }
+    // the result
     ensures some { IfSome result (λ p. IsPart ranges.now place room p) }
     ensures none { IfNone result (left_at ranges.now place ≡ []) }
 {
@@ -60,24 +63,27 @@ pub(crate) fn next_part(ranges: &[Span], place: Place, room: u32) -> Option<Part
     }
 }
 
-/// A run, and how many positions the list that it stands in may still have after it.
+/// A run, and how many more positions its list may have.
 #[derive(Clone, Copy)]
 pub struct Run {
     /// The positions.
     pub range: Span,
-    /// Where to read on.
+    /// The place after them.
     pub next: Place,
-    /// How many more the list may have.
+    /// How many more positions the list may have.
     pub room: u32,
 }
 
-/// The next run, at most `room` positions; a list has `step`.
+/// Returns the next run, of at most `room` positions, or `None` if none is left. A list has `step` positions.
 pub(crate) fn next_run(ranges: &[Span], place: Place, room: u32, step: u32) -> Option<Run>
+    // ranges that can be wanted, and a place of theirs
     requires wanted { IsApart 1 ranges.now }
     requires bounded { IsBounded ranges.now }
     requires place { IsPlace ranges.now place }
+    // limits of 1 or more
     requires room { 0 < room }
     requires step { 0 < step }
+    // the result
     ensures some { IfSome result (λ r. IsRun ranges.now place room step r) }
     ensures none { IfNone result (left_at ranges.now place ≡ []) }
 {
@@ -94,7 +100,8 @@ pub(crate) fn next_run(ranges: &[Span], place: Place, room: u32, step: u32) -> O
     })
 }
 
-/// The next list, at most `step` positions.
+/// Returns the next list, of at most `step` positions, and the place after it. The list is empty if none is left.
+/// Returns `AllocError` if no memory is found.
 pub(crate) fn next_list(
     alloc: Global,
     ranges: &[Span],

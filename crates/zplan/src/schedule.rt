@@ -13,11 +13,12 @@ use crate::uncut::Uncut;
 use std::alloc::{AllocError, Global};
 use std::marker::Model;
 
-/// What is asked of one result set, once its count is known: the lists that are due, by least first position, and those
-/// that wait for an answer. No position is ever written out; a list costs as many steps as it has ranges.
+/// The Presents of one result set whose count is known: the lists of positions that are due, by first position, and
+/// those that wait for an answer. It keeps ranges, and no single positions. A list costs as many steps as it has
+/// ranges.
 #[derive(Drop)]
 pub struct Schedule {
-    /// What was cut off and is not answered whole, in order.
+    /// The lists that were cut off and are not fully answered, in order.
     entries: Vec<Entry>,
     uncut: Uncut,
 }
@@ -35,10 +36,10 @@ impl Model for Schedule {
 }
 
 impl Schedule {
-    /// All that is to be asked, once the count is known: the wanted positions up to the count, cut in order into lists
-    /// of `step`, 1 or more, the last one shorter. A list is one Present where version 3 is in force (`three`), else
-    /// one for each of its runs. The ranges have positions from 1 to 2,147,483,647, are in order, and leave gaps.
-    /// Refused only for want of memory.
+    /// Returns a schedule of the wanted positions up to the count. They are cut in order into lists of `step`
+    /// positions, which is 1 or more; the last list may be shorter. If version 3 is in force (`three`), a list is one
+    /// Present, else one for each of its runs. The wanted ranges have positions from 1 to 2,147,483,647, are in order,
+    /// and have gaps between them. Returns `AllocError` if no memory is found.
     pub fn new(
         alloc: Global,
         wanted: &[Range],
@@ -64,10 +65,10 @@ impl Schedule {
         })
     }
 
-    /// The list that is due with the least first position, or none; as few ranges as it can be asked in, with a gap
-    /// between any two. The same is given again until `sent` says that its Present was sent, or `answered` makes a list
-    /// due that begins before it. Where none is due, nothing can be sent. Refused only for want of memory: nothing has
-    /// then changed.
+    /// Returns the list that is due with the least first position, or `None` if none is due; nothing can then be sent.
+    /// The list has as few ranges as it can be asked in, with a gap between any two. The same list is returned again
+    /// until `note_sent` is called, or until `note_answered` makes a list due that begins before it. Returns
+    /// `AllocError` if no memory is found; the schedule is unchanged.
     pub fn next(&mut self, alloc: Global) -> Result<Option<Vec<Range>>, AllocError>
         ensures same { SameAgenda self.old self.new }
         ensures ok { IfOk result (λ o. IsFirstOf self.new o) }
@@ -92,7 +93,8 @@ impl Schedule {
         }
     }
 
-    /// Whether what stands first can be sent, as it can once `next` gave it. It takes no memory.
+    /// Whether the Present of the first list due can be sent. It can after `next` returned the list. It takes no
+    /// memory.
     pub fn is_ready(&self) -> bool
         ensures { result ≡ self.now.ready }
     {
@@ -102,9 +104,9 @@ impl Schedule {
         }
     }
 
-    /// The Present of the list that is due with the least first position was sent: that list waits for its answer. It
-    /// is the one that `next` gave, unless `answered` was called since then: call `next` anew behind `answered`. It
-    /// requires that the list can be sent, which `is_ready` tells. It takes no memory.
+    /// Notes that the Present of the first list due was sent: the list now waits for its answer. It is the list that
+    /// `next` returned last, unless `note_answered` was called since; call `next` again after `note_answered`. It
+    /// requires that a Present can be sent, as `is_ready` tells. It takes no memory.
     pub fn note_sent(&mut self)
         requires { self.old.ready ≡ true }
         ensures { IsSent self.old self.new }
@@ -114,10 +116,10 @@ impl Schedule {
         }
     }
 
-    /// The list that waits and begins at `first` was answered with so many records, 0 where diagnostics came; more than
-    /// the list has positions count as all. It waits no more; what is left of it where some of its records came and not
-    /// all is due, and nothing where none came. It requires that such a list waits, which `is_waiting` tells. It takes
-    /// no memory.
+    /// Notes that the list that waits and begins at `first` was answered with `records` records, 0 if diagnostics came.
+    /// The list no longer waits. If some of its records came and not all, the rest of the list is due; if none came,
+    /// nothing of it is. More records than the list has positions count as all. It requires that such a list waits, as
+    /// `is_waiting` tells. It takes no memory.
     pub fn note_answered(&mut self, first: u32, records: usize)
         requires { HasWaiting first self.old }
         ensures { IsAnswered first records self.old self.new }
@@ -130,7 +132,7 @@ impl Schedule {
         }
     }
 
-    /// Whether a list waits for an answer that begins at `first`. It takes no memory.
+    /// Whether a list that begins at `first` waits for its answer. It takes no memory.
     pub fn is_waiting(&self, first: u32) -> bool
         ensures some { result ≡ true → HasWaiting first self.now }
         ensures none { result ≡ false → HasWaiting first self.now → ⊥ }

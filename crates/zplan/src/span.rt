@@ -1,20 +1,20 @@
-//! Ranges as they are kept.
+//! Ranges as a schedule keeps them.
 ghost use Rattle.std.specs.Prelude.{◌≡◌, ◌+◌, ◌^◌, ◌≤◌, map, IfOk};
 ghost use Rattle.zplan.specs.Ranges.{natural, span_of, range_of};
 
 use crate::range::Range;
 use std::alloc::{AllocError, Global};
 
-/// `n` positions from `start` on.
+/// The `n` positions from `start` on.
 #[derive(Clone, Copy)]
 pub struct Span {
     /// The first position.
     pub start: u32,
-    /// How many.
+    /// How many positions.
     pub n: u32,
 }
 
-/// 0 in the place of a negative number.
+/// Returns the number, or 0 if it is negative.
 fn natural(number: i64) -> u32
     requires { natural number ≤ 2 ^ 31 }
     ensures { result ≡ natural number }
@@ -22,6 +22,7 @@ fn natural(number: i64) -> u32
     if number < 0 { 0 } else { number as u32 }
 }
 
+/// The span of a range.
 pub(crate) fn span_of(range: Range) -> Span
     requires { natural range.start + natural range.n ≤ 2 ^ 31 }
     ensures { result ≡ span_of range }
@@ -32,6 +33,7 @@ pub(crate) fn span_of(range: Range) -> Span
     }
 }
 
+/// The range of a span.
 fn range_of(span: Span) -> Range
     ensures { result ≡ range_of span }
 {
@@ -41,6 +43,7 @@ fn range_of(span: Span) -> Range
     }
 }
 
+/// Returns the ranges of spans. Returns `AllocError` if no memory is found.
 pub(crate) fn ranges_of(alloc: Global, spans: &[Span]) -> Result<Vec<Range>, AllocError>
     ensures { IfOk result (λ v. v.items ≡ map range_of spans.now) }
 {

@@ -1,4 +1,4 @@
-//! What is still to be cut into lists.
+//! The positions that are not yet cut into lists.
 ghost use Rattle.std.specs.Prelude.{◌≡◌, IfOk};
 ghost use Rattle.zplan.specs.Schedules.{IsUncut, IsCutOf, after_cut};
 
@@ -6,7 +6,7 @@ use crate::part::{Place, next_list, next_run};
 use crate::span::Span;
 use std::alloc::{AllocError, Global};
 
-/// The wanted ranges as far as the count, and the place from which nothing was cut off yet.
+/// The wanted ranges up to the count, and the place of the next list.
 #[derive(Drop)]
 pub struct Uncut {
     /// The ranges, ascending.
@@ -15,25 +15,25 @@ pub struct Uncut {
     pub place: Place,
     /// How many positions the list at the place may still have.
     pub room: u32,
-    /// The positions of a list.
+    /// How many positions a list has.
     pub step: u32,
-    /// Version 3 is in force.
+    /// Whether version 3 is in force.
     pub three: bool,
 }
 
-/// A list, and where to cut on.
+/// A list that was cut off, and the place after it.
 #[derive(Drop)]
 pub struct Cut {
     /// The list.
     pub list: Vec<Span>,
-    /// Where the next begins.
+    /// Where the next list begins.
     pub place: Place,
-    /// How many positions it may have.
+    /// How many positions the next list may have.
     pub room: u32,
 }
 
 impl Uncut {
-    /// The next list.
+    /// Returns the next list, or `None` if none is left. Returns `AllocError` if no memory is found.
     pub(crate) fn next(&self, alloc: Global) -> Result<Option<Cut>, AllocError>
         requires { IsUncut self.now }
         ensures { IfOk result (λ o. IsCutOf self.now o) }

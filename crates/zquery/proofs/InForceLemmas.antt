@@ -1,4 +1,4 @@
--- One more attribute on a path changes what is in force as put_in says.
+-- One more attribute below others changes what is in force as `put_in` does.
 use Rattle.std.proofs.Common.{◌≡◌, refl, sym, ◌∙◌, ap, ℕ, List, [], ◌∷◌, ◌++◌, Option, Some, None, Bool, true, false, not, ◌||◌, cond, map, filter, if◌then◌else◌, append-nil}
 use Rattle.std.proofs.lemmas.List.{map-append}
 use Rattle.std.proofs.lemmas.List.Elements.{filter-append}

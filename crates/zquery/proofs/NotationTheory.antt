@@ -1,4 +1,4 @@
--- The notation: a text is read from the left as its one query or refused at its one fault, and what is printed is read again.
+-- The notation: a text is read from the left as its one query, or has one error, and what is printed is read again.
 pub mod ApartLemmas
 pub mod Completing
 pub mod Filling

@@ -8,7 +8,7 @@ use Rattle.zquery_rpn.specs.declared.query.Attr.{Attr}
 use Rattle.zquery.specs.InForce.{alike}
 use Rattle.zquery.specs.Notation.Reading.{put_in}
 
--- what a position tells
+-- what holds at a position that was found
 by-test : {X : Type 0} (p : X → Bool) (xs : List X) (i : ℕ) (b : Bool) → nat_lt (position_or_len p xs) (length xs) ≡ b → cond b (Some (position_or_len p xs)) None ≡ Some i → (position_or_len p xs ≡ i) × (i < length xs)
 by-test p xs i true l h = let same : position_or_len p xs ≡ i = cc in (same, omega (arith, ltb-true (position_or_len p xs) (length xs) l))
 by-test p xs i false l h = absurd (Prim.cc h)

@@ -1,30 +1,31 @@
--- Which attributes are in force below a list of them, outermost first.
+-- Which attributes are in force below a list of attributes, outermost first.
 use Rattle.std.specs.Prelude.{ℕ, List, [], ◌∷◌, Bool, true, false, ◌&&◌, not, Option, Some, None, map, filter, if◌then◌else◌}
 use Rattle.std.specs.Ordering.{int_eq}
 use Rattle.std.specs.Str.{bytes_eq}
 use Rattle.zquery_rpn.specs.declared.query.Attr.{Attr}
 use Rattle.zquery_rpn.specs.declared.query.AttrValue.{AttrValue}
 
+-- the two sets are equal, or there is none
 abbrev pub same_set : Option (List ℕ) → Option (List ℕ) → Bool
 same_set None None = true
 same_set (Some a) (Some b) = bytes_eq a b
 same_set None (Some b) = false
 same_set (Some a) None = false
 
--- of the same set and type
+-- the two attributes have the same set and type
 unfoldable pub alike : Attr → Attr → Bool
 alike a b = same_set a.attr_set b.attr_set && int_eq a.kind b.kind
 
--- the first of each set and type
+-- the first attribute of each set and type
 abbrev pub firsts : List Attr → List Attr
 firsts [] = []
 firsts (a ∷ xs) = a ∷ filter (λ b. not (alike a b)) (firsts xs)
 
--- the value of the last attribute like a, or v
+-- the value of the last attribute with the set and type of `a`, or `v` if there is none
 abbrev pub last_value : List Attr → Attr → AttrValue → AttrValue
 last_value [] a v = v
 last_value (b ∷ bs) a v = last_value bs a (if alike a b then b.value else v)
 
--- for each set and type the last value, in order of the first
+-- the attributes in force: for each set and type the last value, in the order of the first of each
 unfoldable pub in_force : List Attr → List Attr
 in_force xs = map {A = Attr} (λ a. record a { value = last_value xs a a.value }) (firsts xs)

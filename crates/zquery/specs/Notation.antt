@@ -1,4 +1,4 @@
--- The prefix notation: which text stands for which query, what is wrong with any other, and what is printed.
+-- The prefix notation: which text stands for which query, what is wrong with any other text, and what is printed.
 pub mod Apart
 pub mod Errors
 pub mod Faults

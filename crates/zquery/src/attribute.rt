@@ -9,7 +9,7 @@ use std::alloc::AllocError;
 use zber::Oid;
 use zquery_rpn::Attr;
 
-/// The set that an attribute keeps: none where it names the query's own.
+/// Returns the set that an attribute keeps: `None` if it is the query's own.
 pub(crate) fn set_unless_own(own: &Oid, set: Oid) -> Option<Oid>
     ensures { result ≡ kept_set own.now set }
 {
@@ -38,14 +38,15 @@ pub(crate) fn are_alike(a: &Attr, b: &Attr) -> bool
     same_sets(&a.attr_set, &b.attr_set) && a.kind == b.kind
 }
 
-/// Where an attribute stands that is like it.
+/// Returns the place of the first attribute with the same set and type.
 fn place_of(attrs: &[Attr], attr: &Attr) -> Option<usize>
     ensures { result ≡ position (λ b. alike b attr.now) attrs.now }
 {
     attrs.iter().position(|other| are_alike(other, attr))
 }
 
-/// Puts an attribute in force: in the place of one of the same set and type, or last.
+/// Puts an attribute in force. Its value replaces that of the first attribute with the same set and type; if there is
+/// none, the attribute is added last. Returns `AllocError` if no memory is found.
 pub(crate) fn put(attrs: &mut Vec<Attr>, attr: Attr) -> Result<(), AllocError>
     ensures { OnOk result (attrs.new.items ≡ put_in attrs.old.items attr) }
 {

@@ -1,12 +1,12 @@
 // Laws of the definitions, each the contract of a function that does nothing.
 ghost use Rattle.zquery.specs.Notation.Laws.{OneLexing, SetNames, OneQuery, NoneRefused, FirstFault, TooDeepAlone, OneAnswer, PrintedReads, TextPrintable, TextSpellable};
 
-/// A text has one list of tokens, or one quote that stays open.
+/// A text has one list of tokens at most, or one quote that no quote closes, and not both.
 pub fn one_lexing()
     ensures { OneLexing }
 {}
 
-/// A text names bib-1, or an object identifier.
+/// The name of a set is `bib-1`, in any case, or the dotted text of an object identifier.
 pub fn set_names()
     ensures { SetNames }
 {}
@@ -16,38 +16,39 @@ pub fn one_query()
     ensures { OneQuery }
 {}
 
-/// No query of height 32 at most is refused.
+/// Tokens that stand for a query of height 32 at most are not refused.
 pub fn none_refused()
     ensures { NoneRefused }
 {}
 
-/// A refusal is where the tokens stop being the front of a query.
+/// An error is at the first token with which the tokens stop being the beginning of a query, or at the text's end. It
+/// is `Empty`, at 0, if there is no token.
 pub fn first_fault()
     ensures { FirstFault }
 {}
 
-/// A refusal is `TooDeep` exactly where its token goes on with the tokens before it to the front of some query, but for
-/// its level.
+/// An error is `TooDeep` exactly if the tokens before its token, with this token, begin a query of any height.
 pub fn too_deep_alone()
     ensures { TooDeepAlone }
 {}
 
-/// A text is that of one query, or has one fault.
+/// A text stands for one query at most and has one error at most. It has no error if it stands for a query of height 32
+/// at most.
 pub fn one_answer()
     ensures { OneAnswer }
 {}
 
-/// The text that is printed for a query is that of the query.
+/// The text that is printed for a query stands for this query.
 pub fn printed_reads()
     ensures { PrintedReads }
 {}
 
-/// The query of a text can be printed, where its height is 32 at most.
+/// If a text stands for a query of height 32 at most, the query can be printed.
 pub fn text_printable()
     ensures { TextPrintable }
 {}
 
-/// An element stands for the query of a text.
+/// If a text stands for a query, some element stands for it too.
 pub fn text_spellable()
     ensures { TextSpellable }
 {}

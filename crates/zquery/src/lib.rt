@@ -1,4 +1,4 @@
-//! Type-1 queries in the prefix notation (YAZ's prefix query format): texts read as queries, and queries printed.
+//! Type-1 queries in the prefix notation (YAZ's prefix query format): reads texts as queries, and prints queries.
 #![tactic(auto)]
 
 mod attribute;

@@ -1,4 +1,4 @@
-//! The prefix notation: texts read as queries, and queries printed (YAZ's prefix query format).
+//! The prefix notation (YAZ's prefix query format): reads texts as queries, and prints queries.
 
 pub mod cursor;
 pub mod error;

@@ -1,4 +1,4 @@
--- The code by which a proof tells queries apart: a tree as the steps that build it.
+-- The code by which a proof distinguishes queries: a tree as the steps that build it.
 use Rattle.std.specs.Prelude.{◌≡◌, ℕ, ℤ, ◌⊎◌, List, [], ◌∷◌, ◌++◌, Option, refl}
 use Rattle.std.specs.Coded.{Coded, code_by, coded×, coded⊎, coded_ℕ, coded_ℤ, coded_list, coded_option}
 use Rattle.std.proofs.Common.{zero, suc, inl, inr, ◌∙◌, ap}
@@ -92,11 +92,13 @@ steps (OfSetAttrs name xs) = inr (inr (inl (name, xs))) ∷ []
 steps (Of o a b) = steps a ++ (steps b ++ inr (inr (inr (inl o))) ∷ [])
 steps (Near e a b) = steps a ++ (steps b ++ inr (inr (inr (inr e))) ∷ [])
 
+-- the tree that `f` makes of the two trees on top takes their place
 abbrev pub with_two : (Tree → Tree → Tree) → List Tree → List Tree
 with_two f [] = []
 with_two f (b ∷ []) = []
 with_two f (b ∷ a ∷ qs) = f a b ∷ qs
 
+-- the trees after one step; the last tree built is on top
 abbrev pub step : Step → List Tree → List Tree
 step (inl p) qs = OfTerm p.0 p.1 ∷ qs
 step (inr (inl name)) qs = OfSet name ∷ qs
@@ -104,6 +106,7 @@ step (inr (inr (inl p))) qs = OfSetAttrs p.0 p.1 ∷ qs
 step (inr (inr (inr (inl o)))) qs = with_two (Of o) qs
 step (inr (inr (inr (inr e)))) qs = with_two (Near e) qs
 
+-- the trees after these steps
 abbrev pub built : List Step → List Tree → List Tree
 built [] qs = qs
 built (s ∷ ss) qs = built ss (step s qs)

@@ -5,7 +5,7 @@ use Rattle.zquery_rpn.specs.declared.query.Attr.{Attr}
 use Rattle.zquery_rpn.specs.declared.query.TermValue.{TermValue}
 use Rattle.zquery_rpn.specs.declared.operator.Operator.{Operator}
 
--- a term, a result set, a result set with attributes, two queries with an operator, or two with proximity
+-- a term, a result set, a result set with attributes, two trees with an operator, or two trees with proximity
 pub data Tree : Type 0 where
   OfTerm : List Attr → TermValue → Tree
   OfSet : List ℕ → Tree
@@ -13,6 +13,7 @@ pub data Tree : Type 0 where
   Of : Operator → Tree → Tree → Tree
   Near : Element → Tree → Tree → Tree
 
+-- the default attribute set and a tree
 pub record RpnQuery : Type 0 where
   pub attr_set : List ℕ
   pub root : Tree

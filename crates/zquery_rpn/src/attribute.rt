@@ -5,7 +5,7 @@ use crate::query::{Attr, AttrValue};
 use std::alloc::{AllocError, Global};
 
 impl Attr {
-    /// An equal attribute, or the refusal of the memory for it.
+    /// Returns an equal attribute, or `AllocError` if no memory is found.
     pub(crate) fn copy(&self, alloc: Global) -> Result<Attr, AllocError>
         ensures { IfOk result (λ a. a ≡ self.now) }
     {
@@ -25,7 +25,7 @@ impl Attr {
     }
 }
 
-/// Equal attributes, or the refusal of the memory for them.
+/// Returns equal attributes, in the same order, or `AllocError` if no memory is found.
 pub fn copies(alloc: Global, attrs: &[Attr]) -> Result<Vec<Attr>, AllocError>
     ensures { IfOk result (λ v. v.items ≡ attrs.now) }
 {

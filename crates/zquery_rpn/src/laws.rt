@@ -9,7 +9,7 @@ pub fn one_query()
     ensures { (q r : RpnQuery) (n : Element) → WritesQuery q n → WritesQuery r n → q ≡ r }
 {}
 
-/// Reading an element that stands for a query gives the query back, as where it was written for it.
+/// If an element stands for a query, reading it returns this query.
 pub fn read_back()
     ensures { (q : RpnQuery) (n : Element) (o : Option RpnQuery) → WritesQuery q n → IsQueryOf n o → o ≡ Some q }
 {}

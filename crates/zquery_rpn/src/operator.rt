@@ -1,12 +1,12 @@
 // Operators (Z39.50-2003, Operator).
 
-/// What joins two structures, but for proximity.
+/// An operator over two structures, other than proximity.
 #[derive(Clone, Copy, Debug, PartialEq, Eq)]
 pub enum Operator {
     /// The records of both.
     And,
     /// The records of either.
     Or,
-    /// The first without the second.
+    /// The records of the first that are not of the second.
     Not,
 }

@@ -13,14 +13,14 @@ use zber::{Node, Oid, Seq};
 pub enum AttrValue {
     /// A number.
     Number(i64),
-    /// A complex value, kept as the element that it is.
+    /// A complex value, kept as its element.
     Complex(Node),
 }
 
 /// An attribute of an operand (AttributeElement).
 #[derive(Drop)]
 pub struct Attr {
-    /// The attribute's own set; none where it is the query's.
+    /// The attribute's own set; `None` if it has the query's.
     pub attr_set: Option<Oid>,
     /// The attribute type.
     pub kind: i64,
@@ -37,7 +37,7 @@ pub enum TermValue {
     Numeric(i64),
     /// A characterString.
     Text(Bytes),
-    /// A term of any other type, kept as the element that it is.
+    /// A term of any other type, kept as its element.
     Other(Node),
 }
 
@@ -54,16 +54,16 @@ pub enum Rpn {
     And(Box<Rpn>, Box<Rpn>),
     /// The records of either.
     Or(Box<Rpn>, Box<Rpn>),
-    /// The first without the second.
+    /// The records of the first that are not of the second.
     Not(Box<Rpn>, Box<Rpn>),
-    /// Proximity, whose operator is kept as the element that it is.
+    /// A proximity operator, kept as its element, over two structures.
     Prox(Node, Box<Rpn>, Box<Rpn>),
 }
 
 /// A type-1 query (Z39.50-2003, 3.7): the default attribute set, and a tree of any height.
 ///
-/// Contracts see it as plain data, an `RpnQuery`, which tells nothing of where its parts lie in
-/// memory; they see an `Rpn` within it by `seen`.
+/// Contracts see it as plain data, an `RpnQuery`, without the addresses of its parts in memory. They see an `Rpn` as a
+/// `Tree`, by `seen`.
 #[derive(Drop)]
 pub struct Query {
     /// The attribute set of attributes that name none.
@@ -86,7 +86,7 @@ impl Model for Query {
 }
 
 impl TermValue {
-    /// An equal term, or the refusal of the memory for it.
+    /// Returns an equal term, or `AllocError` if no memory is found.
     pub(crate) fn copy(&self, alloc: Global) -> Result<TermValue, AllocError>
         ensures { IfOk result (λ t. t ≡ self.now) }
     {
@@ -100,7 +100,7 @@ impl TermValue {
 }
 
 impl Rpn {
-    /// An equal tree, or the refusal of the memory for it.
+    /// Returns an equal tree, or `AllocError` if no memory is found.
     #[cycle(copy)]
     pub(crate) fn copy(&self, alloc: Global) -> Result<Rpn, AllocError>
         ensures { IfOk result (λ r. seen r ≡ seen self.now) }
@@ -134,7 +134,7 @@ impl Rpn {
         }
     }
 
-    /// The same in a box.
+    /// Returns an equal tree in a box, or `AllocError` if no memory is found.
     #[cycle(copy)]
     fn boxed_copy(&self, alloc: Global) -> Result<Box<Rpn>, AllocError>
         ensures { IfOk result (λ b. seen b.value ≡ seen self.now) }
@@ -144,7 +144,7 @@ impl Rpn {
 }
 
 impl Query {
-    /// An equal query, or the refusal of the memory for it.
+    /// Returns an equal query, or `AllocError` if no memory is found.
     pub fn copy(&self, alloc: Global) -> Result<Query, AllocError>
         ensures { IfOk result (λ q. q ≡ self.now) }
     {

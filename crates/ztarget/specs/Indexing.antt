@@ -1,4 +1,4 @@
--- An index of entries: each word with the places where it stands, in order of entries, fields and words.
+-- An index of entries: each word with its places, in order of entries, fields and words.
 use Rattle.std.specs.Prelude.{◌≡◌, ℕ, ℤ, ◌+◌, List, [], ◌∷◌, ◌++◌, Bool, false, not, ◌&&◌, nat_eq, filter, Option, Some, None, if◌then◌else◌, unwrap_or, slice_get}
 use Rattle.std.specs.BTreeMap.{is_at}
 use Rattle.std.specs.Cmp.Lexicographic.{slice_cmp}
@@ -15,33 +15,35 @@ use Rattle.ztarget.specs.Words.{words}
 abbrev pub place : ℕ → ℕ → ℕ → Place
 place entry field word = record { entry = entry; field = field; word = word }
 
--- the words of a text, each with its place, where the first has this number
+-- the words of a field, each with its place, where the first word has number k
 abbrev pub word_places : ℕ → ℕ → ℕ → List (List ℕ) → List (List ℕ × Place)
 word_places e f k [] = []
 word_places e f k (w ∷ ws) = (w, place e f k) ∷ word_places e f (k + 1) ws
 
+-- the words of an entry's fields, where the first field has number f
 abbrev pub field_places : ℕ → ℕ → List Field → List (List ℕ × Place)
 field_places e f [] = []
 field_places e f (x ∷ xs) = word_places e f 0 (words x.text) ++ field_places e (f + 1) xs
 
+-- the words of entries, where the first entry has number e
 abbrev pub entry_places : ℕ → List Entry → List (List ℕ × Place)
 entry_places e [] = []
 entry_places e (x ∷ xs) = field_places e 0 x.fields ++ entry_places (e + 1) xs
 
--- the places of the words that pass, among words with their places
+-- the places of those words that pass
 abbrev pub picked : (List ℕ → Bool) → List (List ℕ × Place) → List Place
 picked p [] = []
 picked p (o ∷ os) = if p o.0 then o.1 ∷ picked p os else picked p os
 
--- those of one word
+-- the places of one word
 abbrev pub at_word : List ℕ → List (List ℕ × Place) → List Place
 at_word w os = picked (bytes_eq w) os
 
--- what an index has for a word
+-- the places that an index has for a word
 abbrev pub standing : List (List ℕ × List Place) → List ℕ → List Place
 standing index w = unwrap_or (lookup (is_at (slice_cmp nat_cmp w)) index) []
 
--- each word has exactly its places, in order
+-- the index has for each word exactly its places among the entries, in order
 abbrev pub IsIndexOf : List Entry → List (List ℕ × List Place) → Type 0
 IsIndexOf entries index = (w : List ℕ) → standing index w ≡ at_word w (entry_places 0 entries)
 
@@ -58,19 +60,21 @@ abbrev pub field_in : Option Entry → ℕ → Option Field
 field_in None k = None
 field_in (Some e) k = slice_get e.fields k
 
+-- there is a field, and searches with this Use look in it
 abbrev pub is_used_field : ℤ → Option Field → Bool
 is_used_field used None = false
 is_used_field used (Some f) = is_used used f
 
--- searches with this Use look at the place
+-- searches with this Use look in the field of the place
 abbrev pub looks_at : ℤ → List Entry → Place → Bool
 looks_at used entries p = is_used_field used (field_in (slice_get entries p.entry) p.field)
 
+-- n is the last number
 abbrev pub is_last : Option ℕ → ℕ → Bool
 is_last None n = false
 is_last (Some m) n = nat_eq m n
 
--- the entries of the places that pass, each once
+-- the entries of the places that pass; of places that pass and follow one another in an entry, one counts
 abbrev pub entries_at : (Place → Bool) → Option ℕ → List Place → List ℕ
 entries_at passes last [] = []
 entries_at passes last (p ∷ ps) =

@@ -1,6 +1,5 @@
--- What a result set keeps: where each entry that a search found stands, by the number of its database among the
--- target's
--- and its own in that.
+-- What a result set keeps of each entry that a search found: the number of its database among the target's, and its
+-- own number in that database.
 use Rattle.std.specs.Prelude.{◌≡◌, ℕ, List, [], map, Bool, Option, Some, None, unwrap_or, slice_get}
 use Rattle.std.specs.List.{All, AllByRecursion, flat_map}
 use Rattle.std.specs.Map.{values_of}
@@ -22,37 +21,37 @@ abbrev pub entry_in : Option Database → ℕ → Option Found
 entry_in None i = None
 entry_in (Some d) i = option_map (found d.name) (slice_get d.entries i)
 
--- what stands at a hit
+-- the entry at a hit
 abbrev pub entry_at : List Database → Hit → Option Found
 entry_at databases h = entry_in (slice_get databases h.database) h.entry
 
--- something stands there
+-- there is an entry at the hit
 abbrev pub Stands : List Database → Hit → Type 0
 Stands databases h = IsSome (entry_at databases h)
 
 abbrev pub AllStand : List Database → List Hit → Type 0
 AllStand databases hits = AllByRecursion (Stands databases) hits
 
--- the sets of names
+-- the same of the sets of all names
 abbrev pub SetsStand : List Database → List (List ℕ × List Hit) → Type 0
 SetsStand databases sets = All (AllStand databases) (values_of sets)
 
--- where nothing stands
+-- stands for the entry at a hit that has none
 abbrev pub nothing : Found
 nothing = record { database = []; syntax = []; octets = [] }
 
 abbrev pub found_at : List Database → Hit → Found
 found_at databases h = unwrap_or (entry_at databases h) nothing
 
--- what a set of hits has
+-- the entries at hits, as a result set has them
 abbrev pub all_found_at : List Database → List Hit → List Found
 all_found_at databases hits = map (found_at databases) hits
 
--- what a response shows of them
+-- the records that a response shows for hits
 abbrev pub records_at : ℕ → Option (List ℕ) → List Database → List Hit → List Record
 records_at size asked databases hits = map (shown size asked) (all_found_at databases hits)
 
--- what was found stands at the hits, one by one
+-- there is an entry at each hit, and the entries are those that were found, in their order
 pub record AreAt (databases : List Database) (hits : List Hit) (founds : List Found) : Type 0 where
   pub stand : AllStand databases hits
   pub found : all_found_at databases hits ≡ founds
@@ -60,10 +59,11 @@ pub record AreAt (databases : List Database) (hits : List Hit) (founds : List Fo
 abbrev pub named_set : List Database → List ℕ × List Hit → NamedSet
 named_set databases e = record { name = e.0; found = all_found_at databases e.1 }
 
+-- a target's result sets, from the hits of each
 abbrev pub sets_of : List Database → List (List ℕ × List Hit) → List NamedSet
 sets_of databases sets = map (named_set databases) sets
 
--- the database has this number
+-- the database has its number among these
 abbrev pub IsNumbered : List Database → Numbered → Type 0
 IsNumbered databases n = slice_get databases n.number ≡ Some n.database.now
 

@@ -1,4 +1,4 @@
--- Of places in order, those at which something more holds.
+-- Narrowing places in order to those whose entries pass one more test.
 use Rattle.std.specs.Prelude.{◌≡◌, ℕ, ℤ, ◌≤◌, List, [], ◌∷◌, filter}
 use Rattle.std.specs.Prelude.{Bool, true, false, ◌&&◌, nat_eq, nat_le, Option, Some, None, if◌then◌else◌}
 use Rattle.std.specs.List.{list_any}
@@ -9,37 +9,39 @@ use Rattle.ztarget.specs.Asking.{HasPhrase, meets}
 use Rattle.ztarget.specs.Indexing.{looks_at}
 use Rattle.ztarget.specs.Searching.{places_from}
 
--- of the places of the entries that pass a test, whichever it is, those of the entries that pass this one too
+-- for every test: if `among` are the places of the entries that pass it, `found` are those of the entries that pass it
+-- and q
 abbrev pub Narrows : (Entry → Bool) → List Entry → List ℕ → List ℕ → Type 0
 Narrows q entries among found =
     (p : Entry → Bool) → among ≡ places_from p 0 entries → found ≡ places_from (λ e. p e && q e) 0 entries
 
--- the same, where the second list is that of the entries that pass the other test
+-- the same, if `second` are the places of the entries that pass q
 abbrev pub IsBoth : List ℕ → List ℕ → List ℕ → Type 0
 IsBoth first second found =
     (entries : List Entry) (q : Entry → Bool) → second ≡ places_from q 0 entries → Narrows q entries first found
 
--- by entry, and none of an entry before n
+-- the places are in order of their entries, and none is in an entry before n
 abbrev pub RisesFrom : ℕ → List Place → Type 0
 RisesFrom n [] = Unit {0}
 RisesFrom n (p ∷ ps) = (n ≤ p.entry) × RisesFrom p.entry ps
 
--- one of the places is in the entry of this number, and searches with this Use look at it
+-- the place is in entry n, in a field that searches with this Use look in
 abbrev pub is_at_entry : ℤ → List Entry → ℕ → Place → Bool
 is_at_entry used entries n p = nat_eq p.entry n && looks_at used entries p
 
+-- one of the places is such
 abbrev pub has_entry : ℤ → List Entry → List Place → ℕ → Bool
 has_entry used entries places n = list_any (is_at_entry used entries n) places
 
--- those of the numbers that have one of the places, where these are in order
+-- if the places are in order of their entries, `found` are those of `among` whose entries have one of the places
 abbrev pub AreHaving : ℤ → List Entry → List Place → List ℕ → List ℕ → Type 0
 AreHaving used entries places among found = RisesFrom 0 places → found ≡ filter (has_entry used entries places) among
 
--- no entry passes without the words
+-- no entry passes without the words in a field of the Use
 abbrev pub IsNeeded : (Entry → Bool) → Needed → Type 0
 IsNeeded q n = (e : Entry) → q e ≡ true → meets (HasPhrase n.used false n.asked.now) e ≡ true
 
--- the one that stands at fewer places
+-- the words that have fewer places
 abbrev pub rarer : Option Needed → Option Needed → Option Needed
 rarer None second = second
 rarer (Some a) None = Some a

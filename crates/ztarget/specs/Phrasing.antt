@@ -1,5 +1,4 @@
--- Where words stand one after the other, looked up word by word: each place at which a phrase begins, in order of
--- entries, fields and words.
+-- The places at which a phrase begins, looked up word by word, in order of entries, fields and words.
 use Rattle.std.specs.Prelude.{ℕ, ℤ, ◌+◌, List, [], ◌∷◌, ◌++◌, Bool, nat_eq, if◌then◌else◌}
 use Rattle.std.specs.declared.cmp.Ordering.{Ordering}
 use Rattle.std.specs.List.{starts_with}
@@ -13,26 +12,28 @@ use Rattle.ztarget.specs.Matching.{stands_first}
 use Rattle.ztarget.specs.Searching.{places_from}
 use Rattle.ztarget.specs.Words.{words}
 
--- the places of a field from which on its words pass, where the first word has this number
+-- the places of a field from which on its words pass, where the first word has number k
 abbrev pub word_begins : (List (List ℕ) → Bool) → ℕ → ℕ → ℕ → List (List ℕ) → List Place
 word_begins q e f k [] = []
 word_begins q e f k (v ∷ vs) =
     if q (v ∷ vs) then place e f k ∷ word_begins q e f (k + 1) vs else
     word_begins q e f (k + 1) vs
 
+-- those of an entry's fields, where the first field has number f
 abbrev pub field_begins : (List (List ℕ) → Bool) → ℕ → ℕ → List Field → List Place
 field_begins q e f [] = []
 field_begins q e f (x ∷ xs) = word_begins q e f 0 (words x.text) ++ field_begins q e (f + 1) xs
 
+-- those of entries, where the first entry has number e
 abbrev pub entry_begins : (List (List ℕ) → Bool) → ℕ → List Entry → List Place
 entry_begins q e [] = []
 entry_begins q e (x ∷ xs) = field_begins q e 0 x.fields ++ entry_begins q (e + 1) xs
 
--- where the words asked for stand one after the other, from their first on
+-- the places from which on the words asked for follow one another
 abbrev pub phrase_places : Bool → List (List ℕ) → List Entry → List Place
 phrase_places truncated asked entries = entry_begins (stands_first truncated asked) 0 entries
 
--- the entries that have them, in order
+-- the places of the entries that have the phrase, in order
 abbrev pub with_phrase : ℤ → Bool → List (List ℕ) → List Entry → List ℕ
 with_phrase used truncated asked entries = places_from (meets (HasPhrase used truncated asked)) 0 entries
 
@@ -42,10 +43,11 @@ place_cmp p q =
     ordering_then (nat_cmp p.entry q.entry)
     (ordering_then (nat_cmp p.field q.field) (nat_cmp p.word q.word))
 
+-- the place of the next word of the field
 abbrev pub next_place : Place → Place
 next_place p = place p.entry p.field (p.word + 1)
 
--- p, where the word behind it stands among those of the other list; what is left of the one is walked by `rest`
+-- one step: p counts if the place of its next word is in the other list; `rest` walks the places behind p
 abbrev pub goes_on : Place → (List Place → List Place) → List Place → List Place
 goes_on p rest [] = []
 goes_on p rest (q ∷ qs) =
@@ -54,11 +56,11 @@ goes_on p rest (q ∷ qs) =
     (p ∷ rest (q ∷ qs))
     (rest (q ∷ qs))
 
--- the places of the one list, in order, behind which a word stands that is in the other
+-- the places of the one list, in order, whose next word has its place in the other
 abbrev pub preceding : List Place → List Place → List Place
 preceding [] qs = []
 preceding (p ∷ ps) qs = goes_on p (preceding ps) qs
 
--- the words that begin with this one
+-- word v begins with w
 abbrev pub is_begun_by : List ℕ → List ℕ → Bool
 is_begun_by w v = starts_with nat_eq v w

@@ -1,4 +1,4 @@
--- The positions of a result set that a request for records asks for, in the order sent (Z39.50-2003, 3.2.3.1).
+-- The positions of a result set that a Present asks for, in the order sent (Z39.50-2003, 3.2.3.1).
 use Rattle.std.specs.Prelude.{ℕ, ◌+◌, ◌-◌, nat_le, List, [], ◌∷◌, map, take, drop, slice_index_or, Bool, ◌&&◌, Option, Some, None}
 use Rattle.std.specs.List.{flat_map, list_all}
 use Rattle.zapdu.specs.declared.productions.range.Range.{Range as SentRange}
@@ -10,6 +10,7 @@ use Rattle.zplan.specs.Ranges.{natural}
 abbrev pub received_range : SentRange → Range
 received_range r = record { start = r.starting_position; n = r.number_of_records }
 
+-- the additional ranges as they are sent
 abbrev pub additional : Option (List SentRange) → List Range
 additional None = []
 additional (Some ranges) = map received_range ranges
@@ -19,19 +20,19 @@ abbrev pub ranges_of : PresentRequest → List Range
 ranges_of r =
     record { start = r.result_set_start_point; n = r.number_of_records_requested } ∷ additional r.additional_ranges
 
--- the positions are in a set of so many
+-- these positions, at least one, are positions of a set of `count` records
 abbrev pub is_in_set : ℕ → ℕ → ℕ → Bool
 is_in_set start number count = (nat_le 1 start && nat_le 1 number) && nat_le (start + number) (count + 1)
 
--- each range begins at 1 or later, has a position, and none past so many
+-- each range begins at 1 or later, and has a position, but none past `count`
 abbrev pub are_in_set : ℕ → List Range → Bool
 are_in_set count ranges =
     list_all (λ (r : Range). is_in_set (natural r.start) (natural r.n) count) ranges
 
--- what stands at the positions
+-- the items at the positions
 abbrev pub at_positions : {X : Type 0} → List X → List ℕ → List X
 at_positions found asked = flat_map (λ p. take 1 (drop (p - 1) found)) asked
 
--- the last of the first so many positions, 0 where there is none
+-- the last of the first k positions, or 0 if there is none
 abbrev pub last_of : List ℕ → ℕ → ℕ
 last_of asked k = slice_index_or asked (k - 1) 0

@@ -1,5 +1,5 @@
-//! The places of two lists in order that stand in both. Where one is much shorter than the other, each of its places is
-//! looked for in that by halves.
+//! The places that two lists in order have in common. If one list is much shorter, each of its places is looked up in
+//! the other by binary search.
 ghost use Rattle.std.specs.Prelude.{◌≡◌, ◌/◌, filter, nat_lt, IfOk};
 ghost use Rattle.ztarget.specs.Merging.{AscendsFrom, stands_in, merged};
 ghost use Rattle.ztarget.specs.Narrowing.{IsBoth};
@@ -7,24 +7,24 @@ ghost use Rattle.ztarget.specs.Narrowing.{IsBoth};
 use crate::merging::{IN_BOTH, merged, put};
 use std::alloc::{AllocError, Global};
 
-/// How many times as long as another a list is in which that one's places are looked for by halves.
+/// A list more than this many times as long as another is searched by halves for the other's places.
 const MUCH_LONGER: usize = 16;
 
-/// Whether so many are few beside so many others.
+/// Returns whether `few` is less than `many` / 16, rounded down.
 pub(crate) fn are_few(few: usize, many: usize) -> bool
     ensures { result ≡ nat_lt few (many / 16) }
 {
     few < many / MUCH_LONGER
 }
 
-/// Whether a place stands in a list.
+/// Returns whether a list in order has a place, by binary search.
 fn stands_in(places: &[u32], place: u32) -> bool
     ensures { AscendsFrom 0 places.now → result ≡ stands_in places.now place }
 {
     places.binary_search(&place).is_ok()
 }
 
-/// The places of the one list that stand in the other.
+/// Returns the places of the first list that the second, which is in order, has too.
 fn standing_in(alloc: Global, few: &[u32], many: &[u32]) -> Result<Vec<u32>, AllocError>
     ensures { IfOk result (λ found. AscendsFrom 0 many.now → found.items ≡ filter (stands_in many.now) few.now) }
 {
@@ -37,7 +37,7 @@ fn standing_in(alloc: Global, few: &[u32], many: &[u32]) -> Result<Vec<u32>, All
     Ok(found)
 }
 
-/// The places of both.
+/// Returns the places that both lists have, in order.
 pub(crate) fn in_both(alloc: Global, first: &[u32], second: &[u32]) -> Result<Vec<u32>, AllocError>
     ensures { IfOk result (λ found. IsBoth first.now second.now found.items) }
 {

@@ -1,5 +1,5 @@
-//! What a criterion finds among the entries of a database. The list of a phrase is made once, however often the
-//! criterion has it.
+//! What a criterion finds among the entries of a database. The list of a phrase is made once, however often the phrase
+//! occurs in the criterion.
 ghost use Rattle.std.specs.Prelude.{◌≡◌, IfOk, IfSome};
 ghost use Rattle.ztarget.specs.Asking.{meets};
 ghost use Rattle.ztarget.specs.Evaluating.{has_sought};
@@ -22,8 +22,8 @@ use std::alloc::{AllocError, Global};
 use std::collections::BTreeMap;
 use std::marker::Model;
 
-/// A phrase that is looked for: words that stand one after the other in a field of the Use. With truncation the last
-/// may be the beginning of a word.
+/// A phrase to look for: words, one after the other, in a field of the Use. With truncation the last may be the
+/// beginning of a word.
 #[derive(Clone, Copy, PartialEq, Eq, PartialOrd, Ord)]
 pub(crate) struct Sought<'a> {
     pub(crate) used: i64,
@@ -31,7 +31,7 @@ pub(crate) struct Sought<'a> {
     pub(crate) asked: &'a [Word],
 }
 
-/// The lists of phrases that were made. Contracts see the entries of the database.
+/// The lists of the phrases that were looked up, with the database's index. Contracts see the entries of the database.
 #[derive(Drop)]
 pub(crate) struct Evaluation<'a> {
     alloc: Global,
@@ -54,7 +54,7 @@ impl<'a> Model for Evaluation<'a> {
 }
 
 impl<'a> Evaluation<'a> {
-    /// With no list.
+    /// Creates an evaluation that has no list yet.
     pub(crate) fn new(alloc: Global, index: &'a Index, entries: &'a [Entry]) -> Evaluation<'a>
         requires { IsIndexOf entries.now index.now }
         ensures { result ≡ entries.now }
@@ -67,7 +67,7 @@ impl<'a> Evaluation<'a> {
         }
     }
 
-    /// The places of the entries that have the phrase, in order.
+    /// Returns the places of the entries that have the phrase, in order.
     fn list(&mut self, sought: Sought<'a>) -> Result<SharedPlaces, AllocError>
         ensures same { self.new ≡ self.old }
         ensures places { IfOk result (λ list. list ≡ places_from (has_sought sought.entry) 0 self.old) }
@@ -89,7 +89,7 @@ impl<'a> Evaluation<'a> {
         Ok(list)
     }
 
-    /// The rarest word without which no entry meets the criterion, if there is one that is told with no search.
+    /// Returns the rarest word without which no entry satisfies the criterion, if one is known without a search.
     #[tactic(auto, using(crate::proofs::Needs::needed_for_both, crate::proofs::Needs::needed_for_without))]
     fn rarest(&self, criterion: &'a Criterion) -> Option<Needed<'a>>
         ensures { IfSome result (IsNeeded (meets (asks criterion.now))) }
@@ -106,7 +106,8 @@ impl<'a> Evaluation<'a> {
         }
     }
 
-    /// The same where there may be one, and few of the entries have it: else a walk over all its places costs no more.
+    /// Returns the same, but `None` if `may_need` is false, or if the word's places are not few beside the entries.
+    /// Then a walk over all of them costs no more.
     fn need_of(&self, criterion: &'a Criterion, may_need: bool) -> Option<Needed<'a>>
         ensures { IfSome result (IsNeeded (meets (asks criterion.now))) }
     {
@@ -119,7 +120,7 @@ impl<'a> Evaluation<'a> {
         }
     }
 
-    /// Those of the places whose entries have the phrase as well, in order.
+    /// Returns those of the places whose entries have the phrase as well, in order.
     fn having(&mut self, sought: Sought<'a>, among: &[u32]) -> Result<Vec<u32>, AllocError>
         ensures same { self.new ≡ self.old }
         ensures narrows { IfOk result (λ found. Narrows (has_sought sought.entry) self.old among.now found.items) }
@@ -137,7 +138,7 @@ impl<'a> Evaluation<'a> {
         }
     }
 
-    /// Those of the places whose entries meet the criterion as well, in order.
+    /// Returns those of the places whose entries satisfy the criterion as well, in order.
     #[tactic(auto, using(crate::proofs::Needs::kept_by_both))]
     fn narrow(&mut self, criterion: &'a Criterion, among: &[u32]) -> Result<Vec<u32>, AllocError>
         ensures same { self.new ≡ self.old }
@@ -175,7 +176,8 @@ impl<'a> Evaluation<'a> {
         }
     }
 
-    /// The places of the entries that meet the criterion, in order, from a word that each of them has.
+    /// Returns the places of the entries that satisfy the criterion, in order. It looks among those of a word that
+    /// each of them has.
     fn found_among(
         &mut self,
         needed: Needed<'a>,
@@ -194,8 +196,8 @@ impl<'a> Evaluation<'a> {
         self.narrow(criterion, among.as_slice())
     }
 
-    /// The places of the entries that meet the criterion, in order. Where there may be a rare word that each of them
-    /// needs, it is looked for first.
+    /// Returns the places of the entries that satisfy the criterion, in order. If `may_need` is true, and they all need
+    /// a rare word, it looks for that first.
     fn found_by(
         &mut self,
         criterion: &'a Criterion,
@@ -245,7 +247,7 @@ impl<'a> Evaluation<'a> {
         }
     }
 
-    /// The places of the entries that meet the criterion, in order.
+    /// Returns the places of the entries that satisfy the criterion, in order.
     pub(crate) fn evaluate(&mut self, criterion: &'a Criterion) -> Result<SharedPlaces, AllocError>
         ensures { IfOk result (λ places. places ≡ places_from (meets (asks criterion.now)) 0 self.old) }
     {

@@ -1,4 +1,4 @@
-//! Faults: what of a query the target does not support.
+//! Faults of a query: what in it the target does not support.
 ghost use Rattle.std.specs.Prelude.{◌≡◌, ℕ, ℤ, pos, Option, Some, None, IfOk, if◌then◌else◌};
 ghost use Rattle.std.specs.Fmt.{signed_decimal};
 ghost use Rattle.std.specs.List.{find};
@@ -15,7 +15,8 @@ use std::marker::Model;
 use zber::Oid;
 use zquery_rpn::{Attr, AttrValue, Query, Rpn, TermValue};
 
-/// Why a request is not done: a condition of the diagnostics of bib-1 (Z39.50-2003, ERR), and what it names.
+/// Why a request fails: a condition of the bib-1 diagnostics (Z39.50-2003, ERR), and what it names. Contracts see a
+/// `Reason`.
 #[derive(Drop)]
 pub(crate) struct Fault {
     pub condition: i64,
@@ -33,7 +34,7 @@ impl Model for Fault {
 /// The arcs of the attribute set bib-1 (Z39.50-2003, ATR).
 const BIB_1: [u32; 6] = [1, 2, 840, 10003, 3, 1];
 
-/// Whether a value is one of those that are supported.
+/// Returns whether a value is one of those that are supported.
 fn is_among(values: &[u16], value: i64) -> bool
     ensures { result ≡ is_among values.now value }
 {
@@ -42,7 +43,7 @@ fn is_among(values: &[u16], value: i64) -> bool
         .any(|supported| value == i64::from(*supported))
 }
 
-/// The fault of a value that is not among those that are supported.
+/// Returns the fault with this condition if the value is not supported.
 fn unless_among(
     alloc: Global,
     values: &[u16],
@@ -61,7 +62,7 @@ fn unless_among(
     }))
 }
 
-/// The fault of an attribute type.
+/// Returns the fault of an attribute whose type is not supported, or whose value is complex: 113.
 fn unsupported_type(alloc: Global, kind: i64) -> Result<Option<Fault>, AllocError>
     ensures { IfOk result (λ f. f ≡ Some (fault 113 (signed_decimal kind))) }
 {
@@ -71,8 +72,8 @@ fn unsupported_type(alloc: Global, kind: i64) -> Result<Option<Fault>, AllocErro
     }))
 }
 
-/// The fault of an attribute with a number: Use, Relation, Position, Structure, Truncation, Completeness, and other
-/// types.
+/// Returns the fault of an attribute whose value is a number. The types 1 to 6 are Use, Relation, Position, Structure,
+/// Truncation and Completeness; no other is supported.
 fn number_fault(alloc: Global, kind: i64, value: i64) -> Result<Option<Fault>, AllocError>
     ensures { IfOk result (λ f. f ≡ number_fault kind value (row_of kind)) }
 {
@@ -87,6 +88,7 @@ fn number_fault(alloc: Global, kind: i64, value: i64) -> Result<Option<Fault>, A
     }
 }
 
+/// Returns the fault of an attribute's type and value.
 fn value_fault(alloc: Global, kind: i64, value: &AttrValue) -> Result<Option<Fault>, AllocError>
     ensures { IfOk result (λ f. f ≡ value_fault kind value.now) }
 {
@@ -96,7 +98,7 @@ fn value_fault(alloc: Global, kind: i64, value: &AttrValue) -> Result<Option<Fau
     }
 }
 
-/// The fault of an attribute set other than bib-1.
+/// Returns fault 121 if the attribute set is not bib-1.
 fn set_fault(alloc: Global, set: &Oid) -> Result<Option<Fault>, AllocError>
     ensures { IfOk result (λ f. f ≡ set_fault (Some set.now)) }
 {
@@ -109,6 +111,7 @@ fn set_fault(alloc: Global, set: &Oid) -> Result<Option<Fault>, AllocError>
     }))
 }
 
+/// Returns the fault of an attribute's own set, if it names one.
 fn attr_set_fault(alloc: Global, attr: &Attr) -> Result<Option<Fault>, AllocError>
     ensures { IfOk result (λ f. f ≡ set_fault attr.now.attr_set) }
 {
@@ -118,6 +121,7 @@ fn attr_set_fault(alloc: Global, attr: &Attr) -> Result<Option<Fault>, AllocErro
     }
 }
 
+/// Returns the first fault of an attribute: that of its set, then that of its type and value.
 fn attr_fault(alloc: Global, attr: &Attr) -> Result<Option<Fault>, AllocError>
     ensures { IfOk result (λ f. f ≡ attr_fault attr.now) }
 {
@@ -127,6 +131,7 @@ fn attr_fault(alloc: Global, attr: &Attr) -> Result<Option<Fault>, AllocError>
     }
 }
 
+/// Returns the first fault of a term's attributes.
 fn attrs_fault(alloc: Global, attrs: &[Attr]) -> Result<Option<Fault>, AllocError>
     ensures { IfOk result (λ f. f ≡ attrs_fault attrs.now) }
 {
@@ -140,7 +145,7 @@ fn attrs_fault(alloc: Global, attrs: &[Attr]) -> Result<Option<Fault>, AllocErro
     Ok(None)
 }
 
-/// The fault of a term of a type that is kept as its element.
+/// Returns fault 100 for a term of a type that is kept as its element.
 fn term_fault(term: &TermValue) -> Option<Fault>
     ensures { result ≡ term_fault term.now }
 {
@@ -153,6 +158,7 @@ fn term_fault(term: &TermValue) -> Option<Fault>
     }
 }
 
+/// Returns the first fault of an operand: that of its attributes, then that of its term.
 fn operand_fault(
     alloc: Global,
     attrs: &[Attr],
@@ -166,6 +172,7 @@ fn operand_fault(
     }
 }
 
+/// Returns fault 18: an operand is a result set.
 fn result_set_fault(name: &Bytes) -> Result<Option<Fault>, AllocError>
     ensures { IfOk result (λ f. f ≡ Some (fault 18 name.now)) }
 {
@@ -175,7 +182,7 @@ fn result_set_fault(name: &Bytes) -> Result<Option<Fault>, AllocError>
     }))
 }
 
-/// The first fault of a tree, from the left, an operator's before those of its operands.
+/// Returns the first fault of a tree, from the left. An operator's comes before those of its operands.
 fn tree_fault(alloc: Global, rpn: &Rpn) -> Result<Option<Fault>, AllocError>
     ensures { IfOk result (λ f. f ≡ tree_fault (seen rpn.now)) }
 {
@@ -196,7 +203,7 @@ fn tree_fault(alloc: Global, rpn: &Rpn) -> Result<Option<Fault>, AllocError>
     }
 }
 
-/// The first fault of a type-1 query: that of its attribute set, then those of its tree from the left.
+/// Returns the first fault of a type-1 query: that of its attribute set, then those of its tree from the left.
 pub(crate) fn query_fault(alloc: Global, query: &Query) -> Result<Option<Fault>, AllocError>
     ensures { IfOk result (λ f. f ≡ query_fault query.now) }
 {
@@ -206,6 +213,7 @@ pub(crate) fn query_fault(alloc: Global, query: &Query) -> Result<Option<Fault>,
     }
 }
 
+/// Returns whether some database has the name.
 fn is_known(databases: &[Indexed], name: &Bytes) -> bool
     ensures { result ≡ is_known databases.now name.now }
 {
@@ -214,14 +222,14 @@ fn is_known(databases: &[Indexed], name: &Bytes) -> bool
         .any(|database| database.name().as_slice() == name.as_slice())
 }
 
-/// The first of the names that no database has.
+/// Returns the first of the names that no database has.
 fn unknown<'a>(databases: &[Indexed], names: &'a [Bytes]) -> Option<&'a Bytes>
     ensures { option_map (λ name. name.now) result ≡ find (is_unknown databases.now) names.now }
 {
     names.iter().find(|name| !is_known(databases, name))
 }
 
-/// The fault of names of databases: there is none, or one that no database has.
+/// Returns fault 235 if there is no name, or if no database has one of them. It names the first such name.
 pub(crate) fn names_fault(
     databases: &[Indexed],
     names: &[Bytes],
@@ -243,7 +251,7 @@ pub(crate) fn names_fault(
     }
 }
 
-/// The first fault of a type-1 query for databases: that of their names, then that of the query.
+/// Returns the first fault of a type-1 query for databases: that of their names, then that of the query.
 pub(crate) fn match_fault(
     alloc: Global,
     databases: &[Indexed],

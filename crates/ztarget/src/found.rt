@@ -12,15 +12,15 @@ use crate::indexed::Indexed;
 use crate::searched::Numbered;
 use std::alloc::{AllocError, Global};
 
-/// Where an entry that a search found stands: the number of its database among those of the target, and its own in
-/// that, each counted from 0.
+/// An entry that a search found: the number of its database among those of the target, and its own number in that
+/// database, each counted from 0.
 #[derive(Clone, Copy, Debug, PartialEq, Eq)]
 pub(crate) struct Hit {
     pub(crate) database: usize,
     pub(crate) entry: u32,
 }
 
-/// Adds places, counted from another first one.
+/// Appends places, each increased by `first`.
 fn put_shifted(first: u32, places: &[u32], out: &mut Vec<u32>) -> Result<(), AllocError>
     requires { AllByRecursion (λ place. first + place < 2 ^ 32) places.now }
     ensures { OnOk result (out.new.items ≡ out.old.items ++ map (λ place. first + place) places.now) }
@@ -33,7 +33,7 @@ fn put_shifted(first: u32, places: &[u32], out: &mut Vec<u32>) -> Result<(), All
     Ok(())
 }
 
-/// Adds the places of a database's entries that meet the criterion, where its first entry has this place.
+/// Appends the places of a database's entries that satisfy the criterion. `first` is the place of its first entry.
 fn put_found(
     alloc: Global,
     criterion: &Criterion,
@@ -49,7 +49,7 @@ fn put_found(
     put_shifted(first, found.as_slice(), places)
 }
 
-/// The places of the entries that meet the criterion, counted through the databases.
+/// Returns the places of the entries that satisfy the criterion, counted from 0 through the databases.
 pub(crate) fn places(
     alloc: Global,
     criterion: &Criterion,
@@ -70,7 +70,7 @@ pub(crate) fn places(
     Ok(places)
 }
 
-/// Adds the hits of entries of the database with this number.
+/// Appends the hits of entries of the database with this number.
 fn put_entries(database: usize, entries: &[u32], hits: &mut Vec<Hit>) -> Result<(), AllocError>
     ensures { OnOk result (hits.new.items ≡ hits.old.items ++ map (hit database) entries.now) }
 {
@@ -86,7 +86,7 @@ fn put_entries(database: usize, entries: &[u32], hits: &mut Vec<Hit>) -> Result<
     Ok(())
 }
 
-/// Adds what is found in a database.
+/// Appends the hits of a database's entries that satisfy the criterion.
 fn put_hits(
     alloc: Global,
     criterion: &Criterion,
@@ -100,7 +100,7 @@ fn put_hits(
     put_entries(numbered.number, found.as_slice(), hits)
 }
 
-/// What is found in the databases, in order.
+/// Returns the hits of the databases' entries that satisfy the criterion, in order.
 #[tactic(auto, using(crate::proofs::Shifted::few_first))]
 pub(crate) fn hits(
     alloc: Global,

@@ -1,4 +1,4 @@
-//! An index of a database: each word, and where it stands.
+//! The index of a database: each word, with its places.
 ghost use Rattle.std.specs.Prelude.{◌≡◌, ◌+◌, ◌++◌, ◌∷◌, [], ◌<◌, ◌^◌, List, ℕ, length, IfOk, OnOk, None, false, unwrap_or};
 ghost use Rattle.std.specs.List.Sorted.{IsStrictlySortedBy};
 ghost use Rattle.std.specs.Map.{keys_of};
@@ -16,7 +16,8 @@ use std::alloc::{AllocError, Global};
 use std::collections::BTreeMap;
 use std::marker::Model;
 
-/// Where a word stands: its entry, the field in that and the word in this, each counted from 0.
+/// The place of a word: the number of its entry, of the field in the entry, and of the word in the field, each counted
+/// from 0.
 #[derive(Clone, Copy, Debug, PartialEq, Eq, PartialOrd, Ord)]
 pub(crate) struct Place {
     pub(crate) entry: u32,
@@ -56,7 +57,7 @@ impl Model for Index {
 }
 
 impl Places {
-    /// No place. It takes no memory yet.
+    /// Creates an empty list. It takes no memory.
     fn new(alloc: Global) -> Places
         ensures { result ≡ [] }
     {
@@ -80,7 +81,7 @@ impl Places {
 }
 
 impl Index {
-    /// No word. It takes no memory yet.
+    /// Creates an index of no word. It takes no memory.
     fn new(alloc: Global) -> Index
         ensures { result ≡ [] }
     {
@@ -90,7 +91,7 @@ impl Index {
         }
     }
 
-    /// Adds a place of a word, behind those that the word has.
+    /// Appends a place to those of a word.
     fn put(&mut self, word: &Word, place: Place) -> Result<(), AllocError>
         ensures { OnOk result ((w : List ℕ) → standing self.new w ≡ standing self.old w
             ++ at_word w ((word.now, place) ∷ [])) }
@@ -105,7 +106,7 @@ impl Index {
         Ok(())
     }
 
-    /// The places of a word, in order.
+    /// Returns the places of a word, in order.
     pub(crate) fn places(&self, word: &Word) -> &[Place]
         ensures { result.now ≡ standing self.now word.now }
     {
@@ -115,7 +116,7 @@ impl Index {
         }
     }
 
-    /// The places of the words that begin with this one, word by word.
+    /// Returns the places of the words that begin with this one, word by word.
     pub(crate) fn beginning(&self, alloc: Global, word: &Word) -> Result<Vec<Place>, AllocError>
         ensures places { IfOk result (λ found. found.items ≡ places_of (begun word.now self.now)) }
         ensures in_order { IsStrictlySortedBy (slice_cmp nat_cmp) (keys_of self.now) }
@@ -132,7 +133,7 @@ impl Index {
     }
 }
 
-/// Adds the words of a field.
+/// Adds the words of a field, with their places.
 fn put_words(index: &mut Index, entry: u32, field: usize, words: &[Word]) -> Result<(), AllocError>
     ensures { OnOk result ((w : List ℕ) → standing index.new w ≡ standing index.old w
         ++ at_word w (word_places entry field 0 words.now)) }
@@ -147,7 +148,7 @@ fn put_words(index: &mut Index, entry: u32, field: usize, words: &[Word]) -> Res
     Ok(())
 }
 
-/// Adds the words of an entry's fields.
+/// Adds the words of an entry's fields, with their places.
 fn put_fields(
     alloc: Global,
     index: &mut Index,
@@ -166,7 +167,7 @@ fn put_fields(
     Ok(())
 }
 
-/// The index of entries.
+/// Returns the index of entries.
 pub(crate) fn index_of(alloc: Global, entries: &[Entry]) -> Result<Index, AllocError>
     requires { length entries.now < 2 ^ 32 }
     ensures { IfOk result (IsIndexOf entries.now) }
@@ -180,7 +181,7 @@ pub(crate) fn index_of(alloc: Global, entries: &[Entry]) -> Result<Index, AllocE
     Ok(index)
 }
 
-/// Whether searches with this Use look at the place.
+/// Returns whether searches with this Use look in the field of the place.
 pub(crate) fn looks_at(used: i64, entries: &[Entry], place: Place) -> bool
     ensures { result ≡ looks_at used entries.now place }
 {
@@ -193,6 +194,7 @@ pub(crate) fn looks_at(used: i64, entries: &[Entry], place: Place) -> bool
     }
 }
 
+/// Returns whether the entry is the last that was found.
 fn is_last(last: Option<u32>, entry: u32) -> bool
     ensures { result ≡ is_last last entry }
 {
@@ -202,7 +204,8 @@ fn is_last(last: Option<u32>, entry: u32) -> bool
     }
 }
 
-/// The entries of the places that searches with this Use look at, each once.
+/// Returns the entries of those places whose field searches with this Use look in. Of places of the same entry that
+/// follow one another, one counts.
 pub(crate) fn entries_at(
     alloc: Global,
     used: i64,

@@ -33,6 +33,7 @@ impl Model for Indexed {
 }
 
 impl Indexed {
+    /// Makes the index of a database.
     pub(crate) fn new(alloc: Global, database: Database) -> Result<Indexed, AllocError>
         requires { length database.entries < 2 ^ 32 }
         ensures { IfOk result (λ indexed. indexed ≡ database) }
@@ -53,7 +54,7 @@ impl Indexed {
         self.database.entries.as_slice()
     }
 
-    /// The places of the entries that meet the criterion, in order.
+    /// Returns the places of the entries that satisfy the criterion, in order.
     pub(crate) fn evaluate(
         &self,
         alloc: Global,
@@ -66,7 +67,7 @@ impl Indexed {
     }
 }
 
-/// The databases, each with its index.
+/// Returns the databases, each with its index.
 pub(crate) fn with_indexes(
     alloc: Global,
     databases: Vec<Database>,

@@ -1,4 +1,4 @@
-//! The other end of Z39.50, exact and in memory: databases, and a target that owes each request one stated reply.
+//! A target of Z39.50 with databases in memory. It owes each request one reply, which its definition states.
 #![tactic(auto)]
 
 mod common;

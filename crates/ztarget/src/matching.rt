@@ -5,7 +5,7 @@ ghost use Rattle.ztarget.specs.Matching.{is_used};
 use crate::criterion::ANY;
 use crate::database::Field;
 
-/// Whether searches with this Use look in the field.
+/// Returns whether searches with this Use look in the field.
 pub(crate) fn is_used(used: i64, field: &Field) -> bool
     ensures { result ≡ is_used used field.now }
 {

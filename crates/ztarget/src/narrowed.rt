@@ -1,5 +1,5 @@
-//! Of places found, those of entries that have words as well. Where they are few, each is looked for by halves among
-//! the places of the word.
+//! Narrows entries that were found to those that have a word as well. Each is looked up among the places of the word by
+//! binary search.
 ghost use Rattle.std.specs.Prelude.{◌≡◌, IfOk};
 ghost use Rattle.ztarget.specs.Narrowing.{RisesFrom, has_entry, AreHaving};
 
@@ -8,8 +8,8 @@ use crate::index::{Place, looks_at};
 use crate::merging::put;
 use std::alloc::{AllocError, Global};
 
-/// Whether one of the places, none of which is of an entry before this one, is in this entry, and searches with the Use
-/// look at it.
+/// Returns whether one of the places is in this entry, in a field that searches with the Use look in. None of the
+/// places is in an entry before this one.
 fn begins_with(used: i64, entries: &[Entry], places: &[Place], entry: u32) -> bool
     ensures { RisesFrom entry places.now → result ≡ has_entry used entries.now places.now entry }
 {
@@ -26,7 +26,7 @@ fn begins_with(used: i64, entries: &[Entry], places: &[Place], entry: u32) -> bo
     false
 }
 
-/// Whether one of the places of a word is in this entry, and searches with the Use look at it.
+/// Returns whether one of the places of a word is in this entry, in a field that searches with the Use look in.
 fn has_entry(used: i64, entries: &[Entry], places: &[Place], entry: u32) -> bool
     ensures { RisesFrom 0 places.now → result ≡ has_entry used entries.now places.now entry }
 {
@@ -34,7 +34,7 @@ fn has_entry(used: i64, entries: &[Entry], places: &[Place], entry: u32) -> bool
     begins_with(used, entries, &places[first..], entry)
 }
 
-/// Those of the entries in which a word stands that has these places.
+/// Returns those of the entries that have one of the places of a word, in a field that searches with the Use look in.
 pub(crate) fn having(
     alloc: Global,
     used: i64,

@@ -1,4 +1,4 @@
-//! Words without which no entry meets a criterion.
+//! Words without which no entry satisfies a criterion.
 ghost use Rattle.std.specs.Prelude.{◌≡◌, IfSome};
 ghost use Rattle.ztarget.specs.Asking.{HasPhrase, meets};
 ghost use Rattle.ztarget.specs.Narrowing.{IsNeeded, rarer};
@@ -6,7 +6,7 @@ ghost use Rattle.ztarget.specs.Narrowing.{IsNeeded, rarer};
 use crate::index::Index;
 use crate::word::Word;
 
-/// A word that an entry needs in a field of the Use, alone in its list, and at how many places it stands in any.
+/// A word that an entry needs in a field of the Use, as a list of one, and the number of its places in all fields.
 #[derive(Clone, Copy)]
 pub(crate) struct Needed<'a> {
     pub(crate) used: i64,
@@ -14,7 +14,7 @@ pub(crate) struct Needed<'a> {
     pub(crate) places: usize,
 }
 
-/// The word of a phrase that is one whole word.
+/// Returns the word of a phrase if the phrase is one word without truncation.
 pub(crate) fn needed_by<'a>(
     index: &Index,
     used: i64,
@@ -36,7 +36,7 @@ pub(crate) fn needed_by<'a>(
     }
 }
 
-/// The one that stands at fewer places.
+/// Returns the word that has fewer places; the first if both have as many.
 pub(crate) fn rarer<'a>(first: Option<Needed<'a>>, second: Option<Needed<'a>>) -> Option<Needed<'a>>
     ensures { result ≡ rarer first.entry second.entry }
 {

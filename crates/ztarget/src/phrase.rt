@@ -1,4 +1,4 @@
-//! Phrases: which entries have words one after the other in a field, looked up word by word.
+//! Which entries have a phrase: words, one after the other, in a field. They are looked up word by word.
 ghost use Rattle.std.specs.Prelude.{◌≡◌, ◌+◌, ◌<◌, [], ◌∷◌, true, length, IfOk};
 ghost use Rattle.std.specs.Ordering.{nat_cmp};
 ghost use Rattle.ztarget.specs.Indexing.{IsIndexOf};
@@ -10,7 +10,7 @@ use crate::word::Word;
 use std::alloc::{AllocError, Global};
 use std::cmp::Ordering;
 
-/// How a number stands to the one behind another.
+/// Compares `later` with the number after `number`.
 fn compared_with_next(later: usize, number: usize) -> Ordering
     ensures { result ≡ nat_cmp later (number + 1) }
 {
@@ -23,7 +23,7 @@ fn compared_with_next(later: usize, number: usize) -> Ordering
     }
 }
 
-/// How a place stands to the one behind another.
+/// Compares `later` with the place of the word after `place`.
 fn compare(later: Place, place: Place) -> Ordering
     ensures { result ≡ place_cmp later (next_place place) }
 {
@@ -34,7 +34,7 @@ fn compare(later: Place, place: Place) -> Ordering
         .then(compared_with_next(later.word, place.word))
 }
 
-/// The places of the one list behind which a word stands that is in the other. Both are walked together.
+/// Returns the places of the first list whose next word has a place in the second. It walks both together.
 fn preceding(alloc: Global, places: &[Place], later: &[Place]) -> Result<Vec<Place>, AllocError>
     ensures { IfOk result (λ found. found.items ≡ preceding places.now later.now) }
 {
@@ -57,7 +57,7 @@ fn preceding(alloc: Global, places: &[Place], later: &[Place]) -> Result<Vec<Pla
     Ok(found)
 }
 
-/// Where words stand that begin with this one, in order.
+/// Returns the places of the words that begin with this one, in order.
 fn truncated_places(
     alloc: Global,
     index: &Index,
@@ -73,7 +73,7 @@ fn truncated_places(
     Ok(found)
 }
 
-/// Where the last word of a phrase stands.
+/// Returns the places of the last word of a phrase, in order.
 fn last_places(
     alloc: Global,
     index: &Index,
@@ -92,7 +92,8 @@ fn last_places(
     Ok(found)
 }
 
-/// Where a phrase begins: from its last word on, the places of each word before those found are kept.
+/// Returns the places where a phrase begins, in order. It begins with the places of the last word. For each word before
+/// it keeps the places whose next word was found.
 fn phrase_places(
     alloc: Global,
     index: &Index,
@@ -112,7 +113,7 @@ fn phrase_places(
     Ok(found)
 }
 
-/// The entries that have the words, of which there are some.
+/// Returns the entries that have the words, one after the other, in a field of the Use. There is at least one word.
 fn with_words(
     alloc: Global,
     index: &Index,
@@ -134,8 +135,8 @@ fn with_words(
     }
 }
 
-/// The entries that have the words one after the other in a field of the Use, in order. With truncation the last may be
-/// the beginning of a word.
+/// Returns the entries that have the words, one after the other, in a field of the Use, in order. With truncation the
+/// last may be the beginning of a word. No entry has a phrase of no words.
 pub(crate) fn with_phrase(
     alloc: Global,
     index: &Index,

@@ -1,4 +1,4 @@
-//! The positions that a request for records asks for.
+//! The positions that a Present asks for.
 ghost use Rattle.std.specs.Prelude.{◌≡◌, ◌==◌, ◌<◌, ◌^◌, ◌≤◌, true, length, map, IfOk};
 ghost use Rattle.zplan.specs.Ranges.{natural, positions};
 ghost use Rattle.ztarget.specs.Positions.{received_range, ranges_of, is_in_set, are_in_set, last_of};
@@ -8,7 +8,7 @@ use std::alloc::{AllocError, Global};
 use zapdu::{PresentRequest, Range as SentRange};
 use zplan::Range;
 
-/// A range as it was sent.
+/// Returns a range as it was sent.
 fn received_range(range: &SentRange) -> Range
     ensures { result ≡ received_range range.now }
 {
@@ -18,6 +18,7 @@ fn received_range(range: &SentRange) -> Range
     }
 }
 
+/// Returns ranges as they were sent.
 fn received_ranges(alloc: Global, ranges: &[SentRange]) -> Result<Vec<Range>, AllocError>
     ensures { IfOk result (λ v. v.items ≡ map received_range ranges.now) }
 {
@@ -27,7 +28,7 @@ fn received_ranges(alloc: Global, ranges: &[SentRange]) -> Result<Vec<Range>, Al
         .collect(alloc)
 }
 
-/// The first range, then the additional ones.
+/// Returns the ranges of a Present: the first, then the additional ones.
 pub(crate) fn ranges_of(alloc: Global, request: &PresentRequest) -> Result<Vec<Range>, AllocError>
     ensures { IfOk result (λ ranges. ranges.items ≡ ranges_of request.now) }
 {
@@ -43,7 +44,7 @@ pub(crate) fn ranges_of(alloc: Global, request: &PresentRequest) -> Result<Vec<R
     Ok(ranges)
 }
 
-/// Whether the positions are in a set of so many.
+/// Returns whether `number` positions from `start` on, at least one, are positions of a set of `count` records.
 fn is_in_set(start: usize, number: usize, count: usize) -> bool
     requires { count < 2 ^ 32 }
     ensures { result ≡ is_in_set start number count }
@@ -51,7 +52,7 @@ fn is_in_set(start: usize, number: usize, count: usize) -> bool
     start >= 1 && number >= 1 && start <= count && number <= count + 1 - start
 }
 
-/// Whether each range begins at 1 or later, has a position, and none past so many.
+/// Returns whether each range begins at 1 or later, and has a position, but none past `count`.
 pub(crate) fn are_in_set(ranges: &[Range], count: usize) -> bool
     requires { count < 2 ^ 32 }
     ensures { result ≡ are_in_set count ranges.now }
@@ -65,7 +66,7 @@ pub(crate) fn are_in_set(ranges: &[Range], count: usize) -> bool
     true
 }
 
-/// Whether there are exactly so many positions.
+/// Returns whether the ranges have exactly `number` positions.
 pub(crate) fn are_so_many(ranges: &[Range], number: usize) -> bool
     ensures { result ≡ (number == length (positions ranges.now)) }
 {
@@ -80,7 +81,7 @@ pub(crate) fn are_so_many(ranges: &[Range], number: usize) -> bool
     left == 0
 }
 
-/// The last of the first so many positions, 0 where there is none.
+/// Returns the last of the first `number` positions, or 0 if there is none.
 pub(crate) fn last_of(ranges: &[Range], number: usize, count: usize) -> usize
     requires few { count < 2 ^ 32 }
     requires within { are_in_set count ranges.now ≡ true }

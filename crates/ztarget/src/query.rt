@@ -20,7 +20,7 @@ use std::alloc::{AllocError, Global};
 use zapdu::{SearchQuery, SearchRequest};
 use zquery_rpn::Query;
 
-/// The places of the entries that match, counted through the databases named.
+/// Returns the places of the entries that match, counted from 0 through the databases that are named.
 #[tactic(auto, using(crate::proofs::FewEntries::few_searched))]
 fn found_places(
     alloc: Global,
@@ -36,7 +36,7 @@ fn found_places(
     places(alloc, &criterion, &searched)
 }
 
-/// The same, or the first fault of the query.
+/// Returns the same, or the first fault of the names and the query.
 pub(crate) fn matching_places(
     alloc: Global,
     databases: &[Indexed],
@@ -57,7 +57,7 @@ pub(crate) fn matching_places(
     }
 }
 
-/// What is found for a type-1 query, in order.
+/// Returns the hits of a type-1 query, in order.
 #[tactic(auto, using(crate::proofs::FewEntries::few_searched))]
 fn result_set(
     alloc: Global,
@@ -73,7 +73,7 @@ fn result_set(
     hits(alloc, &criterion, &searched)
 }
 
-/// What a search finds, in order.
+/// Returns the hits of a search, in order. A query of another type has none.
 #[tactic(auto, using(crate::proofs::FewEntries::few_found))]
 pub(crate) fn find_hits(
     alloc: Global,

@@ -16,7 +16,7 @@ use std::alloc::{AllocError, Global};
 use zapdu::{SearchQuery, SearchRequest};
 use zquery_rpn::Query;
 
-/// The fault of a result set's name other than `default` where names are not in force (Z39.50-2003, 3.2.2.1.3).
+/// Returns fault 22 if result sets may not have names, and the name is not `default` (Z39.50-2003, 3.2.2.1.3).
 fn name_fault(named: bool, name: &Bytes) -> Result<Option<Fault>, AllocError>
     ensures { IfOk result (λ f. f ≡ name_fault named name.now) }
 {
@@ -29,7 +29,7 @@ fn name_fault(named: bool, name: &Bytes) -> Result<Option<Fault>, AllocError>
     }))
 }
 
-/// The fault of a search that must not replace a result set that is there (Z39.50-2003, 3.2.2.1.3).
+/// Returns fault 21 if a result set has the name, and the search must not replace it (Z39.50-2003, 3.2.2.1.3).
 fn kept_fault(sets: &ResultSets, replaces: bool, name: &Bytes) -> Result<Option<Fault>, AllocError>
     ensures { (databases : List Database)
         → IfOk result (λ f. f ≡ kept_fault replaces name.now (set_named (sets_of databases sets.now) name.now)) }
@@ -43,7 +43,7 @@ fn kept_fault(sets: &ResultSets, replaces: bool, name: &Bytes) -> Result<Option<
     }
 }
 
-/// The first fault of a search with a type-1 query.
+/// Returns the first fault of a search with a type-1 query: of its result set's name, of its databases, of its query.
 fn type_1_fault(
     alloc: Global,
     databases: &[Indexed],
@@ -65,7 +65,7 @@ fn type_1_fault(
     match_fault(alloc, databases, request.database_names.as_slice(), query)
 }
 
-/// The first fault of a search.
+/// Returns the first fault of a search. A query of another type is fault 107.
 pub(crate) fn search_fault(
     alloc: Global,
     databases: &[Indexed],

@@ -20,7 +20,7 @@ pub(crate) struct Numbered<'a> {
     pub(crate) database: &'a Indexed,
 }
 
-/// Adds a database where it has the name.
+/// Appends a database if it has the name.
 fn put_if_called<'a>(
     numbered: Numbered<'a>,
     name: &Bytes,
@@ -37,7 +37,7 @@ fn put_if_called<'a>(
     Ok(())
 }
 
-/// Adds the databases of a name.
+/// Appends the databases that have the name, in order.
 fn put_called<'a>(
     databases: &'a [Indexed],
     name: &Bytes,
@@ -55,7 +55,7 @@ fn put_called<'a>(
     Ok(())
 }
 
-/// Adds a name to those named. Says whether it is new among them.
+/// Adds a name to those before it. Returns whether it is new among them.
 fn put_name(name: &Bytes, named: &mut BTreeSet<Bytes, Global>) -> Result<bool, AllocError>
     ensures added { IfOk result (λ added. added ≡ not (contains (slice_cmp nat_cmp) named.old name.now)) }
     ensures updates { OnOk result (Updates (slice_cmp nat_cmp) named.old named.new name.now true) }
@@ -63,7 +63,7 @@ fn put_name(name: &Bytes, named: &mut BTreeSet<Bytes, Global>) -> Result<bool, A
     Ok(named.insert(name.clone()?)?)
 }
 
-/// The databases of the names, in the order of the names. A name that is repeated counts once.
+/// Returns the databases of the names, in the order of the names. A repeated name counts once.
 pub(crate) fn searched<'a>(
     alloc: Global,
     databases: &'a [Indexed],

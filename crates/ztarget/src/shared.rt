@@ -1,11 +1,11 @@
-//! Places that are shared.
+//! Lists of places that several owners share.
 ghost use Rattle.std.specs.Prelude.{◌≡◌, IfOk};
 
 use std::alloc::{AllocError, Global};
 use std::marker::Model;
 use std::rc::Rc;
 
-/// Places of entries, which may have several owners. Contracts see the places.
+/// A list of places that may have several owners. Contracts see the places.
 #[derive(Drop)]
 pub(crate) struct SharedPlaces {
     places: Rc<Vec<u32>, Global>,
@@ -33,7 +33,7 @@ impl SharedPlaces {
         self.places.as_ref().as_slice()
     }
 
-    /// The same places, which are not copied.
+    /// Returns the same list for another owner. It copies no places.
     pub(crate) fn again(&self) -> Result<SharedPlaces, AllocError>
         ensures { IfOk result (λ shared. shared ≡ self.now) }
     {

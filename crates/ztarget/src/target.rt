@@ -1,4 +1,4 @@
-//! The target.
+//! The target: what it does with each APDU that it receives, and which replies it hands out.
 ghost use Rattle.std.specs.Prelude.{◌≡◌, ◌<◌, ◌^◌, [], ◌∷◌, ◌++◌, List, None, length, IfOk, IfErr, IfSome, OnOk, OnErr};
 ghost use Rattle.std.specs.List.{All};
 ghost use Rattle.zapdu.specs.declared.apdu.Apdu.{Apdu};
@@ -38,8 +38,8 @@ use zapdu::{
 use zber::Duplicate;
 use zquery_rpn::Query;
 
-/// A target of Z39.50 with databases in memory (Z39.50-2003, 3.2): it owes each request that it takes one reply, a
-/// function of the requests received up to it, and hands the replies out in any order, a Close last.
+/// A target of Z39.50 with databases in memory (Z39.50-2003, 3.2). It owes each request that it takes one reply, a
+/// function of the requests received up to it. It hands the replies out in any order, a Close last.
 #[derive(Drop)]
 pub struct Target {
     alloc: Global,
@@ -79,7 +79,7 @@ impl Model for Target {
         × SetsStand t.databases.items t.sets };
 }
 
-/// The answer to a Close: reason 0, finished, and the same reference id.
+/// Returns the reply to a Close: reason 0, finished, and the same reference id.
 #[tactic(auto, using(crate::proofs::ReplyElements::close_element))]
 fn close_reply(alloc: Global, close: &Close) -> Result<Close, AllocError>
     ensures value { IfOk result (λ reply. reply ≡ close_reply close.now) }
@@ -95,6 +95,7 @@ fn close_reply(alloc: Global, close: &Close) -> Result<Close, AllocError>
     })
 }
 
+/// Returns whether an APDU is a Close.
 fn is_close(apdu: &Apdu) -> bool
     ensures { result ≡ is_close apdu.now }
 {
@@ -104,7 +105,7 @@ fn is_close(apdu: &Apdu) -> bool
     }
 }
 
-/// Takes reply `k` out of the pending ones, where it may go.
+/// Takes pending reply `k` out, if it may be released.
 fn take_out(pending: &mut VecDeque<Apdu>, k: usize) -> Option<Apdu>
     ensures { TakesOut pending.old.items k result pending.new.items }
 {
@@ -116,12 +117,12 @@ fn take_out(pending: &mut VecDeque<Apdu>, k: usize) -> Option<Apdu>
 }
 
 impl Target {
-    /// A target that has received nothing yet, with fewer than 4,294,967,296 entries in all.
+    /// Creates a target that has received nothing. The databases have fewer than 4,294,967,296 entries together.
     ///
-    /// The names of the databases are meant to be distinct, and the size to be at least 1. Of databases with the same
-    /// name all entries are searched; with a size below 1 each record is too large.
+    /// Give the databases distinct names, and a size of at least 1. A search looks in all databases that have the name.
+    /// If the size is below 1, each record is too large.
     ///
-    /// An error only where no memory was found.
+    /// An error only if no memory is found.
     #[tactic(auto, using(crate::proofs::Histories::at_first))]
     pub fn new(
         alloc: Global,
@@ -142,7 +143,7 @@ impl Target {
         })
     }
 
-    /// Puts the answer to Init last, and begins the association or ends it.
+    /// Appends the response to Init to the pending replies, and opens the association or ends it.
     fn begin(&mut self, request: &InitRequest) -> Result<(), AllocError>
         ensures ok { OnOk result (self.new ≡ answered self.old
             (to_init self.old.settings self.old.standing.sets request.now)) }
@@ -159,7 +160,7 @@ impl Target {
         Ok(())
     }
 
-    /// Puts the answer to a Close last, and ends the association.
+    /// Appends the reply to a Close to the pending replies, and ends the association.
     fn close(&mut self, close: &Close) -> Result<(), AllocError>
         ensures ok { OnOk result (self.new ≡ answered self.old (to_close self.old.standing.sets close.now)) }
         ensures err { OnErr result (self.new ≡ self.old) }
@@ -170,7 +171,7 @@ impl Target {
         Ok(())
     }
 
-    /// Puts the response to a search last, and keeps its result set.
+    /// Appends the response to a search to the pending replies, and keeps its result set.
     fn keep(
         &mut self,
         response: SearchResponse,
@@ -198,7 +199,7 @@ impl Target {
         }
     }
 
-    /// Puts the response to a search that fails last.
+    /// Appends the response to a search that fails to the pending replies.
     fn fail(&mut self, request: &SearchRequest, fault: Fault) -> Result<(), AllocError>
         ensures ok { OnOk result (self.new
             ≡ record self.old {
@@ -212,7 +213,7 @@ impl Target {
         Ok(())
     }
 
-    /// Puts the response to a search without a fault last, and keeps its result set.
+    /// Appends the response to a search without a fault to the pending replies, and keeps its result set.
     fn find(&mut self, terms: Terms, request: &SearchRequest) -> Result<(), AllocError>
         requires { self.old.standing.state ≡ Open (terms_of terms) }
         ensures ok { OnOk result (self.new ≡ answered self.old
@@ -226,7 +227,7 @@ impl Target {
         self.keep(response, name, ResultSet::new(found))
     }
 
-    /// Puts the response to a search last.
+    /// Appends the response to a search to the pending replies.
     fn search(&mut self, terms: Terms, request: &SearchRequest) -> Result<(), AllocError>
         requires { self.old.standing.state ≡ Open (terms_of terms) }
         ensures ok { OnOk result (self.new
@@ -239,7 +240,7 @@ impl Target {
         }
     }
 
-    /// The response to a request for records.
+    /// Returns the response to a Present.
     fn presented(
         &self,
         terms: Terms,
@@ -253,7 +254,7 @@ impl Target {
         presented(self.alloc, terms, request, &self.databases, found)
     }
 
-    /// Puts the response to a request for records last.
+    /// Appends the response to a Present to the pending replies.
     fn present(&mut self, terms: Terms, request: &PresentRequest) -> Result<(), AllocError>
         requires { self.old.standing.state ≡ Open (terms_of terms) }
         ensures ok { OnOk result (self.new ≡ answered self.old
@@ -265,6 +266,7 @@ impl Target {
         Ok(())
     }
 
+    /// Receives a search.
     fn receive_search(&mut self, request: &SearchRequest) -> Result<(), TargetError>
         ensures { Receives self.old (apdus.SearchRequest request.now) result self.new }
     {
@@ -274,6 +276,7 @@ impl Target {
         }
     }
 
+    /// Receives a Present.
     fn receive_present(&mut self, request: &PresentRequest) -> Result<(), TargetError>
         ensures { Receives self.old (apdus.PresentRequest request.now) result self.new }
     {
@@ -283,6 +286,7 @@ impl Target {
         }
     }
 
+    /// Receives an Init.
     fn receive_init(&mut self, request: &InitRequest) -> Result<(), TargetError>
         ensures { Receives self.old (apdus.InitRequest request.now) result self.new }
     {
@@ -292,6 +296,7 @@ impl Target {
         }
     }
 
+    /// Receives a Close.
     fn receive_close(&mut self, close: &Close) -> Result<(), TargetError>
         ensures { Receives self.old (apdus.Close close.now) result self.new }
     {
@@ -301,7 +306,7 @@ impl Target {
         }
     }
 
-    /// Takes a request, and puts the reply that is owed to it last.
+    /// Receives an APDU, and appends the reply that is owed to it to the pending replies.
     fn take_in(&mut self, apdu: &Apdu) -> Result<(), TargetError>
         ensures { Receives self.old apdu.now result self.new }
     {
@@ -316,31 +321,32 @@ impl Target {
         }
     }
 
-    /// Does nothing: it tells that each pending reply has an element.
+    /// Does nothing: it shows that each pending reply has an element.
     fn replies_have_elements(&self)
         ensures { All HasElement self.now.pending }
     {
         let _ = &self.pending;
     }
 
-    /// Takes a request (Z39.50-2003, 3.2), and puts the reply that is owed to it last among the pending replies.
+    /// Receives an APDU (Z39.50-2003, 3.2), and appends the reply that is owed to it to the pending replies.
     ///
-    /// The replies, each with its request's reference id (all of them: docs/FORMATS.md, "What the target answers"):
-    /// - to Init, whether the association is accepted, and what is in force (3.2.1.1);
-    /// - to a search, how many entries match, and the first records as far as its bounds ask for them and the size in
-    ///   force has room. The set is kept under its name. A search that fails is answered by one diagnostic, and leaves
-    ///   the older sets (3.2.2.1);
-    /// - to a request for records, those at its positions that have room, from the first on, or one diagnostic
-    ///   (3.2.3.1). In the place of a record stands diagnostic 238 where another syntax is asked for, and 17 where it
-    ///   is longer than the size;
-    /// - to a Close, a Close (3.2.11.1).
+    /// Each reply has its request's reference id. docs/FORMATS.md, "What the target answers", has all of them:
+    /// - To Init: whether the target accepts the association, and what is in force (3.2.1.1).
+    /// - To a search: how many entries match. The first records follow if the search's bounds ask for them and the size
+    ///   in force has room. The target keeps the result set under its name. A search that fails gets one diagnostic,
+    ///   and leaves the older sets (3.2.2.1).
+    /// - To a Present: the records at its positions that have room, from the first on, or one diagnostic (3.2.3.1).
+    ///   Diagnostic 238 replaces a record if another syntax is asked for, and 17 if it is longer than the size.
+    /// - To a Close: a Close (3.2.11.1).
     ///
-    /// So what fails by a diagnostic is answered, and is no refusal. Each pending reply has an element, in which no
-    /// more than 64 constructed elements stand within one another: encoding it is refused for its length and for memory
-    /// alone.
+    /// So a request that fails with a diagnostic is taken, not refused. Each pending reply has an element, with at most
+    /// 64 constructed elements within one another. So only its length or want of memory can prevent its encoding.
     ///
-    /// Refusals, which leave all as it was: `NotRequest` for a response; `WrongState` before Init for anything but Init
-    /// and Close, for a second Init, and for anything after a Close or after an Init that was refused; `Memory`.
+    /// Refusals, each of which leaves the target unchanged:
+    /// - `NotRequest`: the APDU is a response.
+    /// - `WrongState`: before Init, anything but Init and Close; a second Init; anything after a Close or after an Init
+    ///   that was refused.
+    /// - `Memory`.
     #[tactic(auto, using(crate::proofs::Histories::answers_of))]
     pub fn receive(&mut self, apdu: &Apdu) -> Result<(), TargetError>
         ensures receives { Receives self.old apdu.now result self.new }
@@ -354,18 +360,22 @@ impl Target {
         received
     }
 
-    /// The places of the entries that match the query (Z39.50-2003, 3.7), counted from 0 through the databases named:
-    /// in the order of their names, a repeated name counting once, and of their entries.
+    /// Returns the places of the entries that match the query (Z39.50-2003, 3.7). They count from 0 through the
+    /// databases that are named, in the order of the names, and through their entries. A repeated name counts once.
     ///
-    /// Supported of bib-1 (Z39.50-2003, ATR): Use (type 1) 4, 7, 12, 21, 31, 1003 and 1016, which is any field and
-    /// stands where none is given; Relation (2) 3; Position (3) 3; Structure (4) 1 and 2; Truncation (5) 1, of the last
-    /// word on its right, and 100, none; Completeness (6) 1. The last Use and the last Truncation of a term count.
+    /// It supports these attributes of bib-1 (Z39.50-2003, ATR). The last Use and the last Truncation of a term count.
+    /// - Use (type 1): 4, 7, 12, 21, 31, 1003, and 1016. 1016 is any field; it holds if none is given.
+    /// - Relation (2): 3. Position (3): 3. Structure (4): 1 and 2. Completeness (6): 1.
+    /// - Truncation (5): 1, the last word on its right; and 100, none.
     ///
-    /// Refusals: `Code` with the condition of a bib-1 diagnostic (Z39.50-2003, ERR) and what it names, for the first
-    /// fault: no database named, or one that is not known (235); another default set than bib-1 (121); then the tree
-    /// from the left, operators before their operands: proximity (110), a result set (18), an attribute's set (121), a
-    /// complex value or another type than 1 to 6 (113), an unsupported value (114, 117, 119, 118, 120, 122 for types 1
-    /// to 6), a term of another type (100). `Memory`.
+    /// Refusals: `Memory`; and `Code`, with the condition of a bib-1 diagnostic (Z39.50-2003, ERR) and what it names,
+    /// for the first fault in this order:
+    /// - no database is named, or one that the target does not have (235);
+    /// - the query's attribute set is not bib-1 (121);
+    /// - a fault in the tree, from the left, operators before their operands: proximity (110), a result set (18), or a
+    ///   fault of a term. A term's attributes come first: a set other than bib-1 (121), a complex value or a type other
+    ///   than 1 to 6 (113), a value that is not supported (114, 117, 119, 118, 120, 122 for types 1 to 6). Then comes a
+    ///   term of a type that is not supported (100).
     pub fn matches(&self, names: &[Bytes], query: &Query) -> Result<Vec<u32>, MatchError>
         ensures lawful { OnOk result (match_fault self.now.databases names.now query.now ≡ None) }
         ensures places { IfOk result (λ places. places.items
@@ -375,7 +385,7 @@ impl Target {
         matching_places(self.alloc, &self.databases, names, query)
     }
 
-    /// How many replies are pending: those owed and not yet handed out. It takes no memory.
+    /// Returns the number of pending replies: those that are owed and not yet handed out. It takes no memory.
     pub fn pending(&self) -> usize
         ensures count { result ≡ length self.now.pending }
         ensures elements { All HasElement self.now.pending }
@@ -383,7 +393,7 @@ impl Target {
         self.pending.len()
     }
 
-    /// Takes pending reply `k` out, where it may go.
+    /// Takes pending reply `k` out, if it may be released.
     fn take(&mut self, k: usize) -> Option<Apdu>
         ensures releases { Releases self.old k result self.new }
         ensures element { IfSome result HasElement }
@@ -391,9 +401,9 @@ impl Target {
         take_out(&mut self.pending, k)
     }
 
-    /// Hands out pending reply `k`, the first being 0; the others stay in order. `None` where there is none, or where
-    /// it is a Close and others are pending (Z39.50-2003, 3.2.11.1). It takes no memory. What is handed out has an
-    /// element of at most 64 levels, as each pending reply has.
+    /// Hands out pending reply `k`, counted from 0; the others stay in order. Returns `None` if there is no such reply,
+    /// or if it is a Close and others are pending (Z39.50-2003, 3.2.11.1). It takes no memory. The reply has an element
+    /// of at most 64 levels, as each pending reply has.
     #[tactic(auto, using(crate::proofs::Histories::release_of))]
     pub fn release(&mut self, k: usize) -> Option<Apdu>
         ensures releases { Releases self.old k result self.new }

@@ -1,4 +1,4 @@
-//! A word, with its first octets as a number, by which most words are told apart.
+//! A word, with its first octets as a number: most comparisons of words need no more than that.
 ghost use Rattle.std.specs.Prelude.{◌≡◌, ◌<◌, nat_eq, refl, slice_index, IfOk, Some};
 ghost use Rattle.std.specs.Ordering.{nat_cmp};
 ghost use Rattle.std.specs.Cmp.Lexicographic.{pointwise, slice_cmp, nat_list_eq_equiv, nat_list_cmp_total, texts_ties, texts_po};
@@ -28,7 +28,7 @@ impl Model for Word {
     ghost invariant = { λ w. IsLedBy w.leading w.octets };
 }
 
-/// The octet at a place, or 0 behind the last.
+/// Returns the octet with this number, or 0 if there is none.
 fn octet_at(octets: &[u8], at: usize) -> u8
     ensures { result ≡ slice_index octets.now at }
 {
@@ -38,7 +38,7 @@ fn octet_at(octets: &[u8], at: usize) -> u8
     }
 }
 
-/// The number that the first eight octets spell, the first the greatest, as if zeros followed the last.
+/// Returns the number that the first eight octets spell, most significant first. Zeros follow a shorter word.
 fn leading(octets: &[u8]) -> u64
     ensures leading { result ≡ leading 0 8 octets.now }
     ensures octets { AreOctets octets.now }
@@ -56,6 +56,7 @@ fn leading(octets: &[u8]) -> u64
 }
 
 impl Word {
+    /// Creates a word of these octets.
     pub(crate) fn new(octets: Bytes) -> Word
         ensures { result ≡ octets }
     {
@@ -69,7 +70,7 @@ impl Word {
         self.octets.as_slice()
     }
 
-    /// The same word, of the same octets, which are not copied.
+    /// Returns the same word. It shares the octets, and copies none.
     pub(crate) fn again(&self) -> Result<Word, AllocError>
         ensures { IfOk result (λ word. word ≡ self.now) }
     {
@@ -103,7 +104,7 @@ impl PartialOrd for Word {
     }
 }
 
-/// In order of their octets.
+/// Words are in order of their octets.
 impl Ord for Word {
     ghost cmp = { slice_cmp nat_cmp };
 

@@ -71,6 +71,6 @@ diag_rec = of_choice diag_recs diag_pick diag-same diag-back refl
 abbrev pub WritesDiag : DiagRec → Element → Type 0
 WritesDiag v n = diag_rec.stands v n
 
--- the one element that spells the diagnostic, its contents octets those of the canonical encoding
+-- the element that is built for the diagnostic, with the contents octets of the canonical encoding
 abbrev pub diag_spelt : DiagRec → Option Element
 diag_spelt v = diag_rec.spelt v

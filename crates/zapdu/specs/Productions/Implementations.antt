@@ -1,4 +1,4 @@
--- The last places of both Inits (Z39.50-2003, 4.1 and 3.2.1.1).
+-- The last places of InitializeRequest and InitializeResponse (Z39.50-2003, 4.1 and 3.2.1.1).
 use Rattle.std.specs.Prelude.{ℕ, List, Option, refl}
 use Rattle.zber.specs.AsnTags.{context, universal}
 use Rattle.zber.specs.Elements.{Element}

@@ -18,7 +18,7 @@ init_request_table =
     (λ v. implementation v.implementation_id v.implementation_name v.implementation_version v.user_information_field
     v.other_info)
 
--- no tag of a place that may be left out stands again after it
+-- no optional place has a tag that comes again after it
 pub init_request_clear : clear init_request_table ≡ true
 unfolding implementation_parts
 init_request_clear = refl

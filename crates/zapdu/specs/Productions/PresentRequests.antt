@@ -19,7 +19,7 @@ present_request_table =
     ⨾ also delivery_parts
     (λ v. delivery v.preferred_record_syntax v.max_segment_count v.max_record_size v.max_segment_size v.other_info)
 
--- no tag of a place that may be left out stands again after it
+-- no optional place has a tag that comes again after it
 pub present_request_clear : clear present_request_table ≡ true
 unfolding delivery_parts
 present_request_clear = refl

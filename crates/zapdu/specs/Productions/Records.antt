@@ -58,7 +58,7 @@ whole_record = within (universal 16) record_parts
 abbrev pub WritesRecord : Record → Element → Type 0
 WritesRecord v n = whole_record.stands v n
 
--- the one element that spells the record, its contents octets those of the canonical encoding
+-- the element that is built for the record, with the contents octets of the canonical encoding
 abbrev pub record_spelt : Record → Option Element
 record_spelt v = whole_record.spelt v
 

@@ -18,7 +18,7 @@ search_details_table =
     ⨾ optional (opaque (context 201)) (λ v. v.other_info)
     ⨾ ended
 
--- no tag of a place that may be left out stands again after it
+-- no optional place has a tag that comes again after it
 pub search_details_clear : clear search_details_table ≡ true
 unfolding search_query
 search_details_clear = refl
@@ -36,7 +36,7 @@ search_details_parts =
     })
     (λ v. refl) (λ x. refl) search_details_clear
 
--- those of a request
+-- the details of a request
 abbrev pub details_of : SearchRequest → SearchDetails
 details_of v =
     record {

@@ -18,6 +18,7 @@ either_query =
     lawful {P = WritesWithin (context 21)} {tags = context 21 ∷ []} {meaning = query_within}
     {spelt = within_spelt (context 21)} (any_query_place (context 21)) (any_query_spelled (context 21))
 
+-- a query of type 1, or another one
 abbrev pub of_sum : RpnQuery ⊎ Element → SearchQuery
 of_sum (inl q) = Rpn q
 of_sum (inr m) = Other m

@@ -18,7 +18,7 @@ search_request_table =
     ⨾ required (strings (context 18) (context 105)) (λ v. v.database_names)
     ⨾ also search_details_parts details_of
 
--- no tag of a place that may be left out stands again after it
+-- no optional place has a tag that comes again after it
 pub search_request_clear : clear search_request_table ≡ true
 unfolding search_details_parts search_query
 search_request_clear = refl

@@ -12,10 +12,10 @@ use zber::{Node, Oid, Tag};
 pub struct Close {
     /// The reference id.
     pub reference_id: Option<Bytes>,
-    /// Why: 0 finished, 1 shutdown, 2 system problem, 6 protocol error, 7 lack of activity, 8 peer abort, 9
+    /// The reason: 0 finished, 1 shutdown, 2 system problem, 6 protocol error, 7 lack of activity, 8 peer abort, 9
     /// unspecified.
     pub close_reason: i64,
-    /// A text on the reason.
+    /// A text about the reason.
     pub diagnostic_information: Option<Bytes>,
     /// The format of the resource report.
     pub resource_report_format: Option<Oid>,

@@ -1,4 +1,4 @@
-//! The last elements of a PresentRequest: how the records are to be delivered.
+//! The last elements of a PresentRequest: how the target is to deliver the records.
 ghost use Rattle.std.specs.Prelude.{◌≡◌, [], IfOk};
 ghost use Rattle.zasn.specs.Answers.{Finds, Puts};
 ghost use Rattle.zapdu.specs.Productions.Deliveries.{delivery, delivery_parts};
@@ -7,7 +7,7 @@ use std::alloc::Global;
 use zasn::{BuildError, PartError, Parts, PartsBuf};
 use zber::{Node, Oid, Tag};
 
-/// These elements as they were read.
+/// The values of these elements.
 #[derive(Drop)]
 pub(crate) struct Delivery {
     pub preferred_record_syntax: Option<Oid>,
@@ -17,6 +17,7 @@ pub(crate) struct Delivery {
     pub other_info: Option<Node>,
 }
 
+/// Reads these elements, after which there are no more.
 #[tactic(auto, unfolding(crate::specs::Productions::Deliveries::delivery_parts))]
 pub(crate) fn read_delivery(alloc: Global, parts: &mut Parts<'_>) -> Result<Delivery, PartError>
     ensures finds { Finds (delivery_parts.at parts.old) result parts.new }

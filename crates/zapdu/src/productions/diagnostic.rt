@@ -1,4 +1,4 @@
-//! Diagnostics: why a target did not do what was asked, or gave no record.
+//! Diagnostics: why an operation failed, or why a record is missing.
 ghost use Rattle.zasn.specs.Places.{within};
 ghost use Rattle.zapdu.specs.Productions.Diagnostics.{default_parts, diag_rec, info};
 
@@ -22,20 +22,20 @@ pub enum Info {
 /// A diagnostic in the default format (Z39.50-2003, 4.1: DefaultDiagFormat).
 #[derive(Drop)]
 pub struct DefaultDiag {
-    /// diagnosticSetId: whose conditions these are, as bib-1's 1.2.840.10003.4.1.
+    /// diagnosticSetId: the diagnostic set, for example bib-1's 1.2.840.10003.4.1.
     pub diag_set: Oid,
-    /// condition: the number in that set.
+    /// condition: the condition's number in this set.
     pub condition: i64,
-    /// addinfo.
+    /// addinfo: the additional information.
     pub info: Info,
 }
 
 /// A diagnostic (Z39.50-2003, 4.1: DiagRec).
 #[derive(Drop)]
 pub enum DiagRec {
-    /// defaultFormat.
+    /// defaultFormat: a condition of a diagnostic set.
     Default(DefaultDiag),
-    /// externallyDefined.
+    /// externallyDefined: an EXTERNAL.
     Ext(External),
 }
 

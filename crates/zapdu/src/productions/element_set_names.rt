@@ -1,4 +1,4 @@
-//! Element set names: which elements of the records are asked for.
+//! Element set names: which elements of the records the origin asks for.
 ghost use Rattle.zapdu.specs.Productions.ElementSets.{database_element_set_parts, element_set_names, whole_database_element_set};
 
 use bytes::Bytes;
@@ -8,7 +8,7 @@ use zasn::{
 };
 use zber::{Node, Seq, Tag};
 
-/// The element set that is asked for of one database's records.
+/// The element set for the records of one database.
 #[derive(Drop)]
 pub struct DatabaseElementSet {
     /// dbName: the database.
@@ -17,7 +17,7 @@ pub struct DatabaseElementSet {
     pub element_set_name: Bytes,
 }
 
-/// Which element set is asked for (Z39.50-2003, 4.1: ElementSetNames).
+/// The element sets that the origin asks for (Z39.50-2003, 4.1: ElementSetNames).
 pub enum ElementSetNames {
     /// genericElementSetName: one for all databases.
     Generic(Bytes),

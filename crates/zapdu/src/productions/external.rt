@@ -1,4 +1,4 @@
-//! EXTERNAL: a record, a diagnostic or a report in a syntax of its own.
+//! EXTERNAL: a record, a diagnostic or a report, with the syntax that it is in.
 ghost use Rattle.zasn.specs.Places.{within};
 ghost use Rattle.zapdu.specs.Productions.Externals.{content, external_parts};
 
@@ -10,26 +10,26 @@ use zasn::{
 };
 use zber::{Bits, Duplicate, Node, Oid, Tag};
 
-/// What an EXTERNAL holds (X.690, 8.18).
+/// The contents of an EXTERNAL (X.690, 8.18).
 #[derive(Drop)]
 pub enum Content {
     /// `[0]` single-ASN1-type: the element within, whatever it is.
     Single(Node),
-    /// `[1]` octet-aligned: octets, as of a MARC record.
+    /// `[1]` octet-aligned: octets, for example of a MARC record.
     Aligned(Bytes),
     /// `[2]` arbitrary: bits.
     Arbitrary(Bits),
 }
 
-/// An EXTERNAL (X.208, 34): what names the syntax, and the content.
+/// An EXTERNAL (X.208, 34): its syntax, and its content.
 pub struct External {
     /// direct-reference: the syntax's object identifier.
     pub direct: Option<Oid>,
     /// indirect-reference: the number of a presentation context.
     pub indirect: Option<i64>,
-    /// data-value-descriptor: a text on the value.
+    /// data-value-descriptor: a text about the value.
     pub descriptor: Option<Bytes>,
-    /// encoding.
+    /// encoding: the value.
     pub content: Content,
 }
 

@@ -1,4 +1,4 @@
-//! The last elements of both Inits: what they tell of an implementation, and what is open to either side.
+//! The last elements of InitializeRequest and InitializeResponse: the implementation, and what either side may add.
 ghost use Rattle.std.specs.Prelude.{◌≡◌, [], IfOk};
 ghost use Rattle.zasn.specs.Answers.{Finds, Puts};
 ghost use Rattle.zapdu.specs.Productions.Implementations.{implementation, implementation_parts};
@@ -9,7 +9,7 @@ use std::alloc::Global;
 use zasn::{BuildError, PartError, Parts, PartsBuf};
 use zber::{Node, Tag};
 
-/// These elements as they were read.
+/// The values of these elements.
 #[derive(Drop)]
 pub(crate) struct Implementation {
     pub implementation_id: Option<Bytes>,

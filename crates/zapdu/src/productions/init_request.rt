@@ -20,11 +20,11 @@ pub struct InitRequest {
     /// The options that the origin proposes: bit 0 search, 1 present, 13 concurrentOperations, 14 namedResultSets,
     /// others as the standard numbers them.
     pub options: Bits,
-    /// The octets that the records of a response should not pass.
+    /// The most octets that the records of a response should have.
     pub preferred_message_size: i64,
-    /// The octets that one record alone may have.
+    /// The most octets that one record alone may have.
     pub exceptional_record_size: i64,
-    /// idAuthentication `[7]`: the element within it, whatever it is.
+    /// idAuthentication `[7]`: the one element within it, of any kind.
     pub id_authentication: Option<Node>,
     /// Who made the implementation.
     pub implementation_id: Option<Bytes>,
@@ -32,7 +32,7 @@ pub struct InitRequest {
     pub implementation_name: Option<Bytes>,
     /// The implementation's version.
     pub implementation_version: Option<Bytes>,
-    /// Whatever else the origin tells.
+    /// Further information from the origin.
     pub user_information_field: Option<External>,
     /// otherInfo `[201]`, kept as its element.
     pub other_info: Option<Node>,

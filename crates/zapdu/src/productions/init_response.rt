@@ -10,7 +10,7 @@ use std::alloc::Global;
 use zasn::{BuildError, PartError, Parts, PartsBuf, Production};
 use zber::{Bits, Node, Tag};
 
-/// The answer to an InitializeRequest: what is in force of what the origin proposed (Z39.50-2003, 3.2.1.1).
+/// The reply to an InitializeRequest: which of the origin's proposals are in force (Z39.50-2003, 3.2.1.1).
 #[derive(Drop)]
 pub struct InitResponse {
     /// The request's reference id.
@@ -20,9 +20,9 @@ pub struct InitResponse {
     /// The options that both sides agree on: bit 0 search, 1 present, 13 concurrentOperations, 14 namedResultSets,
     /// others as the standard numbers them.
     pub options: Bits,
-    /// The octets that the records of a response should not pass.
+    /// The most octets that the records of a response should have.
     pub preferred_message_size: i64,
-    /// The octets that one record alone may have.
+    /// The most octets that one record alone may have.
     pub exceptional_record_size: i64,
     /// Whether the target accepts the association.
     pub result: bool,
@@ -32,7 +32,7 @@ pub struct InitResponse {
     pub implementation_name: Option<Bytes>,
     /// The implementation's version.
     pub implementation_version: Option<Bytes>,
-    /// Whatever else the target tells, as why it refuses.
+    /// Further information from the target, for example why it refuses.
     pub user_information_field: Option<External>,
     /// otherInfo `[201]`, kept as its element.
     pub other_info: Option<Node>,

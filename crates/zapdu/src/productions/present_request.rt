@@ -22,7 +22,7 @@ pub struct PresentRequest {
     pub number_of_records_requested: i64,
     /// Further ranges, after the first.
     pub additional_ranges: Option<Seq<Range>>,
-    /// What the records are to be made of.
+    /// Which elements the records are to have.
     pub record_composition: Option<RecordComposition>,
     /// The syntax that the origin prefers.
     pub preferred_record_syntax: Option<Oid>,

@@ -7,14 +7,14 @@ use std::alloc::Global;
 use zasn::{BuildError, OwnParts, PartError, Parts, PartsBuf, Production, Taken, read_copies};
 use zber::{Node, Tag};
 
-/// The answer to a PresentRequest (Z39.50-2003, 3.2.3.1).
+/// The reply to a PresentRequest (Z39.50-2003, 3.2.3.1).
 #[derive(Drop)]
 pub struct PresentResponse {
     /// The request's reference id.
     pub reference_id: Option<Bytes>,
-    /// How many records, surrogates among them, the response has.
+    /// How many records the response has; surrogates are counted.
     pub number_of_records_returned: i64,
-    /// The position after the last record returned; 0 where that is the last of the set.
+    /// The position after the last record returned; 0 if this is the last of the set.
     pub next_result_set_position: i64,
     /// 0 success, 1 to 4 partial, 5 failure.
     pub present_status: i64,

@@ -5,7 +5,7 @@ use std::alloc::Global;
 use zasn::{BuildError, PartError, Parts, PartsBuf, Production, Tagged, read_within, write_within};
 use zber::{Node, Tag};
 
-/// Records of a result set that follow one another (Z39.50-2003, 4.1: Range).
+/// Successive records of a result set (Z39.50-2003, 4.1: Range).
 #[derive(Drop)]
 pub struct Range {
     /// The first record's position; the set's first is 1.

@@ -12,11 +12,11 @@ use zasn::{
 };
 use zber::{Duplicate, Node, Seq, Tag};
 
-/// What stands in the place of a record.
+/// A record, or what the target sends instead of it.
 pub enum RecordBody {
     /// retrievalRecord: the record.
     Retrieval(External),
-    /// surrogateDiagnostic: why the record could not be given.
+    /// surrogateDiagnostic: why the target cannot send the record.
     Surrogate(DiagRec),
     /// A fragment of a record, kept as its element `[3]`, `[4]` or `[5]`.
     Fragment(Node),
@@ -27,18 +27,18 @@ pub enum RecordBody {
 pub struct Record {
     /// The database's name.
     pub name: Option<Bytes>,
-    /// The record, or what stands in its place.
+    /// The record, or what the target sends instead of it.
     pub body: RecordBody,
 }
 
-/// What a response has in the place of its records (Z39.50-2003, 4.1: Records).
+/// The records of a response, or diagnostics instead of them (Z39.50-2003, 4.1: Records).
 #[derive(Drop)]
 pub enum Records {
-    /// responseRecords: records, or surrogates for them.
+    /// responseRecords: records, or surrogates instead of them.
     List(Seq<Record>),
-    /// nonSurrogateDiagnostic: why there are none.
+    /// nonSurrogateDiagnostic: why there are no records.
     OneDiag(DefaultDiag),
-    /// multipleNonSurDiagnostics.
+    /// multipleNonSurDiagnostics: why there are no records, in several diagnostics.
     ManyDiags(Seq<DiagRec>),
 }
 

@@ -1,4 +1,4 @@
-//! Record composition: what the records of a response are to be made of.
+//! Record composition: which elements the records of a response are to have.
 ghost use Rattle.zapdu.specs.Productions.RecordCompositions.{record_composition};
 
 use crate::productions::element_set_names::ElementSetNames;
@@ -6,7 +6,7 @@ use std::alloc::Global;
 use zasn::{BuildError, Contents, PartError, Tagged, read_alone_tagged, write_alone_tagged};
 use zber::{Node, Tag};
 
-/// What the records of a response are to be made of (Z39.50-2003, 3.2.3.1).
+/// Which elements the records of a response are to have (Z39.50-2003, 3.2.3.1).
 #[derive(Drop)]
 pub enum RecordComposition {
     /// simple `[19]`: an element set.

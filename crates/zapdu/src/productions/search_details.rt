@@ -1,4 +1,4 @@
-//! The last elements of a SearchRequest: what is to be given of the records that come with the response, and the query.
+//! The last elements of a SearchRequest: the element sets and the syntax of the records in the response, and the query.
 ghost use Rattle.std.specs.Prelude.{◌≡◌, [], IfOk};
 ghost use Rattle.zasn.specs.Answers.{Finds, Puts};
 ghost use Rattle.zapdu.specs.Productions.SearchDetails.{details_of, search_details_parts};
@@ -10,7 +10,7 @@ use std::alloc::Global;
 use zasn::{BuildError, PartError, Parts, PartsBuf};
 use zber::{Node, Oid, Tag};
 
-/// These elements as they were read.
+/// The values of these elements.
 #[derive(Drop)]
 pub(crate) struct SearchDetails {
     pub small_set_element_set_names: Option<ElementSetNames>,

@@ -9,11 +9,11 @@ use zasn::{BuildError, PartError, Tagged, sole, write_any, write_around};
 use zber::{Node, Tag};
 use zquery_rpn::Query;
 
-/// What is searched for (Z39.50-2003, 4.1: Query).
+/// The query of a search (Z39.50-2003, 4.1: Query).
 pub enum SearchQuery {
     /// type-1 `[1]`.
     Rpn(Query),
-    /// A query of another type: an element with any tag but `[1]`, kept as it stands.
+    /// A query of another type: an element with any tag but `[1]`, kept unchanged.
     Other(Node),
 }
 
@@ -26,6 +26,7 @@ impl Drop for SearchQuery {
     }
 }
 
+/// Reads an element as a query of type 1 if its tag is `[1]`, and otherwise keeps it.
 fn query_of(alloc: Global, node: &Node) -> Result<SearchQuery, PartError>
     ensures { Means (option_map of_sum (any_query node.now)) result }
 {
@@ -38,7 +39,7 @@ fn query_of(alloc: Global, node: &Node) -> Result<SearchQuery, PartError>
     }
 }
 
-/// The query that the one element within an element stands for.
+/// Reads the one element within an element as a query.
 fn query_in(alloc: Global, node: &Node) -> Result<SearchQuery, PartError>
     ensures { Means (option_map of_sum (query_within node.now)) result }
 {

@@ -11,18 +11,19 @@ use std::alloc::Global;
 use zasn::{BuildError, PartError, Parts, PartsBuf, Production};
 use zber::{Node, Oid, Seq, Tag};
 
-/// A query for databases, whose matches are kept as a result set (Z39.50-2003, 3.2.2.1).
+/// A request for a search: a query for databases. The target keeps the matches as a result set (Z39.50-2003, 3.2.2.1).
 #[derive(Drop)]
 pub struct SearchRequest {
     /// The reference id.
     pub reference_id: Option<Bytes>,
-    /// Up to how many matches all records come with the response.
+    /// If there are at most this many matches, all records come with the response.
     pub small_set_upper_bound: i64,
-    /// From how many matches on no record comes with the response.
+    /// If there are at least this many matches, no record comes with the response.
     pub large_set_lower_bound: i64,
-    /// How many records come with the response between these bounds.
+    /// If the number of matches is between these bounds, this many records come with the response.
     pub medium_set_present_number: i64,
-    /// Whether a result set of the same name is replaced; else the search is refused where there is one.
+    /// Whether the target replaces a result set of the same name. If it does not, it refuses the search if there is
+    /// one.
     pub replace_indicator: bool,
     /// The result set's name.
     pub result_set_name: Bytes,
@@ -34,7 +35,7 @@ pub struct SearchRequest {
     pub medium_set_element_set_names: Option<ElementSetNames>,
     /// The syntax that the origin prefers.
     pub preferred_record_syntax: Option<Oid>,
-    /// What is searched for.
+    /// The query.
     pub query: SearchQuery,
     /// additionalSearchInfo `[203]`, kept as its element.
     pub additional_search_info: Option<Node>,

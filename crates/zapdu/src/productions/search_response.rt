@@ -7,20 +7,20 @@ use std::alloc::Global;
 use zasn::{BuildError, OwnParts, PartError, Parts, PartsBuf, Production, Taken, read_copies};
 use zber::{Node, Tag};
 
-/// The answer to a SearchRequest (Z39.50-2003, 3.2.2.1).
+/// The reply to a SearchRequest (Z39.50-2003, 3.2.2.1).
 #[derive(Drop)]
 pub struct SearchResponse {
     /// The request's reference id.
     pub reference_id: Option<Bytes>,
     /// How many records the result set has.
     pub result_count: i64,
-    /// How many records, surrogates among them, the response has.
+    /// How many records the response has; surrogates are counted.
     pub number_of_records_returned: i64,
-    /// The position after the last record returned; 0 where that is the last of the set.
+    /// The position after the last record returned; 0 if this is the last of the set.
     pub next_result_set_position: i64,
     /// Whether the search succeeded.
     pub search_status: bool,
-    /// What there is of the result set where the search failed: 1 subset, 2 interim, 3 none.
+    /// If the search failed, what the result set has: 1 subset, 2 interim, 3 none.
     pub result_set_status: Option<i64>,
     /// 0 success, 1 to 4 partial, 5 failure.
     pub present_status: Option<i64>,

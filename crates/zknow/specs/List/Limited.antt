@@ -1,4 +1,4 @@
--- A place of the values that pass a test.
+-- A place whose values are those of another place that pass a test.
 use Rattle.std.specs.Prelude.{◌≡◌, Bool, true, false, Option, Some, None, if◌then◌else◌}
 use Rattle.std.proofs.Common.{refl, ap, subst, ◌∙◌, cond}
 use Rattle.zber.specs.Elements.{Element}
@@ -6,15 +6,19 @@ use Rattle.zasn.specs.Building.{◌>>=◌}
 use Rattle.zasn.specs.Place.{Place}
 
 module _ {A : Type 0} (p : Place A) (test : A → Bool) where
+  -- the value, if it passes
   abbrev pub passing : A → Option A
   passing x = if test x then Some x else None
 
+  -- the value of an element, if it passes
   abbrev pub limited_meaning : Element → Option A
   limited_meaning n = p.meaning n >>= passing
 
+  -- the element of a value that passes
   abbrev pub limited_spelt : A → Option Element
   limited_spelt x = if test x then p.spelt x else None
 
+  -- the element has the value, and the value passes
   abbrev pub LimitedStands : A → Element → Type 0
   LimitedStands x n = p.stands x n × (test x ≡ true)
 
@@ -36,7 +40,7 @@ module _ {A : Type 0} (p : Place A) (test : A → Bool) where
   limited_none x true is e n h = p.none x e n h.0
   limited_none x false is e n h = let bad = h.1 in absurd cc
 
-  -- the place, with a value that passes and stands
+  -- the place, given a value that passes and its element
   abbrev pub limited : (x : A) (n : Element) → LimitedStands x n → Place A
   limited x n h = record {
     tags = p.tags;

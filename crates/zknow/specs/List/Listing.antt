@@ -15,30 +15,31 @@ use Rattle.zknow.specs.declared.tables.keys.RowKey.{RowKey}
 use Rattle.zknow.specs.Tables.Keys.{set_cmp, row_cmp}
 use Rattle.zknow.specs.Known.{is_set, records_at}
 
--- in order, and each once
+-- the keys in order, each once
 abbrev pub ascending : {K : Type 0} → (K → K → Ordering) → List K → List K
 ascending cmp [] = []
 ascending cmp (k ∷ ks) = insert_key cmp (ascending cmp ks) k
 
--- the target and set in whose block the fact is
+-- the target and set of the block that the fact is in
 abbrev pub block_of : Fact → Option SetKey
 block_of (Count t s n) = Some (record { target = t; set = s })
 block_of (Failed t s) = Some (record { target = t; set = s })
 block_of (Seen t s p r) = None
 block_of (Diag t s p d) = Some (record { target = t; set = s })
 
--- the position, target and set in whose row the fact is
+-- the position, target and set of the row that the fact is in
 abbrev pub row_of : Fact → Option RowKey
 row_of (Count t s n) = None
 row_of (Failed t s) = None
 row_of (Seen t s p r) = Some (record { position = p; target = t; set = s })
 row_of (Diag t s p d) = None
 
--- quoted; # and the number for a target without a name
+-- the quoted name, or # and the number if the target has no name
 abbrev pub name_or_number : ℕ → Option (List ℕ) → List ℕ
 name_or_number target None = 35 ∷ decimal target
 name_or_number target (Some name) = quoted name
 
+-- the text of a target
 abbrev pub name_text : List (List ℕ) → ℕ → List ℕ
 name_text names target = name_or_number target (slice_get names target)
 
@@ -46,7 +47,7 @@ name_text names target = name_or_number target (slice_get names target)
 abbrev pub line : List (List ℕ) → SetKey → List ℕ → List ℕ
 line names b tail = codes "target " ++ name_text names b.target ++ codes " set " ++ decimal b.set ++ tail ++ codes "\n"
 
--- the line of a fact of the block, nothing for another fact
+-- the line of a fact, empty if the fact is not in this block
 abbrev pub line_in : List (List ℕ) → SetKey → Fact → List ℕ
 line_in names b (Count t s n) =
     if is_set b.target b.set t s then line names b (codes " count " ++ signed_decimal n) else []
@@ -60,7 +61,7 @@ line_in names b (Diag t s p d) =
 abbrev pub block_text : List (List ℕ) → List Fact → SetKey → List ℕ
 block_text names facts b = flat_map (line_in names b) facts
 
--- one record is a row; two or more are a conflict, with a line for each
+-- the end of a row: its record, or a conflict with a line for each of its records
 abbrev pub entry_text : Bool → List Record → List ℕ
 entry_text hex [] = []
 entry_text hex (r ∷ []) = codes " " ++ record_text hex r ++ codes "\n"
@@ -68,11 +69,13 @@ entry_text hex (r ∷ q ∷ rest) =
     codes " conflict " ++ decimal (length (r ∷ q ∷ rest)) ++ codes "\n"
     ++ flat_map (λ x. codes "  " ++ record_text hex x ++ codes "\n") (r ∷ q ∷ rest)
 
+-- a row: its position, target and set, and its records
 abbrev pub row_text : List (List ℕ) → Bool → List Fact → RowKey → List ℕ
 row_text names hex facts k =
     signed_decimal k.position ++ codes " " ++ name_text names k.target ++ codes " " ++ decimal k.set
     ++ entry_text hex (records_at k.target k.set k.position facts)
 
+-- octets of records are printed in hexadecimal
 abbrev pub is_hex : Mode → Bool
 is_hex Text = false
 is_hex Hex = true

@@ -1,4 +1,4 @@
--- The element at the front of octets.
+-- The element that octets begin with, and its value.
 use Rattle.std.specs.Prelude.{◌≡◌, ◌≢◌, ℕ, ◌≤◌, List, ◌++◌, length, take, Option, Some, None, ⊤}
 use Rattle.zber.specs.Elements.{Element}
 use Rattle.zber.specs.Spelling.{Begins}
@@ -11,29 +11,29 @@ use Rattle.zknow.specs.Encodings.{encoding}
 use Rattle.zknow.specs.Saved.Saved.{longest, IsElement}
 use Rattle.zknow.specs.Saved.Loaded.{BeginsWith, NoElement}
 
--- the element that the octets begin with
+-- the octets begin with this element, or with none
 abbrev pub FrontElement : List ℕ → Option Element → Type 0
 FrontElement octets None = (n : Element) (rest : List ℕ) → Begins longest octets n rest → ⊥
 FrontElement octets (Some n) = (rest : List ℕ) × Begins longest octets n rest
 
--- what octets show of the element at their front
+-- how much octets show of the element that they begin with
 abbrev pub ShowsFront : List ℕ → Front → Type 0
 ShowsFront octets (front.Whole n) = FrontElement octets (Some n)
 ShowsFront octets front.Fault = (more : List ℕ) → FrontElement (octets ++ more) None
 ShowsFront octets front.Unfinished = FrontElement octets None
 
--- the value that it says
+-- the value of the element that the octets begin with
 abbrev pub FrontValue : {A : Type 0} → Place A → List ℕ → Option A → Type 0
 FrontValue p octets None = NoElement p octets
 FrontValue p octets (Some x) = (spelling rest : List ℕ) × BeginsWith p x octets spelling rest
 
--- so many octets are the canonical element of the value
+-- the first `size` octets are the canonical encoding of the value
 pub record IsTaken {A : Type 0} (p : Place A) (octets : List ℕ) (x : A) (size : ℕ) : Type 0 where
   pub within : size ≤ length octets
   pub canonical : take size octets ≡ encoding p x
   pub element : IsElement p x (encoding p x)
 
--- a value at the front that is not spelled canonically
+-- the octets begin with an element of a value, and it is not encoded canonically
 pub record IsOdd {A : Type 0} (p : Place A) (octets : List ℕ) : Type 0 where
   pub value : A
   pub spelling : List ℕ
@@ -41,7 +41,7 @@ pub record IsOdd {A : Type 0} (p : Place A) (octets : List ℕ) : Type 0 where
   pub begins : BeginsWith p value octets spelling rest
   pub odd : spelling ≢ encoding p value
 
--- why nothing was taken
+-- why no value was taken
 abbrev pub IsFrontFault : {A : Type 0} → Place A → List ℕ → FrontError → Type 0
 IsFrontFault p octets NoValue = NoElement p octets
 IsFrontFault p octets NotCanonical = IsOdd p octets

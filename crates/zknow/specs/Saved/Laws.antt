@@ -6,7 +6,8 @@ use Rattle.zknow.specs.declared.saved.loading.LoadError.TheVariants.{Memory}
 use Rattle.zknow.specs.Saved.Saved.{IsSaved}
 use Rattle.zknow.specs.Saved.Loaded.{IsFault}
 
--- a file is that of one list of names and one of facts, or has one fault, and not both; Memory says nothing of the file
+-- A file is saved from one list of names and one of facts at most, has one fault at most, and not both. The error
+-- `Memory` says nothing of the file.
 pub record OneAnswer : Type 0 where
   pub one_file : (file : List ℕ) (names others : List (List ℕ)) (facts more : List Fact) → IsSaved names facts file
       → IsSaved others more file → (names ≡ others) × (facts ≡ more)

@@ -1,5 +1,5 @@
--- What is wrong with a file that is no saved one: the first element at fault. The names' element is 0, that of the
--- first fact 1.
+-- The fault of a file that is not a saved file: the first element at fault, by its index. The element of the names has
+-- index 0, that of the first fact 1.
 use Rattle.std.specs.Prelude.{◌≡◌, ◌≢◌, ◌⊎◌, ℕ, ◌+◌, ◌<◌, List, [], ◌∷◌, ◌++◌, length, ⊤}
 use Rattle.std.specs.List.Sorted.{IsStrictlySortedBy}
 use Rattle.zasn.specs.Place.{Place}
@@ -11,23 +11,23 @@ use Rattle.zknow.specs.Facts.{fact_cmp}
 use Rattle.zknow.specs.Saved.SavedFacts.{saved_names, saved_fact}
 use Rattle.zknow.specs.Saved.Saved.{IsElement, IsSaved}
 
--- the octets begin with one element that says the value
+-- the octets begin with `spelling`, which is one element of the value, and `rest` comes after it
 pub record BeginsWith {A : Type 0} (p : Place A) (x : A) (octets spelling rest : List ℕ) : Type 0 where
   pub cut : octets ≡ spelling ++ rest
   pub element : IsElement p x spelling
 
--- with no such element of any value
+-- the octets do not begin with an element of any value
 abbrev pub NoElement : {A : Type 0} → Place A → List ℕ → Type 0
 NoElement {A} p octets = (x : A) (spelling rest : List ℕ) → BeginsWith p x octets spelling rest → ⊥
 
--- the file begins with the one of these names and facts, and more follows
+-- the file begins with the saved file of these names and facts, and `rest` comes after it
 pub record IsSoundUpTo (file : List ℕ) (names : List (List ℕ)) (facts : List Fact) (rest : List ℕ) : Type 0 where
   pub front : List ℕ
   pub cut : file ≡ front ++ rest
   pub saved : IsSaved names facts front
   pub more : 0 < length rest
 
--- all elements before this one are sound, and no fact stands here
+-- all elements before this one are sound, and this one is no fact
 pub record IsNoFact (file : List ℕ) (at : ℕ) : Type 0 where
   pub names : List (List ℕ)
   pub facts : List Fact
@@ -36,7 +36,7 @@ pub record IsNoFact (file : List ℕ) (at : ℕ) : Type 0 where
   pub place : at ≡ length facts + 1
   pub none : NoElement saved_fact rest
 
--- names stand at the front, and are not spelled canonically
+-- the file begins with names, and they are not encoded canonically
 pub record AreOddNames (file : List ℕ) : Type 0 where
   pub names : List (List ℕ)
   pub spelling : List ℕ
@@ -44,7 +44,7 @@ pub record AreOddNames (file : List ℕ) : Type 0 where
   pub begins : BeginsWith saved_names names file spelling rest
   pub odd : spelling ≢ encoding saved_names names
 
--- all elements before this one are sound, and a fact stands here that is not spelled canonically, or not above all
+-- all elements before this one are sound, and this one is a fact that is not encoded canonically or not above all facts
 -- before it
 pub record IsOddFact (file : List ℕ) (at : ℕ) : Type 0 where
   pub names : List (List ℕ)
@@ -58,13 +58,15 @@ pub record IsOddFact (file : List ℕ) (at : ℕ) : Type 0 where
   pub begins : BeginsWith saved_fact fact rest spelling after
   pub odd : (spelling ≢ encoding saved_fact fact) ⊎ (IsStrictlySortedBy fact_cmp (facts ++ fact ∷ []) → ⊥)
 
+-- the element with this index is no names, or no fact
 abbrev pub IsNotKnowledge : List ℕ → ℕ → Type 0
 IsNotKnowledge file at = ((at ≡ 0) × NoElement saved_names file) ⊎ IsNoFact file at
 
+-- the element with this index is not canonical, or its fact is not above all before it
 abbrev pub IsNotCanonical : List ℕ → ℕ → Type 0
 IsNotCanonical file at = ((at ≡ 0) × AreOddNames file) ⊎ IsOddFact file at
 
--- what is wrong with the file
+-- the fault of the file
 abbrev pub IsFault : List ℕ → LoadError → Type 0
 IsFault file (NotKnowledge at) = IsNotKnowledge file at
 IsFault file (NotCanonical at) = IsNotCanonical file at

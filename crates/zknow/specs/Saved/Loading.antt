@@ -1,4 +1,4 @@
--- A file that is being read.
+-- The state of a file that is read.
 use Rattle.std.specs.Prelude.{◌≡◌, ℕ, ◌<◌, ◌≤◌, List, [], ◌∷◌, ◌++◌, length, take, Option, Some, None, ⊤}
 use Rattle.std.specs.declared.cmp.Ordering.{Ordering}
 use Rattle.std.specs.declared.cmp.Ordering.TheVariants.{Less}
@@ -18,7 +18,7 @@ fault_at at front.NoValue = NotKnowledge at
 fault_at at front.NotCanonical = NotCanonical at
 fault_at at front.Memory = Memory
 
--- the fact order, but for the record or diagnostic
+-- the fact order without the record or diagnostic
 abbrev pub key_cmp : Fact → Fact → Ordering
 key_cmp a b =
     ordering_then (nat_cmp (kind_of a) (kind_of b))
@@ -36,7 +36,7 @@ abbrev pub IsLast : List Fact → Option Fact → Type 0
 IsLast facts None = facts ≡ []
 IsLast facts (Some g) = (front : List Fact) × (facts ≡ front ++ g ∷ [])
 
--- so many octets of the file are the saved file of these names and facts
+-- the first `at` octets of the file are the saved file of the names and facts read
 pub record IsLoadedUpTo (file : List ℕ) (l : Loading) : Type 0 where
   pub within : l.at ≤ length file
   pub saved : IsSaved l.names l.knowledge (take l.at file)

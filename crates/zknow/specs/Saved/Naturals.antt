@@ -1,4 +1,4 @@
--- Numbers that fit 32 bits, as INTEGERs (X.690, 8.3).
+-- Numbers of 32 bits as INTEGERs (X.690, 8.3).
 use Rattle.std.specs.Prelude.{◌≡◌, ℕ, ℤ, pos, negsuc, ◌^◌, ◌<◌, nat_lt, Bool, true, false, List, [], ◌∷◌, Option, Some, None, if◌then◌else◌}
 use Rattle.std.proofs.Common.{refl, ap, subst, ◌∙◌, cond, arith}
 use Rattle.std.proofs.lemmas.Bool.{ltb-true, lt-ltb}
@@ -16,6 +16,7 @@ use Rattle.zasn_tables.proofs.Builds.{fitting_spelled}
 use Rattle.zasn.specs.Places.{lawful}
 use Rattle.zknow.specs.declared.saved.natural.Natural.{Natural}
 
+-- the number has 32 bits at most
 abbrev pub is_natural : ℕ → Bool
 is_natural n = nat_lt n (2 ^ 32)
 
@@ -23,16 +24,18 @@ abbrev pub natural_in : ℤ → Option Natural
 natural_in (pos n) = if is_natural n then Some (record { number = n }) else None
 natural_in (negsuc n) = None
 
--- what an element means as such a number
+-- the number in an INTEGER of 32 bits
 abbrev pub natural_of : Element → Option Natural
 natural_of e = int_of e >>= natural_in
 
+-- the contents octets of a number
 abbrev pub natural_octets : Natural → List ℕ
 natural_octets v = integer_octets (pos v.number)
 
 abbrev pub fits : Natural → Bool
 fits v = is_natural v.number
 
+-- the element of a number, with this tag
 abbrev pub natural_spelt : AsnTag → Natural → Option Element
 natural_spelt tag v = if fits v then Some (Primitive tag (natural_octets v)) else None
 

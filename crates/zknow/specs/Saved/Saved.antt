@@ -21,42 +21,44 @@ saved names facts = encoding saved_names names ++ flat_map (encoding saved_fact)
 abbrev pub longest : ℕ
 longest = 4194304
 
--- the octets are one element within the limits of depth and length, and it says the value
+-- the octets are one element of the value, within the limits of depth and length
 pub record IsElement {A : Type 0} (p : Place A) (x : A) (octets : List ℕ) : Type 0 where
   pub node : Element
   pub message : IsMessage longest node octets
   pub says : p.stands x node
 
--- the canonical element of the value is one
+-- the canonical element of the value is within the limits
 abbrev pub Fits : {A : Type 0} → Place A → A → Type 0
 Fits p x = IsElement p x (encoding p x)
 
--- the file is that of the names and of facts in order, and each of its elements is within the limits
+-- the file is that of these names and facts, the facts are in order, and each element is within the limits
 pub record IsSaved (names : List (List ℕ)) (facts : List Fact) (file : List ℕ) : Type 0 where
   pub octets : file ≡ saved names facts
   pub ordered : IsStrictlySortedBy fact_cmp facts
   pub names_fit : Fits saved_names names
   pub facts_fit : AllByRecursion (Fits saved_fact) facts
 
--- the value's element has more levels, more octets, than the limit
+-- the value's element has more levels than the limit
 abbrev pub IsTooDeep : {A : Type 0} → Place A → A → Type 0
 IsTooDeep p x = IsSomeAnd (p.spelt x) (λ n. deepest < height n)
 
+-- the value's element has more octets than the limit
 abbrev pub IsTooLong : {A : Type 0} → Place A → A → Type 0
 IsTooLong p x = IsSomeAnd (p.spelt x) (λ n. longest < length (canonical n))
 
--- one of the elements has
+-- one of the elements has more levels than the limit
 abbrev pub HasDeep : List (List ℕ) → List Fact → Type 0
 HasDeep names facts = IsTooDeep saved_names names ⊎ ((f : Fact) × Contains facts f × IsTooDeep saved_fact f)
 
+-- one of the elements has more octets than the limit
 abbrev pub HasLong : List (List ℕ) → List Fact → Type 0
 HasLong names facts = IsTooLong saved_names names ⊎ ((f : Fact) × Contains facts f × IsTooLong saved_fact f)
 
--- no element has
+-- no element has more levels or octets than the limits
 abbrev pub AreWithin : List (List ℕ) → List Fact → Type 0
 AreWithin names facts = (HasDeep names facts → ⊥) × (HasLong names facts → ⊥)
 
--- why a file is refused: an element too deep, or else one too long
+-- why a knowledge is not saved: an element is too deep, or else one is too long
 abbrev pub IsRefused : List (List ℕ) → List Fact → SaveError → Type 0
 IsRefused names facts TooDeep = HasDeep names facts
 IsRefused names facts TooLong = HasLong names facts × (HasDeep names facts → ⊥)

@@ -26,10 +26,11 @@ use Rattle.zknow.specs.declared.saved.saved_fact.SavedDiag.{SavedDiag}
 use Rattle.zknow.specs.Saved.Naturals.{natural}
 use Rattle.zknow.specs.List.Limited.{limited, LimitedStands}
 
--- a name: the octets of an element that is primitive
+-- a name: the contents octets of a primitive element
 abbrev pub name_of : Element → Option (List ℕ)
 name_of e = meant (in_octets Ok e)
 
+-- a name [0]
 abbrev pub saved_name : Place (List ℕ)
 saved_name =
     lawful {P = tagged (context 0) name_of} {tags = context 0 ∷ []} {meaning = name_of}
@@ -37,7 +38,7 @@ saved_name =
     (tagged_place (context 0) name_of [] (Primitive (context 0) []) refl refl)
     (contents_spelled (context 0) name_of (λ xs. xs) (λ xs. refl))
 
--- names [4]: the names of targets in order, each [0]
+-- names [4]: the names of the targets in order, each [0]
 abbrev pub saved_names : Place (List (List ℕ))
 saved_names = list (context 4) saved_name
 
@@ -94,6 +95,7 @@ diag_parts =
 abbrev pub saved_diag : Natural → Natural → ℤ → DiagRec → SavedDiag
 saved_diag target set place diag = record { target = target; set = set; place = place; diag = diag }
 
+-- the four kinds of facts
 abbrev pub kinds : Choice Fact
 kinds =
     either (within (context 0) count_parts) (λ v. Count v.target.number v.set.number v.count)
@@ -101,6 +103,7 @@ kinds =
     (either (within (context 2) seen_parts) (λ v. Seen v.target.number v.set.number v.position v.rec)
     (finally (within (context 3) diag_parts) (λ v. Diag v.target.number v.set.number v.place v.diag))))
 
+-- the parts of a fact, as the value of its kind
 abbrev pub kind_pick : Fact → Pick kinds
 kind_pick (Count t s n) = inl (record { target = record { number = t }; set = record { number = s }; count = n })
 kind_pick (Failed t s) = inr (inl (record { target = record { number = t }; set = record { number = s } }))
@@ -132,7 +135,7 @@ in_range (Failed t s) = true
 in_range (Seen t s p r) = int_le (pos 1) p
 in_range (Diag t s p d) = int_le (pos 0) p
 
--- the element of the fact that set 0 of target 0 failed
+-- the element of the fact that set 0 of target 0 failed, as an example of a fact
 abbrev pub first_failed : Element
 first_failed = cons (context 1) (Primitive (context 0) (0 ∷ []) ∷ Primitive (context 1) (0 ∷ []) ∷ [])
 
@@ -140,6 +143,6 @@ pub first_stands : LimitedStands any_fact in_range (Failed 0 0) first_failed
 unfolding failed_parts
 first_stands = ((refl, ((refl, refl), ((refl, refl), tt))), refl)
 
--- a fact, its numbers in their ranges
+-- a fact with its numbers in their ranges
 abbrev pub saved_fact : Place Fact
 saved_fact = limited any_fact in_range (Failed 0 0) first_failed first_stands

@@ -1,4 +1,4 @@
--- A file that is being written.
+-- The state of a file that is written.
 use Rattle.std.specs.Prelude.{◌≡◌, ◌⊎◌, ℕ, true, false, List, ◌++◌, Result, Ok, Err, ⊤}
 use Rattle.std.specs.List.{AllByRecursion}
 use Rattle.zasn.specs.Place.{Place}
@@ -10,25 +10,26 @@ use Rattle.zknow.specs.Encodings.{encoding}
 use Rattle.zknow.specs.Saved.SavedFacts.{saved_names, saved_fact}
 use Rattle.zknow.specs.Saved.Saved.{saved, Fits, IsTooDeep, IsTooLong, HasDeep, HasLong}
 
--- the value's element was added, or it is too long
+-- the value's element was appended
 pub record IsAdded {A : Type 0} (p : Place A) (x : A) (old new : Saving) : Type 0 where
   pub long : new.long ≡ old.long
   pub octets : new.octets.items ≡ old.octets.items ++ encoding p x
   pub fits : Fits p x
   pub short : IsTooLong p x → ⊥
 
+-- the value's element is too long, and was left out
 pub record IsLeftOut {A : Type 0} (p : Place A) (x : A) (old new : Saving) : Type 0 where
   pub long : new.long ≡ true
   pub is : IsTooLong p x
 
--- what putting a value into the file answers
+-- before and after `put`: the value's element was appended, or left out because it is too long; or why not
 abbrev pub Adds : {A : Type 0} → Place A → A → Saving → Result (Unit {0}) SaveError → Saving → Type 0
 Adds p x old (Ok u) new = (IsTooDeep p x → ⊥) × (IsAdded p x old new ⊎ IsLeftOut p x old new)
 Adds p x old (Err TooDeep) new = IsTooDeep p x
 Adds p x old (Err TooLong) new = ⊥
 Adds p x old (Err Memory) new = ⊤
 
--- all elements of the names and facts are there, unless one was too long
+-- the octets are the elements of the names and facts, unless one was too long
 pub record IsSavedUpTo (names : List (List ℕ)) (facts : List Fact) (s : Saving) : Type 0 where
   pub shallow : HasDeep names facts → ⊥
   pub long : s.long ≡ true → HasLong names facts

@@ -4,7 +4,7 @@ use Rattle.zknow.specs.declared.fact.Fact.TheVariants.{Count, Failed, Seen, Diag
 use Rattle.zknow.specs.declared.tables.fact_ref.FactRef.{FactRef}
 use Rattle.zknow.specs.declared.tables.fact_ref.FactRef.TheVariants as refs
 
--- the fact
+-- the fact of a reference
 abbrev pub fact_of : FactRef → Fact
 fact_of (refs.Count t s n) = Count t s n
 fact_of (refs.Failed t s) = Failed t s

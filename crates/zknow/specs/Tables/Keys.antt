@@ -1,4 +1,4 @@
--- The keys of the tables, and marks.
+-- The orders of the keys of the tables, and marks.
 use Rattle.std.specs.Prelude.{◌≡◌, ◌↔◌, ℕ, ℤ, Bool, true, false, ⊤, IsTrue}
 use Rattle.std.proofs.Common.{ap, refl}
 use mathlib.Core.Bool.{false≢true}
@@ -40,10 +40,11 @@ row_total =
     then_total (on_total (λ s. s.position) int_cmp_total)
     (then_total (on_total (λ s. s.target) nat_cmp_total) (on_total (λ s. s.set) nat_cmp_total))
 
--- a mark's one item is there
+-- the mark has its one item
 abbrev pub IsMarked : Mark → Unit {0} → Type 0
 IsMarked m x = IsTrue m.is_set
 
+-- each mark is lawful
 abbrev pub IsAnyMark : Mark → Type 0
 IsAnyMark m = ⊤
 

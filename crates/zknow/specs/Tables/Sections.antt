@@ -1,4 +1,4 @@
--- The facts of the tables, in fact order: what every contract of a knowledge sees.
+-- The facts of the tables, in fact order, as every contract of a knowledge sees them.
 use Rattle.std.specs.Prelude.{ℤ, List, [], ◌∷◌, ◌++◌, map, if◌then◌else◌}
 use Rattle.std.specs.List.{flat_map}
 use Rattle.zknow.specs.declared.tables.keys.Mark.{Mark}
@@ -18,7 +18,7 @@ marked m = if m.is_set then tt ∷ [] else []
 abbrev pub numbered : {T : Type 0} → List (ℤ × List T) → List (ℤ × T)
 numbered t = section (λ xs. xs) (λ p x. (p, x)) t
 
--- the facts of each kind
+-- the facts of each kind, in order
 abbrev pub counts_of : Tables → List Fact
 counts_of k = section (λ xs. xs) (λ e n. Count e.target e.set n) k.counts
 
@@ -31,5 +31,6 @@ seen_of k = section numbered (λ e x. Seen e.target e.set x.0 x.1) k.seen
 abbrev pub diags_of : Tables → List Fact
 diags_of k = section numbered (λ e x. Diag e.target e.set x.0 x.1) k.diags
 
+-- all facts, in fact order
 abbrev pub facts_of : Tables → List Fact
 facts_of k = counts_of k ++ (failed_of k ++ (seen_of k ++ diags_of k))

@@ -1,4 +1,4 @@
--- That a table's items fix it: the law that `Table` proves as a `Join`.
+-- A table is determined by its items: the law that `Table` proves as a `Join`.
 use Rattle.std.proofs.Common.{◌≡◌, List, [], ◌∷◌, cond, Option, Some, None, IsSomeAnd, ◌↔◌, refl, sym, ap, subst, ◌∙◌}
 use Rattle.std.specs.declared.cmp.Ordering.{Ordering}
 use Rattle.std.specs.declared.cmp.Ordering.TheVariants.{Less, Equal, Greater}

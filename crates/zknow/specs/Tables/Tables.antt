@@ -1,4 +1,4 @@
--- What the tables of a knowledge hold: a fact, where the table of its kind has it.
+-- The facts in the tables of a knowledge: a fact is in the table of its kind.
 use Rattle.std.specs.Prelude.{◌≡◌, ◌↔◌, ℕ, ℤ, List, Contains, ⊤}
 use Rattle.std.proofs.Common.{ap, ◌∙◌}
 use Rattle.std.specs.Ordering.{int_cmp}
@@ -21,6 +21,7 @@ use Rattle.zknow.specs.Tables.Distinct.{AreDistinct}
 use Rattle.zknow.specs.Tables.DistinctLaws.{same_distinct}
 use Rattle.zknow.specs.Tables.Keys.{set_cmp, set_exact, set_total, IsMarked, IsAnyMark, same_marks}
 
+-- the key of a target's set
 abbrev pub key : ℕ → ℕ → SetKey
 key target set = record { target = target; set = set }
 
@@ -28,24 +29,30 @@ key target set = record { target = target; set = set }
 abbrev pub ByNumber : Type 0 → Type 0
 ByNumber T = List (SetKey × List (ℤ × List T))
 
+-- the table has the value, at this set and number
 abbrev pub HasValue : {T : Type 0} → ByNumber T → SetKey × (ℤ × T) → Type 0
 HasValue t x = HasItem set_cmp (HasItem int_cmp Contains) t x
 
+-- the table of its kind has the fact
 abbrev pub Knows : Tables → Fact → Type 0
 Knows k (Count t s n) = HasItem set_cmp Contains k.counts (key t s, n)
 Knows k (Failed t s) = HasItem set_cmp IsMarked k.failed (key t s, tt)
 Knows k (Seen t s p r) = HasValue k.seen (key t s, (p, r))
 Knows k (Diag t s p d) = HasValue k.diags (key t s, (p, d))
 
+-- each value is valid
 abbrev pub AnyValue : {T : Type 0} → T → Type 0
 AnyValue x = ⊤
 
+-- counts in order, each once
 abbrev pub AreCounts : List ℤ → Type 0
 AreCounts xs = AreDistinct int_cmp AnyValue xs
 
+-- records in the order of their encodings, each once
 abbrev pub AreRecords : List Record → Type 0
 AreRecords xs = AreDistinct (encoding_cmp whole_record) (IsSpellable whole_record) xs
 
+-- diagnostics in the order of their encodings, each once
 abbrev pub AreDiags : List DiagRec → Type 0
 AreDiags xs = AreDistinct (encoding_cmp diag_rec) AnyValue xs
 
@@ -56,7 +63,7 @@ pub record AreLawful (k : Tables) : Type 0 where
   pub seen : IsLawfulTable set_cmp (HasItem int_cmp Contains) (IsLawfulTable int_cmp Contains AreRecords) k.seen
   pub diags : IsLawfulTable set_cmp (HasItem int_cmp Contains) (IsLawfulTable int_cmp Contains AreDiags) k.diags
 
--- lawful tables that know the same facts are equal
+-- lawful tables with the same facts are equal
 pub same_tables : (a b : Tables) → AreLawful a → AreLawful b → ((f : Fact) → Knows a f ↔ Knows b f) → a ≡ b
 same_tables a b la lb same =
     let counts =
@@ -81,7 +88,7 @@ same_tables a b la lb same =
     ∙ ap (λ s. record a { counts = b.counts; failed = b.failed; seen = s }) seen
     ∙ ap (λ d. record b { diags = d }) diags
 
--- and each fact is one
+-- each table is lawful, and each fact in them is one that can be added
 pub record KnowsLawfully (k : Tables) : Type 0 where
   pub lawful : AreLawful k
   pub each : (f : Fact) → Knows k f → IsFact f

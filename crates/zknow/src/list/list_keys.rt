@@ -15,7 +15,7 @@ use crate::tables::{ByNumber, Tables};
 use std::alloc::{AllocError, Global};
 use zapdu::Record;
 
-/// The keys in order, each once.
+/// Returns the keys in order, each once.
 fn sort_keys<K: Key>(mut keys: Vec<K>) -> Vec<K>
     ensures { result.items ≡ ascending K.cmp keys.items }
 {
@@ -33,7 +33,7 @@ fn put_keys<J: Join>(table: &Table<SetKey, J>, out: &mut Vec<SetKey>) -> Result<
     Ok(())
 }
 
-/// The keys of the blocks.
+/// Returns the keys of the blocks, in order. Returns `AllocError` if no memory is found.
 pub(crate) fn block_keys(alloc: Global, tables: &Tables) -> Result<Vec<SetKey>, AllocError>
     requires { AreLawful tables.now }
     ensures { IfOk result (λ keys. keys.items ≡ ascending set_cmp (filter_map block_of (facts_of tables.now))) }
@@ -73,7 +73,7 @@ fn put_all_rows(table: &ByNumber<Record>, out: &mut Vec<RowKey>) -> Result<(), A
     Ok(())
 }
 
-/// The keys of the rows.
+/// Returns the keys of the rows, in order. Returns `AllocError` if no memory is found.
 pub(crate) fn row_keys(alloc: Global, tables: &Tables) -> Result<Vec<RowKey>, AllocError>
     requires { AreLawful tables.now }
     ensures { IfOk result (λ keys. keys.items ≡ ascending row_cmp (filter_map row_of (facts_of tables.now))) }

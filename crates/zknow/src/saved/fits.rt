@@ -1,4 +1,4 @@
-//! That an element stands for each fact.
+//! Each fact has an element.
 ghost use Rattle.std.specs.Prelude.{◌≡◌, ◌<◌, ◌^◌, true};
 ghost use Rattle.zasn.specs.Meanings.{is_i64};
 ghost use Rattle.zapdu.specs.Productions.Diagnostics.{diag_rec};
@@ -21,7 +21,7 @@ fn small_fits(number: u32)
     ensures { is_natural number ≡ true }
 {}
 
-/// Does nothing: it tells that an element stands for the fact.
+/// Does nothing. Its contract says that the fact has an element.
 pub(crate) fn fits(fact: &FactRef<'_>)
     requires { IsFact (fact_of fact.now) }
     ensures { IsSpellable saved_fact (fact_of fact.now) }

@@ -1,4 +1,4 @@
-//! The element at the front of a file's octets.
+//! The element that a file's octets begin with.
 ghost use Rattle.std.specs.Prelude.{◌≡◌, IfOk, IfErr};
 ghost use Rattle.zknow.specs.Saved.Fronts.{FrontElement, FrontValue, IsTaken, IsFrontFault, ShowsFront};
 
@@ -8,12 +8,12 @@ use std::alloc::{AllocError, Global};
 use zasn::{PartError, Tagged};
 use zber::{FrameError, Framer, Node};
 
-/// Why no value was taken from the front of octets.
+/// Why no value was taken from the octets.
 #[derive(Clone, Copy, Debug, PartialEq, Eq, Drop)]
 pub(crate) enum FrontError {
-    /// No element stands there, or one that says no such value.
+    /// The octets do not begin with an element of such a value.
     NoValue,
-    /// One does, and is not spelled canonically.
+    /// They do, and the element is not encoded canonically.
     NotCanonical,
     /// No memory was found.
     Memory,
@@ -30,21 +30,21 @@ impl From<AllocError> for FrontError {
     }
 }
 
-/// What octets show of the element at their front.
+/// How much octets show of the element that they begin with.
 #[derive(Drop)]
 pub(crate) enum Front {
-    /// All of it.
+    /// The whole element.
     Whole(Node),
-    /// A fault, whatever octets follow.
+    /// A fault, whatever octets come after them.
     Fault,
-    /// Neither yet.
+    /// Neither an element nor a fault yet.
     Unfinished,
 }
 
-/// The first octets that are read for an element; most elements have no more.
+/// How many octets are read first for an element; most elements have no more.
 const WINDOW: usize = 256;
 
-/// What these octets show.
+/// Returns how much these octets show. Returns `AllocError` if no memory is found.
 fn front_of(alloc: Global, octets: &[u8]) -> Result<Front, AllocError>
     ensures { IfOk result (ShowsFront octets.now) }
 {
@@ -58,10 +58,10 @@ fn front_of(alloc: Global, octets: &[u8]) -> Result<Front, AllocError>
     }
 }
 
-/// The element that octets begin with.
+/// Returns the element that octets begin with, or `None` if there is none. Returns `AllocError` if no memory is found.
 ///
-/// It looks at `WINDOW` octets, then at twice as many each time, until they show the element or a fault. Beyond
-/// `WINDOW` these are fewer than twice the octets that show it, and they are never more than `LONGEST`.
+/// It reads `WINDOW` octets, then twice as many each time, until they show the element or a fault. If it reads more
+/// than `WINDOW`, these are fewer than twice the octets that show it. It never reads more than `LONGEST`.
 fn front_element(alloc: Global, octets: &[u8]) -> Result<Option<Node>, AllocError>
     ensures { IfOk result (FrontElement octets.now) }
 {
@@ -82,7 +82,8 @@ fn front_element(alloc: Global, octets: &[u8]) -> Result<Option<Node>, AllocErro
     }
 }
 
-/// The value that the element says with which octets begin.
+/// Returns the value of the element that octets begin with, or `None` if there is none. Returns `AllocError` if no
+/// memory is found.
 fn front_value<T: Tagged>(alloc: Global, octets: &[u8]) -> Result<Option<T>, AllocError>
     ensures { IfOk result (FrontValue T.place octets.now) }
 {
@@ -99,7 +100,8 @@ fn front_value<T: Tagged>(alloc: Global, octets: &[u8]) -> Result<Option<T>, All
     }
 }
 
-/// The value whose canonical element octets begin with, and the length of that element.
+/// Returns the value whose canonical element octets begin with, and the length of that element in octets. Returns why
+/// there is none, or `Memory`.
 pub(crate) fn take_front<T: Tagged>(alloc: Global, octets: &[u8]) -> Result<(T, usize), FrontError>
     ensures taken { IfOk result (λ r. IsTaken T.place octets.now r.0 r.1) }
     ensures fault { IfErr result (IsFrontFault T.place octets.now) }

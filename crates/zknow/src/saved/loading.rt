@@ -14,16 +14,15 @@ use crate::saved::saved_names::SavedNames;
 use std::alloc::{AllocError, Global};
 use thiserror::Error;
 
-/// Why a file is no saved one.
+/// Why a file is not loaded.
 #[derive(Clone, Copy, Debug, PartialEq, Eq, Drop, Error)]
 pub enum LoadError {
-    /// The element with this index does not frame or does not end within 64 levels and 4,194,304 octets, is neither
-    /// names first nor a fact later, or has a number out of its range. The element of the names has index 0, that of
-    /// the first fact 1.
+    /// The element with this index is not a whole element of at most 64 levels and 4,194,304 octets; or it is not the
+    /// names (index 0) or a fact (index 1 and later); or it has a number out of its range.
     #[error("NotKnowledge at {at}")]
     NotKnowledge { at: usize },
-    /// The element with this index is not spelled canonically, or is not above the fact before it; indices are as at
-    /// `NotKnowledge`.
+    /// The element with this index is not encoded canonically, or its fact is not above the one before. Indices are as
+    /// at `NotKnowledge`.
     #[error("NotCanonical at {at}")]
     NotCanonical { at: usize },
     /// No memory was found.
@@ -32,7 +31,7 @@ pub enum LoadError {
 }
 
 impl LoadError {
-    /// Its name, as it is written here, in ASCII letters. It takes no memory.
+    /// Returns the variant's name in ASCII letters. It takes no memory.
     pub fn word(&self) -> &'static str
         ensures { result.now ≡ load_word self.now }
     {
@@ -56,7 +55,7 @@ impl From<AllocError> for LoadError {
 }
 
 impl FrontError {
-    /// The fault of the element with this index.
+    /// Returns the error of the element with this index.
     fn at(self, at: usize) -> LoadError
         ensures { result ≡ fault_at at self }
     {
@@ -68,7 +67,7 @@ impl FrontError {
     }
 }
 
-/// What the first elements of a file say: how many octets and how many facts they are, and the last fact.
+/// What was read from a file so far: the names, the facts and the last of them, how many facts, and how many octets.
 #[derive(Drop)]
 pub(crate) struct Loading {
     names: Names,
@@ -79,7 +78,7 @@ pub(crate) struct Loading {
 }
 
 impl Loading {
-    /// The names.
+    /// Reads the names. Returns the fault of their element, or `Memory`.
     fn start(alloc: Global, file: &[u8]) -> Result<Loading, LoadError>
         ensures ok { IfOk result (IsLoadedUpTo file.now) }
         ensures fault { IfErr result (IsFault file.now) }
@@ -96,7 +95,7 @@ impl Loading {
         }
     }
 
-    /// One fact more.
+    /// Reads one fact more. Returns the fault of its element, or `Memory`.
     fn load_fact(&mut self, alloc: Global, file: &[u8]) -> Result<(), LoadError>
         requires sound { IsLoadedUpTo file.now self.old }
         requires more { self.old.at < length file.now }
@@ -122,7 +121,7 @@ impl Loading {
     }
 }
 
-/// All elements of a file.
+/// Reads all elements of a file. Returns the first fault, or `Memory`.
 fn load_all(alloc: Global, file: &[u8]) -> Result<Loading, LoadError>
     ensures ok { IfOk result (λ l. IsSaved l.names l.knowledge file.now) }
     ensures fault { IfErr result (IsFault file.now) }
@@ -134,11 +133,11 @@ fn load_all(alloc: Global, file: &[u8]) -> Result<Loading, LoadError>
     Ok(loading)
 }
 
-/// What is known, and the names, from a saved file.
+/// Returns the knowledge and the names in a saved file.
 ///
-/// It succeeds exactly on what `save` writes, and gives the same knowledge and names. Else the first element at fault
-/// is told: `NotKnowledge` before `NotCanonical`, or `Memory`. It takes time by the number of facts and their octets,
-/// but for the searches in the tables.
+/// It succeeds exactly on what `save` writes, and returns the same knowledge and names. Else it returns the fault of
+/// the first element that has one, `NotKnowledge` before `NotCanonical`. Returns `Memory` if no memory is found. Apart
+/// from the searches in the tables, its time is proportional to the number of facts and their octets.
 pub fn load(alloc: Global, file: &[u8]) -> Result<(Knowledge, Names), LoadError>
     ensures ok { IfOk result (λ r. IsSaved r.1 r.0 file.now) }
     ensures fault { IfErr result (IsFault file.now) }

@@ -5,7 +5,7 @@ use std::alloc::Global;
 use zasn::{BuildError, Contents, PartError};
 use zber::{Node, Tag};
 
-/// A number that fits 32 bits, as an INTEGER (X.690, 8.3).
+/// A number of 32 bits as an INTEGER (X.690, 8.3).
 #[derive(Clone, Copy, Debug, PartialEq, Eq)]
 pub(crate) struct Natural {
     pub(crate) number: u32,

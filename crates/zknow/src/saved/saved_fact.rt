@@ -13,7 +13,7 @@ use zapdu::{DiagRec, Record};
 use zasn::{BuildError, PartError, Parts, PartsBuf, Production, Tagged, read_within, write_within};
 use zber::{Node, Tag};
 
-/// What the element `[0]` of a count holds.
+/// The contents of the element `[0]` of a count.
 #[derive(Drop)]
 pub(crate) struct SavedCount {
     pub(crate) target: Natural,
@@ -21,14 +21,14 @@ pub(crate) struct SavedCount {
     pub(crate) count: i64,
 }
 
-/// What the element `[1]` of a failure holds.
+/// The contents of the element `[1]` of a failure.
 #[derive(Drop)]
 pub(crate) struct SavedFailed {
     pub(crate) target: Natural,
     pub(crate) set: Natural,
 }
 
-/// What the element `[2]` of a record holds.
+/// The contents of the element `[2]` of a record.
 #[derive(Drop)]
 pub(crate) struct SavedSeen {
     pub(crate) target: Natural,
@@ -37,7 +37,7 @@ pub(crate) struct SavedSeen {
     pub(crate) rec: Record,
 }
 
-/// What the element `[3]` of a diagnostic holds.
+/// The contents of the element `[3]` of a diagnostic.
 #[derive(Drop)]
 pub(crate) struct SavedDiag {
     pub(crate) target: Natural,
@@ -204,8 +204,7 @@ fn natural(number: u32) -> Natural
     Natural { number }
 }
 
-/// Whether the numbers of a fact are in their ranges: a count is not negative, a position is at least 1, a place is at
-/// least 0.
+/// Whether the numbers of a fact are in their ranges: a count is at least 0, a position at least 1, a place at least 0.
 fn is_in_range(fact: &FactRef<'_>) -> bool
     ensures { result ≡ in_range (fact_of fact.now) }
 {
@@ -217,7 +216,7 @@ fn is_in_range(fact: &FactRef<'_>) -> bool
     }
 }
 
-/// The fact of an element with the tag of a kind, whatever its numbers.
+/// Returns the fact of an element, whatever its numbers. Returns `Misfit` if the element has no fact.
 fn any_fact_in(alloc: Global, node: &Node) -> Result<Fact, PartError>
     ensures { Means (any_fact.meaning node.now) result }
 {
@@ -261,7 +260,7 @@ fn failed_node(alloc: Global, target: u32, set: u32) -> Result<Node, BuildError>
     write_within(alloc, &saved, Tag::context(1))
 }
 
-/// Adds the elements of a record that was seen.
+/// Appends the elements of a record.
 #[tactic(auto, unfolding(crate::specs::Saved::SavedFacts::seen_parts))]
 fn put_seen(
     alloc: Global,
@@ -280,7 +279,7 @@ fn put_seen(
     out.required_tagged(alloc, rec)
 }
 
-/// Adds the elements of a diagnostic.
+/// Appends the elements of a diagnostic.
 #[tactic(auto, unfolding(crate::specs::Saved::SavedFacts::diag_parts))]
 fn put_diag(
     alloc: Global,
@@ -341,7 +340,7 @@ fn diag_node(
     Ok(out.into_node(Tag::context(3)))
 }
 
-/// The element of a fact, whatever its numbers.
+/// Returns the element of a fact, whatever its numbers.
 fn any_fact_node(alloc: Global, fact: &FactRef<'_>) -> Result<Node, BuildError>
     ensures { Makes (any_fact.spelt (fact_of fact.now)) result }
 {
@@ -363,7 +362,7 @@ fn any_fact_node(alloc: Global, fact: &FactRef<'_>) -> Result<Node, BuildError>
     }
 }
 
-/// The element of a fact. No record and no diagnostic is copied.
+/// Returns the element of a fact. It copies no record and no diagnostic.
 pub(crate) fn fact_node(alloc: Global, fact: &FactRef<'_>) -> Result<Node, BuildError>
     ensures { Makes (saved_fact.spelt (fact_of fact.now)) result }
 {

@@ -1,4 +1,4 @@
-//! The names of targets as one element of a saved file.
+//! The element of the names of targets in a saved file.
 ghost use Rattle.std.specs.Prelude.{◌≡◌, IfOk};
 ghost use Rattle.zasn.specs.Within.{all_of, list_of, whole_of};
 ghost use Rattle.zasn.specs.Answers.{Means};
@@ -11,7 +11,7 @@ use std::marker::Model;
 use zasn::{BuildError, PartError, Tagged, write_texts};
 use zber::{Body, Duplicate, Node, Seq, Tag};
 
-/// The name that an element stands for. It is primitive.
+/// Returns the name in a primitive element `[0]`. Returns `Misfit` for another element.
 fn name_in(_alloc: Global, node: &Node) -> Result<Bytes, PartError>
     ensures { Means (whole_of saved_name node.now) result }
 {
@@ -24,7 +24,7 @@ fn name_in(_alloc: Global, node: &Node) -> Result<Bytes, PartError>
     }
 }
 
-/// The names that elements stand for, in order.
+/// Returns the names in elements, in order.
 fn names_in(alloc: Global, nodes: &[Node]) -> Result<Names, PartError>
     ensures { Means (all_of (whole_of saved_name) nodes.now) result }
 {
@@ -36,7 +36,7 @@ fn names_in(alloc: Global, nodes: &[Node]) -> Result<Names, PartError>
     Ok(Seq::from_vec(names))
 }
 
-/// The names that the elements within one stand for.
+/// Returns the names in the elements within a constructed element. Returns `Misfit` if it is primitive.
 fn names_within(alloc: Global, node: &Node) -> Result<Names, PartError>
     ensures { Means (list_of (whole_of saved_name) node.now) result }
 {
@@ -61,7 +61,7 @@ impl Model for SavedNames {
 }
 
 impl SavedNames {
-    /// Equal names.
+    /// Returns equal names. Returns `AllocError` if no memory is found.
     pub(crate) fn of(alloc: Global, names: &Names) -> Result<SavedNames, AllocError>
         ensures { IfOk result (λ s. s ≡ names.now) }
     {
@@ -70,7 +70,7 @@ impl SavedNames {
         })
     }
 
-    /// The names.
+    /// Returns the names.
     pub(crate) fn into_names(self) -> Names
         ensures { result ≡ self }
     {

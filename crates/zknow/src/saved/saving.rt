@@ -20,13 +20,13 @@ use thiserror::Error;
 use zasn::{BuildError, Tagged};
 use zber::{EncodeError, Node};
 
-/// The most octets of an element of a saved file.
+/// The most octets that an element of a saved file may have.
 pub(crate) const LONGEST: u32 = 4_194_304;
 
 /// Why a knowledge is not saved.
 #[derive(Clone, Copy, Debug, PartialEq, Eq, Drop, Error)]
 pub enum SaveError {
-    /// An element has more than 64 constructed elements within one another.
+    /// An element has more than 64 levels of constructed elements.
     #[error("more than 64 constructed elements stand within one another")]
     TooDeep,
     /// No element is too deep, but one has more than 4,194,304 octets.
@@ -38,7 +38,7 @@ pub enum SaveError {
 }
 
 impl SaveError {
-    /// Its name, as it is written here, in ASCII letters. It takes no memory.
+    /// Returns the variant's name in ASCII letters. It takes no memory.
     pub fn word(&self) -> &'static str
         ensures { result.now ≡ save_word self.now }
     {
@@ -61,14 +61,14 @@ impl From<AllocError> for SaveError {
     }
 }
 
-/// The octets of the elements that are written, and whether one was too long and left out.
+/// The octets of the elements written so far, and whether one was left out because it is too long.
 #[derive(Drop)]
 pub(crate) struct Saving {
     octets: Vec<u8>,
     long: bool,
 }
 
-/// The element that stands for a value.
+/// Returns the element of a value. Returns `AllocError` if no memory is found.
 fn element_of<T: Tagged>(alloc: Global, value: &T) -> Result<Node, AllocError>
     requires { IsSpellable T.place value.now }
     ensures { IfOk result (λ n. T.place.spelt value.now ≡ Some n) }
@@ -80,7 +80,7 @@ fn element_of<T: Tagged>(alloc: Global, value: &T) -> Result<Node, AllocError>
     }
 }
 
-/// The element that stands for a fact.
+/// Returns the element of a fact. Returns `AllocError` if no memory is found.
 fn element_of_fact(alloc: Global, fact: &FactRef<'_>) -> Result<Node, AllocError>
     requires { IsSpellable saved_fact (fact_of fact.now) }
     ensures { IfOk result (λ n. saved_fact.spelt (fact_of fact.now) ≡ Some n) }
@@ -93,7 +93,7 @@ fn element_of_fact(alloc: Global, fact: &FactRef<'_>) -> Result<Node, AllocError
 }
 
 impl Saving {
-    /// Nothing is written.
+    /// Returns a state with nothing written.
     fn new(alloc: Global) -> Saving
         ensures octets { result.octets.items ≡ [] }
         ensures long { result.long ≡ false }
@@ -104,7 +104,7 @@ impl Saving {
         }
     }
 
-    /// Writes an element, unless it is too long.
+    /// Appends an element, or notes that it is too long. Returns `TooDeep`, or `Memory` if no memory is found.
     fn put<T: Tagged>(&mut self, alloc: Global, node: &Node) -> Result<(), SaveError>
         ensures { (value : T) → T.place.spelt value ≡ Some node.now → Adds T.place value self.old result self.new }
     {
@@ -119,7 +119,7 @@ impl Saving {
         }
     }
 
-    /// Writes the names, first of all.
+    /// Appends the names, as the first element.
     fn put_names(&mut self, alloc: Global, names: &Names) -> Result<(), SaveError>
         requires octets { self.old.octets.items ≡ [] }
         requires long { self.old.long ≡ false }
@@ -131,7 +131,7 @@ impl Saving {
         self.put::<SavedNames>(alloc, &node)
     }
 
-    /// Writes one fact more.
+    /// Appends one fact more.
     fn put_fact(&mut self, alloc: Global, fact: &FactRef<'_>) -> Result<(), SaveError>
         requires { IsFact (fact_of fact.now) }
         ensures ok { OnOk result ((names : List (List ℕ)) (facts : List _) → IsSavedUpTo names facts self.old
@@ -144,7 +144,7 @@ impl Saving {
         self.put::<Fact>(alloc, &node)
     }
 
-    /// Writes facts in order.
+    /// Appends facts in order.
     fn put_facts(&mut self, alloc: Global, facts: &[FactRef<'_>]) -> Result<(), SaveError>
         requires { AllByRecursion IsFact (map fact_of facts.now) }
         ensures ok { OnOk result ((names : List (List ℕ)) → IsSavedUpTo names [] self.old
@@ -158,7 +158,7 @@ impl Saving {
     }
 }
 
-/// The octets of the file.
+/// Returns the octets of the saved file, or why there is none.
 fn canonical_octets(
     alloc: Global,
     knowledge: &Knowledge,
@@ -180,12 +180,12 @@ fn canonical_octets(
     Ok(octets)
 }
 
-/// Appends the saved file of what is known: the canonical element of the names, and then those of the facts in fact
-/// order.
+/// Appends the saved file of a knowledge and names: the canonical element of the names, then those of the facts in fact
+/// order. `load` returns the same knowledge and names.
 ///
-/// `TooDeep` exactly where an element has more than 64 constructed elements within one another, `TooLong` exactly where
-/// none has and one is longer than 4,194,304 octets; either unless memory ran out before. Every refusal leaves `out` as
-/// it was. `load` gives the same knowledge and names back. It takes time by the number of facts and their octets.
+/// Returns `TooDeep` exactly if an element has more than 64 levels of constructed elements, and `TooLong` exactly if
+/// none has and one has more than 4,194,304 octets. If memory runs out before, it returns `Memory`. After an error
+/// `out` is unchanged. Its time is proportional to the number of facts and their octets.
 pub fn save(
     alloc: Global,
     knowledge: &Knowledge,

@@ -25,8 +25,8 @@ impl<T: Ranked> Model for Distinct<T> {
     ghost invariant = { λ d. AreDistinct T.order T.is_valid d.items.items };
 }
 
-/// The place that is looked at next: the last one at first, since values mostly come in order, then the one in the
-/// middle.
+/// Returns the index that is compared next: at first the last one, since values mostly come in order, later the one in
+/// the middle.
 fn next_place(low: usize, high: usize, is_first: bool) -> usize
     requires { low < high }
     ensures from { low ≤ result }
@@ -39,7 +39,8 @@ fn next_place(low: usize, high: usize, is_first: bool) -> usize
     }
 }
 
-/// Where the item would go, or `None` where it is.
+/// Returns the index at which the item would go, or `None` if it is there already. Returns `AllocError` if no memory is
+/// found.
 fn gap_for<T: Ranked>(alloc: Global, items: &[T], item: &T) -> Result<Option<usize>, AllocError>
     requires distinct { AreDistinct T.order T.is_valid items.now }
     requires valid { T.is_valid item.now }
@@ -65,7 +66,8 @@ fn gap_for<T: Ranked>(alloc: Global, items: &[T], item: &T) -> Result<Option<usi
     Ok(Some(low))
 }
 
-/// Puts an item at a place. The first takes room for one, since mostly one value stands at a place.
+/// Inserts an item at an index. An empty list first gets room for one, since most lists have one value. Returns
+/// `AllocError` if no memory is found; the list is unchanged.
 fn put_at<T: Drop>(items: &mut Vec<T>, at: usize, item: T) -> Result<(), AllocError>
     requires { at ≤ length items.old.items }
     ensures ok { OnOk result (items.new.items ≡ insert items.old.items at item) }
@@ -79,7 +81,7 @@ fn put_at<T: Drop>(items: &mut Vec<T>, at: usize, item: T) -> Result<(), AllocEr
 }
 
 impl<T: Ranked> Distinct<T> {
-    /// The values, in order.
+    /// Returns the values, in order.
     pub(crate) fn values(&self) -> &[T]
         ensures values { result.now ≡ self.now }
         ensures distinct { AreDistinct T.order T.is_valid result.now }

@@ -18,8 +18,8 @@ struct Entry {
     diag: DiagRec,
 }
 
-/// A diagnostic with its canonical encoding, which is made once: so two are compared without memory. They stand behind
-/// a pointer: so no more than that moves where one is put between others.
+/// A diagnostic with its canonical encoding, which is made once, so that comparing two takes no memory. Both are behind
+/// a pointer, so that inserting a diagnostic between others moves only pointers.
 #[derive(Drop)]
 pub(crate) struct EncodedDiag {
     entry: Box<Entry>,
@@ -43,7 +43,7 @@ impl Model for EncodedDiag {
 }
 
 impl EncodedDiag {
-    /// A copy of the diagnostic, with its encoding.
+    /// Returns a copy of the diagnostic, with its encoding. Returns `AllocError` if no memory is found.
     pub(crate) fn of(alloc: Global, diag: &DiagRec) -> Result<EncodedDiag, AllocError>
         ensures { IfOk result (λ e. e ≡ diag.now) }
     {
@@ -58,7 +58,7 @@ impl EncodedDiag {
         })
     }
 
-    /// The diagnostic.
+    /// Returns the diagnostic.
     pub(crate) fn diag(&self) -> &DiagRec
         ensures { result.now ≡ self.now }
     {
@@ -78,7 +78,7 @@ impl Duplicate for EncodedDiag {
     }
 }
 
-/// By the canonical encoding.
+/// The order is that of the canonical encodings.
 impl Ranked for EncodedDiag {
     type Key = ();
 

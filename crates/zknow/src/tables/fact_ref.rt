@@ -1,4 +1,4 @@
-//! Facts as they stand in the tables.
+//! References to facts in the tables.
 ghost use Rattle.std.specs.Prelude.{◌≡◌, IfOk};
 ghost use Rattle.zknow.specs.Tables.FactRefs.{fact_of};
 
@@ -6,7 +6,7 @@ use crate::fact::Fact;
 use std::alloc::{AllocError, Global};
 use zapdu::{DiagRec, Record};
 
-/// A fact whose record or diagnostic stays where it is.
+/// A fact whose record or diagnostic is borrowed.
 #[derive(Clone, Copy, Drop)]
 pub(crate) enum FactRef<'a> {
     Count {
@@ -33,7 +33,7 @@ pub(crate) enum FactRef<'a> {
 }
 
 impl<'a> FactRef<'a> {
-    /// The fact.
+    /// Returns a reference to the fact.
     pub(crate) fn of(fact: &'a Fact) -> FactRef<'a>
         ensures { fact_of result ≡ fact.now }
     {
@@ -72,7 +72,7 @@ impl<'a> FactRef<'a> {
         }
     }
 
-    /// The fact, with a copy of its record or diagnostic.
+    /// Returns the fact, with a copy of its record or diagnostic. Returns `AllocError` if no memory is found.
     pub(crate) fn to_fact(&self, alloc: Global) -> Result<Fact, AllocError>
         ensures { IfOk result (λ f. f ≡ fact_of self.now) }
     {

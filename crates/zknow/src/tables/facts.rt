@@ -1,4 +1,4 @@
-//! The facts of the tables, listed in fact order.
+//! The facts of the tables, in fact order.
 ghost use Rattle.std.specs.Prelude.{◌≡◌, ◌++◌, map, IfOk, OnOk};
 ghost use Rattle.zknow.specs.Tables.FactRefs.{fact_of};
 ghost use Rattle.zknow.specs.declared.fact.Fact.TheVariants.{Count, Failed};
@@ -14,17 +14,17 @@ use crate::tables::{ByNumber, Tables};
 use std::alloc::{AllocError, Global};
 use zapdu::Record;
 
-/// A value that a fact gives a number of a set.
+/// A value that a fact has at a number of a set: a record at a position, or a diagnostic at a place.
 pub(crate) trait Numbered: Ranked {
     ghost use Rattle.std.specs.Prelude.{◌≡◌, ℤ};
     ghost use Rattle.zknow.specs.declared.fact.Fact.{Fact};
     ghost use Rattle.zknow.specs.Tables.FactRefs.{fact_of};
     ghost use Rattle.zknow.specs.declared.tables.keys.SetKey.{SetKey};
 
-    /// That fact.
+    /// The fact of the value.
     ghost fact: { SetKey → ℤ → Self → Fact };
 
-    /// That fact, of the value where it is.
+    /// Returns a reference to the fact of the value.
     fn as_fact(&self, key: SetKey, number: &i64) -> FactRef<'_>
         ensures { fact_of result ≡ fact key number.now self.now };
 }
@@ -151,7 +151,8 @@ fn put_all_numbered<'a, T: Numbered>(
     Ok(())
 }
 
-/// The facts of the tables, in fact order. No record and no diagnostic is copied.
+/// Returns references to the facts of the tables, in fact order. It copies no record and no diagnostic. Returns
+/// `AllocError` if no memory is found.
 pub(crate) fn facts_in(alloc: Global, tables: &Tables) -> Result<Vec<FactRef<'_>>, AllocError>
     ensures { IfOk result (λ facts. map fact_of facts.items ≡ facts_of tables.now) }
 {

@@ -1,38 +1,39 @@
-//! What can be joined: a value that stands for a set of items.
+//! Values with sets of items, which can be joined.
 ghost use Rattle.std.specs.Prelude.{◌≡◌, ◌↔◌, ◌⊎◌, OnOk};
 ghost use Rattle.zknow.specs.Tables.Join.{IsUnion, IsPartOfUnion};
 
 use std::alloc::{AllocError, Global};
 
-/// A key: an order in which only equal keys tie.
+/// A key. Its order has ties only between equal keys.
 pub(crate) trait Key: Copy + Ord {
     ghost use Rattle.std.specs.declared.cmp.Ordering.TheVariants.{Equal};
 
     ghost exact: { (a b : Self) → Self.cmp a b ≡ Equal → a ≡ b };
 }
 
-/// A value that stands for a set of items. Items are added and never taken out, so values are joined in any order, and
-/// twice.
+/// A value with a set of items. Items are added and never removed, so values can be joined in any order, and more than
+/// once.
 pub trait Join: Drop + Sized {
-    /// What the value holds.
+    /// The type of the items.
     type Item;
 
-    /// The item is among those of the value.
+    /// The item is one of the value's items.
     ghost holds: { Self → Self.Item → Type 0 };
 
-    /// In order, and with nothing kept that holds no item.
+    /// The value is in order, and has no part without items.
     ghost is_lawful: { Self → Type 0 };
 
-    /// What may be added.
+    /// The item may be added.
     ghost can_add: { Self.Item → Type 0 };
 
-    /// A value with no items. It takes no memory yet.
+    /// Returns a value without items. It takes no memory yet.
     fn empty(alloc: Global) -> Self
         ensures { (x : Self.Item) → holds result x → ⊥ };
 
-    /// Adds an item; one that is there is not added again.
+    /// Adds an item, if the value does not have it already.
     ///
-    /// Where no memory is found, the value holds all that it held, and nothing but that and the item.
+    /// Returns `AllocError` if no memory is found. The value still has all its items, and no other except perhaps this
+    /// one.
     fn add(&mut self, item: &Self::Item) -> Result<(), AllocError>
         requires { can_add item.now }
         ensures ok { OnOk result (IsUnion (holds self.old) (λ x. x ≡ item.now) (holds self.new)) }
@@ -40,12 +41,13 @@ pub trait Join: Drop + Sized {
 
     /// Adds all items of another value.
     ///
-    /// Where no memory is found, the value holds all that it held, and nothing but that and items of the other.
+    /// Returns `AllocError` if no memory is found. The value still has all its items, and no others except perhaps some
+    /// of the other value.
     fn absorb(&mut self, other: &Self) -> Result<(), AllocError>
         ensures ok { OnOk result (IsUnion (holds self.old) (holds other.now) (holds self.new)) }
         ensures part { IsPartOfUnion (holds self.old) (holds other.now) (holds self.new) };
 
-    /// Does nothing: it tells that the value in hand is lawful.
+    /// Does nothing. Its contract says that the value is lawful.
     fn lawful(&self)
         ensures { is_lawful self.now };
 

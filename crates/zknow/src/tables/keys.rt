@@ -36,7 +36,7 @@ impl Key for i64 {
     ghost exact = { exact_signed };
 }
 
-/// Whether something happened: its one item is that it did.
+/// Whether something happened. If it did, the mark has one item.
 #[derive(Clone, Copy, Debug, PartialEq, Eq)]
 pub(crate) struct Mark {
     pub(crate) is_set: bool,

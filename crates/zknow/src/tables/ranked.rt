@@ -1,4 +1,4 @@
-//! Values in an order that may need memory to compare.
+//! Values in an order whose comparison may need memory.
 ghost use Rattle.std.specs.Prelude.{◌≡◌, true, IfSome};
 ghost use Rattle.zber.specs.Oids.{is_oid};
 ghost use Rattle.zasn.specs.Meanings.{is_i64};
@@ -11,9 +11,9 @@ use std::cmp::Ordering;
 use zapdu::{DiagRec, Record};
 use zber::{Duplicate, Oid};
 
-/// A value with an order, which may need memory to compare.
+/// A value with an order. A comparison may need memory.
 pub(crate) trait Ranked: Duplicate + Drop {
-    /// What is made of a value once, so that many others are compared with it.
+    /// What is made of a value once, to compare many others with it.
     type Key: Drop;
 
     ghost use Rattle.std.specs.Cmp.{IsTotalOrder};
@@ -23,18 +23,19 @@ pub(crate) trait Ranked: Duplicate + Drop {
 
     ghost order: { Self → Self → Ordering };
 
-    /// What can be told apart by the order.
+    /// The order distinguishes the value from all others.
     ghost is_valid: { Self → Type 0 };
 
     /// The key is that of the value.
     ghost is_key: { Self → Self.Key → Type 0 };
 
-    /// The value's key.
+    /// Returns the value's key. Returns `AllocError` if no memory is found.
     fn key(&self, alloc: Global) -> Result<Self::Key, AllocError>
         requires { is_valid self.now }
         ensures { IfOk result (λ key. is_key self.now key) };
 
-    /// How the value stands to another, whose key is at hand. Only equal values tie.
+    /// Compares the value with another, whose key is given. It is a tie only if the values are equal. Returns
+    /// `AllocError` if no memory is found.
     fn compare(&self, alloc: Global, other: &Self, key: &Self::Key) -> Result<Ordering, AllocError>
         requires mine { is_valid self.now }
         requires theirs { is_valid other.now }
@@ -69,7 +70,7 @@ impl Ranked for i64 {
     }
 }
 
-/// By the canonical encoding; only records that an element stands for can be told apart so.
+/// The order is that of the canonical encodings. It distinguishes only records that have an element.
 impl Ranked for Record {
     /// Its canonical encoding.
     type Key = Vec<u8>;
@@ -100,7 +101,7 @@ impl Ranked for Record {
     }
 }
 
-/// Does nothing: it tells that an element stands for the diagnostic, whichever it is.
+/// Does nothing. Its contract says that each diagnostic has an element.
 pub(crate) fn show_spelled(diag: &DiagRec)
     ensures { IsSpellable diag_rec diag.now }
 {

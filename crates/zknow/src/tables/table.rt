@@ -10,7 +10,7 @@ use std::collections::BTreeMap;
 use std::collections::btree_map::Iter;
 use std::marker::Model;
 
-/// A table of joins: keys in order, and for each a value that holds an item.
+/// A table of joins: keys in order, each with a value that has an item.
 #[derive(Drop)]
 pub(crate) struct Table<K: Key, J: Join> {
     alloc: Global,
@@ -26,7 +26,7 @@ impl<K: Key, J: Join> Model for Table<K, J> {
 }
 
 impl<K: Key, J: Join> Table<K, J> {
-    /// A table with no keys. It takes no memory yet.
+    /// Returns a table without keys. It takes no memory yet.
     pub(crate) fn new(alloc: Global) -> Self
         ensures { (x : K × J.Item) → HasItem K.cmp J.holds result x → ⊥ }
     {
@@ -36,12 +36,12 @@ impl<K: Key, J: Join> Table<K, J> {
         }
     }
 
-    /// What it takes memory from.
+    /// Returns the allocator of the table.
     pub(crate) fn allocator(&self) -> Global {
         self.alloc
     }
 
-    /// The value at a key.
+    /// Returns the value at a key, or `None` if there is none.
     pub(crate) fn get(&self, key: &K) -> Option<&J>
         ensures { option_copied result ≡ value_at K.cmp self.now key.now }
     {
@@ -55,7 +55,7 @@ impl<K: Key, J: Join> Table<K, J> {
         self.map.is_empty()
     }
 
-    /// The keys in order, each with its value.
+    /// Returns an iterator over the keys in order, each with its value.
     pub(crate) fn iter(&self) -> Iter<'_, K, J>
         ensures entries { result ≡ self.now }
         ensures lawful { IsLawfulTable K.cmp J.holds J.is_lawful result }
@@ -63,7 +63,7 @@ impl<K: Key, J: Join> Table<K, J> {
         self.map.iter()
     }
 
-    /// Adds an item at a key, as `add` does.
+    /// Adds an item at a key. Memory is as for `add`.
     pub(crate) fn add_at(&mut self, key: K, item: &J::Item) -> Result<(), AllocError>
         requires { J.can_add item.now }
         ensures ok { OnOk result (IsUnion (HasItem K.cmp J.holds self.old) (AtKey key (λ x. x ≡ item.now))
@@ -83,7 +83,7 @@ impl<K: Key, J: Join> Table<K, J> {
         Ok(())
     }
 
-    /// Joins a value that holds an item into the value at a key.
+    /// Joins a value that has an item into the value at a key. Memory is as for `absorb`.
     fn absorb_at(&mut self, key: K, other: &J) -> Result<(), AllocError>
         requires { (x : J.Item) × J.holds other.now x }
         ensures ok { OnOk result (IsUnion (HasItem K.cmp J.holds self.old) (AtKey key (J.holds other.now))
@@ -105,7 +105,7 @@ impl<K: Key, J: Join> Table<K, J> {
 }
 
 impl<K: Key, L: Key, J: Join> Table<K, Table<L, J>> {
-    /// Adds an item at a key of the table at a key, as `add` does.
+    /// Adds an item at key `inner` of the table at key `outer`. Memory is as for `add`.
     pub(crate) fn add_within(
         &mut self,
         outer: K,
@@ -153,7 +153,7 @@ impl<K: Key, J: Join> Join for Table<K, J> {
         self.add_at(item.0, &item.1)
     }
 
-    // Each value of the other goes where it belongs: it costs what the other holds, and a search for each of its keys.
+    // Joins each value of the other table at its key. It costs a search for each key, and the joins.
     fn absorb(&mut self, other: &Self) -> Result<(), AllocError> {
         for (key, value) in other.iter() {
             self.absorb_at(*key, value)?;

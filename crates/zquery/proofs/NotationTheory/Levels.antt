@@ -19,7 +19,7 @@ use Rattle.zquery.proofs.NotationTheory.Refusing.{relaxed-step, relaxed, faulty,
 
 -- ---- one token
 
--- a place that a token takes on any level
+-- the token is expected, whatever its level
 abbrev Goes : Expected → Token → Type 0
 Goes p t = (next : List Expected) × (stepped any_level p t ≡ Ok next)
 
@@ -55,7 +55,7 @@ step-deep deep (Kind n) t h = absurd (no-such kind.BadTermType (kind_of t.text) 
 step-deep deep Name t h = absurd (Prim.cc h)
 step-deep deep OwnSet t h = absurd (no-such kind.UnknownSet (set_of t.text) (λ _. []) (λ e. cc) h)
 
--- a fault of a place that a token takes on any level is its level
+-- if a token is expected whatever its level, the only error can be `TooDeep`
 unless-other : (b : Bool) (x : List Expected) (e : PqfErrorKind) → unless_deep b x ≡ Err e → e ≡ kind.TooDeep
 unless-other true x e h = cc
 unless-other false x e h = absurd (Prim.cc h)
@@ -118,7 +118,7 @@ level-there : (deep : ℕ → Bool) (t : Token) (left : List Expected) (e : PqfE
 level-there deep t [] e h k = absurd (let same : kind.Trailing ≡ e.kind = ap (λ (x : PqfError). x.kind) (err-same (error_at t kind.Trailing) e (Err (error_at t kind.Trailing)) refl h) in cc)
 level-there deep t (P ∷ Ps) e h k = level-here deep t Ps e P (stepped deep P t) refl h k
 
--- a fault of tokens that pass on any level is a level
+-- if tokens pass whatever their levels, their only error can be `TooDeep`
 after-other : (deep : ℕ → Bool) (P : Expected) (t : Token) (ts : List Token) (Ps : List Expected) (e : PqfError) (left : List Expected) (r : Result (List Expected) PqfErrorKind)
     → ((next : List Expected) → walk deep ts (next ++ Ps) ≡ Err e → walk any_level ts (next ++ Ps) ≡ Ok left → e.kind ≡ kind.TooDeep)
     → stepped deep P t ≡ r → after t r (λ next. walk deep ts (next ++ Ps)) ≡ Err e → walk any_level (t ∷ ts) (P ∷ Ps) ≡ Ok left → e.kind ≡ kind.TooDeep
@@ -133,9 +133,9 @@ level-alone deep [] ps e left h g = absurd (Prim.cc h)
 level-alone deep (t ∷ ts) [] e left h g = absurd (Prim.cc g)
 level-alone deep (t ∷ ts) (P ∷ Ps) e left h g = after-other deep P t ts Ps e left (stepped deep P t) (λ next. level-alone deep ts (next ++ Ps) e left) refl h g
 
--- ---- a refusal
+-- ---- the error of tokens
 
--- a walk that does not pass has a fault
+-- tokens that do not pass have an error
 walk-fault : (ts : List Token) (r : Result (List Expected) PqfError) → walk below_limit ts (begin ts) ≡ r → ((left : List Expected) → walk below_limit ts (begin ts) ≡ Ok left → ⊥) → (e : PqfError) × (walk below_limit ts (begin ts) ≡ Err e)
 walk-fault ts (Ok left) h none = absurd (none left h)
 walk-fault ts (Err e) h none = (e, h)

@@ -1,4 +1,4 @@
--- A text has one answer.
+-- A text stands for one query at most and has one error at most.
 use Rattle.std.proofs.Common.{◌≡◌, sym, ◌∙◌, ap, subst, ℕ, ◌≤◌, List, length, Option, Some, None, inl, inr}
 use Rattle.zquery.specs.declared.notation.token.Token.{Token}
 use Rattle.zquery.specs.declared.notation.error.PqfError.{PqfError}

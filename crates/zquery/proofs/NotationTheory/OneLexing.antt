@@ -14,7 +14,7 @@ not-itself : (v : Bool) → v ≡ not v → ⊥
 not-itself true h = true≢false h
 not-itself false h = true≢false (sym h)
 
--- an octet of the other kind is first, or none
+-- the octets are none, or begin with one of the other kind
 abbrev Stops : Bool → List ℕ → Type 0
 Stops v [] = Unit {0}
 Stops v (b ∷ bs) = is_white b ≡ not v
@@ -22,7 +22,7 @@ Stops v (b ∷ bs) = is_white b ≡ not v
 clash-kind : (v : Bool) (b c : ℕ) → b ≡ c → is_white b ≡ not v → is_white c ≡ v → ⊥
 clash-kind v b c e g h = not-itself v (sym h ∙ ap is_white (sym e) ∙ g)
 
--- octets of one kind and what stops them are told apart
+-- octets of one kind, and those behind them, can be split in one way
 split-kind : (v : Bool) (xs ys r s : List ℕ) → AllAre is_white v xs → AllAre is_white v ys → Stops v r → Stops v s → xs ++ r ≡ ys ++ s → (xs ≡ ys) × (r ≡ s)
 split-kind v [] [] r s h k f g e = (refl, e)
 split-kind v [] (y ∷ ys) [] s h k f g e = absurd (Prim.cc e)
@@ -73,7 +73,7 @@ one-quoting (x ∷ xs) (y ∷ ys) a b h k e =
     let rest = one-quoting xs ys a b h.1 k.1 first.1 in
     (ap (λ (z : ℕ × Bool). z ∷ xs) first.0 ∙ ap (λ (zs : List (ℕ × Bool)). y ∷ zs) rest.0, rest.1)
 
--- what stays open behind pieces
+-- the octets behind pieces if no quote closes them: none, or a backslash
 abbrev IsOpenEnd : List ℕ → Type 0
 IsOpenEnd r = (r ≡ []) ⊎ (r ≡ 92 ∷ [])
 

@@ -19,7 +19,7 @@ pub none-force : [] ≡ in_force []
 unfolding in_force
 none-force = refl
 
--- what stands before new names the set
+-- the tokens before `new` give the query's set
 pub record Opened (own : List ℕ) (w : Word) (all new : List Token) : Type 0 where
   pub wraps : (p : Phrase) (q : Tree) → Reads own [] GeneralTerm p q → new ≡ tokens_in (placed 1 p) → IsQuery all (record { attr_set = own; root = q })
   pub walks : (deep : ℕ → Bool) → walk deep all (opening w) ≡ walk deep new (Operand GeneralTerm 1 ∷ [])
@@ -54,7 +54,7 @@ opened-word t ts own new len TypeOfTerm e h = bare t ts own new (Ok (bib1, t ∷
 opened-word t ts own new len Unknown e h = bare t ts own new (Ok (bib1, t ∷ ts)) refl h Unknown refl
 opened-word t ts own new len Plain e h = bare t ts own new (Ok (bib1, t ∷ ts)) refl h Plain refl
 
--- the refusal is that of the rest
+-- the error is that of the tokens left
 pub refused-on : (len : ℕ) (all : List Token) (t : Token) (ts : List Token) (own : List ℕ) (new : List Token) → all ≡ t ∷ ts → opened_at len all ≡ Ok (own, new) → refusal len all ≡ fault len (walk below_limit new (Operand GeneralTerm 1 ∷ []))
 refused-on len all t ts own new e h =
     ap (refusal len) e ∙ ap (fault len) ((opened-word t ts own new len (word t) refl (sym (ap (opened_at len) e) ∙ h)).walks below_limit)

@@ -33,7 +33,7 @@ use Rattle.zquery.proofs.NotationTheory.PrintedNumbers.{numbers-decimal, integer
 use Rattle.zquery.proofs.NotationTheory.PrintedTokens.{Lexes, lex-both, lex-word, lex-quoted, lex-space, word_at, quoted_at}
 use Rattle.zquery.proofs.NotationTheory.PrintedWords.{word-of, numbers-word, numbers-equals, dotted-no-equals, dotted-word, dotted-set}
 
--- the text is written for the tree, from this place on
+-- from this place on, the text has the tokens of a phrase for the tree
 pub record Prints (own : List ℕ) (xs : List Attr) (k : TermKind) (n at : ℕ) (text : List ℕ) (q : Tree) : Type 0 where
   pub phrase : Phrase
   pub reads : Reads own xs k phrase q

@@ -5,7 +5,7 @@ use Rattle.zquery.specs.declared.notation.token.Token.{Token}
 use Rattle.zquery.specs.Notation.Tokens.{is_white, ArePieces, spelled, IsQuoted, IsWord, IsWritten, TokensThen, AllWhite, AreTokens}
 use Rattle.zquery.specs.Notation.Printing.{escaped, in_quotes}
 
--- written before others from this place on, the text gives these tokens and then theirs
+-- from this place on, the text has these tokens, and then those of the octets behind it
 pub record Lexes (at : ℕ) (text : List ℕ) (ts : List Token) : Type 0 where
   pub lexed : (us : List Token) (tail : List ℕ) → TokensThen AllWhite us (at + length text) tail → TokensThen AllWhite (ts ++ us) at (text ++ tail)
 
@@ -52,7 +52,7 @@ word_at at text = record { at = at; quoted = false; text = text }
 abbrev pub quoted_at : ℕ → List ℕ → Token
 quoted_at at text = record { at = at; quoted = true; text = text }
 
--- a word with a space behind it
+-- a token without quotes, with a space behind it
 pub lex-word : (at : ℕ) (w : List ℕ) → IsWord w → Lexes at (w ++ 32 ∷ []) (word_at at w ∷ [])
 lex-word at w h = record {
   lexed = λ us tail f.

@@ -1,4 +1,4 @@
--- The words of a printed text.
+-- The tokens without quotes of a printed text.
 use Rattle.std.proofs.Common.{◌≡◌, refl, sym, ◌∙◌, ap, if◌then◌else◌, ℕ, ◌<◌, ◌≤◌, List, [], ◌∷◌, ◌++◌, length, Bool, true, false, ◌||◌, ◌⊎◌, inl, inr, Some, nat_lt, arith, length-append}
 use Rattle.std.specs.Char.{is_ascii_digit, to_ascii_lowercase}
 use Rattle.std.specs.Fmt.{decimal}
@@ -18,7 +18,7 @@ use Rattle.zquery.proofs.NotationTheory.PrintedNumbers.{decimal-digits}
 use Rattle.zquery.proofs.NotationTheory.SetLemmas.{oid-found, oid-named}
 use Rattle.zquery.specs.Notation.Laws.{SetNames}
 
--- octets above 34 stand in words
+-- all octets are above 34
 abbrev pub AllAbove : List ℕ → Type 0
 AllAbove [] = Unit {0}
 AllAbove (b ∷ bs) = (34 < b) × AllAbove bs
@@ -42,7 +42,7 @@ above-of : (w : List ℕ) → list_all (λ b. nat_lt 34 b) w ≡ true → AllAbo
 above-of [] h = tt
 above-of (b ∷ bs) h = let parts = and_parts (nat_lt 34 b) (list_all (λ b. nat_lt 34 b) bs) h in (ltb-true 34 b parts.0, above-of bs parts.1)
 
--- a word that is written out
+-- a token without quotes, given octet by octet
 pub word-of : (w : List ℕ) → 0 < length w → list_all (λ b. nat_lt 34 b) w ≡ true → IsWord w
 word-of w s h = word-above w s (above-of w h)
 
@@ -114,7 +114,7 @@ pub dotted-set : (ns : List ℕ) → IsOid ns → set_of (dotted ns) ≡ Some ns
 unfolding set_of
 dotted-set ns h = cond-false _ _ _ (not-bib1 (dotted ns) (some-dotted ns h) (dotted_plain ns)) ∙ oid-found (dotted ns) ns refl h
 
--- which set a text names
+-- which set has this name
 some-is : (x y : List ℕ) → Some x ≡ Some y → x ≡ y
 some-is x y h = cc
 

@@ -1,4 +1,4 @@
--- The first fault of the table is where the text stops being the beginning of a query.
+-- The first error of the table is at the token with which the text stops being the beginning of a query.
 use Rattle.std.proofs.Common.{◌≡◌, refl, sym, ◌∙◌, ap, ℕ, ◌+◌, List, [], ◌∷◌, ◌++◌, Option, Some, Result, Ok, Err, ◌⊎◌, inl, inr, Bool, true, false, codes}
 use Rattle.zquery.specs.declared.notation.token.Token.{Token}
 use Rattle.zquery.specs.declared.notation.word.Word.{Word}
@@ -123,7 +123,7 @@ walks-front deep z ts left h =
     let r = all-back deep z ts (begin ts) left h l.0 l.1 in
     from-tokens deep ts r.0 l.0 r.1 r.2 r.3
 
--- where the table finds a fault
+-- the first error of the table, with the tokens before it
 pub record Faulty (deep : ℕ → Bool) (ts : List Token) (ps : List Expected) (e : PqfError) : Type 0 where
   pub before : List Token
   pub token : Token

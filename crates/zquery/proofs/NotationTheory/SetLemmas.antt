@@ -91,7 +91,7 @@ no-root (a ∷ []) h n = h
 no-root (a ∷ b ∷ ns) h (inl g) = omega (arith, h.0)
 no-root (a ∷ b ∷ ns) h (inr p) = let low : b < 40 = h.1 p.0 in omega (arith, p.1)
 
--- a refusal but for want of memory tells that the text is of none
+-- if reading returns an error, and memory was found, the text is that of no object identifier
 pub no-oid : (text : List ℕ) (e : OidError) → (e ≡ Memory → ⊥) → FromDotted text (Err e) → oid_of text ≡ None
 no-oid text OidText m f = none-when text (oid_of text) refl (λ o e h. f o (some-arc o h) e)
 no-oid text OidArc m (ns, e, any) = none-when text (oid_of text) refl (λ o d h. low-high ns (subst (λ (z : List ℕ). All (λ n. n < 2 ^ 32) z) (dotted_apart o ns (sym d ∙ e)) h.fits) any)

@@ -1,4 +1,4 @@
--- The sets and types by which the attributes of an operand are told apart, as keys of an ordered set.
+-- The sets and types of the attributes of an operand, as keys of an ordered set.
 use Rattle.std.specs.Prelude.{◌≡◌, ℕ, ℤ, Bool, ◌&&◌, List, Option}
 use Rattle.std.specs.Borrow.{Bor}
 use Rattle.std.specs.BTreeSet.{BTreeSet, contains}
@@ -10,17 +10,18 @@ use Rattle.std.specs.Ordering.{ordering_then, nat_cmp, int_cmp, int_eq}
 use Rattle.zquery_rpn.specs.declared.query.Attr.{Attr}
 use Rattle.zquery.specs.InForce.{same_set}
 
+-- a set, if there is one, and a type
 abbrev pub Key : Type 0
 Key = Option (Bor (List ℕ)) × ℤ
 
--- by set, then by type
+-- the order of keys: by set, then by type
 abbrev pub key_cmp : Key → Key → Ordering
 key_cmp x y = ordering_then (option_cmp (λ a b. slice_cmp nat_cmp a.now b.now) x.0 y.0) (int_cmp x.1 y.1)
 
--- it is the set and type of the attribute
+-- the key is the set and type of the attribute
 abbrev pub is_key_of : Key → Attr → Bool
 is_key_of q a = same_set (option_map (λ s. s.now) q.0) a.attr_set && int_eq q.1 a.kind
 
--- the keys are those of the attributes
+-- the keys are exactly those of the attributes
 abbrev pub AreKeysOf : BTreeSet Key → List Attr → Type 0
 AreKeysOf keys attrs = (q : Key) → contains key_cmp keys q ≡ list_any (is_key_of q) attrs

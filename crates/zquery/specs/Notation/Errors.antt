@@ -1,8 +1,9 @@
--- The names of what can be wrong with a text.
+-- The name of each kind of error.
 use Rattle.std.specs.Prelude.{ℕ, List, codes}
 use Rattle.zquery.specs.declared.notation.error.PqfErrorKind.{PqfErrorKind}
 use Rattle.zquery.specs.declared.notation.error.PqfErrorKind.TheVariants as kind
 
+-- the variant's name
 abbrev pub kind_word : PqfErrorKind → List ℕ
 kind_word kind.OpenQuote = codes "OpenQuote"
 kind_word kind.Empty = codes "Empty"

@@ -1,4 +1,4 @@
--- Where a text stops being the beginning of a query.
+-- The token with which a text stops being the beginning of a query.
 use Rattle.std.specs.Prelude.{◌≡◌, ℕ, List, [], ◌∷◌, ◌++◌, Bool, false, ◌⊎◌}
 use Rattle.zquery.specs.declared.notation.token.Token.{Token}
 use Rattle.zquery.specs.declared.notation.error.PqfError.{PqfError}
@@ -12,7 +12,7 @@ abbrev pub Shallow : (ℕ → Bool) → List Placed → Type 0
 Shallow deep [] = Unit {0}
 Shallow deep (x ∷ xs) = (deep x.level ≡ false) × Shallow deep xs
 
--- the tokens begin some query of any height, but none of them is an operand or operator on a level that is too deep
+-- The tokens begin some query, of any height. None of them is an operand or operator on a level that is too deep.
 pub record IsFront (deep : ℕ → Bool) (ts : List Token) : Type 0 where
   pub whole : Whole
   pub own : List ℕ
@@ -24,7 +24,7 @@ pub record IsFront (deep : ℕ → Bool) (ts : List Token) : Type 0 where
   pub tokens : tokens_in front ≡ ts
   pub shallow : Shallow deep front
 
--- the fault is at the first token with which the tokens stop being such a front
+-- the error is at the first token with which the tokens stop being the beginning of a query
 pub record IsAtToken (ts : List Token) (e : PqfError) : Type 0 where
   pub before : List Token
   pub token : Token
@@ -34,22 +34,22 @@ pub record IsAtToken (ts : List Token) (e : PqfError) : Type 0 where
   pub broken : IsFront below_limit (before ++ token ∷ []) → ⊥
   pub at : e.at ≡ token.at
 
--- no level is too deep
+-- no level is too deep: queries of any height
 abbrev pub any_level : ℕ → Bool
 any_level n = false
 
--- the fault is at a token with which the tokens go on to the front of some query, but for its level
+-- the error is at such a token, but with it the tokens begin a query of any height: only its level is too deep
 pub record IsBelowLevels (ts : List Token) (e : PqfError) : Type 0 where
   pub first : IsAtToken ts e
   pub goes_on : IsFront any_level (first.before ++ first.token ∷ [])
 
--- the fault is at the end of a text of this length, a front that is no query
+-- the error is at the end of a text of this length: its tokens begin a query, but stand for none
 pub record IsAtEnd (len : ℕ) (ts : List Token) (e : PqfError) : Type 0 where
   pub continued : IsFront below_limit ts
   pub unfinished : (q : RpnQuery) → IsQuery ts q → ⊥
   pub is : e ≡ record { at = len; kind = kind.MissingOperand }
 
--- where the tokens of a text of this length are refused
+-- The error of the tokens of a text of this length: it is at a token or at the end, or `Empty` if there is no token.
 abbrev pub IsFirstFault : ℕ → List Token → PqfError → Type 0
 IsFirstFault len [] e = e ≡ record { at = 0; kind = kind.Empty }
 IsFirstFault len (t ∷ ts) e = IsAtToken (t ∷ ts) e ⊎ IsAtEnd len (t ∷ ts) e

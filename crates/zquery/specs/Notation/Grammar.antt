@@ -1,4 +1,4 @@
--- The notation: which tokens stand for which query (YAZ's prefix query format).
+-- The grammar of the notation: which tokens stand for which query (YAZ's prefix query format).
 use Rattle.std.specs.Prelude.{◌≡◌, ℕ, ◌+◌, pos, List, [], ◌∷◌, ◌++◌, true, false, Option, Some, None, if◌then◌else◌, map}
 use Rattle.std.specs.Str.{bytes_eq}
 use Rattle.zquery.specs.declared.notation.token.Token.{Token}
@@ -15,8 +15,8 @@ use Rattle.zquery.specs.Notation.Sets.{bib1, set_of}
 use Rattle.zquery.specs.Notation.Values.{numbers_of, has_equals, kind_of, value_of}
 use Rattle.zquery.specs.InForce.{in_force}
 
--- The cases of the grammar, with their tokens: a term; @set name; @attr type=value q; @attr set type=value q; @term
--- type q; @and q q, @or q q or @not q q.
+-- The cases of the grammar, with their tokens: a term; `@set name`; `@attr type=value q`; `@attr set type=value q`;
+-- `@term type q`; and `@and q q`, `@or q q` or `@not q q`.
 pub data Phrase : Type 0 where
   One : Token → Phrase
   Named : Token → Token → Phrase
@@ -25,15 +25,16 @@ pub data Phrase : Type 0 where
   Typed : Token → Token → Phrase → Phrase
   Joined : Token → Phrase → Phrase → Phrase
 
--- a token, and the level on which it is an operand or operator, or 0
+-- a token with the level on which it is an operand or operator; 0 if it is neither
 pub record Placed : Type 0 where
   pub token : Token
   pub level : ℕ
 
+-- the token on this level
 abbrev pub on : ℕ → Token → Placed
 on n t = record { token = t; level = n }
 
--- the tokens of a phrase that stands on a level
+-- the tokens of a phrase on this level, each with its level
 abbrev pub placed : ℕ → Phrase → List Placed
 placed n (One t) = on n t ∷ []
 placed n (Named t u) = on n t ∷ on 0 u ∷ []
@@ -42,20 +43,21 @@ placed n (InSet t u w p) = on 0 t ∷ on 0 u ∷ on 0 w ∷ placed n p
 placed n (Typed t u p) = on 0 t ∷ on 0 u ∷ placed n p
 placed n (Joined t p r) = on n t ∷ (placed (n + 1) p ++ placed (n + 1) r)
 
--- a result set, with attributes where some are in force
+-- a result set, with the attributes in force if there are any
 abbrev pub set_tree : List ℕ → List Attr → Tree
 set_tree name [] = OfSet name
 set_tree name (a ∷ xs) = OfSetAttrs name (a ∷ xs)
 
--- a set that is the query's own is not kept
+-- the set that an attribute keeps: none if it is the query's own
 abbrev pub kept_set : List ℕ → List ℕ → Option (List ℕ)
 kept_set own set = if bytes_eq own set then None else Some set
 
+-- the attribute of this set, type and value
 abbrev pub attr : Option (List ℕ) → ℕ × ℕ → Attr
 attr set n = record { attr_set = set; kind = pos n.0; value = Number (pos n.1) }
 
--- The phrase stands for the tree in a query with this set, below these attributes, outermost first, and this type of
--- term.
+-- The phrase stands for the tree. The query has this set; the attributes above the phrase, outermost first, and the
+-- type of term are given.
 abbrev pub Reads : List ℕ → List Attr → TermKind → Phrase → Tree → Type 0
 Reads own xs k (One t) q =
     (word t ≡ Plain) × ((v : TermValue) × (value_of k t.text ≡ Some v) × (q ≡ OfTerm (in_force xs) v))
@@ -73,19 +75,22 @@ Reads own xs k (Joined t p r) q =
     (o : Operator) × (word t ≡ Op o)
     × ((a : Tree) × Reads own xs k p a × ((b : Tree) × Reads own xs k r b × (q ≡ Of o a b)))
 
--- a whole query: a phrase, or @attrset set and a phrase
+-- a whole query: a phrase, or `@attrset set` and a phrase
 pub data Whole : Type 0 where
   Bare : Phrase → Whole
   InAttrSet : Token → Token → Phrase → Whole
 
+-- the tokens of a whole query, each with its level
 abbrev pub whole_placed : Whole → List Placed
 whole_placed (Bare p) = placed 1 p
 whole_placed (InAttrSet t u p) = on 0 t ∷ on 0 u ∷ placed 1 p
 
+-- the whole query has this set and this tree
 abbrev pub ReadsWhole : Whole → List ℕ → Tree → Type 0
 ReadsWhole (Bare p) own q = (own ≡ bib1) × Reads own [] GeneralTerm p q
 ReadsWhole (InAttrSet t u p) own q = (word t ≡ AttrSet) × (set_of u.text ≡ Some own) × Reads own [] GeneralTerm p q
 
+-- the tokens without their levels
 abbrev pub tokens_in : List Placed → List Token
 tokens_in ps = map (λ p. p.token) ps
 

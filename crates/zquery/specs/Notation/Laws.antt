@@ -17,13 +17,13 @@ use Rattle.zquery.specs.Lawful.{IsLawful}
 use Rattle.zquery.specs.Notation.Printing.{printable, query_text}
 use Rattle.zquery_rpn.specs.Element.Type1.{WritesQuery}
 
--- a text has one list of tokens, or one quote that stays open
+-- a text has one list of tokens at most, or one quote that no quote closes, and not both
 pub record OneLexing : Type 0 where
   pub one_list : (text : List ℕ) (ts us : List Token) → AreTokens ts text → AreTokens us text → ts ≡ us
   pub one_open : (text : List ℕ) (p q : ℕ) → IsOpenAt p text → IsOpenAt q text → p ≡ q
   pub either : (text : List ℕ) (ts : List Token) (p : ℕ) → AreTokens ts text → IsOpenAt p text → ⊥
 
--- a text names bib-1, in any case, or it is the arcs of an object identifier in decimal, with dots
+-- a set's name is `bib-1`, in any case, or the arcs of an object identifier in decimal, with dots
 abbrev pub SetNames : Type 0
 SetNames =
     (text set : List ℕ) → (set_of text ≡ Some set)
@@ -33,33 +33,34 @@ SetNames =
 abbrev pub OneQuery : Type 0
 OneQuery = (ts : List Token) (q r : RpnQuery) → IsQuery ts q → IsQuery ts r → q ≡ r
 
--- no query of height 32 at most is refused
+-- tokens that stand for a query of height 32 at most are not refused
 abbrev pub NoneRefused : Type 0
 NoneRefused = (len : ℕ) (ts : List Token) (q : RpnQuery) → IsQuery ts q → height q.root ≤ 32 → refusal len ts ≡ None
 
--- a refusal is where the tokens stop being the front of a query
+-- an error is at the first token with which the tokens stop being the beginning of a query, or at the end
 abbrev pub FirstFault : Type 0
 FirstFault = (len : ℕ) (ts : List Token) (e : PqfError) → refusal len ts ≡ Some e → IsFirstFault len ts e
 
--- a refusal is for too many levels exactly where only the level of its token is in the way
+-- an error is `TooDeep` exactly if only the level of its token is wrong
 abbrev pub TooDeepAlone : Type 0
 TooDeepAlone = (len : ℕ) (ts : List Token) (e : PqfError) → refusal len ts ≡ Some e
     → (e.kind ≡ kind.TooDeep) ↔ IsBelowLevels ts e
 
--- a text is that of one query, or has one fault, and a text of a query of height 32 at most has none
+-- A text stands for one query at most and has one error at most. It has none if it stands for a query of height 32 at
+-- most.
 pub record OneAnswer : Type 0 where
   pub one_query : (text : List ℕ) (q r : RpnQuery) → IsText text q → IsText text r → q ≡ r
   pub one_fault : (text : List ℕ) (e f : PqfError) → IsFault text e → IsFault text f → e ≡ f
   pub either : (text : List ℕ) (q : RpnQuery) (e : PqfError) → IsText text q → height q.root ≤ 32 → IsFault text e → ⊥
 
--- a printed text is that of its query
+-- the text that is printed for a lawful query stands for this query
 abbrev pub PrintedReads : Type 0
 PrintedReads = (q : RpnQuery) → IsLawful q → printable q ≡ true → IsText (query_text q) q
 
--- the query of a text can be printed, where its height is 32 at most
+-- if a text stands for a query of height 32 at most, the query can be printed
 abbrev pub TextPrintable : Type 0
 TextPrintable = (text : List ℕ) (q : RpnQuery) → IsText text q → height q.root ≤ 32 → printable q ≡ true
 
--- an element stands for the query of a text
+-- if a text stands for a query, some element stands for it too
 abbrev pub TextSpellable : Type 0
 TextSpellable = (text : List ℕ) (q : RpnQuery) → IsText text q → (n : Element) × WritesQuery q n

@@ -9,7 +9,7 @@ use Rattle.std.specs.Str.Parse.{digits_value}
 abbrev pub is_numeral : List ℕ → Bool
 is_numeral text = not (length text == 0) && list_all is_ascii_digit text
 
--- the number that digits write, if it is no larger
+-- the number that the text writes, if the text is digits and the number is at most `most`
 unfoldable pub number_of : ℕ → List ℕ → Option ℕ
 number_of most text =
     if is_numeral text && nat_le (digits_value 10 text) most then Some (digits_value 10 text) else None
@@ -20,11 +20,12 @@ positive n = pos n
 abbrev pub negative : ℕ → ℤ
 negative n = neg_ℤ (pos n)
 
+-- the text begins with a minus
 abbrev pub has_minus : List ℕ → Bool
 has_minus [] = false
 has_minus (b ∷ bs) = b == 45
 
--- the number that digits write, with a minus before them or without, if it fits 64 bits
+-- the number that digits write, with or without a minus before them, if it is of 64 bits
 unfoldable pub integer_of : List ℕ → Option ℤ
 integer_of text =
     if has_minus text then option_map negative (number_of (2 ^ 63) (drop 1 text))

@@ -1,4 +1,4 @@
--- The text that is printed for a query, and which queries have one.
+-- The text that is printed for a query, and which queries have a text.
 use Rattle.std.specs.Prelude.{ℕ, ℤ, pos, negsuc, List, [], ◌∷◌, ◌++◌, Bool, true, false, ◌==◌, ◌||◌, ◌&&◌, not, codes, Option, Some, None, nat_le, if◌then◌else◌}
 use Rattle.std.specs.Fmt.{signed_decimal}
 use Rattle.std.specs.List.{flat_map, list_any}
@@ -16,10 +16,11 @@ use Rattle.zquery.specs.Notation.Sets.{bib1}
 use Rattle.zquery_rpn.specs.Trees.{Tree, OfTerm, OfSet, OfSetAttrs, Of, Near, RpnQuery, height}
 use Rattle.zquery.specs.Notation.Values.{most}
 
--- a backslash stands before a quote and a backslash
+-- an octet in quotes: a quote and a backslash have a backslash before them
 abbrev pub escaped : ℕ → List ℕ
 escaped b = if (b == 34) || (b == 92) then 92 ∷ b ∷ [] else b ∷ []
 
+-- the text in quotes
 abbrev pub in_quotes : List ℕ → List ℕ
 in_quotes text = 34 ∷ (flat_map escaped text ++ 34 ∷ [])
 
@@ -54,13 +55,14 @@ tree_text (OfSetAttrs name xs) = flat_map attr_text xs ++ (codes "@set " ++ in_q
 tree_text (Of o a b) = operator_text o ++ (tree_text a ++ (codes " " ++ tree_text b))
 tree_text (Near e a b) = []
 
+-- `@attrset` and the query's set, unless this is bib-1
 abbrev pub opening_text : List ℕ → List ℕ
 opening_text own = if bytes_eq own bib1 then [] else codes "@attrset " ++ (dotted own ++ codes " ")
 
 abbrev pub query_text : RpnQuery → List ℕ
 query_text q = opening_text q.attr_set ++ tree_text q.root
 
--- a number of an attribute that the notation has
+-- the number can be the type or the value of an attribute
 abbrev pub in_range : ℤ → Bool
 in_range (pos n) = nat_le n most
 in_range (negsuc n) = false
@@ -69,15 +71,16 @@ abbrev pub plain_value : AttrValue → Bool
 plain_value (Number n) = in_range n
 plain_value (Complex e) = false
 
--- it names the query's own set
+-- an attribute's set is the query's own
 abbrev pub names : List ℕ → Option (List ℕ) → Bool
 names own None = false
 names own (Some set) = bytes_eq own set
 
+-- the attribute has a text
 abbrev pub plain_attr : List ℕ → Attr → Bool
 plain_attr own a = not (names own a.attr_set) && (in_range a.kind && plain_value a.value)
 
--- each has a text, and no two have the same set and type
+-- each attribute has a text, and no two have the same set and type
 abbrev pub plain_attrs : List ℕ → List Attr → Bool
 plain_attrs own [] = true
 plain_attrs own (a ∷ xs) = plain_attr own a && (not (list_any (alike a) xs) && plain_attrs own xs)
@@ -86,6 +89,7 @@ abbrev pub plain_term : TermValue → Bool
 plain_term (Other e) = false
 plain_term _ = true
 
+-- each part of the tree has a text
 abbrev pub plain_tree : List ℕ → Tree → Bool
 plain_tree own (OfTerm xs v) = plain_attrs own xs && plain_term v
 plain_tree own (OfSet name) = true
@@ -94,6 +98,6 @@ plain_tree own (OfSetAttrs name (a ∷ xs)) = plain_attrs own (a ∷ xs)
 plain_tree own (Of o a b) = plain_tree own a && plain_tree own b
 plain_tree own (Near e a b) = false
 
--- a query that has a text
+-- the query has a text
 abbrev pub printable : RpnQuery → Bool
 printable q = nat_le (height q.root) 32 && plain_tree q.attr_set q.root

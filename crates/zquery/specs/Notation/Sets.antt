@@ -1,4 +1,4 @@
--- The names of attribute sets.
+-- Attribute sets, each with its name.
 use Rattle.std.specs.Prelude.{ℕ, List, [], ◌∷◌, Bool, ◌==◌, ◌&&◌, Option, Some, None, codes, if◌then◌else◌, map}
 use Rattle.std.specs.Char.{to_ascii_lowercase}
 use Rattle.std.specs.List.{slice_split}
@@ -11,7 +11,7 @@ use Rattle.zber.specs.Oids.{is_oid}
 abbrev pub bib1 : List ℕ
 bib1 = 1 ∷ 2 ∷ 840 ∷ 10003 ∷ 3 ∷ 1 ∷ []
 
--- its name, in any case
+-- the text is the name of bib-1, in any case
 abbrev pub is_bib1 : List ℕ → Bool
 is_bib1 text = bytes_eq (map to_ascii_lowercase text) (codes "bib-1")
 
@@ -22,10 +22,10 @@ is_dot b = b == 46
 abbrev pub arcs_in : List ℕ → List ℕ
 arcs_in text = map (digits_value 10) (slice_split is_dot text)
 
--- the object identifier whose arcs in decimal, with dots, are the text
+-- the object identifier whose arcs, in decimal with dots between them, are the text
 unfoldable pub oid_of : List ℕ → Option (List ℕ)
 oid_of text = if is_oid (arcs_in text) && bytes_eq (dotted (arcs_in text)) text then Some (arcs_in text) else None
 
--- the set that a text names
+-- the set of this name
 unfoldable pub set_of : List ℕ → Option (List ℕ)
 set_of text = if is_bib1 text then Some bib1 else oid_of text

@@ -1,4 +1,4 @@
--- What may stand at each place, and what is wrong with a token that may not.
+-- Which tokens are expected at each place, and what is wrong with any other token.
 use Rattle.std.specs.Prelude.{ℕ, ◌+◌, List, [], ◌∷◌, ◌++◌, Bool, true, false, Option, Some, None, Result, Ok, Err, nat_lt, if◌then◌else◌}
 use Rattle.zquery.specs.declared.notation.token.Token.{Token}
 use Rattle.zquery.specs.declared.notation.word.Word.{Word}
@@ -12,8 +12,8 @@ use Rattle.zquery.specs.Notation.Words.{word}
 use Rattle.zquery.specs.Notation.Sets.{set_of}
 use Rattle.zquery.specs.Notation.Values.{numbers_of, has_equals, kind_of, value_of}
 
--- what is still to come: an operand below a type of term on a level, the set or the numbers of an attribute, a type of
--- term, a name, the query's set
+-- What is still to come: an operand on a level, below a type of term; the set or the numbers of an attribute; its
+-- numbers; a type of term; any token; or the query's set.
 pub data Expected : Type 0 where
   Operand : TermKind → ℕ → Expected
   SetOrNumbers : TermKind → ℕ → Expected
@@ -22,16 +22,18 @@ pub data Expected : Type 0 where
   Name : Expected
   OwnSet : Expected
 
+-- `TooDeep` if the level is too deep
 abbrev pub unless_deep : Bool → List Expected → Result (List Expected) PqfErrorKind
 unless_deep true next = Err kind.TooDeep
 unless_deep false next = Ok next
 
+-- what comes next if there is a value; otherwise this error
 abbrev pub next_if : {A : Type 0} → PqfErrorKind → Option A → (A → Result (List Expected) PqfErrorKind)
     → Result (List Expected) PqfErrorKind
 next_if e None next = Err e
 next_if e (Some x) next = next x
 
--- a word in the place of an operand
+-- what is to come after a token where an operand is expected
 abbrev pub operand : (ℕ → Bool) → TermKind → ℕ → List ℕ → Word → Result (List Expected) PqfErrorKind
 operand deep k n text Attribute = Ok (SetOrNumbers k n ∷ [])
 operand deep k n text TypeOfTerm = Ok (Kind n ∷ [])
@@ -41,10 +43,11 @@ operand deep k n text Plain = next_if kind.BadNumber (value_of k text) (λ _. un
 operand deep k n text Unknown = Err kind.UnknownWord
 operand deep k n text AttrSet = Err kind.UnknownWord
 
+-- what is to come after the numbers of an attribute
 abbrev pub numbers : TermKind → ℕ → List ℕ → Result (List Expected) PqfErrorKind
 numbers k n text = next_if kind.BadAttribute (numbers_of text) (λ _. Ok (Operand k n ∷ []))
 
--- what is to come after a token in a place
+-- what is to come after a token, if this was expected
 abbrev pub stepped : (ℕ → Bool) → Expected → Token → Result (List Expected) PqfErrorKind
 stepped deep (Operand k n) t = operand deep k n t.text (word t)
 stepped deep (SetOrNumbers k n) t =
@@ -55,35 +58,38 @@ stepped deep (Kind n) t = next_if kind.BadTermType (kind_of t.text) (λ k. Ok (O
 stepped deep Name t = Ok []
 stepped deep OwnSet t = next_if kind.UnknownSet (set_of t.text) (λ _. Ok [])
 
+-- the error of this kind at the token
 abbrev pub error_at : Token → PqfErrorKind → PqfError
 error_at t e = record { at = t.at; kind = e }
 
+-- go on with what is to come, or return the error at the token
 abbrev pub after : Token → Result (List Expected) PqfErrorKind → (List Expected → Result (List Expected) PqfError)
     → Result (List Expected) PqfError
 after t (Ok next) go = go next
 after t (Err e) go = Err (error_at t e)
 
--- what is to come after tokens, or the first fault
+-- what is to come after these tokens, or the first error
 abbrev pub walk : (ℕ → Bool) → List Token → List Expected → Result (List Expected) PqfError
 walk deep [] ps = Ok ps
 walk deep (t ∷ ts) [] = Err (error_at t kind.Trailing)
 walk deep (t ∷ ts) (p ∷ ps) = after t (stepped deep p t) (λ next. walk deep ts (next ++ ps))
 
--- at the first token a set may be named
+-- What is to come at the first token: `@attrset`, a set and an operand, or an operand.
 abbrev pub opening : Word → List Expected
 opening AttrSet = Name ∷ OwnSet ∷ Operand GeneralTerm 1 ∷ []
 opening _ = Operand GeneralTerm 1 ∷ []
 
--- more than 32 levels
+-- the level is too deep: above 32
 abbrev pub below_limit : ℕ → Bool
 below_limit n = nat_lt 32 n
 
--- the fault that is left at the end of a text of this length
+-- the error of a text of this length: the first one, or `MissingOperand` if something is still to come at its end
 abbrev pub fault : ℕ → Result (List Expected) PqfError → Option PqfError
 fault len (Ok []) = None
 fault len (Ok (p ∷ ps)) = Some (record { at = len; kind = kind.MissingOperand })
 fault len (Err e) = Some e
 
+-- the error of the tokens of a text of this length, if they have one
 abbrev pub refusal : ℕ → List Token → Option PqfError
 refusal len [] = Some (record { at = 0; kind = kind.Empty })
 refusal len (t ∷ ts) = fault len (walk below_limit (t ∷ ts) (opening (word t)))

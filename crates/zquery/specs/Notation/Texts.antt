@@ -1,4 +1,4 @@
--- Texts: of a query, and refused.
+-- Which text stands for a query, and which error a text has.
 use Rattle.std.specs.Prelude.{◌≡◌, ℕ, List, length, Some, ◌⊎◌}
 use Rattle.zquery.specs.declared.notation.token.Token.{Token}
 use Rattle.zquery.specs.declared.notation.error.PqfError.{PqfError}
@@ -12,7 +12,7 @@ use Rattle.zquery.specs.Notation.Table.{refusal}
 abbrev pub IsText : List ℕ → RpnQuery → Type 0
 IsText text q = (ts : List Token) × AreTokens ts text × IsQuery ts q
 
--- a quote stays open, or the text's tokens have this fault
+-- the error is at a quote that no quote closes, or is that of the text's tokens
 abbrev pub IsFault : List ℕ → PqfError → Type 0
 IsFault text e =
     ((e.kind ≡ kind.OpenQuote) × IsOpenAt e.at text)

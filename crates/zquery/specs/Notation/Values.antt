@@ -1,4 +1,4 @@
--- What the tokens within a query's parts mean.
+-- What the tokens of attributes and terms mean.
 use Rattle.std.specs.Prelude.{ℕ, List, Bool, ◌==◌, Option, Some, None, codes, if◌then◌else◌}
 use Rattle.std.specs.Option.{option_map}
 use Rattle.std.specs.Str.{bytes_eq}
@@ -12,6 +12,7 @@ use Rattle.zquery.specs.Notation.Numbers.{number_of, integer_of}
 abbrev pub is_equals : ℕ → Bool
 is_equals b = b == 61
 
+-- the text has an equals sign
 unfoldable pub has_equals : List ℕ → Bool
 has_equals text = list_any is_equals text
 
@@ -19,21 +20,24 @@ has_equals text = list_any is_equals text
 abbrev pub most : ℕ
 most = 2147483647
 
--- a type and a value
+-- both, or none
 abbrev pub pair_of : Option ℕ → Option ℕ → Option (ℕ × ℕ)
 pair_of (Some a) (Some b) = Some (a, b)
 pair_of (Some a) None = None
 pair_of None o = None
 
+-- the type and the value of an attribute: the numbers before and behind the first equals sign
 unfoldable pub numbers_of : List ℕ → Option (ℕ × ℕ)
 numbers_of text = pair_of (number_of most (before_first is_equals text)) (number_of most (after_first is_equals text))
 
+-- the type of term of this name
 unfoldable pub kind_of : List ℕ → Option TermKind
 kind_of text =
     if bytes_eq text (codes "general") then Some GeneralTerm else
     if bytes_eq text (codes "numeric") then Some NumericTerm else
     if bytes_eq text (codes "string") then Some TextTerm else None
 
+-- the term of this type that the text writes
 unfoldable pub value_of : TermKind → List ℕ → Option TermValue
 value_of GeneralTerm text = Some (General text)
 value_of TextTerm text = Some (Text text)

@@ -1,4 +1,4 @@
--- What a token is in the place of a query.
+-- What a token is where a query is expected.
 use Rattle.std.specs.Prelude.{codes, nat_eq, if◌then◌else◌}
 use Rattle.std.specs.Str.{bytes_eq}
 use Rattle.std.specs.List.{starts_with}
@@ -7,7 +7,7 @@ use Rattle.zquery.specs.declared.notation.word.Word.{Word}
 use Rattle.zquery.specs.declared.notation.word.Word.TheVariants.{AttrSet, Attribute, Op, NamedSet, TypeOfTerm, Unknown, Plain}
 use Rattle.zquery_rpn.specs.declared.operator.Operator.TheVariants.{And, Or, Not}
 
--- a quoted token is a term; another that begins with @ is a word of the notation, or unknown
+-- A token in quotes is a term. Any other that begins with `@` is a keyword of the notation, or unknown.
 unfoldable pub word : Token → Word
 word t =
     if t.quoted then Plain else

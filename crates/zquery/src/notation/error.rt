@@ -15,7 +15,7 @@ pub enum PqfErrorKind {
     /// The text has no token.
     #[error("Empty")]
     Empty,
-    /// A token in the place of a query begins with `@` and is no word of the notation there.
+    /// Where a query is expected, a token begins with `@` and is no keyword of the notation there.
     #[error("UnknownWord")]
     UnknownWord,
     /// The text ends before the query does.
@@ -30,7 +30,7 @@ pub enum PqfErrorKind {
     /// A type of term is not `general`, `numeric` or `string`.
     #[error("BadTermType")]
     BadTermType,
-    /// A numeric term is not decimal digits, with a minus before them or without, within 64 bits.
+    /// A numeric term is not decimal digits, with or without a minus before them, within 64 bits.
     #[error("BadNumber")]
     BadNumber,
     /// An operand or operator stands below 32 operators.
@@ -45,7 +45,7 @@ pub enum PqfErrorKind {
 }
 
 impl PqfErrorKind {
-    /// The name of the variant, as in `OpenQuote`.
+    /// Returns the variant's name, for example `OpenQuote`.
     pub fn word(self) -> &'static str
         ensures { result.now ≡ kind_word self }
     {
@@ -65,8 +65,8 @@ impl PqfErrorKind {
     }
 }
 
-/// Why a text is refused, and where: the octet at which the token at fault begins, the text's
-/// length where a token is missing, and 0 where there is none or memory ran out.
+/// Why a text is refused, and where. `at` is the octet at which the wrong token begins. If a token is missing, `at` is
+/// the text's length; if there is no token, or if no memory was found, `at` is 0.
 #[derive(Clone, Copy, Debug, PartialEq, Eq, Error)]
 #[error("{kind} at {at}")]
 pub struct PqfError {

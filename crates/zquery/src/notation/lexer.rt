@@ -28,7 +28,8 @@ fn split_first(octets: &[u8]) -> Option<(u8, &[u8])>
     }
 }
 
-/// The text behind an opening quote, and what is behind the closing one.
+/// Parses a text in quotes, from behind its first quote. Returns the text and the octets behind the closing quote, or
+/// `None` if no quote closes it. Returns `AllocError` if no memory is found.
 fn quoted_text(alloc: Global, octets: &[u8]) -> Result<Option<(Vec<u8>, &[u8])>, AllocError>
     ensures { IfOk result (λ found. MatchOption found (StaysOpen octets.now)
         (λ x. Closes octets.now x.0.items x.1.now)) }
@@ -53,7 +54,8 @@ fn quoted_text(alloc: Global, octets: &[u8]) -> Result<Option<(Vec<u8>, &[u8])>,
     Ok(None)
 }
 
-/// The octets before white space, and the others.
+/// Parses a token without quotes. Returns the octets before white space, and the others. Returns `AllocError` if no
+/// memory is found.
 fn word_text(alloc: Global, octets: &[u8]) -> Result<(Vec<u8>, &[u8]), AllocError>
     ensures { IfOk result (λ x. WordFront octets.now x.0.items x.1.now) }
 {
@@ -77,12 +79,12 @@ fn token(at: usize, quoted: bool, text: Vec<u8>) -> Result<Token, PqfError>
     Ok(Token { at, quoted, text })
 }
 
-/// The tokens of a text, from the left.
+/// Returns the tokens of a text, from the left.
 ///
-/// White space (32, 9, 10 and 13) separates them. A token that begins with a quote goes to the
-/// next quote, a backslash taking the octet behind it as itself; another one goes to white space.
+/// White space (the octets 32, 9, 10 and 13) separates tokens. A token that begins with a quote ends at the next quote;
+/// within it, an octet behind a backslash is taken as it is. Any other token ends at white space.
 ///
-/// Refusals: `OpenQuote` at a quote that no quote closes, and `Memory`.
+/// Returns `OpenQuote`, at the quote, if no quote closes it, and `Memory` if no memory is found.
 pub fn tokens(alloc: Global, text: &[u8]) -> Result<Vec<Token>, PqfError>
     ensures ok { IfOk result (λ v. AreTokens v.items text.now) }
     ensures err { IfErr result (λ e. (e ≡ memory)

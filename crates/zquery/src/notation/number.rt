@@ -10,15 +10,15 @@ fn are_digits(text: &[u8]) -> bool
     text.iter().all(|octet| octet.is_ascii_digit())
 }
 
-/// Whether the text is decimal digits, one or more.
+/// Whether the text is one decimal digit or more.
 fn is_numeral(text: &[u8]) -> bool
     ensures { result ≡ is_numeral text.now }
 {
     !text.is_empty() && are_digits(text)
 }
 
-/// The number that a text of decimal digits writes, where it is at most `most`; `None` where it is above, and of no
-/// digits or of other octets. It takes no memory.
+/// Parses a text of decimal digits as a number. Returns `None` if the number is above `most`, if the text is empty, or
+/// if it has other octets. It takes no memory.
 pub fn number(text: &[u8], most: u64) -> Option<u64>
     ensures value { result ≡ number_of most text.now }
     ensures small { IfSome result (λ n. n ≤ most) }
@@ -35,6 +35,7 @@ pub fn number(text: &[u8], most: u64) -> Option<u64>
     }
 }
 
+/// Returns the number below 0 of this size, which is at most 2^63.
 fn negate(number: u64) -> i64
     requires { number ≤ 2 ^ 63 }
     ensures { result ≡ negative number }
@@ -46,7 +47,7 @@ fn negate(number: u64) -> i64
     }
 }
 
-/// What is behind a minus.
+/// Returns the octets behind a minus, or `None` if the text does not begin with one.
 fn after_minus(text: &[u8]) -> Option<&[u8]>
     ensures some { IfSome result (λ digits. (has_minus text.now ≡ true)
         × (digits.now ≡ drop 1 text.now)) }
@@ -58,7 +59,8 @@ fn after_minus(text: &[u8]) -> Option<&[u8]>
     }
 }
 
-/// The number that the digits write, with a minus before them or without, if it fits 64 bits.
+/// Parses decimal digits, with or without a minus before them, as a number of 64 bits. Returns `None` for any other
+/// text.
 #[tactic(auto, unfolding(crate::specs::Notation::Numbers::integer_of))]
 pub(crate) fn integer(text: &[u8]) -> Option<i64>
     ensures { result ≡ integer_of text.now }

@@ -26,7 +26,7 @@ use std::alloc::{AllocError, Global};
 use zber::{Oid, Seq};
 use zquery_rpn::{Attr, AttrValue, Operator, Query, Rpn, copies};
 
-/// The lowest level on which an operand or operator may stand.
+/// The deepest level on which an operand or operator may stand. The level of the whole query is 1.
 const DEEPEST: u32 = 32;
 
 fn error_of(token: &Token, kind: PqfErrorKind) -> PqfError
@@ -56,7 +56,7 @@ fn attribute(attr_set: Option<Oid>, kind: u64, value: u64) -> Attr
     }
 }
 
-/// An attribute of this set, whose type and value come next.
+/// Parses the type and value of an attribute of this set from the next token; `end` is the text's length.
 fn attribute_in(
     cursor: &mut Cursor<'_>,
     end: usize,
@@ -74,7 +74,7 @@ fn attribute_in(
     }
 }
 
-/// What comes behind `@attr`.
+/// Parses the attribute behind `@attr`; `end` is the text's length.
 fn next_attribute(
     alloc: Global,
     cursor: &mut Cursor<'_>,
@@ -99,7 +99,7 @@ fn next_attribute(
     }
 }
 
-/// What comes behind `@term`.
+/// Parses the type of term behind `@term`; `end` is the text's length.
 fn next_kind(cursor: &mut Cursor<'_>, end: usize) -> Result<TermKind, PqfError>
     ensures gives { Takes (kind_at end cursor.old) result cursor.new }
     ensures shorter { length cursor.new ≤ length cursor.old }
@@ -113,7 +113,8 @@ fn next_kind(cursor: &mut Cursor<'_>, end: usize) -> Result<TermKind, PqfError>
     }
 }
 
-/// Puts the attributes that come next in force, and gives the type of term below them.
+/// Parses the attributes and types of terms that come next. Puts the attributes in force, in `attrs`, and returns the
+/// type of term that holds below them.
 fn prefixes(
     alloc: Global,
     cursor: &mut Cursor<'_>,
@@ -194,7 +195,7 @@ fn join(operator: Operator, left: Box<Rpn>, right: Box<Rpn>) -> Rpn
     }
 }
 
-/// A tree in a box.
+/// Puts a tree in a box. Returns `Memory` if no memory is found.
 fn box_tree(alloc: Global, tree: Rpn) -> Result<Box<Rpn>, PqfError>
     ensures ok { IfOk result (λ b. b.value ≡ tree) }
     ensures err { IfErr result (λ e. e ≡ memory) }
@@ -202,7 +203,8 @@ fn box_tree(alloc: Global, tree: Rpn) -> Result<Box<Rpn>, PqfError>
     Ok(Box::new(alloc, tree)?)
 }
 
-/// A query on a level, below the attributes and the type of term of others.
+/// Parses the query that comes next, on this level. The attributes `outer` and the type of term `kind` hold for it;
+/// `end` is the text's length.
 fn query(
     alloc: Global,
     cursor: &mut Cursor<'_>,
@@ -254,7 +256,7 @@ fn query(
     }
 }
 
-/// The set that comes behind `@attrset`.
+/// Parses the set behind `@attrset`; `end` is the text's length.
 fn own_set(alloc: Global, cursor: &mut Cursor<'_>, end: usize) -> Result<Oid, PqfError>
     ensures { Takes (own_at end cursor.old) result cursor.new }
 {
@@ -267,7 +269,7 @@ fn own_set(alloc: Global, cursor: &mut Cursor<'_>, end: usize) -> Result<Oid, Pq
     }
 }
 
-/// The query's set: the one that is named first, or bib-1.
+/// Parses the query's set: the one behind `@attrset` if this is the first token, and bib-1 otherwise.
 fn query_set(alloc: Global, cursor: &mut Cursor<'_>, end: usize) -> Result<Oid, PqfError>
     ensures { Takes (opened_at end cursor.old) result cursor.new }
 {
@@ -280,7 +282,7 @@ fn query_set(alloc: Global, cursor: &mut Cursor<'_>, end: usize) -> Result<Oid, 
     Ok(bib_1(alloc)?)
 }
 
-/// The query that the tokens of a text of this length stand for.
+/// Parses the tokens of a text as the query that they stand for; `end` is the text's length.
 fn parse_tokens(alloc: Global, tokens: &[Token], end: usize) -> Result<Query, PqfError>
     ensures ok { IfOk result (λ q. IsQuery tokens.now q × (height q.root ≤ 32)) }
     ensures err { Refuses (refusal end tokens.now) result }
@@ -306,18 +308,17 @@ fn parse_tokens(alloc: Global, tokens: &[Token], end: usize) -> Result<Query, Pq
     }
 }
 
-/// The query that a text of the prefix notation stands for, of height 32 at most.
+/// Parses a text of the prefix notation as the query that it stands for, of height 32 at most.
 ///
-/// The notation is `[@attrset set] q`, where `q` is `@attr [set] type=value q`, `@and q q`,
-/// `@or q q`, `@not q q`, `@set name`, `@term type q` or a term. A set is `bib-1` in any case,
-/// which is also the query's where none is named, or a dotted object identifier. A type of term is
-/// `general`, `numeric` or `string`. Attributes hold for all operands below them, and an inner one
-/// replaces an outer one of the same set and type.
+/// The notation is `[@attrset set] q`. Here `q` is `@attr [set] type=value q`, `@and q q`, `@or q q`, `@not q q`,
+/// `@set name`, `@term type q` or a term. A set is `bib-1`, in any case, or a dotted object identifier; without
+/// `@attrset` the query's set is bib-1. A type of term is `general`, `numeric` or `string`. Attributes hold for all
+/// operands below them; an inner one replaces an outer one of the same set and type.
 ///
-/// Refusals: `OpenQuote`, before all others, at the quote; `Empty`, at 0, where there is no token;
-/// else at the first token that no query goes on with, or that is an operand or operator below 32
-/// operators, as the kinds say; `MissingOperand`, at the text's length, where the text is only the
-/// beginning of a query; and `Memory`.
+/// Returns, before any other error, `OpenQuote` at a quote that no quote closes. Returns `Empty`, at 0, if there is no
+/// token, and `MissingOperand`, at the text's length, if the text is only the beginning of a query. Otherwise the error
+/// is at the first token that continues no query, or that is an operand or operator below 32 operators. Its kind is as
+/// `PqfErrorKind` says. Returns `Memory` if no memory is found.
 pub fn parse_pqf(alloc: Global, text: &[u8]) -> Result<Query, PqfError>
     ensures ok { IfOk result (λ q. IsText text.now q × (height q.root ≤ 32)) }
     ensures err { IfErr result (λ e. (e ≡ memory) ⊎ IsFault text.now e) }

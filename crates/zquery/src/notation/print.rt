@@ -163,7 +163,7 @@ fn put_both(
     put_tree(alloc, out, right)
 }
 
-/// Appends the text of a tree. Its height is small.
+/// Appends the text of a tree. It recurs down the tree, whose height is small.
 #[cycle(put)]
 fn put_tree(alloc: Global, out: &mut Vec<u8>, rpn: &Rpn) -> Result<(), AllocError>
     ensures { OnOk result (out.new.items ≡ out.old.items ++ tree_text (seen rpn.now)) }
@@ -185,7 +185,7 @@ fn put_tree(alloc: Global, out: &mut Vec<u8>, rpn: &Rpn) -> Result<(), AllocErro
     }
 }
 
-/// Appends what names the query's set, where it is not bib-1.
+/// Appends `@attrset` and the query's set, unless this is bib-1.
 fn put_opening(alloc: Global, out: &mut Vec<u8>, own: &Oid) -> Result<(), AllocError>
     ensures ok { OnOk result (out.new.items ≡ out.old.items ++ opening_text own.now) }
     ensures oid { IsOid own.now }
@@ -205,15 +205,20 @@ fn put_query(alloc: Global, out: &mut Vec<u8>, query: &Query) -> Result<(), Allo
     put_tree(alloc, out, &query.root)
 }
 
-/// Appends the text of a query in the prefix notation, of which `parse_pqf` gives the query back.
+/// Appends the text of a query in the prefix notation. `parse_pqf` reads the query back from it.
 ///
-/// Before an operand stand its attributes, and before a term its type where it is not general.
-/// Terms and names of sets are in quotes. The query's set is named where it is not bib-1.
+/// An operand's attributes stand before it, and a term's type stands before it if it is not general. A term, and the
+/// name of a result set, is in quotes. `@attrset` gives the query's set, unless this is bib-1.
 ///
-/// Refusals, which leave the output unchanged: `NotPrintable` where the query has proximity, a
-/// complex value, a term of another type, an attribute whose type or value is below 0 or above
-/// 2,147,483,647, an attribute that names the query's own set, two attributes of one operand with
-/// the same set and type, a set with a list of no attributes, or a height above 32; and `Memory`.
+/// Returns `NotPrintable` if the notation has no text for the query. That is so if the query has
+/// - proximity, a complex value, or a term that is kept as an element;
+/// - an attribute whose type or value is below 0 or above 2,147,483,647;
+/// - an attribute whose own set is the query's;
+/// - two attributes of one operand with the same set and type;
+/// - a result set with an empty list of attributes;
+/// - a height above 32.
+///
+/// Returns `Memory` if no memory is found. After an error `out` is unchanged.
 pub fn print_pqf(alloc: Global, query: &Query, out: &mut Vec<u8>) -> Result<(), PrintError>
     ensures ok { OnOk result (out.new.items ≡ out.old.items ++ query_text query.now) }
     ensures printable { OnOk result (printable query.now ≡ true) }

@@ -15,16 +15,17 @@ use std::collections::BTreeSet;
 use zber::Oid;
 use zquery_rpn::{Attr, AttrValue, Query, Rpn, TermValue};
 
-/// The height of a query that the notation has at most.
+/// The greatest height of a query that has a text.
 const HIGHEST: u32 = 32;
 
+/// Whether the number can be the type or the value of an attribute: it is at least 0 and at most 2,147,483,647.
 fn in_range(number: i64) -> bool
     ensures { result ≡ in_range number }
 {
     0 <= number && number <= 2_147_483_647
 }
 
-/// Whether it names the query's own set.
+/// Whether an attribute's set is the query's own.
 fn names(own: &Oid, set: &Option<Oid>) -> bool
     ensures value { result ≡ names own.now set.now }
     ensures lawful { IsLawfulSet set.now }
@@ -35,6 +36,7 @@ fn names(own: &Oid, set: &Option<Oid>) -> bool
     }
 }
 
+/// Whether the notation has a text for the value.
 fn is_plain_value(value: &AttrValue) -> bool
     ensures { result ≡ plain_value value.now }
 {
@@ -44,7 +46,7 @@ fn is_plain_value(value: &AttrValue) -> bool
     }
 }
 
-/// Whether the notation has the attribute.
+/// Whether the notation has a text for the attribute.
 fn is_plain(own: &Oid, attr: &Attr) -> bool
     ensures value { result ≡ plain_attr own.now attr.now }
     ensures lawful { IsLawfulSet attr.now.attr_set }
@@ -52,7 +54,7 @@ fn is_plain(own: &Oid, attr: &Attr) -> bool
     !names(own, &attr.attr_set) && in_range(attr.kind) && is_plain_value(&attr.value)
 }
 
-/// The set and type of an attribute.
+/// Returns the set and the type of an attribute.
 fn set_and_type(attr: &Attr) -> (Option<&[u32]>, i64)
     ensures set { option_map (λ s. s.now) result.0 ≡ attr.now.attr_set }
     ensures kind { result.1 ≡ attr.now.kind }
@@ -64,7 +66,8 @@ fn set_and_type(attr: &Attr) -> (Option<&[u32]>, i64)
     (set, attr.kind)
 }
 
-/// Adds the set and type of an attribute; whether those of none that was added before are the same.
+/// Adds the set and type of an attribute. Returns whether no attribute that was added before has the same set and type.
+/// Returns `AllocError` if no memory is found.
 fn put_apart<'a>(
     attr: &'a Attr,
     seen: &mut BTreeSet<(Option<&'a [u32]>, i64), Global>,
@@ -77,7 +80,8 @@ fn put_apart<'a>(
     Ok(seen.insert(set_and_type(attr))?)
 }
 
-/// Whether the notation has each attribute, and no two have the same set and type.
+/// Whether the notation has a text for each attribute, and no two of them have the same set and type. Returns
+/// `AllocError` if no memory is found.
 fn are_plain(alloc: Global, own: &Oid, attrs: &[Attr]) -> Result<bool, AllocError>
     ensures value { IfOk result (λ plain. plain ≡ plain_attrs own.now attrs.now) }
     ensures lawful { IfOk result (λ plain. plain ≡ true → AreLawful attrs.now) }
@@ -93,6 +97,7 @@ fn are_plain(alloc: Global, own: &Oid, attrs: &[Attr]) -> Result<bool, AllocErro
     Ok(true)
 }
 
+/// Whether the notation has a text for the term.
 fn is_plain_term(term: &TermValue) -> bool
     ensures value { result ≡ plain_term term.now }
     ensures lawful { IsLawfulTerm term.now }
@@ -107,7 +112,7 @@ fn is_plain_term(term: &TermValue) -> bool
     }
 }
 
-/// Whether the tree has the height at most. It looks no further down.
+/// Whether the tree's height is at most `room`. It goes down `room` levels at most.
 fn fits(rpn: &Rpn, room: u32) -> bool
     ensures { result ≡ nat_le (height (seen rpn.now)) room }
 {
@@ -123,7 +128,7 @@ fn fits(rpn: &Rpn, room: u32) -> bool
     }
 }
 
-/// Whether the notation has each part of the tree.
+/// Whether the notation has a text for each part of the tree. Returns `AllocError` if no memory is found.
 fn is_plain_tree(alloc: Global, own: &Oid, rpn: &Rpn) -> Result<bool, AllocError>
     ensures value { IfOk result (λ plain. plain ≡ plain_tree own.now (seen rpn.now)) }
     ensures lawful { IfOk result (λ plain. plain ≡ true → IsLawfulTree (seen rpn.now)) }
@@ -143,7 +148,7 @@ fn is_plain_tree(alloc: Global, own: &Oid, rpn: &Rpn) -> Result<bool, AllocError
     }
 }
 
-/// Whether the query has a text, or the refusal of the memory to tell.
+/// Whether the query has a text. Returns `AllocError` if no memory is found.
 pub(crate) fn is_printable(alloc: Global, query: &Query) -> Result<bool, AllocError>
     ensures value { IfOk result (λ is_printable. is_printable ≡ printable query.now) }
     ensures lawful { IfOk result (λ is_printable. is_printable ≡ true → IsLawfulTree query.now.root) }

@@ -4,7 +4,7 @@ use bytes::Bytes;
 /// A token of a text.
 #[derive(Drop)]
 pub struct Token {
-    /// How many octets of the text stand before it.
+    /// Where it begins: how many octets of the text are before it.
     pub at: usize,
     /// Whether it was written in quotes.
     pub quoted: bool,

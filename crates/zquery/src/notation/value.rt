@@ -16,7 +16,7 @@ const MOST: u64 = 2_147_483_647;
 /// The arcs of the attribute set bib-1 (Z39.50-2003, ATR).
 pub(crate) const BIB_1: [u32; 6] = [1, 2, 840, 10003, 3, 1];
 
-/// Whether the text has an equals sign, as an attribute's type and value have and a set has not.
+/// Whether the text has an equals sign. An attribute's type and value have one; a set has none.
 #[tactic(auto, unfolding(crate::specs::Notation::Values::has_equals))]
 pub(crate) fn has_equals(text: &[u8]) -> bool
     ensures { result ≡ has_equals text.now }
@@ -30,7 +30,8 @@ fn equals_at(text: &[u8]) -> Option<usize>
     text.iter().position(|octet| *octet == b'=')
 }
 
-/// The type and the value before and behind an equals sign.
+/// Returns an attribute's type and value: the numbers before and behind the first equals sign. Returns `None` if there
+/// is no equals sign, or if one of the two is no number up to `MOST`.
 pub(crate) fn numbers(text: &[u8]) -> Option<(u64, u64)>
     ensures value { result ≡ numbers_of text.now }
     ensures small { IfSome result (λ n. (n.0 ≤ most) × (n.1 ≤ most)) }
@@ -44,7 +45,7 @@ pub(crate) fn numbers(text: &[u8]) -> Option<(u64, u64)>
     }
 }
 
-/// The attribute set bib-1.
+/// Returns the attribute set bib-1, or `AllocError` if no memory is found.
 pub(crate) fn bib_1(alloc: Global) -> Result<Oid, AllocError>
     ensures { IfOk result (λ o. o ≡ bib1) }
 {
@@ -54,8 +55,8 @@ pub(crate) fn bib_1(alloc: Global) -> Result<Oid, AllocError>
     }
 }
 
-/// The object identifier whose arcs in decimal, with dots between them, are the text, or `None` of another text, or the
-/// refusal of the memory for it.
+/// Returns the object identifier whose arcs, in decimal with dots between them, are the text. Returns `None` for any
+/// other text, and `AllocError` if no memory is found.
 pub fn oid_named(alloc: Global, text: &[u8]) -> Result<Option<Oid>, AllocError>
     ensures { IfOk result (λ o. o ≡ oid_of text.now) }
 {
@@ -66,7 +67,8 @@ pub fn oid_named(alloc: Global, text: &[u8]) -> Result<Option<Oid>, AllocError>
     }
 }
 
-/// The attribute set that a text names: `bib-1`, or an object identifier.
+/// Returns the attribute set of this name: `bib-1`, in any case, or an object identifier. Returns `None` for any other
+/// text, and `AllocError` if no memory is found.
 #[tactic(auto, unfolding(crate::specs::Notation::Sets::set_of))]
 pub(crate) fn set_named(alloc: Global, text: &[u8]) -> Result<Option<Oid>, AllocError>
     ensures { IfOk result (λ s. s ≡ set_of text.now) }
@@ -77,6 +79,7 @@ pub(crate) fn set_named(alloc: Global, text: &[u8]) -> Result<Option<Oid>, Alloc
     oid_named(alloc, text)
 }
 
+/// Returns the type of term of this name: `general`, `numeric` or `string`. Returns `None` for any other text.
 #[tactic(auto, unfolding(crate::specs::Notation::Values::kind_of))]
 pub(crate) fn kind(text: &[u8]) -> Option<TermKind>
     ensures { result ≡ kind_of text.now }
@@ -92,7 +95,8 @@ pub(crate) fn kind(text: &[u8]) -> Option<TermKind>
     }
 }
 
-/// The term that a token is, below a type of term.
+/// Parses a token as a term of this type. Returns `None` if the type is numeric and the text is no number of 64 bits.
+/// Returns `AllocError` if no memory is found.
 #[tactic(auto, unfolding(crate::specs::Notation::Values::value_of))]
 pub(crate) fn value(kind: TermKind, text: &Bytes) -> Result<Option<TermValue>, AllocError>
     ensures { IfOk result (λ v. v ≡ value_of kind text.now) }

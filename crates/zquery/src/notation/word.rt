@@ -1,11 +1,11 @@
-// The words of the notation.
+// What each token is.
 ghost use Rattle.std.specs.Prelude.{◌≡◌};
 ghost use Rattle.zquery.specs.Notation.Words.{word};
 
 use crate::notation::token::Token;
 use zquery_rpn::Operator;
 
-/// How a term is written.
+/// The type of a term: `general`, `numeric` or `string`.
 #[derive(Clone, Copy, Debug, PartialEq, Eq)]
 pub(crate) enum TermKind {
     GeneralTerm,
@@ -13,7 +13,7 @@ pub(crate) enum TermKind {
     TextTerm,
 }
 
-/// What a token is in the place of a query.
+/// What a token is where a query is expected.
 #[derive(Clone, Copy, Debug, PartialEq, Eq)]
 pub(crate) enum Word {
     AttrSet,

@@ -16,7 +16,7 @@ use Rattle.zquery_rpn.specs.Element.AnyQueries.{WritesAny, WritesWithin, any_que
 use Rattle.zquery_rpn.proofs.ElementTheory.Type1Finding.{some_is, finds_query, reads_query, begins_query}
 use Rattle.zquery_rpn.proofs.ElementTheory.Type1Making.{makes_query, query_none}
 
--- the tags of type-1 queries are told by the test on one tag
+-- the test on one tag finds the tags of type-1 queries
 named : (n : Element) → among (tag_of n) (context 1 ∷ []) ≡ true → same_tag (tag_of n) (context 1) ≡ true
 named n h = elim (either (same_tag (tag_of n) (context 1)) false h) [ inl same ↦ same | inr other ↦ absurd cc ]
 
@@ -87,7 +87,7 @@ alone_makes v ns e = one_makes v ns (any_spelt v) refl e
 alone_none : (v : RpnQuery ⊎ Element) → made v ≡ None → (ns : List Element) → Alone v ns → ⊥
 alone_none v e ns h = one_none v (any_spelt v) refl e ns h
 
--- one element alone says what it says
+-- one element alone has the query of this element
 found_one : (n : Element) (o : Option (RpnQuery ⊎ Element)) → found (the_one o n) ≡ o
 found_one n (Some v) = refl
 found_one n None = refl

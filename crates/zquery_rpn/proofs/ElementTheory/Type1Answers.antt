@@ -1,4 +1,4 @@
--- What the readers of type-1 queries answer.
+-- What the readers of type-1 queries return.
 use Rattle.std.proofs.Common.{◌≡◌, List, map, Option, Some, None, Result, Ok, Err, Bool, true, false, cond, IfOk, refl, sym, ap, subst}
 use Rattle.std.specs.Prelude.{◌||◌}
 use Rattle.zber.specs.AsnTags.{AsnTag, context}
@@ -22,7 +22,7 @@ joined_means e t es xs r is same tag h =
     let inside : MeansTree (joined_of (map says es)) r = subst (λ (ys : List Element). MeansTree (joined_of (map says ys)) r) same h in
     rw (is, named, trees-elements (forest es), elements-forest es) inside
 
--- what an element says is the query that it stands for
+-- the query of an element is the query that it stands for
 not_there : (b : Bool) → b ≡ false → b || false ≡ true → ⊥
 not_there true e f = absurd cc
 not_there false e f = absurd cc

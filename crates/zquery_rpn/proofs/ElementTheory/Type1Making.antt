@@ -19,7 +19,7 @@ use Rattle.zquery_rpn.specs.Element.Type1.{op, WritesTree, WritesQuery}
 use Rattle.zquery_rpn.specs.Element.Type1Reading.{of_operand, two, three, query_of, tree_spelt, query_spelt}
 use Rattle.zquery_rpn.proofs.ElementTheory.Type1Finding.{some_is, Both, Parts, writes_operand, finds_query, reads_query, begins_query}
 
--- the element around elements of which P holds
+-- the element around elements for which P holds
 around_makes : (P : List Element → Type 0) (ns : List Element) (n : Element) → P ns → around (context 1) (Some ns) ≡ Some n → sequence (context 1) P n
 around_makes P ns n h e =
     let made : Element = Constructed (context 1) (forest ns) in

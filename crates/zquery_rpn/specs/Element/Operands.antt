@@ -52,13 +52,12 @@ attribute = within (universal 16) attribute_parts
 abbrev pub attributes : Place (List Attr)
 attributes = list (context 44) attribute
 
--- oid [217], dateTime [218], external [219], integerAndUnit [220] and null [221]
+-- the terms that are kept: oid [217], dateTime [218], external [219], integerAndUnit [220] and null [221]
 abbrev pub kept_terms : List AsnTag
 kept_terms = context 217 ∷ context 218 ∷ context 219 ∷ context 220 ∷ context 221 ∷ []
 
 -- Term: general [45] IMPLICIT OCTET STRING, numeric [215] IMPLICIT INTEGER, characterString [216] IMPLICIT
--- InternationalString,
--- and the others, which are kept
+-- InternationalString, and the others, which are kept
 abbrev pub terms : Choice TermValue
 terms =
     either (octets (context 45)) General

@@ -10,7 +10,7 @@ use Rattle.zquery_rpn.specs.Element.Operands.{Operand, AttrTerm, ResultSet, Resu
 use Rattle.zquery_rpn.specs.declared.element.operator.Joint.TheVariants.{Logical, Proximity}
 use Rattle.zquery_rpn.specs.Element.Operators.{operator}
 
--- an element of which P holds, and then the rest
+-- `P` holds of the first element, and `rest` of the others
 abbrev pub first : (Element → Type 0) → (List Element → Type 0) → List Element → Type 0
 first P rest [] = ⊥
 first P rest (n ∷ ns) = P n × rest ns
@@ -34,7 +34,7 @@ abbrev pub WritesQuery : RpnQuery → Element → Type 0
 WritesQuery q n =
     sequence (context 1) (required (oid (universal 6)).stands q.attr_set (required WritesTree q.root ended)) n
 
--- the type-1 query that the element stands for, or none where it stands for none
+-- the type-1 query that the element stands for; none if it stands for none
 abbrev pub IsQueryOf : Element → Option RpnQuery → Type 0
 IsQueryOf n (Some q) = WritesQuery q n
 IsQueryOf n None = (q : RpnQuery) → WritesQuery q n → ⊥

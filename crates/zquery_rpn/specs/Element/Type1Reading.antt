@@ -17,26 +17,27 @@ use Rattle.zquery_rpn.specs.declared.element.operator.Joint.{Joint}
 use Rattle.zquery_rpn.specs.Element.Operators.{operator}
 use Rattle.zquery_rpn.specs.Element.Type1.{op}
 
--- an operand alone, and two structures with an operator
+-- the tree of an operand
 abbrev pub of_operand : Operand → Tree
 of_operand (AttrTerm p) = OfTerm p.0 p.1
 of_operand (ResultSet name) = OfSet name
 of_operand (ResultAttr p) = OfSetAttrs p.0 p.1
 
+-- the tree of an operator and two trees
 abbrev pub of_joint : Joint → Tree → Tree → Tree
 of_joint (Logical o) a b = Of o a b
 of_joint (Proximity m) a b = Near m a b
 
 -- ---- reading
 
--- all three, or none
+-- the tree of all three parts, or none
 abbrev pub joined : Option Tree → Option Tree → Option Joint → Option Tree
 joined (Some a) (Some b) (Some o) = Some (of_joint o a b)
 joined (Some a) (Some b) None = None
 joined (Some a) None o = None
 joined None b o = None
 
--- two structures and an operator, and nothing else
+-- the tree of two structures and an operator, and of nothing else
 abbrev pub joined_of : List (Option Tree × Element) → Option Tree
 joined_of [] = None
 joined_of (x ∷ []) = None
@@ -44,51 +45,52 @@ joined_of (x ∷ y ∷ []) = None
 joined_of (x ∷ y ∷ z ∷ []) = joined x.0 y.0 (whole_of operator z.1)
 joined_of (x ∷ y ∷ z ∷ w ∷ ws) = None
 
--- what a constructed element says, of its tag and the elements within, each also beside the structure that it says
+-- the tree of a constructed element, from its tag, the elements within, and these elements with their trees
 abbrev pub tree_in : AsnTag → Forest → List (Option Tree × Element) → Option Tree
 tree_in t f xs =
     if same_tag t (context 0) then option_map of_operand (op.meaning (Constructed t f)) else
     if same_tag t (context 1) then joined_of xs else None
 
--- the elements of a run, each beside the structure that it says
+-- the elements of a run, each with its tree, if it has one
 abbrev pub trees : Forest → List (Option Tree × Element)
 trees end = []
 trees (leaf t bs rest) = (None, Primitive t bs) ∷ trees rest
 trees (branch t f rest) = (tree_in t f (trees f), Constructed t f) ∷ trees rest
 
--- the structure that an element says
+-- the tree of an element, if it has one
 abbrev pub tree_of : Element → Option Tree
 tree_of (Primitive t bs) = None
 tree_of (Constructed t f) = tree_in t f (trees f)
 
--- an element beside the structure that it says
+-- an element with its tree, if it has one
 abbrev pub says : Element → Option Tree × Element
 says e = (tree_of e, e)
 
--- a default set and a structure
+-- the query of a default set and a tree, if there are both
 abbrev pub query_from : Option (List ℕ) → Option Tree → Option RpnQuery
 query_from (Some set) (Some root) = Some (record { attr_set = set; root = root })
 query_from (Some set) None = None
 query_from None root = None
 
+-- the query of two elements, a default set and a structure, and of nothing else
 abbrev pub query_in : List Element → Option RpnQuery
 query_in [] = None
 query_in (n ∷ []) = None
 query_in (n ∷ m ∷ []) = query_from (whole_of (oid (universal 6)) n) (tree_of m)
 query_in (n ∷ m ∷ k ∷ ns) = None
 
--- what an element with the tag of a type-1 query says
+-- the query of an element, whatever its tag
 abbrev pub query_of : Element → Option RpnQuery
 query_of (Primitive t bs) = None
 query_of (Constructed t f) = query_in (elements f)
 
--- what an element says
+-- the query of an element with the tag [1]
 abbrev pub query_at : Element → Option RpnQuery
 query_at n = if same_tag (tag_of n) (context 1) then query_of n else None
 
 -- ---- writing
 
--- all of them, or none
+-- all elements, or none
 abbrev pub two : Option Element → Option Element → Option (List Element)
 two (Some n) (Some m) = Some (n ∷ m ∷ [])
 two (Some n) None = None
@@ -100,7 +102,7 @@ three (Some n) (Some m) None = None
 three (Some n) None k = None
 three None m k = None
 
--- the element of a structure
+-- the element that stands for a tree
 abbrev pub tree_spelt : Tree → Option Element
 tree_spelt (OfTerm xs v) = op.spelt (AttrTerm (xs, v))
 tree_spelt (OfSet name) = op.spelt (ResultSet name)
@@ -108,13 +110,13 @@ tree_spelt (OfSetAttrs name xs) = op.spelt (ResultAttr (name, xs))
 tree_spelt (Of o a b) = around (context 1) (three (tree_spelt a) (tree_spelt b) (operator.spelt (Logical o)))
 tree_spelt (Near m a b) = around (context 1) (three (tree_spelt a) (tree_spelt b) (operator.spelt (Proximity m)))
 
--- the element of a query
+-- the element that stands for a query
 abbrev pub query_spelt : RpnQuery → Option Element
 query_spelt q = around (context 1) (two ((oid (universal 6)).spelt q.attr_set) (tree_spelt q.root))
 
--- ---- what readers answer
+-- ---- what readers return
 
--- a reader of structures returned what is meant, unless memory ran out
+-- the result is this tree, or `Misfit` if there is none, unless no memory was found
 abbrev pub MeansTree : Option Tree → Result Rpn PartError → Type 0
 MeansTree meaning (Ok r) = meaning ≡ Some (seen r)
 MeansTree meaning (Err Misfit) = meaning ≡ None

@@ -1,4 +1,4 @@
-//! Elements read as type-1 queries.
+//! Reads elements as type-1 queries.
 ghost use Rattle.std.specs.Prelude.{◌≡◌, map, Some, IfOk};
 ghost use Rattle.zber.specs.Elements.{tag_of};
 ghost use Rattle.zber.specs.AsnTags.{context, universal};
@@ -23,13 +23,14 @@ use std::alloc::{AllocError, Global};
 use zasn::{Contents, PartError, Parts, read_alone_tagged};
 use zber::{Body, Node, Oid, Seq, Tag};
 
+/// Whether the element has the context tag of this number.
 fn has_tag(node: &Node, number: u32) -> bool
     ensures { result ≡ same_tag (tag_of node.now) (context number) }
 {
     node.tag == Tag::context(number)
 }
 
-/// AttributesPlusTerm, in an element of any tag.
+/// Reads an element of any tag as an AttributesPlusTerm.
 #[tactic(auto, unfolding(crate::specs::Element::Operands::attributes_term_parts))]
 fn attributes_term(alloc: Global, node: &Node) -> Result<(Seq<Attr>, TermValue), PartError>
     ensures { Means (sequence_of attributes_term_parts.at node.now) result }
@@ -46,7 +47,7 @@ fn attributes_term(alloc: Global, node: &Node) -> Result<(Seq<Attr>, TermValue),
     }
 }
 
-/// ResultSetPlusAttributes, in an element of any tag.
+/// Reads an element of any tag as a ResultSetPlusAttributes.
 #[tactic(auto, unfolding(crate::specs::Element::Operands::set_attributes_parts))]
 fn set_attributes(alloc: Global, node: &Node) -> Result<(Bytes, Seq<Attr>), PartError>
     ensures { Means (sequence_of set_attributes_parts.at node.now) result }
@@ -63,7 +64,7 @@ fn set_attributes(alloc: Global, node: &Node) -> Result<(Bytes, Seq<Attr>), Part
     }
 }
 
-/// An operand (Operand).
+/// Reads an element as an operand (Operand).
 #[tactic(auto, unfolding(crate::specs::Element::Operands::operand))]
 fn operand(alloc: Global, node: &Node) -> Result<Rpn, PartError>
     ensures { MeansTree (option_map of_operand (whole_of operand node.now)) result }
@@ -83,7 +84,7 @@ fn operand(alloc: Global, node: &Node) -> Result<Rpn, PartError>
     Err(PartError::Misfit)
 }
 
-/// One operand alone.
+/// Reads one element, and no more, as an operand.
 fn only_operand(alloc: Global, nodes: &[Node]) -> Result<Rpn, PartError>
     ensures { MeansTree (option_map of_operand (found ((alone operand).at nodes.now))) result }
 {
@@ -93,7 +94,7 @@ fn only_operand(alloc: Global, nodes: &[Node]) -> Result<Rpn, PartError>
     }
 }
 
-/// An operator (Operator).
+/// Reads an element as an operator (Operator).
 fn operator(alloc: Global, node: &Node) -> Result<Joint, PartError>
     ensures { Means (whole_of operator node.now) result }
 {
@@ -103,7 +104,7 @@ fn operator(alloc: Global, node: &Node) -> Result<Joint, PartError>
     read_alone_tagged(alloc, node)
 }
 
-/// Two structures joined.
+/// Returns the structure of an operator and two structures.
 fn join(joint: Joint, left: Box<Rpn>, right: Box<Rpn>) -> Rpn
     ensures { seen result ≡ of_joint joint (seen left.value) (seen right.value) }
 {
@@ -115,7 +116,7 @@ fn join(joint: Joint, left: Box<Rpn>, right: Box<Rpn>) -> Rpn
     }
 }
 
-/// Two structures and an operator (rpnRpnOp).
+/// Reads two structures and an operator (rpnRpnOp).
 #[cycle(structure)]
 fn rpn_rpn_op(alloc: Global, nodes: &[Node]) -> Result<Rpn, PartError>
     ensures { MeansTree (joined_of (map says nodes.now)) result }
@@ -131,7 +132,7 @@ fn rpn_rpn_op(alloc: Global, nodes: &[Node]) -> Result<Rpn, PartError>
     }
 }
 
-/// An operand, or two structures with an operator (RPNStructure).
+/// Reads an element as an operand, or as two structures with an operator (RPNStructure).
 #[cycle(structure)]
 fn structure(alloc: Global, node: &Node) -> Result<Rpn, PartError>
     ensures { MeansTree (tree_of node.now) result }
@@ -150,7 +151,7 @@ fn structure(alloc: Global, node: &Node) -> Result<Rpn, PartError>
     }
 }
 
-/// The default attribute set.
+/// Reads an element as the default attribute set.
 fn set(alloc: Global, node: &Node) -> Result<Oid, PartError>
     ensures { Means (whole_of (oid (universal 6)) node.now) result }
 {
@@ -160,7 +161,7 @@ fn set(alloc: Global, node: &Node) -> Result<Oid, PartError>
     Oid::of_node(alloc, node)
 }
 
-/// An object identifier and a structure.
+/// Reads two elements as an object identifier and a structure.
 fn query_in(alloc: Global, nodes: &[Node]) -> Result<Query, PartError>
     ensures { Means (query_in nodes.now) result }
 {
@@ -174,7 +175,7 @@ fn query_in(alloc: Global, nodes: &[Node]) -> Result<Query, PartError>
     }
 }
 
-/// A query, in an element of any tag.
+/// Reads an element of any tag as a query.
 fn query(alloc: Global, node: &Node) -> Result<Query, PartError>
     ensures { Means (query_of node.now) result }
 {
@@ -184,7 +185,7 @@ fn query(alloc: Global, node: &Node) -> Result<Query, PartError>
     }
 }
 
-/// A query, or none.
+/// Reads an element as a query. Returns `None` for another element, and `AllocError` if no memory is found.
 fn query_at(alloc: Global, node: &Node) -> Result<Option<Query>, AllocError>
     ensures { IfOk result (λ o. o ≡ query_at node.now) }
 {
@@ -198,8 +199,9 @@ fn query_at(alloc: Global, node: &Node) -> Result<Option<Query>, AllocError>
     }
 }
 
-/// The type-1 query that an element stands for (Z39.50-2003, 4.1: RPNQuery, under the tag `[1]` of Query), or `None`
-/// for another element, or the refusal of the memory for it.
+/// Returns the type-1 query that the element stands for (Z39.50-2003, 4.1: RPNQuery, with the tag `[1]` of Query).
+///
+/// Returns `None` if it stands for none, and `AllocError` if no memory is found.
 pub fn from_node(alloc: Global, node: &Node) -> Result<Option<Query>, AllocError>
     ensures read { IfOk result (IsQueryOf node.now) }
     ensures meant { IfOk result (λ o. o ≡ query_at node.now) }

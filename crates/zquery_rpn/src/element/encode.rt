@@ -1,4 +1,4 @@
-//! Type-1 queries built as elements.
+//! Builds the elements of type-1 queries.
 ghost use Rattle.std.specs.Prelude.{[], ◌∷◌, Some};
 ghost use Rattle.zber.specs.AsnTags.{context};
 ghost use Rattle.zasn.specs.Within.{around};
@@ -19,7 +19,7 @@ use std::alloc::Global;
 use zasn::{BuildError, Contents, PartsBuf, write_alone, write_alone_tagged, write_around};
 use zber::{Node, Seq, Tag};
 
-/// The operand of a term.
+/// Builds the operand of a term with its attributes.
 #[tactic(auto, unfolding(crate::specs::Element::Operands::operand, crate::specs::Element::Operands::attributes_term_parts))]
 fn attr_term(alloc: Global, attrs: &Seq<Attr>, term: &TermValue) -> Result<Node, BuildError>
     ensures { Makes (op.spelt (AttrTerm (attrs.now, term.now))) result }
@@ -30,7 +30,7 @@ fn attr_term(alloc: Global, attrs: &Seq<Attr>, term: &TermValue) -> Result<Node,
     write_around(alloc, out.into_node(Tag::context(102)), Tag::context(0))
 }
 
-/// The operand of a result set with attributes.
+/// Builds the operand of a result set with its attributes.
 #[tactic(auto, unfolding(crate::specs::Element::Operands::operand, crate::specs::Element::Operands::set_attributes_parts))]
 fn result_attr(alloc: Global, name: &Bytes, attrs: &Seq<Attr>) -> Result<Node, BuildError>
     ensures { Makes (op.spelt (ResultAttr (name.now, attrs.now))) result }
@@ -41,14 +41,14 @@ fn result_attr(alloc: Global, name: &Bytes, attrs: &Seq<Attr>) -> Result<Node, B
     write_around(alloc, out.into_node(Tag::context(214)), Tag::context(0))
 }
 
-/// The operator and, or or and-not.
+/// Builds the operator and, or or and-not.
 fn logical(alloc: Global, kind: Operator) -> Result<Node, BuildError>
     ensures { Makes (operator.spelt (Logical kind)) result }
 {
     write_alone_tagged(alloc, &Joint::Logical(kind), Tag::context(46))
 }
 
-/// Two structures and an operator's element (rpnRpnOp).
+/// Builds two structures, with the operator's element behind them (rpnRpnOp).
 #[cycle(structure)]
 fn rpn_rpn_op(alloc: Global, left: &Rpn, right: &Rpn, operator: Node) -> Result<Node, BuildError>
     ensures { Makes (around (context 1)
@@ -61,7 +61,7 @@ fn rpn_rpn_op(alloc: Global, left: &Rpn, right: &Rpn, operator: Node) -> Result<
     Ok(out.into_node(Tag::context(1)))
 }
 
-/// The element of an operand, or of an operator with two structures (RPNStructure).
+/// Builds the element of an operand, or of two structures with an operator (RPNStructure).
 #[cycle(structure)]
 #[tactic(auto, unfolding(crate::specs::Element::Operands::operand, crate::specs::Element::Operators::joint))]
 fn structure(alloc: Global, rpn: &Rpn) -> Result<Node, BuildError>
@@ -81,7 +81,7 @@ fn structure(alloc: Global, rpn: &Rpn) -> Result<Node, BuildError>
     }
 }
 
-/// The element of a query (RPNQuery).
+/// Builds the element of a query (RPNQuery).
 fn write_query(alloc: Global, query: &Query) -> Result<Node, BuildError>
     ensures { Makes (query_spelt query.now) result }
 {
@@ -91,11 +91,11 @@ fn write_query(alloc: Global, query: &Query) -> Result<Node, BuildError>
     Ok(out.into_node(Tag::context(1)))
 }
 
-/// The element that stands for a type-1 query (Z39.50-2003, 4.1: RPNQuery, under the tag `[1]` of Query).
+/// Builds the element that stands for a type-1 query (Z39.50-2003, 4.1: RPNQuery, with the tag `[1]` of Query).
 ///
-/// Refused as `NotSpellable` where a part that the query keeps as an element has no lawful tag or form for its place: a
-/// complex value is constructed with the tag `[224]`, another term has one of the tags `[217]` to `[221]`, and a
-/// proximity operator is constructed with the tag `[3]`. Refused as `Memory` where none was found.
+/// Returns `NotSpellable` if a part that the query keeps as an element has no lawful tag or form for its place. A
+/// complex value must be constructed with the tag `[224]`. A term kept as its element must have one of the tags `[217]`
+/// to `[221]`. A proximity operator must be constructed with the tag `[3]`. Returns `Memory` if no memory is found.
 pub fn to_node(alloc: Global, query: &Query) -> Result<Node, BuildError>
     ensures written { IsWritten (WritesQuery query.now) result }
     ensures spelled { Makes (query_spelt query.now) result }

@@ -77,7 +77,7 @@ impl Tagged for Attr {
     }
 }
 
-/// Whether a term with the tag is kept as its element.
+/// Whether a term with this tag is kept as its element.
 fn is_kept(tag: Tag) -> bool
     ensures { result ≡ among tag kept_terms }
 {

@@ -6,7 +6,7 @@ use std::alloc::Global;
 use zasn::{BuildError, Contents, PartError, Tagged};
 use zber::{Node, Tag};
 
-/// What joins two structures: and, or or and-not, or proximity, kept as the element that it is.
+/// An operator over two structures: and, or, and-not, or proximity, whose operator is kept as its element.
 #[derive(Drop)]
 pub(crate) enum Joint {
     Logical(Operator),

@@ -13,7 +13,7 @@ no_and : (b : Bool) → (b && false) ≡ false
 no_and true = refl
 no_and false = refl
 
--- src/notation/printable.rt:89:13
+-- src/notation/printable.rt:93:13
 pub returns-then-not-is_plain-clause-value : goal.returns-then-not-is_plain-clause-value
 returns-then-not-is_plain-clause-value c =
     let own = c.args.own.now in
