@@ -4,6 +4,7 @@
 mod encoding;
 mod fact;
 mod fact_order;
+mod found_diags;
 mod knowledge;
 pub mod laws;
 mod list;
@@ -16,5 +17,5 @@ pub use list::print_list;
 pub use saved::loading::{LoadError, load};
 pub use saved::saving::{SaveError, save};
 pub use tables::join::Join;
-pub use tables::keys::RowKey;
+pub use tables::keys::{RowKey, SetKey};
 pub use zber::Mode;

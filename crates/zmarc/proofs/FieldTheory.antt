@@ -1,13 +1,14 @@
 -- The fields of a record, one entry of the directory after the other.
-use Rattle.std.proofs.Common.{◌≡◌, ℕ, suc, ◌+◌, ◌-◌, ◌*◌, ◌/◌, ◌≤◌, Bool, true, false, cond, not, Option, Some, None, List, [], ◌∷◌, ◌++◌, length, take, drop, refl, sym, ap, ◌∙◌, append_assoc, arith}
-use Rattle.std.specs.Prelude.{find, is_some, map, filter}
+use Rattle.std.proofs.Common.{◌≡◌, ℕ, suc, ◌+◌, ◌-◌, ◌*◌, ◌/◌, ◌<◌, ◌≤◌, Bool, true, false, cond, not, Option, Some, None, List, [], ◌∷◌, ◌++◌, length, take, drop, refl, sym, ap, ◌∙◌, append_assoc, arith}
+use Rattle.std.specs.Prelude.{find, is_some, map, filter, sum_by, nat_le}
+use Rattle.std.proofs.lemmas.Bool.{lt-leb}
 use Rattle.std.specs.Borrow.{Bor}
 use Rattle.std.specs.List.{filter_map, before_first, slice_range, count_by}
 use Rattle.std.specs.Option.{option_map, option_or, option_copied, option_to_list, is_none}
 use Rattle.std.specs.Str.{bytes_eq}
 use Rattle.std.proofs.lemmas.List.Sums.{sum_by-cons}
 use Rattle.std.proofs.Math.Nat.{div-mul-le_self, zero-div, sub-zero, suc-mul}
-use Rattle.zmarc.specs.Records.{base_address, is_end, directory, directory_to, contents, from_base, length_digits, start_digits, entry_len, entry_count, entries, Field, octets_of, tagged_octets, field_of, fields, has_tag, tagged_fields, first_field, lost_count}
+use Rattle.zmarc.specs.Records.{base_address, is_end, directory, directory_to, contents, from_base, length_digits, start_digits, entry_len, entry_count, entries, Field, octets_of, tagged_octets, field_of, fields, has_tag, tagged_fields, first_field, lost_count, told_len, told_total}
 
 -- ---- where the directory and the contents stand
 
@@ -192,3 +193,37 @@ room_for_one k j len m h room = let more : suc j * len ≤ m = rw h at room in o
 
 pub room_for_rest : (k j len m n : ℕ) → k ≡ suc j → k * len ≤ m → n + len ≡ m → j * len ≤ n
 room_for_rest k j len m n h room is = let more : suc j * len ≤ m = rw h at room in omega (arith, more, suc-mul j len)
+
+-- ---- octets that entries tell of
+
+abbrev pub told_in : List ℕ → List (List ℕ) → ℕ
+told_in octets es =
+    sum_by (λ e. told_len (octets_of (contents octets) (length_digits octets) (start_digits octets) e)) es
+
+pub told_next : (octets : List ℕ) (len n m told : ℕ) (rest : List ℕ) → n ≡ suc m
+    → told ≡ told_len (octets_of (contents octets) (length_digits octets) (start_digits octets) (take len rest))
+    → told_in octets (entries len n rest) ≡ told + told_in octets (entries len m (drop len rest))
+told_next octets len n m told rest h is =
+    ap (λ k. told_in octets (entries len k rest)) h
+    ∙ sum_by-cons (λ e. told_len (octets_of (contents octets) (length_digits octets) (start_digits octets) e))
+    (take len rest) (entries len m (drop len rest))
+    ∙ ap (λ k. k + told_in octets (entries len m (drop len rest))) (sym is)
+
+pub told_at_first : (octets : List ℕ) (len : ℕ) (d : List ℕ) → len ≡ entry_len octets → d ≡ directory octets
+    → told_in octets (entries len (length d / len - 0) d) ≡ told_total octets
+unfolding told_total
+told_at_first octets len d sized is =
+    ap (λ n. told_in octets (entries len n d)) (sub-zero (length d / len))
+    ∙ ap (λ m. told_in octets (entries m (length d / m) d)) sized
+    ∙ ap (λ r. told_in octets (entries (entry_len octets) (length r / entry_len octets) r)) is
+
+pub none_told : (octets : List ℕ) → base_address octets ≡ None → told_total octets ≡ 0
+unfolding told_total
+none_told octets h =
+    let none : entry_count octets ≡ 0 =
+    ap (λ l. length l / entry_len octets) (directory_none octets h) ∙ zero-div (entry_len octets) in
+    ap (λ n. told_in octets (entries (entry_len octets) n (directory octets))) none
+
+pub too_many : (all most room k rest now : ℕ) → now ≡ k + rest → room < k → all + room ≡ most + now
+    → nat_le all most ≡ false
+too_many all most room k rest now next over same = lt-leb all most (omega (arith, next, over, same))

@@ -11,6 +11,7 @@ use Rattle.zmarc.specs.declared.charset.Charset.{Charset}
 use Rattle.zmarc.specs.declared.format.Format.{Format}
 use Rattle.zmarc.specs.Shown.{is_sort_mark, is_white, is_invisible, is_safe, shown, shown_text, IsSafe, IsSafeOctet, IsSafeText}
 use Rattle.zmarc.specs.Charsets.{text, characters}
+use Rattle.zmarc.specs.Records.{is_record}
 use Rattle.zmarc.specs.Briefs.{charset, pieces, with_piece, joined, brief}
 
 -- ---- characters
@@ -134,7 +135,7 @@ append_is_safe a b first then = record {
 
 -- ---- lines
 
-text_is_safe : (set : Charset) (octets : List ℕ) → IsSafeText (text set octets)
+pub text_is_safe : (set : Charset) (octets : List ℕ) → IsSafeText (text set octets)
 unfolding text
 text_is_safe set octets = shown_is_safe (nfc (characters set octets))
 
@@ -153,4 +154,6 @@ joined_is_safe set line (piece ∷ found) first =
 
 pub brief_is_safe : (format : Format) (octets : List ℕ) → IsSafeText (brief format octets)
 unfolding brief
-brief_is_safe format octets = joined_is_safe (charset format octets) [] (pieces format octets) nothing_is_safe
+brief_is_safe format octets =
+    cond_both (is_record octets) (joined (charset format octets) [] (pieces format octets)) [] IsSafeText
+    (λ _. joined_is_safe (charset format octets) [] (pieces format octets) nothing_is_safe) (λ _. nothing_is_safe)

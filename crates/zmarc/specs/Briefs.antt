@@ -1,4 +1,4 @@
--- The brief text of a record: its year, its title and who made it, and its ISBN.
+-- The line that is shown of a record: its title and who made it, and its ISBN.
 use Rattle.std.specs.Prelude.{ℕ, Bool, false, not, ◌&&◌, ◌||◌, ◌==◌, nat_le, if◌then◌else◌, Option, Some, None}
 use Rattle.std.specs.Prelude.{is_some, List, [], ◌∷◌, ◌++◌, length, slice_index, map, fold, codes}
 use Rattle.std.specs.List.{slice_range, list_any, flat_map}
@@ -10,9 +10,8 @@ use Rattle.zmarc.specs.declared.format.Format.{Format}
 use Rattle.zmarc.specs.declared.format.Format.TheVariants.{Marc21, Unimarc}
 use Rattle.zmarc.specs.Charsets.{is_utf8_beyond_ascii, text}
 use Rattle.zmarc.specs.Isbns.{isbn}
-use Rattle.zmarc.specs.Records.{first_field}
+use Rattle.zmarc.specs.Records.{first_field, is_record}
 use Rattle.zmarc.specs.Subfields.{Subfield, subfields, subfield_in}
-use Rattle.zmarc.specs.Years.{year}
 
 -- ---- the title, and who made it
 
@@ -76,7 +75,7 @@ maker format octets =
 -- what is shown, in the octets of the record
 unfoldable pub pieces : Format → List ℕ → List (List ℕ)
 pieces format octets =
-    option_to_list (year format octets) ++ title format octets ++ maker format octets ++ isbn format octets
+    title format octets ++ maker format octets ++ isbn format octets
 
 -- positions 26 and 27 of the coded field name UTF-8
 abbrev pub names_utf8 : Option (List ℕ) → Bool
@@ -106,6 +105,6 @@ with_piece line piece = if length line == 0 then piece else line ++ 0x20 ∷ pie
 unfoldable pub joined : Charset → List ℕ → List (List ℕ) → List ℕ
 joined set line found = fold with_piece line (map (text set) found)
 
--- the line that is shown of a record
+-- the line that is shown of a record: nothing, where the octets are none
 unfoldable pub brief : Format → List ℕ → List ℕ
-brief format octets = joined (charset format octets) [] (pieces format octets)
+brief format octets = if is_record octets then joined (charset format octets) [] (pieces format octets) else []

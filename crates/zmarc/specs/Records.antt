@@ -1,7 +1,7 @@
 -- Records of ISO 2709 (ANSI/NISO Z39.2): a leader of 24 octets, a directory of entries, and fields.
-use Rattle.std.specs.Prelude.{ℕ, zero, suc, ◌+◌, ◌/◌, Bool, ◌&&◌, ◌||◌, ◌==◌, nat_lt, nat_le, if◌then◌else◌, Option}
+use Rattle.std.specs.Prelude.{ℕ, zero, suc, ◌+◌, ◌*◌, ◌/◌, ◌^◌, Bool, ◌&&◌, ◌||◌, ◌==◌, nat_lt, nat_le, if◌then◌else◌, Option}
 use Rattle.std.specs.Prelude.{Some, None, is_some, is_none, List, [], ◌∷◌, length, take, drop, slice_index, find}
-use Rattle.std.specs.Prelude.{filter, map}
+use Rattle.std.specs.Prelude.{filter, map, sum_by}
 use Rattle.std.specs.List.{slice_range, before_first, filter_map, count_by}
 use Rattle.std.specs.Option.{option_map}
 use Rattle.std.specs.Str.{bytes_eq}
@@ -18,10 +18,6 @@ base_within octets (Some at) = if nat_le 24 at && nat_le at (length octets) then
 unfoldable pub base_address : List ℕ → Option ℕ
 base_address octets =
     if nat_lt (length octets) 24 then None else base_within octets (number (slice_range octets 12 17))
-
--- the octets are a record: whatever its parts are, there is a place where they stand
-abbrev pub is_record : List ℕ → Bool
-is_record octets = is_some (base_address octets)
 
 -- how many octets of a directory entry tell the length of its field, how many tell where the field starts, and how many
 -- are for other use (positions 20 to 22); where one is no digit, the number that MARC 21 and UNIMARC have there
@@ -115,6 +111,23 @@ tagged_fields tag octets = map (λ f. f.octets) (filter (has_tag tag) (fields oc
 -- the octets of the first field that has this tag
 unfoldable pub first_field : List ℕ → List ℕ → Option (List ℕ)
 first_field tag octets = option_map (λ f. f.octets) (find (has_tag tag) (fields octets))
+
+-- how many octets an entry tells of
+abbrev pub told_len : Option (List ℕ) → ℕ
+told_len None = 0
+told_len (Some found) = length found
+
+-- the octets that the entries tell of, counted as often as one tells of them
+unfoldable pub told_total : List ℕ → ℕ
+told_total octets =
+    sum_by (λ e. told_len (octets_of (contents octets) (length_digits octets) (start_digits octets) e))
+    (entries (entry_len octets) (entry_count octets) (directory octets))
+
+-- the octets are a record: the leader tells where the data begin, and the entries do not tell of the same octets over and
+-- over: together of at most 16 times as many as there are, so that reading a record takes time in proportion to its length
+unfoldable pub is_record : List ℕ → Bool
+is_record octets =
+    nat_lt (length octets) (2 ^ 32) && is_some (base_address octets) && nat_le (told_total octets) (16 * length octets)
 
 -- how many entries tell of no octets
 abbrev pub lost_count : List ℕ → ℕ

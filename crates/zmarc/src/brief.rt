@@ -78,8 +78,8 @@ fn put_pieces(
 
 /// Appends the line that is shown of a record to `out`, and tells whether the octets are a record.
 ///
-/// The line has the year, the title and who made it, and the ISBN, in this order, as far as the record has them, with
-/// one space between them. It ends with no line feed. It is UTF-8 and safe to print on a terminal, whatever the octets
+/// The line has the title and who made it, and the ISBN, in this order, as far as the record has them, with one space
+/// between them; the year is asked for by `find_year`. It ends with no line feed. It is UTF-8 and safe to print on a terminal, whatever the octets
 /// are: it has no control character (C0, delete, C1), no separator of lines or paragraphs (U+2028, U+2029), no character
 /// that turns the direction of text (U+061C, U+200E, U+200F, U+202A to U+202E, U+2066 to U+2069), and neither U+200B nor
 /// U+FEFF. Each of these is shown as U+FFFD; but a tab, a line feed and a carriage return are shown as a space, and
@@ -97,16 +97,19 @@ pub fn put_brief(
     alloc: Global,
     octets: &[u8],
     format: Format,
-    out: &mut Vec<u8>,
+    out: &mut String,
 ) -> Result<bool, AllocError>
-    ensures ok { OnOk result (out.new.items ≡ out.old.items ++ brief format octets.now) }
+    ensures ok { OnOk result (string_bytes out.new ≡ string_bytes out.old ++ brief format octets.now) }
     ensures read { IfOk result (λ read. read ≡ is_record octets.now) }
-    ensures err { OnErr result (out.new.items ≡ out.old.items) }
+    ensures err { OnErr result (string_bytes out.new ≡ string_bytes out.old) }
     ensures safe { IsSafeText (brief format octets.now) }
 {
+    if !is_record(octets) {
+        return Ok(false);
+    }
     let pieces = gather_pieces(alloc, octets, format)?;
     let mut line = String::new(alloc);
     put_pieces(alloc, choose_charset(octets, format), &pieces, &mut line)?;
-    out.extend_from_slice(line.as_bytes())?;
-    Ok(is_record(octets))
+    out.push_str(line.as_str())?;
+    Ok(true)
 }

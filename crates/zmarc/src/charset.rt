@@ -3,6 +3,7 @@ ghost use Rattle.std.specs.Prelude.{◌≡◌, ◌++◌, map, OnOk, IfOk, string
 ghost use Rattle.std.specs.Str.{chars, is_utf8};
 ghost use Rattle.std.specs.Str.Lossy.{utf8_lossy};
 ghost use Rattle.zmarc.specs.Marc8.{ascii};
+ghost use Rattle.zmarc.specs.Shown.{IsSafeText};
 ghost use Rattle.zmarc.specs.Charsets.{is_beyond_ascii, is_utf8_beyond_ascii, characters, text};
 
 use crate::marc8::{map_ascii, read_marc8};
@@ -76,15 +77,18 @@ fn read_characters(alloc: Global, charset: Charset, octets: &[u8]) -> Result<Vec
     }
 }
 
-/// Appends the text that is shown of octets: their characters, composed as in NFC.
-#[tactic(auto, unfolding(crate::specs::Charsets::text))]
-pub(crate) fn put_text(
+/// Appends the text that is shown of octets: their characters in NFC, of which each that is not safe for a terminal is
+/// shown as U+FFFD or as a space (`put_brief` says which). Octets that mean nothing in the set are shown as U+FFFD. It
+/// fails only if no memory is found.
+#[tactic(auto, unfolding(crate::specs::Charsets::text), using(crate::proofs::SafeTheory::text_is_safe))]
+pub fn put_text(
     alloc: Global,
     charset: Charset,
     octets: &[u8],
     line: &mut String,
 ) -> Result<(), AllocError>
-    ensures { OnOk result (string_bytes line.new ≡ string_bytes line.old ++ text charset octets.now) }
+    ensures ok { OnOk result (string_bytes line.new ≡ string_bytes line.old ++ text charset octets.now) }
+    ensures safe { IsSafeText (text charset octets.now) }
 {
     let read = read_characters(alloc, charset, octets)?;
     let mut composed = Vec::new(alloc);

@@ -1,5 +1,5 @@
-//! Bibliographic records of ISO 2709 (ANSI/NISO Z39.2) as one readable line each: the year, the title and who made it,
-//! and the ISBN, of records in MARC 21 and UNIMARC. The line is text that is safe to print, whatever the octets are.
+//! Bibliographic records of ISO 2709 (ANSI/NISO Z39.2) as one readable line each: the title and who made it, and the
+//! ISBN, of records in MARC 21 and UNIMARC; and the year. The line is text that is safe to print, whatever the octets are.
 #![tactic(auto)]
 
 mod brief;
@@ -18,6 +18,8 @@ mod tests;
 mod year;
 
 pub use brief::put_brief;
+pub use charset::{Charset, put_text};
 pub use format::Format;
 pub use records::{count_lost, first_field, is_record};
 pub use subfields::subfield_in;
+pub use year::find_year;

@@ -10,7 +10,6 @@ use crate::format::Format;
 use crate::isbn::take_isbn;
 use crate::records::first_field;
 use crate::subfields::{split_next_part, subfield_in};
-use crate::year::find_year;
 use std::alloc::{AllocError, Global};
 
 /// Takes what is shown of a subfield of the title: nothing where it is empty.
@@ -120,9 +119,6 @@ pub(crate) fn gather_pieces(
     ensures { IfOk result (λ found. behind_each found.items ≡ pieces format octets.now) }
 {
     let mut found = Vec::new(alloc);
-    if let Some(digits) = find_year(alloc, octets, format)? {
-        found.push(digits)?;
-    }
     take_title(octets, format, &mut found)?;
     take_maker(octets, format, &mut found)?;
     take_isbn(alloc, octets, format, &mut found)?;

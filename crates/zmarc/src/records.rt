@@ -1,9 +1,9 @@
 //! Records of ISO 2709 (ANSI/NISO Z39.2): a leader of 24 octets, a directory of entries, and fields.
-ghost use Rattle.std.specs.Prelude.{◌≡◌, ◌≤◌, ◌+◌, ◌++◌, length, OnOk, IfOk, IfSome};
+ghost use Rattle.std.specs.Prelude.{◌≡◌, ◌≤◌, ◌+◌, ◌++◌, length, nat_le, OnOk, IfOk, IfSome};
 ghost use Rattle.std.specs.List.{before_first};
 ghost use Rattle.std.specs.Option.{option_copied, option_to_list};
 ghost use Rattle.zmarc.specs.Records.{base_address, is_record, is_end, length_digits, start_digits, other_octets};
-ghost use Rattle.zmarc.specs.Records.{octets_of, tagged_octets, tagged_fields, first_field, lost_count};
+ghost use Rattle.zmarc.specs.Records.{octets_of, tagged_octets, tagged_fields, first_field, told_len, told_total, lost_count};
 ghost use Rattle.zmarc.specs.References.{behind_each};
 
 use crate::numbers::{read_digit_or, read_number};
@@ -11,6 +11,8 @@ use std::alloc::{AllocError, Global};
 
 /// The octets of a leader.
 const LEADER_LEN: usize = 24;
+/// What has as many octets or more is no record.
+const MOST_OCTETS: usize = 4_294_967_296;
 /// The octets of a tag.
 const TAG_LEN: usize = 3;
 /// The field terminator.
@@ -33,15 +35,6 @@ fn read_base_address(octets: &[u8]) -> Option<usize>
     } else {
         None
     }
-}
-
-/// Tells whether the octets are a record: they have a leader of 24 octets, whose positions 12 to 16 are five digits,
-/// and these tell a base address that is at least 24 and at most the number of octets. Nothing else of the leader is
-/// looked at.
-pub fn is_record(octets: &[u8]) -> bool
-    ensures { result ≡ is_record octets.now }
-{
-    read_base_address(octets).is_some()
 }
 
 /// What stands before the first terminator.
@@ -133,6 +126,56 @@ fn take_tagged<'a>(
         found.push(field)?;
     }
     Ok(())
+}
+
+/// How many octets an entry tells of.
+fn count_told(contents: &[u8], layout: Layout, entry: &[u8]) -> usize
+    requires whole { 3 + layout.length_digits + layout.start_digits ≤ length entry.now }
+    requires short { (layout.length_digits ≤ 9) × (layout.start_digits ≤ 9) }
+    ensures { result ≡ told_len (octets_of contents.now layout.length_digits layout.start_digits entry.now) }
+{
+    match read_entry(contents, layout, entry) {
+        Some(field) => field.len(),
+        None => 0,
+    }
+}
+
+/// Whether the entries tell of at most so many octets together.
+#[tactic(auto, unfolding(crate::specs::Records::told_total))]
+fn tell_at_most(octets: &[u8], most: usize) -> bool
+    ensures { result ≡ nat_le (told_total octets.now) most }
+{
+    let Some(at) = read_base_address(octets) else {
+        return true;
+    };
+    let contents = &octets[at..];
+    let mut rest = cut_before_end(&octets[LEADER_LEN..at]);
+    let layout = read_entry_layout(octets);
+    let len = TAG_LEN + layout.length_digits + layout.start_digits + layout.other_octets;
+    let mut room = most;
+    for _ in 0..rest.len() / len {
+        let (entry, behind) = rest.split_at(len);
+        let told = count_told(contents, layout, entry);
+        if told > room {
+            return false;
+        }
+        room -= told;
+        rest = behind;
+    }
+    true
+}
+
+/// Tells whether the octets are a record: they have a leader of 24 octets, whose positions 12 to 16 are five digits,
+/// these tell a base address that is at least 24 and at most the number of octets, and the entries of the directory tell
+/// of at most 16 times as many octets as there are. Nothing else of the leader is looked at. What has 2^32 octets or more
+/// is no record.
+#[tactic(auto, unfolding(crate::specs::Records::is_record))]
+pub fn is_record(octets: &[u8]) -> bool
+    ensures { result ≡ is_record octets.now }
+{
+    octets.len() < MOST_OCTETS
+        && read_base_address(octets).is_some()
+        && tell_at_most(octets, 16 * octets.len())
 }
 
 /// Finds the octets of the first field that has this tag, in the order of the directory. A tag has three octets; no

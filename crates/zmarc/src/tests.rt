@@ -1,15 +1,23 @@
 //! What no clause says: vectors from outside, records of a server, and records that are damaged.
-use crate::{Format, put_brief};
+use crate::{Charset, Format, find_year, put_brief, put_text};
 use std::alloc::{AllocError, Global};
 use std::test::Fail;
 
 /// A record, how it is read, and the line that is wanted.
 type Vector = (&'static [u8], Format, &'static str);
 
-/// The line of a record.
-fn line_of(alloc: Global, octets: &[u8], format: Format) -> Result<Vec<u8>, AllocError> {
-    let mut line = Vec::new(alloc);
-    let _ = put_brief(alloc, octets, format, &mut line)?;
+/// The year and the line of a record, with a space between them where it has both.
+fn line_of(alloc: Global, octets: &[u8], format: Format) -> Result<String, AllocError> {
+    let mut brief = String::new(alloc);
+    let mut line = String::new(alloc);
+    if put_brief(alloc, octets, format, &mut brief)? {
+        let year = find_year(alloc, octets, format)?.unwrap_or(b"");
+        put_text(alloc, Charset::Ascii, year, &mut line)?;
+    }
+    if !line.is_empty() && !brief.is_empty() {
+        line.push(' ')?;
+    }
+    line.push_str(brief.as_str())?;
     Ok(line)
 }
 
@@ -308,7 +316,7 @@ fn lines(rt: HostRuntime) -> Result<(), Fail> {
     ] {
         for (octets, format, wanted) in table {
             let line = line_of(rt.alloc(), octets, *format)?;
-            assert_eq!(rt; str::from_utf8(line.as_slice())?, *wanted);
+            assert_eq!(rt; line.as_str(), *wanted);
         }
     }
     Ok(())
@@ -317,11 +325,11 @@ fn lines(rt: HostRuntime) -> Result<(), Fail> {
 /// Octets that are no record: nothing is appended.
 #[test]
 fn no_records(rt: HostRuntime) -> Result<(), Fail> {
-    let mut line_1 = vec![in rt.alloc(); b'x']?;
+    let mut line_1 = String::from_str(rt.alloc(), "x")?;
     let read_1 = put_brief(rt.alloc(), b"", Format::Marc21, &mut line_1)?;
     assert!(rt; !read_1);
-    assert_eq!(rt; line_1.as_slice(), b"x".as_slice());
-    let mut line_2 = vec![in rt.alloc(); b'x']?;
+    assert_eq!(rt; line_1.as_str(), "x");
+    let mut line_2 = String::from_str(rt.alloc(), "x")?;
     let read_2 = put_brief(
         rt.alloc(),
         b"00366nam  22001698a 450",
@@ -329,8 +337,8 @@ fn no_records(rt: HostRuntime) -> Result<(), Fail> {
         &mut line_2,
     )?;
     assert!(rt; !read_2);
-    assert_eq!(rt; line_2.as_slice(), b"x".as_slice());
-    let mut line_3 = vec![in rt.alloc(); b'x']?;
+    assert_eq!(rt; line_2.as_str(), "x");
+    let mut line_3 = String::from_str(rt.alloc(), "x")?;
     let read_3 = put_brief(
         rt.alloc(),
         b"00366nam  22x01698a 4500                                    ",
@@ -338,8 +346,8 @@ fn no_records(rt: HostRuntime) -> Result<(), Fail> {
         &mut line_3,
     )?;
     assert!(rt; !read_3);
-    assert_eq!(rt; line_3.as_slice(), b"x".as_slice());
-    let mut line_4 = vec![in rt.alloc(); b'x']?;
+    assert_eq!(rt; line_3.as_str(), "x");
+    let mut line_4 = String::from_str(rt.alloc(), "x")?;
     let read_4 = put_brief(
         rt.alloc(),
         b"00366nam  2299999 a 4500                                    ",
@@ -347,14 +355,14 @@ fn no_records(rt: HostRuntime) -> Result<(), Fail> {
         &mut line_4,
     )?;
     assert!(rt; !read_4);
-    assert_eq!(rt; line_4.as_slice(), b"x".as_slice());
+    assert_eq!(rt; line_4.as_str(), "x");
     Ok(())
 }
 
 /// A record is appended to what is there, and told to be one.
 #[test]
 fn appended(rt: HostRuntime) -> Result<(), Fail> {
-    let mut line = vec![in rt.alloc(); b'x']?;
+    let mut line = String::from_str(rt.alloc(), "x")?;
     let read = put_brief(
         rt.alloc(),
         b"00095nam  22000611a 4500100001400000245001000014260000900024\
@@ -363,6 +371,6 @@ fn appended(rt: HostRuntime) -> Result<(), Fail> {
         &mut line,
     )?;
     assert!(rt; read);
-    assert_eq!(rt; line.as_slice(), b"x1999 Title / Smith, A.".as_slice());
+    assert_eq!(rt; line.as_str(), "xTitle / Smith, A.");
     Ok(())
 }

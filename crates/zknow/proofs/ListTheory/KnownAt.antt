@@ -11,13 +11,14 @@ use Rattle.std.proofs.lemmas.Cmp.{int_cmp_total}
 use Rattle.std.proofs.lemmas.Grind.{flat_map-append}
 use Rattle.std.proofs.lemmas.List.{append-nil}
 use Rattle.std.proofs.lemmas.Map.Lookups.{exact_signed}
+use Rattle.zapdu.specs.declared.productions.diagnostic.DiagRec.{DiagRec}
 use Rattle.zapdu.specs.declared.productions.record.Record.{Record}
 use Rattle.zber.proofs.Tests.{both_true}
 use Rattle.zknow.specs.declared.tables.keys.SetKey.{SetKey}
 use Rattle.zknow.specs.declared.tables.Tables.{Tables}
 use Rattle.zknow.specs.declared.fact.Fact.{Fact}
 use Rattle.zknow.specs.declared.fact.Fact.TheVariants.{Count, Failed, Seen, Diag}
-use Rattle.zknow.specs.Known.{is_set, count_in, record_in, counts_at, records_at}
+use Rattle.zknow.specs.Known.{is_set, count_in, record_in, counts_at, records_at, fact_failure, failures_at, fact_diag, diags_at}
 use Rattle.zknow.specs.Tables.Keys.{set_cmp, set_total, set_exact}
 use Rattle.zknow.specs.Tables.Sections.{facts_of, counts_of, failed_of, seen_of, diags_of, marked, numbered}
 use Rattle.zknow.specs.Tables.Table.{value_at}
@@ -61,6 +62,38 @@ counts_in_table target set k good =
     ∙ ap (λ l. flat_map f (counts_of k) ++ (flat_map f (failed_of k) ++ (l ++ []))) no_seen
     ∙ ap (λ l. flat_map f (counts_of k) ++ (l ++ [])) no_failed
     ∙ append-nil (flat_map f (counts_of k)) ∙ counts ∙ flat_map_ones (items_of (λ xs. xs) (value_at set_cmp k.counts (key target set)))
+
+-- the failures
+pub failures_in_table : (target set : ℕ) (k : Tables) → AreLawful k → failures_at target set (facts_of k) ≡ items_of marked (value_at set_cmp k.failed (key target set))
+failures_in_table target set k good =
+    let f : Fact → List (Unit {0}) = λ x. option_to_list (fact_failure target set x) in
+    let failed = at_section marked (λ (e : SetKey) u. Failed e.target e.set) f set_cmp set_total set_exact (key target set) (λ u. u ∷ [])
+    (λ u. ap (λ b. option_to_list (if b then Some tt else None)) (is_set_itself target set))
+    (λ q u apart. ap (λ b. option_to_list (if b then Some tt else None)) (is_set_apart target set q apart)) k.failed good.failed.ordered in
+    let no_counts = none_in_section (λ xs. xs) (λ (e : SetKey) n. Count e.target e.set n) f (λ q n. refl) k.counts in
+    let no_seen = none_in_section numbered (λ (e : SetKey) x. Seen e.target e.set x.0 x.1) f (λ q x. refl) k.seen in
+    let no_diags = none_in_section numbered (λ (e : SetKey) x. Diag e.target e.set x.0 x.1) f (λ q x. refl) k.diags in
+    filter_map_flat (fact_failure target set) (facts_of k) ∙ by_section f k
+    ∙ ap (λ l. l ++ (flat_map f (failed_of k) ++ (flat_map f (seen_of k) ++ flat_map f (diags_of k)))) no_counts
+    ∙ ap (λ l. flat_map f (failed_of k) ++ (l ++ flat_map f (diags_of k))) no_seen
+    ∙ ap (λ l. flat_map f (failed_of k) ++ l) no_diags
+    ∙ append-nil (flat_map f (failed_of k)) ∙ failed ∙ flat_map_ones (items_of marked (value_at set_cmp k.failed (key target set)))
+
+-- the diagnostics
+pub diags_in_table : (target set : ℕ) (k : Tables) → AreLawful k → diags_at target set (facts_of k) ≡ items_of numbered (value_at set_cmp k.diags (key target set))
+diags_in_table target set k good =
+    let f : Fact → List (ℤ × DiagRec) = λ x. option_to_list (fact_diag target set x) in
+    let diags = at_section numbered (λ (e : SetKey) x. Diag e.target e.set x.0 x.1) f set_cmp set_total set_exact (key target set) (λ x. x ∷ [])
+    (λ x. ap (λ b. option_to_list (if b then Some x else None)) (is_set_itself target set))
+    (λ q x apart. ap (λ b. option_to_list (if b then Some x else None)) (is_set_apart target set q apart)) k.diags good.diags.ordered in
+    let no_counts = none_in_section (λ xs. xs) (λ (e : SetKey) n. Count e.target e.set n) f (λ q n. refl) k.counts in
+    let no_failed = none_in_section marked (λ (e : SetKey) u. Failed e.target e.set) f (λ q u. refl) k.failed in
+    let no_seen = none_in_section numbered (λ (e : SetKey) x. Seen e.target e.set x.0 x.1) f (λ q x. refl) k.seen in
+    filter_map_flat (fact_diag target set) (facts_of k) ∙ by_section f k
+    ∙ ap (λ l. l ++ (flat_map f (failed_of k) ++ (flat_map f (seen_of k) ++ flat_map f (diags_of k)))) no_counts
+    ∙ ap (λ l. l ++ (flat_map f (seen_of k) ++ flat_map f (diags_of k))) no_failed
+    ∙ ap (λ l. l ++ flat_map f (diags_of k)) no_seen
+    ∙ diags ∙ flat_map_ones (items_of numbered (value_at set_cmp k.diags (key target set)))
 
 -- the values of a set at a number
 abbrev pub values_of : {T : Type 0} → List (SetKey × List (ℤ × List T)) → SetKey → ℤ → List T

@@ -19,15 +19,19 @@ use Rattle.zknow.specs.declared.fact.Fact.TheVariants.{Count, Failed, Seen, Diag
 use Rattle.zknow.specs.Encodings.{encoding_cmp}
 use Rattle.zasn.specs.Place.{IsSpellable}
 use Rattle.zknow.specs.Tables.Keys.{set_cmp, set_total, set_exact, IsMarked, IsAnyMark, row_cmp, row_total, row_exact}
-use Rattle.zknow.specs.List.Listing.{ascending, block_of, row_of}
+use Rattle.std.specs.Prelude.{ℕ, Option, Some, None, if◌then◌else◌}
+use Rattle.std.specs.List.Sorted.{IsStrictlySortedBy}
+use Rattle.zknow.specs.Tables.Table.{value_at}
+use Rattle.zknow.specs.Tables.Tables.{key}
+use Rattle.zknow.specs.List.Listing.{ascending, block_of, row_of, fact_position, positions_at}
 use Rattle.zknow.specs.Tables.Sections.{facts_of, counts_of, failed_of, seen_of, diags_of, section, marked, numbered}
 use Rattle.zknow.specs.Tables.Table.{HasItem, IsLawfulTable}
 use Rattle.zknow.specs.Tables.Tables.{AreLawful, AnyValue, AreCounts, AreRecords, AreDiags}
-use Rattle.zknow.proofs.ListTheory.Ascending.{ascending_same}
-use Rattle.zknow.proofs.TableTheory.AtKeys.{filter_map_flat, none_in_section, flat_entry}
+use Rattle.zknow.proofs.ListTheory.Ascending.{ascending_same, is_ascending}
+use Rattle.zknow.proofs.TableTheory.AtKeys.{items_of, at_section, filter_map_flat, none_in_section, flat_entry}
 use Rattle.zknow.proofs.TableTheory.FactsInOrder.{mark_members}
 use Rattle.zknow.proofs.TableTheory.InSections.{self_members, numbered_members}
-use Rattle.zknow.proofs.ListTheory.KnownAt.{by_section}
+use Rattle.zknow.proofs.ListTheory.KnownAt.{by_section, is_set_itself, is_set_apart}
 use Rattle.zknow.proofs.ListTheory.ListKeys.{Same, same_append, same_refl, same_sym, same_trans, same_by, keys_said}
 use Rattle.zknow.proofs.TableTheory.TableMerges.{tail_lawful, head_found}
 
@@ -80,3 +84,36 @@ module _ (k : Tables) (good : AreLawful k) where
 
   pub row_keys_are : (raw : List RowKey) → raw ≡ section keys_of row k.seen → ascending row_cmp raw ≡ ascending row_cmp (filter_map row_of (facts_of k))
   row_keys_are raw is = ap (ascending row_cmp) is ∙ ascending_same row_cmp row_total row_exact _ _ row_keys_same
+
+  -- ---- the positions of one set
+
+  position_rows : (o : Option (List (ℤ × List Record))) → ((rows : List (ℤ × List Record)) → o ≡ Some rows → IsLawfulTable int_cmp Contains AreRecords rows)
+      → Same (keys_of (items_of (λ rows. rows) o)) (flat_map (λ (x : ℤ × Record). x.0 ∷ []) (items_of numbered o))
+  position_rows None sound = same_refl []
+  position_rows (Some rows) sound =
+      same_sym _ _ (keys_said int_cmp int_cmp_total exact_signed Contains AreRecords (λ xs. xs) (self_members (encoding_cmp whole_record) (IsSpellable whole_record)) (λ p x. (p, x)) (λ (x : ℤ × Record). x.0 ∷ []) (λ p. p) (λ p x. refl) rows (sound rows refl))
+
+  position_order : (o : Option (List (ℤ × List Record))) → ((rows : List (ℤ × List Record)) → o ≡ Some rows → IsLawfulTable int_cmp Contains AreRecords rows)
+      → IsStrictlySortedBy int_cmp (keys_of (items_of (λ rows. rows) o))
+  unfolding IsStrictlySortedBy
+  position_order None sound = tt
+  position_order (Some rows) sound = (sound rows refl).ordered
+
+  pub positions_are : (target set : ℕ) → keys_of (items_of (λ rows. rows) (value_at set_cmp k.seen (key target set))) ≡ positions_at target set (facts_of k)
+  positions_are target set =
+      let o = value_at set_cmp k.seen (key target set) in
+      let sound = λ (rows : List (ℤ × List Record)) (is : o ≡ Some rows). good.seen.values (key target set) rows is in
+      let f : Fact → List ℤ = λ x. option_to_list (fact_position target set x) in
+      let seen = at_section numbered (λ (e : SetKey) x. Seen e.target e.set x.0 x.1) f set_cmp set_total set_exact (key target set) (λ (x : ℤ × Record). x.0 ∷ [])
+      (λ x. ap (λ b. option_to_list (if b then Some x.0 else None)) (is_set_itself target set))
+      (λ q x apart. ap (λ b. option_to_list (if b then Some x.0 else None)) (is_set_apart target set q apart)) k.seen good.seen.ordered in
+      let no_counts = none_in_section (λ xs. xs) (λ (e : SetKey) n. Count e.target e.set n) f (λ q n. refl) k.counts in
+      let no_failed = none_in_section marked (λ (e : SetKey) u. Failed e.target e.set) f (λ q u. refl) k.failed in
+      let no_diags = none_in_section numbered (λ (e : SetKey) x. Diag e.target e.set x.0 x.1) f (λ q x. refl) k.diags in
+      let whole : filter_map (fact_position target set) (facts_of k) ≡ flat_map f (seen_of k) =
+      filter_map_flat (fact_position target set) (facts_of k) ∙ by_section f k
+      ∙ ap (λ l. l ++ (flat_map f (failed_of k) ++ (flat_map f (seen_of k) ++ flat_map f (diags_of k)))) no_counts
+      ∙ ap (λ l. l ++ (flat_map f (seen_of k) ++ flat_map f (diags_of k))) no_failed
+      ∙ ap (λ l. flat_map f (seen_of k) ++ l) no_diags ∙ append-nil (flat_map f (seen_of k)) in
+      is_ascending int_cmp int_cmp_total exact_signed (keys_of (items_of (λ rows. rows) o)) (filter_map (fact_position target set) (facts_of k)) (position_order o sound)
+      (same_trans _ _ _ (position_rows o sound) (same_by _ _ (sym (whole ∙ seen))))

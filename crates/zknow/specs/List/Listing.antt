@@ -1,5 +1,5 @@
 -- The printed list, as a function of the facts.
-use Rattle.std.specs.Prelude.{ℕ, Bool, true, false, List, [], ◌∷◌, ◌++◌, length, Option, Some, None, codes, slice_get, if◌then◌else◌}
+use Rattle.std.specs.Prelude.{ℕ, ℤ, Bool, true, false, List, [], ◌∷◌, ◌++◌, length, Option, Some, None, codes, slice_get, if◌then◌else◌}
 use Rattle.std.specs.declared.cmp.Ordering.{Ordering}
 use Rattle.std.specs.List.{flat_map, filter_map}
 use Rattle.std.specs.BTreeSet.{insert_key}
@@ -12,6 +12,7 @@ use Rattle.zber.specs.declared.text.Mode.{Mode}
 use Rattle.zber.specs.declared.text.Mode.TheVariants.{Text, Hex}
 use Rattle.zknow.specs.declared.tables.keys.SetKey.{SetKey}
 use Rattle.zknow.specs.declared.tables.keys.RowKey.{RowKey}
+use Rattle.std.specs.Ordering.{int_cmp}
 use Rattle.zknow.specs.Tables.Keys.{set_cmp, row_cmp}
 use Rattle.zknow.specs.Known.{is_set, records_at}
 
@@ -42,6 +43,17 @@ name_or_number target (Some name) = quoted name
 -- the text of a target
 abbrev pub name_text : List (List ℕ) → ℕ → List ℕ
 name_text names target = name_or_number target (slice_get names target)
+
+-- the position, if the fact has a record of this set
+abbrev pub fact_position : ℕ → ℕ → Fact → Option ℤ
+fact_position target set (Count t s n) = None
+fact_position target set (Failed t s) = None
+fact_position target set (Seen t s p r) = if is_set target set t s then Some p else None
+fact_position target set (Diag t s p d) = None
+
+-- the positions of a set at which a record is known, in order and each once
+abbrev pub positions_at : ℕ → ℕ → List Fact → List ℤ
+positions_at target set facts = ascending int_cmp (filter_map (fact_position target set) facts)
 
 -- a line of a block
 abbrev pub line : List (List ℕ) → SetKey → List ℕ → List ℕ

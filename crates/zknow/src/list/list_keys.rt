@@ -3,7 +3,7 @@ ghost use Rattle.std.specs.Prelude.{◌≡◌, ◌++◌, map, IfOk, OnOk};
 ghost use Rattle.std.specs.Map.{keys_of};
 ghost use Rattle.std.specs.List.{filter_map};
 ghost use Rattle.zknow.specs.Tables.Keys.{set_cmp, row_cmp};
-ghost use Rattle.zknow.specs.List.Listing.{ascending, block_of, row_of};
+ghost use Rattle.zknow.specs.List.Listing.{ascending, block_of, row_of, positions_at};
 ghost use Rattle.zknow.specs.Tables.Sections.{section, facts_of};
 ghost use Rattle.zknow.specs.Tables.Tables.{AreLawful};
 
@@ -11,7 +11,7 @@ use crate::tables::distinct::Distinct;
 use crate::tables::join::{Join, Key};
 use crate::tables::keys::{RowKey, SetKey};
 use crate::tables::table::Table;
-use crate::tables::{ByNumber, Tables};
+use crate::tables::{ByNumber, Tables, key_of};
 use std::alloc::{AllocError, Global};
 use zapdu::Record;
 
@@ -43,6 +43,33 @@ pub(crate) fn block_keys(alloc: Global, tables: &Tables) -> Result<Vec<SetKey>, 
     put_keys(&tables.failed, &mut keys)?;
     put_keys(&tables.diags, &mut keys)?;
     Ok(sort_keys(keys))
+}
+
+/// Appends the positions of a set's rows.
+fn put_positions(rows: &Table<i64, Distinct<Record>>, out: &mut Vec<i64>) -> Result<(), AllocError>
+    ensures { OnOk result (out.new.items ≡ out.old.items ++ keys_of rows.now) }
+{
+    for (position, _) in rows.iter() {
+        out.push(*position)?;
+    }
+    Ok(())
+}
+
+/// Returns the positions of a set at which a record is known, in order. Returns `AllocError` if no memory is found.
+pub(crate) fn positions_of(
+    alloc: Global,
+    tables: &Tables,
+    target: u32,
+    set: u32,
+) -> Result<Vec<i64>, AllocError>
+    requires { AreLawful tables.now }
+    ensures { IfOk result (λ found. found.items ≡ positions_at target set (facts_of tables.now)) }
+{
+    let mut found = Vec::new(alloc);
+    if let Some(rows) = tables.seen.get(&key_of(target, set)) {
+        put_positions(rows, &mut found)?;
+    }
+    Ok(found)
 }
 
 fn put_rows(

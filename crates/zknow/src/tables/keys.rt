@@ -6,9 +6,11 @@ use std::alloc::{AllocError, Global};
 
 /// A target's set.
 #[derive(Clone, Copy, Debug, PartialEq, Eq, PartialOrd, Ord)]
-pub(crate) struct SetKey {
-    pub(crate) target: u32,
-    pub(crate) set: u32,
+pub struct SetKey {
+    /// The number of the target.
+    pub target: u32,
+    /// The number of the set; 0 stands for the connection.
+    pub set: u32,
 }
 
 impl Key for SetKey {
