@@ -1,0 +1,3 @@
+pub mod SafeTexts
+pub mod SafeTheory
+pub mod Text

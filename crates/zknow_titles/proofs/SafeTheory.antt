@@ -1,0 +1,336 @@
+-- Whatever the records, the names and the diagnostics are, the view is safe to print on a terminal.
+use Rattle.std.proofs.Common.{ℕ, ◌-◌, Bool, true, false, cond, not, Option, Some, None, List, [], ◌∷◌, ◌++◌, length, leb, eqb, refl, sym, subst, ℤ, pos}
+use Rattle.std.specs.Prelude.{◌&&◌, ◌||◌, ◌==◌, All, codes, map, slice_get, unwrap_or}
+use Rattle.std.specs.Fmt.{signed_decimal}
+use Rattle.std.specs.List.{flat_map}
+use Rattle.std.specs.Option.{option_map}
+use Rattle.std.specs.Ordering.{int_eq}
+use Rattle.std.specs.Str.{chars, bytes_eq}
+use Rattle.std.proofs.lemmas.Bool.{cond_both}
+use Rattle.std.proofs.lemmas.List.Elements.{All-nil, All-cons, All-head, All-tail, All-append, All-take}
+use Rattle.std.proofs.lemmas.Option.{slice_get-map}
+use Rattle.zber.specs.Canonical.{canonical}
+use Rattle.zber.specs.Elements.{Element}
+use Rattle.zber.specs.Segments.{is_string, string_octets}
+use Rattle.zapdu.specs.Text.{info_octets}
+use Rattle.zapdu.specs.declared.productions.diagnostic.DiagRec.{DiagRec}
+use Rattle.zapdu.specs.declared.productions.diagnostic.DiagRec.TheVariants.{Default, Ext}
+use Rattle.zapdu.specs.declared.productions.external.Content.{Content}
+use Rattle.zapdu.specs.declared.productions.external.Content.TheVariants.{Single, Aligned, Arbitrary}
+use Rattle.zapdu.specs.declared.productions.record.Record.{Record}
+use Rattle.zapdu.specs.declared.productions.record.RecordBody.{RecordBody}
+use Rattle.zapdu.specs.declared.productions.record.RecordBody.TheVariants.{Retrieval, Surrogate, Fragment}
+use Rattle.zmarc.specs.declared.charset.Charset.TheVariants.{Utf8}
+use Rattle.zmarc.specs.declared.format.Format.{Format}
+use Rattle.zmarc.specs.declared.format.Format.TheVariants.{Marc21, Unimarc}
+use Rattle.zmarc.specs.Briefs.{brief}
+use Rattle.zmarc.specs.Charsets.{text}
+use Rattle.zmarc.specs.Records.{is_record}
+use Rattle.zmarc.specs.Shown.{IsSafe, IsSafeText}
+use Rattle.zmarc.specs.Years.{year}
+use Rattle.zmarc.proofs.SafeTheory.{text_is_safe, brief_is_safe}
+use Rattle.zknow.specs.declared.fact.Fact.{Fact}
+use Rattle.zknow.specs.declared.tables.keys.RowKey.{RowKey}
+use Rattle.zknow.specs.declared.tables.keys.SetKey.{SetKey}
+use Rattle.zknow.specs.Known.{counts_at, records_at, is_failed_at, diags_at}
+use Rattle.zknow_titles.specs.declared.rows.Widths.{Widths}
+use Rattle.zknow_titles.specs.Blocks.{joined_behind, joined_by, count_part, shown_count, behind_colon, heading, failure_part, search_text, request_text, block_parts, block_line}
+use Rattle.zknow_titles.specs.Columns.{char_columns, fitting, clipped, width, padded}
+use Rattle.zknow_titles.specs.Conditions.{condition_words}
+use Rattle.zknow_titles.specs.Diagnostics.{bib1, behind_number, condition_text, bracketed, diag_words}
+use Rattle.zknow_titles.specs.Entries.{EntryText, plain, syntax_text, counted_octets, other_entry, marc_entry, octets_entry, element_entry, content_entry, body_entry, entry, sutrs, xml, unimarc, is_marc}
+use Rattle.zknow_titles.specs.Laws.{IsSafeView}
+use Rattle.zknow_titles.specs.Names.{shown_names, name_or_number, label}
+use Rattle.zknow_titles.specs.Rows.{row_name, position_width, row_head, row_entry, further_line, several, record_lines, row_lines, widths}
+use Rattle.zknow_titles.specs.Sutrs.{behind_gap, squeezed, shortened, sutrs_line}
+use Rattle.zknow_titles.specs.Titles.{between, title_lines, titles, sets_of, rows_of}
+use Rattle.zknow_titles.proofs.SafeTexts.{characters_safe, safe_characters, space_safe, nothing_safe, both_safe, either_safe, literal_safe, spaces_safe, ellipsis_safe, decimal_safe, signed_safe, dotted_safe}
+
+-- ---- diagnostics
+
+behind_number_safe : (words : Option (List ℕ)) → IsSafeText (behind_number words)
+behind_number_safe None = nothing_safe
+behind_number_safe (Some words) = both_safe (literal_safe (0x20 ∷ []) refl) (text_is_safe Utf8 words)
+
+condition_safe : (set : List ℕ) (condition : ℤ) → IsSafeText (condition_text set condition)
+condition_safe set condition =
+    either_safe (bytes_eq set bib1)
+    (both_safe (signed_safe condition) (behind_number_safe (condition_words (signed_decimal condition))))
+    (both_safe (both_safe (both_safe (literal_safe (codes "condition ") refl) (signed_safe condition))
+    (literal_safe (codes " of ") refl)) (dotted_safe set))
+
+bracketed_safe : (info : List ℕ) → IsSafeText info → IsSafeText (bracketed info)
+bracketed_safe info s =
+    either_safe (length info == 0) nothing_safe
+    (both_safe (both_safe (literal_safe (codes " (") refl) s) (literal_safe (codes ")") refl))
+
+diag_safe : (d : DiagRec) → IsSafeText (diag_words d)
+diag_safe (Default d) =
+    both_safe (condition_safe d.diag_set d.condition) (bracketed_safe (text Utf8 (info_octets d.info))
+    (text_is_safe Utf8 (info_octets d.info)))
+diag_safe (Ext v) = literal_safe (codes "diagnostic in another format") refl
+
+-- ---- names
+
+some_name_safe : (target : ℕ) (name : Option (List ℕ))
+    → IsSafeText (name_or_number target (option_map (text Utf8) name))
+some_name_safe target None = both_safe (literal_safe (0x23 ∷ []) refl) (decimal_safe target)
+some_name_safe target (Some name) = text_is_safe Utf8 name
+
+label_safe : (names : List (List ℕ)) (target set : ℕ) → IsSafeText (label (shown_names names) target set)
+label_safe names target set =
+    let same = slice_get-map (text Utf8) names target in
+    both_safe (subst (λ o. IsSafeText (name_or_number target o)) (sym same)
+    (some_name_safe target (slice_get names target)))
+    (either_safe (leb set 1) nothing_safe (both_safe (literal_safe (codes " set ") refl) (decimal_safe set)))
+
+-- ---- columns
+
+fitting_safe : (room : ℕ) (cs : List ℕ) → All IsSafe cs → All IsSafe (fitting room cs)
+fitting_safe room [] h = h
+fitting_safe room (c ∷ cs) h =
+    cond_both (leb (char_columns c) room) _ _ (All IsSafe)
+    (λ _. All-cons IsSafe c (fitting (room - char_columns c) cs) (All-head IsSafe c cs h)
+    (fitting_safe (room - char_columns c) cs (All-tail IsSafe c cs h)))
+    (λ _. All-nil IsSafe)
+
+clipped_safe : (most : ℕ) (t : List ℕ) → IsSafeText t → IsSafeText (clipped most t)
+unfolding clipped
+clipped_safe most t s =
+    either_safe (leb (width t) most) s
+    (both_safe (characters_safe (fitting (most - 1) (chars t))
+    (fitting_safe (most - 1) (chars t) (safe_characters s))) ellipsis_safe)
+
+padded_safe : (columns : ℕ) (t : List ℕ) → IsSafeText t → IsSafeText (padded columns t)
+padded_safe columns t s = both_safe s (spaces_safe (columns - width t))
+
+-- ---- records of SUTRS
+
+gap_safe : (spaced : Bool) (c : ℕ) (rest : List ℕ) → IsSafe c → All IsSafe rest
+    → All IsSafe (behind_gap spaced c ++ rest)
+gap_safe true c rest s h = All-cons IsSafe 0x20 (c ∷ rest) space_safe (All-cons IsSafe c rest s h)
+gap_safe false c rest s h = All-cons IsSafe c rest s h
+
+squeezed_safe : (begun gap : Bool) (cs : List ℕ) → All IsSafe cs → All IsSafe (squeezed begun gap cs)
+squeezed_safe begun gap [] h = h
+squeezed_safe begun gap (c ∷ cs) h =
+    cond_both (eqb c 0x20) _ _ (All IsSafe) (λ _. squeezed_safe begun true cs (All-tail IsSafe c cs h))
+    (λ _. gap_safe (begun && gap) c (squeezed true false cs) (All-head IsSafe c cs h)
+    (squeezed_safe true false cs (All-tail IsSafe c cs h)))
+
+shortened_safe : (most : ℕ) (cs : List ℕ) → All IsSafe cs → IsSafeText (shortened most cs)
+shortened_safe most cs h =
+    either_safe (leb (length cs) most) (characters_safe cs h)
+    (both_safe (characters_safe _ (All-take IsSafe most cs h)) ellipsis_safe)
+
+sutrs_safe : (octets : List ℕ) → IsSafeText (sutrs_line octets)
+unfolding sutrs_line
+sutrs_safe octets =
+    shortened_safe 200 (squeezed false false (chars (text Utf8 octets)))
+    (squeezed_safe false false (chars (text Utf8 octets)) (safe_characters (text_is_safe Utf8 octets)))
+
+-- ---- entries
+
+record IsSafeEntry (e : EntryText) : Type 0 where
+  pub year : IsSafeText e.year
+  pub line : IsSafeText e.line
+
+plain_safe : {line : List ℕ} → IsSafeText line → IsSafeEntry (plain line)
+plain_safe s = record { year = nothing_safe; line = s }
+
+count_safe : (n : ℕ) → IsSafeText (counted_octets n)
+count_safe n = both_safe (both_safe (literal_safe (codes ", ") refl) (decimal_safe n))
+    (literal_safe (codes " octets") refl)
+
+syntax_safe : (direct : Option (List ℕ)) → IsSafeText (syntax_text direct)
+syntax_safe None = literal_safe (codes "record of no named syntax") refl
+syntax_safe (Some syntax) = both_safe (literal_safe (codes "record of syntax ") refl) (dotted_safe syntax)
+
+other_safe : (direct : Option (List ℕ)) (count : ℕ) → IsSafeEntry (other_entry direct count)
+other_safe direct count = plain_safe (both_safe (syntax_safe direct) (count_safe count))
+
+either_entry : (b : Bool) {x y : EntryText} → IsSafeEntry x → IsSafeEntry y → IsSafeEntry (cond b x y)
+either_entry true first then = first
+either_entry false first then = then
+
+marc_safe : (format : Format) (octets : List ℕ) → IsSafeEntry (marc_entry format octets)
+marc_safe format octets =
+    let line = brief_is_safe format octets in
+    either_entry (is_record octets)
+    (record {
+      year = text_is_safe Utf8 (unwrap_or (year format octets) []);
+      line = either_safe (length (brief format octets) == 0)
+          (both_safe (literal_safe (codes "no title") refl) (count_safe (length octets))) line;
+    })
+    (plain_safe (both_safe (literal_safe (codes "no record") refl) (count_safe (length octets))))
+
+octets_safe : (direct : Option (List ℕ)) (syntax octets : List ℕ) → IsSafeEntry (octets_entry direct syntax octets)
+octets_safe direct syntax octets =
+    either_entry (bytes_eq syntax sutrs) (plain_safe (sutrs_safe octets))
+    (either_entry (bytes_eq syntax xml) (plain_safe (both_safe (literal_safe (codes "XML") refl)
+    (count_safe (length octets))))
+    (either_entry (bytes_eq syntax unimarc) (marc_safe Unimarc octets)
+    (either_entry (is_marc syntax || is_record octets) (marc_safe Marc21 octets) (other_safe direct (length octets)))))
+
+element_safe : (direct : Option (List ℕ)) (syntax : List ℕ) (e : Element) → IsSafeEntry (element_entry direct syntax e)
+element_safe direct syntax e =
+    either_entry (bytes_eq syntax sutrs && is_string e) (plain_safe (sutrs_safe (string_octets e)))
+    (other_safe direct (length (canonical e)))
+
+content_safe : (direct : Option (List ℕ)) (content : Content) → IsSafeEntry (content_entry direct content)
+content_safe direct (Single e) = element_safe direct (unwrap_or direct []) e
+content_safe direct (Aligned octets) = octets_safe direct (unwrap_or direct []) octets
+content_safe direct (Arbitrary bits) = plain_safe (both_safe (syntax_safe direct)
+    (literal_safe (codes ", in bits") refl))
+
+body_safe : (body : RecordBody) → IsSafeEntry (body_entry body)
+body_safe (Retrieval v) = content_safe v.direct v.content
+body_safe (Surrogate d) = plain_safe (both_safe (literal_safe (codes "not shown: ") refl) (diag_safe d))
+body_safe (Fragment e) = plain_safe (literal_safe (codes "a part of a record") refl)
+
+entry_safe : (r : Record) → IsSafeEntry (entry r)
+entry_safe r = body_safe r.body
+
+-- ---- lists of texts
+
+none_safe : All IsSafeText []
+none_safe = All-nil IsSafeText
+
+one_safe : {t : List ℕ} → IsSafeText t → All IsSafeText (t ∷ [])
+one_safe {t} s = All-cons IsSafeText t [] s none_safe
+
+all_either : (b : Bool) (xs ys : List (List ℕ)) → All IsSafeText xs → All IsSafeText ys → All IsSafeText (cond b xs ys)
+all_either true xs ys first then = first
+all_either false xs ys first then = then
+
+all_map : {X : Type 0} (f : X → List ℕ) → ((x : X) → IsSafeText (f x)) → (xs : List X) → All IsSafeText (map f xs)
+all_map f each [] = none_safe
+all_map f each (x ∷ xs) = All-cons IsSafeText (f x) (map f xs) (each x) (all_map f each xs)
+
+all_flat : {X : Type 0} (f : X → List (List ℕ)) → ((x : X) → All IsSafeText (f x)) → (xs : List X)
+    → All IsSafeText (flat_map f xs)
+all_flat f each [] = none_safe
+all_flat f each (x ∷ xs) = All-append IsSafeText (f x) (flat_map f xs) (each x) (all_flat f each xs)
+
+behind_safe : (separator : List ℕ) (ts : List (List ℕ)) → IsSafeText separator → All IsSafeText ts
+    → IsSafeText (joined_behind separator ts)
+behind_safe separator [] s h = nothing_safe
+behind_safe separator (t ∷ ts) s h =
+    both_safe (both_safe s (All-head IsSafeText t ts h)) (behind_safe separator ts s (All-tail IsSafeText t ts h))
+
+joined_safe : (separator : List ℕ) (ts : List (List ℕ)) → IsSafeText separator → All IsSafeText ts
+    → IsSafeText (joined_by separator ts)
+joined_safe separator [] s h = nothing_safe
+joined_safe separator (t ∷ ts) s h = both_safe (All-head IsSafeText t ts h)
+    (behind_safe separator ts s (All-tail IsSafeText t ts h))
+
+-- ---- the head
+
+counts_safe : (shown : ℕ) (counts : List ℤ) → All IsSafeText (count_part shown counts)
+counts_safe shown counts =
+    let numbers = joined_safe (codes " or ") (map signed_decimal counts) (literal_safe (codes " or ") refl)
+    (all_map signed_decimal signed_safe counts) in
+    all_either (length counts == 0) _ _ none_safe
+    (one_safe (both_safe (both_safe (both_safe numbers (literal_safe (codes " found, ") refl)) (decimal_safe shown))
+    (literal_safe (codes " shown") refl)))
+
+heading_safe : (set : ℕ) (failed : Bool) → IsSafeText (heading set failed)
+heading_safe set failed =
+    either_safe failed (either_safe (set == 0) (literal_safe (codes "association refused") refl)
+    (literal_safe (codes "search refused") refl))
+    (literal_safe (codes "search") refl)
+
+colon_safe : (ts : List (List ℕ)) → All IsSafeText ts → IsSafeText (behind_colon ts)
+colon_safe ts h =
+    either_safe (length ts == 0) nothing_safe
+    (both_safe (literal_safe (codes ": ") refl) (joined_safe (codes ", ") ts (literal_safe (codes ", ") refl) h))
+
+failure_safe : (set : ℕ) (failed : Bool) (ts : List (List ℕ)) → All IsSafeText ts
+    → All IsSafeText (failure_part set failed ts)
+failure_safe set failed ts h =
+    all_either (not failed && length ts == 0) _ _ none_safe
+    (one_safe (both_safe (heading_safe set failed) (colon_safe ts h)))
+
+search_safe : (d : ℤ × DiagRec) → All IsSafeText (search_text d)
+search_safe d = all_either (int_eq d.0 (pos 0)) _ _ (one_safe (diag_safe d.1)) none_safe
+
+request_safe : (d : ℤ × DiagRec) → All IsSafeText (request_text d)
+request_safe d =
+    all_either (int_eq d.0 (pos 0)) _ _ none_safe
+    (one_safe (both_safe (both_safe (both_safe (literal_safe (codes "records from ") refl) (signed_safe d.0))
+    (literal_safe (codes ": ") refl)) (diag_safe d.1)))
+
+parts_safe : (facts : List Fact) (b : SetKey) → All IsSafeText (block_parts facts b)
+parts_safe facts b =
+    let diags = diags_at b.target b.set facts in
+    let counts = counts_safe (shown_count facts b.target b.set) (counts_at b.target b.set facts) in
+    let failure = failure_safe b.set (is_failed_at b.target b.set facts) (flat_map search_text diags)
+    (all_flat search_text search_safe diags) in
+    let requests = all_flat request_text request_safe diags in
+    All-append IsSafeText _ (flat_map request_text diags)
+    (All-append IsSafeText (count_part (shown_count facts b.target b.set) (counts_at b.target b.set facts))
+    (failure_part b.set (is_failed_at b.target b.set facts) (flat_map search_text diags)) counts failure)
+    requests
+
+block_safe : (names : List (List ℕ)) (facts : List Fact) (b : SetKey)
+    → IsSafeText (block_line (shown_names names) facts b)
+block_safe names facts b =
+    both_safe (both_safe (label_safe names b.target b.set) (literal_safe (codes ": ") refl))
+    (joined_safe (codes "; ") (block_parts facts b) (literal_safe (codes "; ") refl) (parts_safe facts b))
+
+-- ---- the rows
+
+row_entry_safe : (r : Record) → IsSafeText (row_entry (entry r))
+row_entry_safe r =
+    let e = entry_safe r in both_safe (both_safe (padded_safe 4 (entry r).year e.year)
+    (literal_safe (codes "  ") refl)) e.line
+
+further_safe : (w : Widths) (r : Record) → IsSafeText (further_line w r)
+further_safe w r = both_safe (both_safe (both_safe (spaces_safe 6) (spaces_safe w.position)) (spaces_safe w.name))
+    (row_entry_safe r)
+
+lines_safe : (w : Widths) (head : List ℕ) (records : List Record) → IsSafeText head
+    → All IsSafeText (record_lines w head records)
+lines_safe w head [] s = none_safe
+lines_safe w head (r ∷ []) s = one_safe (both_safe s (row_entry_safe r))
+lines_safe w head (r ∷ q ∷ rest) s =
+    let count = length (r ∷ q ∷ rest) in
+    All-cons IsSafeText (several head count) (map (further_line w) (r ∷ q ∷ rest))
+    (both_safe (both_safe (both_safe s (literal_safe (codes "      ") refl)) (decimal_safe count))
+    (literal_safe (codes " different records") refl))
+    (all_map (further_line w) (further_safe w) (r ∷ q ∷ rest))
+
+head_safe : (w : Widths) (names : List (List ℕ)) (k : RowKey) → IsSafeText (row_head w (shown_names names) k)
+head_safe w names k =
+    let gap = literal_safe (codes "  ") refl in
+    let name = padded_safe w.name (row_name (shown_names names) k)
+    (clipped_safe 24 (label (shown_names names) k.target k.set) (label_safe names k.target k.set)) in
+    both_safe (both_safe (both_safe (both_safe (both_safe gap (spaces_safe (w.position - position_width k)))
+    (signed_safe k.position)) gap) name) gap
+
+row_safe : (w : Widths) (names : List (List ℕ)) (facts : List Fact) (k : RowKey)
+    → All IsSafeText (row_lines w (shown_names names) facts k)
+row_safe w names facts k =
+    lines_safe w (row_head w (shown_names names) k) (records_at k.target k.set k.position facts) (head_safe w names k)
+
+-- ---- the view
+
+between_safe : (sets : List SetKey) (rows : List RowKey) → All IsSafeText (between sets rows)
+between_safe sets rows = all_either (length sets == 0 || length rows == 0) _ _ none_safe (one_safe nothing_safe)
+
+title_lines_safe : (names : List (List ℕ)) (facts : List Fact) (sets : List SetKey) (rows : List RowKey)
+    → All IsSafeText (title_lines (shown_names names) facts sets rows)
+title_lines_safe names facts sets rows =
+    let w = widths (shown_names names) rows in
+    All-append IsSafeText _ (flat_map (row_lines w (shown_names names) facts) rows)
+    (All-append IsSafeText (map (block_line (shown_names names) facts) sets) (between sets rows)
+    (all_map (block_line (shown_names names) facts) (block_safe names facts) sets) (between_safe sets rows))
+    (all_flat (row_lines w (shown_names names) facts) (row_safe w names facts) rows)
+
+pub view_is_safe : (names : List (List ℕ)) (facts : List Fact) → IsSafeView (titles names facts)
+unfolding titles
+view_is_safe names facts = record {
+  lines = title_lines (shown_names names) facts (sets_of facts) (rows_of facts);
+  made = refl;
+  safe = title_lines_safe names facts (sets_of facts) (rows_of facts);
+}

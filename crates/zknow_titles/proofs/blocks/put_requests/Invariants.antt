@@ -1,0 +1,10 @@
+use Rattle.std.proofs.Common.{◌≡◌, ◌++◌, map, drop, string_bytes}
+use Rattle.std.specs.List.{flat_map}
+use Rattle.zknow.specs.Known.{referenced_pairs}
+use Rattle.zknow_titles.specs.Blocks.{request_text}
+use Rattle.zknow_titles.proofs.blocks.put_requests.Given as goal
+
+abbrev pub invariant-loop-found : goal.invariant-loop-found
+invariant-loop-found l = map string_bytes l.parts.items ++ flat_map request_text
+    (referenced_pairs (drop l.found-index l.diags))
+    ≡ map string_bytes l.fn.parts.items ++ flat_map request_text (referenced_pairs l.diags)

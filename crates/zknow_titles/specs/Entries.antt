@@ -1,0 +1,130 @@
+-- What is shown of one record: a year, where it has one, and a text.
+use Rattle.std.specs.Prelude.{ℕ, ◌==◌, ◌&&◌, ◌||◌, nat_le, Bool, true, false, if◌then◌else◌, Option, Some, None, unwrap_or}
+use Rattle.std.specs.Prelude.{List, [], ◌∷◌, ◌++◌, codes, length, take, slice_index}
+use Rattle.std.specs.Fmt.{decimal}
+use Rattle.std.specs.Str.{bytes_eq}
+use Rattle.zber.specs.Elements.{Element}
+use Rattle.zber.specs.Canonical.{canonical}
+use Rattle.zber.specs.Dotted.{dotted}
+use Rattle.zber.specs.Segments.{is_string, string_octets}
+use Rattle.zapdu.specs.declared.productions.diagnostic.DiagRec.{DiagRec}
+use Rattle.zapdu.specs.declared.productions.external.Content.{Content}
+use Rattle.zapdu.specs.declared.productions.external.Content.TheVariants.{Single, Aligned, Arbitrary}
+use Rattle.zapdu.specs.declared.productions.record.RecordBody.{RecordBody}
+use Rattle.zapdu.specs.declared.productions.record.RecordBody.TheVariants.{Retrieval, Surrogate, Fragment}
+use Rattle.zapdu.specs.declared.productions.record.Record.{Record}
+use Rattle.zmarc.specs.declared.charset.Charset.TheVariants.{Utf8}
+use Rattle.zmarc.specs.declared.format.Format.{Format}
+use Rattle.zmarc.specs.declared.format.Format.TheVariants.{Marc21, Unimarc}
+use Rattle.zmarc.specs.Charsets.{text}
+use Rattle.zmarc.specs.Briefs.{brief}
+use Rattle.zmarc.specs.Records.{is_record}
+use Rattle.zmarc.specs.Years.{year}
+use Rattle.zknow_titles.specs.Diagnostics.{diag_words}
+use Rattle.zknow_titles.specs.Sutrs.{sutrs_line}
+
+pub record EntryText : Type 0 where
+  pub year : List ℕ
+  pub line : List ℕ
+
+abbrev pub texts : List ℕ → List ℕ → EntryText
+texts year line = record { year = year; line = line }
+
+-- a text without a year
+abbrev pub plain : List ℕ → EntryText
+plain line = texts [] line
+
+-- ---- syntaxes (Z39.50-2003, Appendix REC)
+
+abbrev pub unimarc : List ℕ
+unimarc = 1 ∷ 2 ∷ 840 ∷ 10003 ∷ 5 ∷ 1 ∷ []
+
+abbrev pub sutrs : List ℕ
+sutrs = 1 ∷ 2 ∷ 840 ∷ 10003 ∷ 5 ∷ 101 ∷ []
+
+abbrev pub xml : List ℕ
+xml = 1 ∷ 2 ∷ 840 ∷ 10003 ∷ 5 ∷ 109 ∷ 10 ∷ []
+
+-- the formats of MARC: 1.2.840.10003.5.1 to 1.2.840.10003.5.99
+abbrev pub is_marc : List ℕ → Bool
+is_marc syntax =
+    length syntax == 6 && bytes_eq (take 5 syntax) (1 ∷ 2 ∷ 840 ∷ 10003 ∷ 5 ∷ []) && nat_le (slice_index syntax 5) 99
+
+-- how a syntax is named, and one that no object identifier names
+abbrev pub syntax_text : Option (List ℕ) → List ℕ
+syntax_text None = codes "record of no named syntax"
+syntax_text (Some syntax) = codes "record of syntax " ++ dotted syntax
+
+abbrev pub counted_octets : ℕ → List ℕ
+counted_octets n = codes ", " ++ decimal n ++ codes " octets"
+
+-- ---- records
+
+-- a record in a syntax that is not read
+abbrev pub other_entry : Option (List ℕ) → ℕ → EntryText
+other_entry direct count = plain (syntax_text direct ++ counted_octets count)
+
+-- the year of a record of MARC, nothing where it has none
+abbrev pub year_text : Format → List ℕ → List ℕ
+year_text format octets = text Utf8 (unwrap_or (year format octets) [])
+
+-- the line of a record of MARC: where nothing is to be shown of it, that
+abbrev pub titled : List ℕ → List ℕ → List ℕ
+titled octets line = if length line == 0 then codes "no title" ++ counted_octets (length octets) else line
+
+-- a record of MARC
+abbrev pub marc_entry : Format → List ℕ → EntryText
+marc_entry format octets =
+    if is_record octets then texts (year_text format octets) (titled octets (brief format octets))
+    else plain (codes "no record" ++ counted_octets (length octets))
+
+-- a record of SUTRS
+abbrev pub sutrs_entry : List ℕ → EntryText
+sutrs_entry octets = plain (sutrs_line octets)
+
+-- octets of a syntax
+abbrev pub octets_entry : Option (List ℕ) → List ℕ → List ℕ → EntryText
+octets_entry direct syntax octets =
+    if bytes_eq syntax sutrs then sutrs_entry octets
+    else if bytes_eq syntax xml then plain (codes "XML" ++ counted_octets (length octets))
+    else if bytes_eq syntax unimarc then marc_entry Unimarc octets
+    else if is_marc syntax || is_record octets then marc_entry Marc21 octets
+    else other_entry direct (length octets)
+
+-- an element of a syntax: text of SUTRS, or another
+abbrev pub element_entry : Option (List ℕ) → List ℕ → Element → EntryText
+element_entry direct syntax e =
+    if bytes_eq syntax sutrs && is_string e then sutrs_entry (string_octets e)
+    else other_entry direct (length (canonical e))
+
+-- bits of a syntax
+abbrev pub bits_entry : Option (List ℕ) → EntryText
+bits_entry direct = plain (syntax_text direct ++ codes ", in bits")
+
+-- a record in a syntax
+abbrev pub content_entry : Option (List ℕ) → Content → EntryText
+content_entry direct (Single e) = element_entry direct (unwrap_or direct []) e
+content_entry direct (Aligned octets) = octets_entry direct (unwrap_or direct []) octets
+content_entry direct (Arbitrary bits) = bits_entry direct
+
+-- what stands in the place of a record
+abbrev pub diag_entry : DiagRec → EntryText
+diag_entry d = plain (codes "not shown: " ++ diag_words d)
+
+abbrev pub body_entry : RecordBody → EntryText
+body_entry (Retrieval v) = content_entry v.direct v.content
+body_entry (Surrogate d) = diag_entry d
+body_entry (Fragment e) = plain (codes "a part of a record")
+
+-- a record, or what stands in its place
+abbrev pub entry : Record → EntryText
+entry r = body_entry r.body
+
+-- a record, and not the reason why there is none
+abbrev pub is_body_shown : RecordBody → Bool
+is_body_shown (Retrieval v) = true
+is_body_shown (Surrogate d) = false
+is_body_shown (Fragment e) = true
+
+abbrev pub is_shown : Record → Bool
+is_shown r = is_body_shown r.body

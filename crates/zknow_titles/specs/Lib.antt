@@ -1,0 +1,11 @@
+pub mod Blocks
+pub mod Columns
+pub mod Conditions
+pub mod Diagnostics
+pub mod Entries
+pub mod Laws
+pub mod Lines
+pub mod Names
+pub mod Rows
+pub mod Sutrs
+pub mod Titles

@@ -1,0 +1,60 @@
+-- The rows of the view: position, name, year, text.
+use Rattle.std.specs.Prelude.{ℕ, ◌-◌, List, [], ◌∷◌, ◌++◌, codes, length, map, fold, max}
+use Rattle.std.specs.Fmt.{decimal, signed_decimal}
+use Rattle.zapdu.specs.declared.productions.record.Record.{Record}
+use Rattle.zknow.specs.declared.fact.Fact.{Fact}
+use Rattle.zknow.specs.declared.tables.keys.RowKey.{RowKey}
+use Rattle.zknow.specs.Known.{records_at}
+use Rattle.zknow_titles.specs.declared.rows.Widths.{Widths}
+use Rattle.zknow_titles.specs.Columns.{width, clipped, padded, spaces}
+use Rattle.zknow_titles.specs.Entries.{EntryText, entry}
+use Rattle.zknow_titles.specs.Names.{label}
+
+-- a name takes at most 24 columns
+abbrev pub row_name : List (List ℕ) → RowKey → List ℕ
+row_name shown k = clipped 24 (label shown k.target k.set)
+
+abbrev pub position_width : RowKey → ℕ
+position_width k = length (signed_decimal k.position)
+
+abbrev pub name_width : List (List ℕ) → RowKey → ℕ
+name_width shown k = width (row_name shown k)
+
+-- at least the widths so far, and those of one row more
+abbrev pub wider : List (List ℕ) → Widths → RowKey → Widths
+wider shown w k = record {
+  position = max w.position (position_width k);
+  name = max w.name (name_width shown k);
+}
+
+-- the columns of positions and of names, over all rows
+abbrev pub widths : List (List ℕ) → List RowKey → Widths
+widths shown rows = fold (wider shown) (record { position = 0; name = 0 }) rows
+
+-- position and name
+abbrev pub row_head : Widths → List (List ℕ) → RowKey → List ℕ
+row_head w shown k =
+    codes "  " ++ spaces (w.position - position_width k) ++ signed_decimal k.position
+    ++ codes "  " ++ padded w.name (row_name shown k) ++ codes "  "
+
+-- year and text
+abbrev pub row_entry : EntryText → List ℕ
+row_entry e = padded 4 e.year ++ codes "  " ++ e.line
+
+-- a further record of a row, below the first line
+abbrev pub further_line : Widths → Record → List ℕ
+further_line w r = spaces 6 ++ spaces w.position ++ spaces w.name ++ row_entry (entry r)
+
+-- how many records a row has, where it has several
+abbrev pub several : List ℕ → ℕ → List ℕ
+several head count = head ++ codes "      " ++ decimal count ++ codes " different records"
+
+-- a row: the record, or how many there are and then each
+abbrev pub record_lines : Widths → List ℕ → List Record → List (List ℕ)
+record_lines w head [] = []
+record_lines w head (r ∷ []) = (head ++ row_entry (entry r)) ∷ []
+record_lines w head (r ∷ q ∷ rest) =
+    several head (length (r ∷ q ∷ rest)) ∷ map (further_line w) (r ∷ q ∷ rest)
+
+abbrev pub row_lines : Widths → List (List ℕ) → List Fact → RowKey → List (List ℕ)
+row_lines w shown facts k = record_lines w (row_head w shown k) (records_at k.target k.set k.position facts)

@@ -1,0 +1,33 @@
+-- The view for readers, as a function of the facts and the names.
+use Rattle.std.specs.Prelude.{ℕ, ◌==◌, ◌||◌, if◌then◌else◌, List, [], ◌∷◌, ◌++◌, length, map}
+use Rattle.std.specs.List.{flat_map, filter_map}
+use Rattle.zknow.specs.declared.fact.Fact.{Fact}
+use Rattle.zknow.specs.declared.tables.keys.RowKey.{RowKey}
+use Rattle.zknow.specs.declared.tables.keys.SetKey.{SetKey}
+use Rattle.zknow.specs.List.Listing.{ascending, block_of, row_of}
+use Rattle.zknow.specs.Tables.Keys.{set_cmp, row_cmp}
+use Rattle.zknow_titles.specs.Blocks.{block_line}
+use Rattle.zknow_titles.specs.Lines.{ended}
+use Rattle.zknow_titles.specs.Names.{shown_names}
+use Rattle.zknow_titles.specs.Rows.{widths, row_lines}
+
+-- the sets of which a count, a failure or a diagnostic is known, by target and set
+abbrev pub sets_of : List Fact → List SetKey
+sets_of facts = ascending set_cmp (filter_map block_of facts)
+
+-- the rows of the list, by position, target and set
+abbrev pub rows_of : List Fact → List RowKey
+rows_of facts = ascending row_cmp (filter_map row_of facts)
+
+-- an empty line between the head and the rows, where there are both
+abbrev pub between : List SetKey → List RowKey → List (List ℕ)
+between sets rows = if length sets == 0 || length rows == 0 then [] else [] ∷ []
+
+-- the lines
+abbrev pub title_lines : List (List ℕ) → List Fact → List SetKey → List RowKey → List (List ℕ)
+title_lines shown facts sets rows =
+    map (block_line shown facts) sets ++ between sets rows ++ flat_map (row_lines (widths shown rows) shown facts) rows
+
+-- the text that is printed: the lines, each with its line feed
+unfoldable pub titles : List (List ℕ) → List Fact → List ℕ
+titles names facts = ended (title_lines (shown_names names) facts (sets_of facts) (rows_of facts))

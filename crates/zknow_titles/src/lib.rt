@@ -1,0 +1,19 @@
+//! A view of what is known for people: a line for each catalogue, and one or more for each position, with the years and
+//! titles of the records there. Whatever the records are, the text is safe to print on a terminal.
+#![tactic(auto)]
+
+mod blocks;
+mod characters;
+mod columns;
+mod conditions;
+mod diagnostics;
+mod entries;
+pub mod laws;
+mod names;
+mod rows;
+mod sutrs;
+#[cfg(test)]
+mod tests;
+mod titles;
+
+pub use titles::print_titles;

@@ -1,0 +1,202 @@
+//! The rows of the view: position, name, year, text.
+ghost use Rattle.std.specs.Prelude.{◌≡◌, ◌++◌, OnOk, IfOk, map, max, string_bytes};
+ghost use Rattle.zknow_titles.specs.Entries.{texts, entry};
+ghost use Rattle.zknow_titles.specs.Lines.{ended_line, ended};
+ghost use Rattle.zknow_titles.specs.Rows.{row_name, wider, widths, row_head, row_entry, further_line, several, record_lines, row_lines};
+
+use crate::blocks::records_of;
+use crate::columns::{clip, count_columns, put_padded, put_spaces};
+use crate::entries::{Entry, entry_of};
+use crate::names::label_of;
+use std::alloc::{AllocError, Global};
+use zapdu::Record;
+use zknow::{Knowledge, RowKey};
+
+/// The most columns of a name.
+const NAME_COLUMNS: usize = 24;
+
+/// The columns of positions and of names, over all rows.
+#[derive(Clone, Copy)]
+pub(crate) struct Widths {
+    /// The columns of positions.
+    pub(crate) position: usize,
+    /// The columns of names.
+    pub(crate) name: usize,
+}
+
+/// Returns the name of a row.
+fn row_name(alloc: Global, shown: &[String], key: &RowKey) -> Result<String, AllocError>
+    ensures { IfOk result (λ name. string_bytes name ≡ row_name (map string_bytes shown.now) key.now) }
+{
+    let label = label_of(alloc, shown, key.target, key.set)?;
+    clip(alloc, NAME_COLUMNS, label.as_str())
+}
+
+/// Returns the greater number.
+fn greater(a: usize, b: usize) -> usize
+    ensures { result ≡ max a b }
+{
+    if a <= b { b } else { a }
+}
+
+/// Returns at least the widths so far, and those of one row more.
+fn wider(
+    alloc: Global,
+    shown: &[String],
+    so_far: Widths,
+    key: &RowKey,
+) -> Result<Widths, AllocError>
+    ensures { IfOk result (λ more. more ≡ wider (map string_bytes shown.now) so_far key.now) }
+{
+    let number = key.position.to_string(alloc)?;
+    let name = row_name(alloc, shown, key)?;
+    Ok(Widths {
+        position: greater(so_far.position, number.len()),
+        name: greater(so_far.name, count_columns(name.as_str())),
+    })
+}
+
+/// Returns the columns of positions and of names, over all rows.
+pub(crate) fn find_widths(
+    alloc: Global,
+    shown: &[String],
+    rows: &[RowKey],
+) -> Result<Widths, AllocError>
+    ensures { IfOk result (λ found. found ≡ widths (map string_bytes shown.now) rows.now) }
+{
+    let mut found = Widths {
+        position: 0,
+        name: 0,
+    };
+    for key in rows {
+        found = wider(alloc, shown, found, key)?;
+    }
+    Ok(found)
+}
+
+/// Appends the position and the name of a row.
+fn put_head(
+    alloc: Global,
+    w: &Widths,
+    shown: &[String],
+    key: &RowKey,
+    out: &mut Vec<u8>,
+) -> Result<(), AllocError>
+    ensures { OnOk result (out.new.items
+        ≡ out.old.items ++ row_head w.now (map string_bytes shown.now) key.now) }
+{
+    out.extend_from_slice(b"  ")?;
+    let number = key.position.to_string(alloc)?;
+    put_spaces(w.position.saturating_sub(number.len()), out)?;
+    out.extend_from_slice(number.as_bytes())?;
+    out.extend_from_slice(b"  ")?;
+    let name = row_name(alloc, shown, key)?;
+    put_padded(w.name, name.as_str(), out)?;
+    out.extend_from_slice(b"  ")
+}
+
+/// Appends the year and the text of an entry, and a line feed.
+fn put_entry(entry: &Entry, out: &mut Vec<u8>) -> Result<(), AllocError>
+    ensures { OnOk result (out.new.items
+        ≡ out.old.items ++ ended_line (row_entry (texts (string_bytes entry.now.year) (string_bytes entry.now.line)))) }
+{
+    put_padded(4, entry.year.as_str(), out)?;
+    out.extend_from_slice(b"  ")?;
+    out.extend_from_slice(entry.line.as_bytes())?;
+    out.extend_from_slice(b"\n")
+}
+
+/// Appends the year and the text of a record, and a line feed.
+fn put_record(alloc: Global, record: &Record, out: &mut Vec<u8>) -> Result<(), AllocError>
+    ensures { OnOk result (out.new.items ≡ out.old.items ++ ended_line (row_entry (entry «record».now))) }
+{
+    let entry = entry_of(alloc, record)?;
+    put_entry(&entry, out)
+}
+
+/// Appends a line of its own for a further record of a row.
+fn put_further(
+    alloc: Global,
+    w: &Widths,
+    record: &Record,
+    out: &mut Vec<u8>,
+) -> Result<(), AllocError>
+    ensures { OnOk result (out.new.items ≡ out.old.items ++ ended_line (further_line w.now «record».now)) }
+{
+    put_spaces(6, out)?;
+    put_spaces(w.position, out)?;
+    put_spaces(w.name, out)?;
+    put_record(alloc, record, out)
+}
+
+/// Appends a line of its own for each record.
+fn put_each(
+    alloc: Global,
+    w: &Widths,
+    records: &[Record],
+    out: &mut Vec<u8>,
+) -> Result<(), AllocError>
+    ensures { OnOk result (out.new.items ≡ out.old.items ++ ended (map (further_line w.now) records.now)) }
+{
+    for record in records {
+        put_further(alloc, w, record, out)?;
+    }
+    Ok(())
+}
+
+/// Appends the line that says how many records a row has.
+fn put_several(
+    alloc: Global,
+    head: &[u8],
+    count: usize,
+    out: &mut Vec<u8>,
+) -> Result<(), AllocError>
+    ensures { OnOk result (out.new.items ≡ out.old.items ++ ended_line (several head.now count)) }
+{
+    out.extend_from_slice(head)?;
+    out.extend_from_slice(b"      ")?;
+    let number = count.to_string(alloc)?;
+    out.extend_from_slice(number.as_bytes())?;
+    out.extend_from_slice(b" different records\n")
+}
+
+/// Appends the lines of a row: the record, or how many there are and then each.
+fn put_records(
+    alloc: Global,
+    w: &Widths,
+    head: &[u8],
+    records: &[Record],
+    out: &mut Vec<u8>,
+) -> Result<(), AllocError>
+    ensures { OnOk result (out.new.items ≡ out.old.items ++ ended (record_lines w.now head.now records.now)) }
+{
+    match records {
+        [] => Ok(()),
+        [record] => {
+            out.extend_from_slice(head)?;
+            put_record(alloc, record, out)
+        }
+        _ => {
+            put_several(alloc, head, records.len(), out)?;
+            put_each(alloc, w, records, out)
+        }
+    }
+}
+
+/// Appends the lines of a row.
+pub(crate) fn put_row(
+    alloc: Global,
+    w: &Widths,
+    shown: &[String],
+    knowledge: &Knowledge,
+    key: &RowKey,
+    out: &mut Vec<u8>,
+) -> Result<(), AllocError>
+    ensures { OnOk result (out.new.items
+        ≡ out.old.items ++ ended (row_lines w.now (map string_bytes shown.now) knowledge.now key.now)) }
+{
+    let mut head = Vec::new(alloc);
+    put_head(alloc, w, shown, key, &mut head)?;
+    let records = records_of(knowledge, key.target, key.set, &key.position);
+    put_records(alloc, w, &head, records, out)
+}

@@ -1,0 +1,116 @@
+//! The view for readers.
+ghost use Rattle.std.specs.Prelude.{◌≡◌, ◌++◌, OnOk, OnErr, IfOk, map, string_bytes};
+ghost use Rattle.std.specs.List.{flat_map};
+ghost use Rattle.zknow_titles.specs.Blocks.{block_line};
+ghost use Rattle.zknow_titles.specs.Laws.{IsSafeView};
+ghost use Rattle.zknow_titles.specs.Lines.{ended_line, ended};
+ghost use Rattle.zknow_titles.specs.Rows.{row_lines};
+ghost use Rattle.zknow_titles.specs.Titles.{between, title_lines, titles};
+
+use crate::blocks::put_block;
+use crate::names::show_names;
+use crate::rows::{Widths, find_widths, put_row};
+use std::alloc::{AllocError, Global};
+use zknow::{Knowledge, Names, RowKey, SetKey};
+
+/// Appends the line of each set.
+fn put_blocks(
+    alloc: Global,
+    shown: &[String],
+    knowledge: &Knowledge,
+    sets: &[SetKey],
+    out: &mut Vec<u8>,
+) -> Result<(), AllocError>
+    ensures { OnOk result (out.new.items
+        ≡ out.old.items ++ ended (map (block_line (map string_bytes shown.now) knowledge.now) sets.now)) }
+{
+    for key in sets {
+        put_block(alloc, shown, knowledge, key, out)?;
+    }
+    Ok(())
+}
+
+/// Appends an empty line where there are sets and rows.
+fn put_between(sets: &[SetKey], rows: &[RowKey], out: &mut Vec<u8>) -> Result<(), AllocError>
+    ensures { OnOk result (out.new.items ≡ out.old.items ++ ended (between sets.now rows.now)) }
+{
+    if sets.is_empty() || rows.is_empty() {
+        return Ok(());
+    }
+    out.extend_from_slice(b"\n")
+}
+
+/// Appends the lines of each row.
+fn put_rows(
+    alloc: Global,
+    w: &Widths,
+    shown: &[String],
+    knowledge: &Knowledge,
+    rows: &[RowKey],
+    out: &mut Vec<u8>,
+) -> Result<(), AllocError>
+    ensures { OnOk result (out.new.items
+        ≡ out.old.items ++ ended (flat_map (row_lines w.now (map string_bytes shown.now) knowledge.now) rows.now)) }
+{
+    for key in rows {
+        put_row(alloc, w, shown, knowledge, key, out)?;
+    }
+    Ok(())
+}
+
+/// Appends the lines of the sets and of the rows.
+fn put_lines(
+    alloc: Global,
+    shown: &[String],
+    knowledge: &Knowledge,
+    sets: &[SetKey],
+    rows: &[RowKey],
+    out: &mut Vec<u8>,
+) -> Result<(), AllocError>
+    ensures { OnOk result (out.new.items
+        ≡ out.old.items ++ ended (title_lines (map string_bytes shown.now) knowledge.now sets.now rows.now)) }
+{
+    put_blocks(alloc, shown, knowledge, sets, out)?;
+    put_between(sets, rows, out)?;
+    let w = find_widths(alloc, shown, rows)?;
+    put_rows(alloc, &w, shown, knowledge, rows, out)
+}
+
+/// Returns the view as a text of its own.
+#[tactic(auto, unfolding(crate::specs::Titles::titles))]
+fn view(alloc: Global, knowledge: &Knowledge, names: &Names) -> Result<Vec<u8>, AllocError>
+    ensures { IfOk result (λ text. text.items ≡ titles names.now knowledge.now) }
+{
+    let mut text = Vec::new(alloc);
+    let shown = show_names(alloc, names)?;
+    let sets = knowledge.sets()?;
+    let rows = knowledge.rows()?;
+    put_lines(alloc, &shown, knowledge, &sets, &rows, &mut text)?;
+    Ok(text)
+}
+
+/// Appends the view. It has a line for each target's set of which a count, a failure or a diagnostic is known, by
+/// target and set. Behind an empty line it has the position, the name, the year and the title of each record that is
+/// known, by position, target and set. Of several records at a position it says how many they are, and then shows
+/// each.
+///
+/// A target has its name in `names`, else `#` and its number. A name takes at most 24 columns of a terminal.
+///
+/// Whatever the names, the diagnostics and the records are, the text is safe to print on a terminal: its lines are
+/// UTF-8 of safe characters alone (`IsSafeText` of `zmarc`).
+///
+/// Returns `AllocError` if no memory is found; nothing is appended.
+#[tactic(auto, using(crate::proofs::SafeTheory::view_is_safe))]
+pub fn print_titles(
+    alloc: Global,
+    knowledge: &Knowledge,
+    names: &Names,
+    out: &mut Vec<u8>,
+) -> Result<(), AllocError>
+    ensures ok { OnOk result (out.new.items ≡ out.old.items ++ titles names.now knowledge.now) }
+    ensures err { OnErr result (out.new.items ≡ out.old.items) }
+    ensures safe { IsSafeView (titles names.now knowledge.now) }
+{
+    let text = view(alloc, knowledge, names)?;
+    out.extend_from_slice(&text)
+}
