@@ -1,15 +1,25 @@
-# make quick: prints the records of an example by a build that nothing was proved of, in about two minutes.
-# make show: proves and builds zmeta, and prints them. make demo: serves two catalogues on this machine, and asks both.
-# make test: passes the tests. make interop: asks the servers of others, and lets their clients ask, where they are there.
-# make hostile: sends it what strangers may send, a million messages and a million replies; nothing of the tests.
-# make wrong-bodies: tries the wrong bodies that the tests leave out, in some hours.
-# make install: puts what make show built, its man page and its completions below PREFIX, and DESTDIR before that.
-# make uninstall: takes them away again.
+# make               proves and builds zmeta, unless that was done with the present sources, and runs the demo:
+#                    two catalogues on this machine, asked over TCP, and one list of what they answer
+# make test          runs the gate: all proofs, must-fail edits and tests
+# make quick         does the demo's job by a build of which nothing is proved, in about two minutes
+#
+# make program       proves and builds zmeta, as make does
+# make show          prints the records of an example message
+# make interop       tries zmeta with other programs that speak Z39.50, if they are installed
+# make hostile       sends zmeta what strangers may send: a million messages and a million replies
+# make wrong-bodies  tries the wrong bodies that make test leaves out, in some hours
+#
+# make install       puts the program, its man page and its completions below PREFIX, and DESTDIR before that
+# make uninstall     takes them away again
+# make dist          packs the program as a tarball, out/zmeta-VERSION-x86_64-linux.tar.gz
+# make deb           packs it as a Debian package, out/zmeta_VERSION_amd64.deb
+# make package-check tries both packages, in a fresh folder and in a fresh Debian 12
 
 PREFIX ?= /usr/local
 DESTDIR ?=
 
 program = crates/zmeta/out/zmeta
+version = $(shell sed -n 's/.*const VERSION: &str = "\(.*\)";/\1/p' crates/zmeta_args/src/forms.rt)
 checks = $(shell n=$$(nproc); echo $$((n < 3 ? n : 3)))
 bin = $(DESTDIR)$(PREFIX)/bin
 man = $(DESTDIR)$(PREFIX)/share/man/man1
@@ -17,16 +27,29 @@ bash = $(DESTDIR)$(PREFIX)/share/bash-completion/completions
 zsh = $(DESTDIR)$(PREFIX)/share/zsh/site-functions
 fish = $(DESTDIR)$(PREFIX)/share/fish/vendor_completions.d
 
-.PHONY: quick show demo test interop hostile wrong-bodies install uninstall
+.PHONY: demo test quick program show interop hostile wrong-bodies install uninstall dist deb package-check
+
+demo: program
+	scripts/demo
+
+# As many checks at a time as there are processors, and three at most: each takes 5 GB at most, of 24. Left to itself rt ci
+# reserves more, and lets processors idle; and more checks than processors keep the longest chain of them waiting.
+test:
+	RT_JOBS=$(checks) rt ci
+	python3 tests/program/check.py
+	python3 tests/out-of-memory/check.py
 
 quick:
-	cd crates/zmeta && rt try -- show < ../../examples/present-response.hex
+	@echo 'quick: this build is not proved; it asks two catalogues over TCP, in one process'
+	cd crates/zmeta && rt try --data libraries.world=../../examples/libraries.world -- loop libraries.world
+	@echo 'quick: nothing was proved'
 
-show:
-	cd crates/zmeta && rt run -- show < ../../examples/present-response.hex
+# It does nothing if the program was proved and built of the present sources.
+program:
+	RT_JOBS=$(checks) scripts/prove
 
-demo: show
-	scripts/demo
+show: program
+	$(program) show < examples/present-response.hex
 
 interop:
 	tests/interop/check
@@ -37,16 +60,9 @@ hostile:
 wrong-bodies:
 	tests/mutants/check
 
-# As many checks at a time as there are processors, and three at most: each takes 5 GB at most, of 24. Left to itself rt ci
-# reserves more, and lets processors idle; and more checks than processors keep the longest chain of them waiting.
-test:
-	RT_JOBS=$(checks) rt ci
-	python3 tests/program/check.py
-	python3 tests/out-of-memory/check.py
-
-# It builds nothing: make show does.
+# It builds nothing: make program does.
 install:
-	@test -x $(program) || { echo "install: no $(program); run 'make show' first" >&2; exit 1; }
+	@test -x $(program) || { echo "install: no $(program); run 'make' first" >&2; exit 1; }
 	install -d "$(bin)" "$(man)" "$(bash)" "$(zsh)" "$(fish)"
 	install -m 755 $(program) "$(bin)/zmeta"
 	install -m 644 install/zmeta.1 "$(man)/zmeta.1"
@@ -56,3 +72,10 @@ install:
 
 uninstall:
 	rm -f "$(bin)/zmeta" "$(man)/zmeta.1" "$(bash)/zmeta" "$(zsh)/_zmeta" "$(fish)/zmeta.fish"
+
+# Both refuse a program that was not proved and built of the committed sources.
+dist deb:
+	scripts/package $@ "$(version)"
+
+package-check:
+	tests/package/check

@@ -1,7 +1,10 @@
 # bash completion for zmeta
 
 _zmeta_commands='ask run loop join records serve show pqf help'
-_zmeta_syntaxes='1.2.840.10003.5.10 1.2.840.10003.5.1 1.2.840.10003.5.109.10'
+_zmeta_syntaxes='marc21 unimarc xml sutrs opac grs1'
+_zmeta_terms='--title --author --subject --isbn --any'
+_zmeta_search="$_zmeta_terms --query --records --elements --syntax"
+_zmeta_views='--titles --json --hex'
 
 # Files, where $1 stands before their names in the word, and $2 is what is typed of a name.
 _zmeta_files() {
@@ -18,19 +21,35 @@ _zmeta_choose() {
     mapfile -t COMPREPLY < <(compgen -P "${3-}" -W "$1" -- "$2")
 }
 
-# Options of command $1 that begin with $2, without those in $3, which stand there; --only may stand there again.
+# Whether option $1 may stand behind those in $2: --only and terms may stand again, and --query excludes terms.
+_zmeta_may() {
+    local other excluded
+    case $1 in
+        --only) excluded='' ;;
+        --title | --author | --subject | --isbn | --any) excluded=--query ;;
+        --query) excluded="--query $_zmeta_terms" ;;
+        --titles | --json | --hex) excluded=$_zmeta_views ;;
+        *) excluded=$1 ;;
+    esac
+    for other in $excluded; do
+        [[ " $2 " == *" $other "* ]] && return 1
+    done
+    return 0
+}
+
+# Options of command $1 that begin with $2, and may stand behind those in $3.
 _zmeta_options() {
     local options='' left='-h --help' option
     case $1 in
-        ask) options='--at-once --only --hex --save' ;;
-        run | loop) options='--hex --save' ;;
-        join) options='--hex' ;;
-        records) options='--syntax --conflicts' ;;
+        ask) options="--at-once --only $_zmeta_search $_zmeta_views --save" ;;
+        run | loop) options="$_zmeta_search $_zmeta_views --save" ;;
+        join) options=$_zmeta_views ;;
+        records) options='--only --syntax --conflicts' ;;
         serve | show | pqf) ;;
         *) left= ;;
     esac
     for option in $options; do
-        [[ $option != --only && " $3 " == *" $option "* ]] || left+=" $option"
+        _zmeta_may "$option" "$3" && left+=" $option"
     done
     _zmeta_choose "$left" "$2"
 }
@@ -40,6 +59,7 @@ _zmeta_value() {
     case $1 in
         --save) _zmeta_files "$3" "$2" ;;
         --syntax) _zmeta_choose "$_zmeta_syntaxes" "$2" "$3" ;;
+        --elements) _zmeta_choose 'F B' "$2" "$3" ;;
     esac
 }
 
@@ -56,13 +76,13 @@ _zmeta_any() {
     local command=${words[1]-} place=0 valued='' given='' ended='' last i
     case $command in
         '')
-            _zmeta_choose "$_zmeta_commands -h --help" "$cur"
+            _zmeta_choose "$_zmeta_commands -h --help -V --version" "$cur"
             return
             ;;
         -*) return ;;
-        ask) valued=' --only --save ' ;;
-        run | loop) valued=' --save ' ;;
-        records) valued=' --syntax ' ;;
+        ask) valued=" --only $_zmeta_search --save " ;;
+        run | loop) valued=" $_zmeta_search --save " ;;
+        records) valued=' --only --syntax ' ;;
     esac
     for ((i = 2; i < ${#words[@]}; i++)); do
         last=${words[i]}

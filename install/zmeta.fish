@@ -1,5 +1,8 @@
 # fish completion for zmeta
 
+# The options that have a value.
+set -g __zmeta_valued --only --title --author --subject --isbn --any --query --records --elements --syntax --save
+
 # The words before the cursor that are no options, the command first.
 function __zmeta_words
     set -l words (commandline -opc)
@@ -15,7 +18,7 @@ function __zmeta_words
             switch $word
                 case --
                     set ended yes
-                case --only --save --syntax
+                case $__zmeta_valued
                     set skip yes
                 case '-?*'
                 case '*'
@@ -37,13 +40,16 @@ function __zmeta_at
     test (count $words) = $argv[1]; and contains -- $words[1] $argv[2..-1]
 end
 
-# Whether no word before the cursor is this option; not counted is one whose value is typed.
+# Whether no word before the cursor is one of these options; not counted is one whose value is typed.
 function __zmeta_lacks
     set -l words (commandline -opc)
-    if contains -- "$words[-1]" --save --syntax
+    if contains -- "$words[-1]" $__zmeta_valued
         set -e words[-1]
     end
-    not string match -qr -- "^$argv[1](=|\$)" $words
+    for option in $argv
+        string match -qr -- "^$option(=|\$)" $words; and return 1
+    end
+    return 0
 end
 
 # Whether no command stands there yet.
@@ -65,17 +71,44 @@ complete -c zmeta -n __zmeta_first -a help -d 'Print this message or the help of
 complete -c zmeta -n '__zmeta_at 1 help' -a 'ask run loop join records serve show pqf help'
 
 complete -c zmeta -n 'not __zmeta_in help' -s h -l help -d 'Print help'
+complete -c zmeta -n __zmeta_first -s V -l version -d 'Print version'
 complete -c zmeta -n '__zmeta_in ask; and __zmeta_lacks --at-once' -l at-once \
     -d 'Asks all catalogues at once, and not one after the other'
 complete -c zmeta -n '__zmeta_in ask' -l only -x \
     -d 'Asks just the question of this name; may be given several times'
-complete -c zmeta -n '__zmeta_in ask run loop join; and __zmeta_lacks --hex' -l hex \
+complete -c zmeta -n '__zmeta_in ask run loop; and __zmeta_lacks --query' -l title -x \
+    -d 'Asks every catalogue for this in a title; may be given several times, and all terms must match'
+complete -c zmeta -n '__zmeta_in ask run loop; and __zmeta_lacks --query' -l author -x \
+    -d 'Asks every catalogue for this author; may be given several times'
+complete -c zmeta -n '__zmeta_in ask run loop; and __zmeta_lacks --query' -l subject -x \
+    -d 'Asks every catalogue for this subject; may be given several times'
+complete -c zmeta -n '__zmeta_in ask run loop; and __zmeta_lacks --query' -l isbn -x \
+    -d 'Asks every catalogue for this ISBN; may be given several times'
+complete -c zmeta -n '__zmeta_in ask run loop; and __zmeta_lacks --query' -l any -x \
+    -d 'Asks every catalogue for this anywhere in a record; may be given several times'
+complete -c zmeta -l query -x \
+    -n '__zmeta_in ask run loop; and __zmeta_lacks --query --title --author --subject --isbn --any' \
+    -d 'Asks every catalogue this query (PQF), in place of the file\'s'
+complete -c zmeta -n '__zmeta_in ask run loop; and __zmeta_lacks --records' -l records -x \
+    -d 'Asks every catalogue for these records: a number, or positions as 1-3,10-12'
+complete -c zmeta -n '__zmeta_in ask run loop; and __zmeta_lacks --elements' -l elements -x -a 'F B' \
+    -d 'Asks every catalogue for records of this element set, as F (full) or B (brief)'
+complete -c zmeta -n '__zmeta_in ask run loop; and __zmeta_lacks --syntax' -l syntax -x \
+    -a 'marc21 unimarc xml sutrs opac grs1' \
+    -d 'Asks every catalogue for records of this syntax: a name as marc21, or an OID'
+complete -c zmeta -n '__zmeta_in ask run loop join; and __zmeta_lacks --titles --json --hex' -l titles \
+    -d 'Prints years and titles, to be read, in place of the list'
+complete -c zmeta -n '__zmeta_in ask run loop join; and __zmeta_lacks --titles --json --hex' -l json \
+    -d 'Prints a JSON object a line, for programs, in place of the list'
+complete -c zmeta -n '__zmeta_in ask run loop join; and __zmeta_lacks --titles --json --hex' -l hex \
     -d 'Prints the octets of records in hexadecimal'
 complete -c zmeta -n '__zmeta_in ask run loop; and __zmeta_lacks --save' -l save -r -F \
     -d 'Saves what was brought, in the file OUT'
+complete -c zmeta -n '__zmeta_in records' -l only -x \
+    -d 'Writes just the records of this catalogue; may be given several times'
 complete -c zmeta -n '__zmeta_in records; and __zmeta_lacks --syntax' -l syntax -x \
-    -a '1.2.840.10003.5.10 1.2.840.10003.5.1 1.2.840.10003.5.109.10' \
-    -d 'Writes just the records of this record syntax'
+    -a 'marc21 unimarc xml sutrs opac grs1' \
+    -d 'Writes just the records of this syntax: a name as marc21, or an OID'
 complete -c zmeta -n '__zmeta_in records; and __zmeta_lacks --conflicts' -l conflicts \
     -d 'Writes all records of a position for which several are known'
 

@@ -5,7 +5,7 @@ with all that follow.
 A run has to end with status 4, `out of memory` and nothing printed, or as it does with ample memory. A test has to tell that it wants memory while it
 makes itself ready, and from then on to pass: what it tests asks again where memory was refused, and has to answer the same.
 
-    python3 tests/out-of-memory/check.py       (in the repository, once the program and the vectors are built)
+    python3 tests/out-of-memory/check.py       (once the program and the vectors are built; ZMETA may name another build)
 """
 
 import os
@@ -17,7 +17,7 @@ import threading
 from concurrent.futures import ThreadPoolExecutor
 
 ROOT = os.path.dirname(os.path.dirname(os.path.dirname(os.path.abspath(__file__))))
-ZMETA = os.path.join(ROOT, "crates/zmeta/out/zmeta")
+ZMETA = os.path.abspath(os.environ.get("ZMETA") or os.path.join(ROOT, "crates/zmeta/out/zmeta"))
 VECTORS = os.path.join(ROOT, "crates/{0}/out/{0}_tests")
 
 RUNS = [
@@ -34,6 +34,9 @@ RUNS = [
     (["join", "tests/out-of-memory/four.saved", "tests/out-of-memory/four.saved"], None),
     (["join", "tests/out-of-memory/four.saved", "tests/out-of-memory/five.saved"], None),
     (["records", "examples/monday.saved", "examples/tuesday.saved"], None),
+    # the view for readers: records of MARC 21 and UNIMARC with letters of MARC-8 and UTF-8, SUTRS, a conflict, two counts, refusals
+    (["run", "--titles", "tests/out-of-memory/titles.world"], None),
+    (["join", "--titles", "tests/out-of-memory/titles-one.saved", "tests/out-of-memory/titles-two.saved"], None),
     # wrong words, and help
     (["run"], None),
     (["show", "--hex"], None),

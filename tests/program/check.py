@@ -1,12 +1,13 @@
 #!/usr/bin/env python3
-"""Runs the program by the rows of tests/program/rows, and looks at what it prints, tells and answers; then on worlds of many kinds.
+"""Runs the program on rows, whole views, worlds and mutilated records, and compares what it prints with what is due.
 
-    python3 tests/program/check.py       (in the repository, once the program is built)
+    python3 tests/program/check.py       (once the program is built; ZMETA may name another build)
 
-A row has the words of a command line, with `|` between them, behind `<` the input, and behind `=>` the status, what is printed
-and what is told, with `>` between them; `%` and two digits stand for one octet, `=FILE` for the octets of that file, and `-` for
-none. Behind one more `>` a file of that name is made, with the octets of another. Rows of words have behind `=>` the status, and
-how what is printed then, or else what is told, begins. The files are those of tests/program/files, and `folder` is a folder."""
+A row has the words of a command line, with `|` between them, and the input behind `<`. Behind `=>` stand the status, standard output
+and standard error, with `>` between them. `%` and two digits stand for one octet, `=FILE` for the octets of that file, `-` for none.
+One more `>` is followed by a file that the run makes, and one with the same octets. A row of words has the status behind `=>`, and the
+beginning of the text: on standard output if the status is 0, else on standard error. The files are those of tests/program/files, and
+`folder` is a folder."""
 
 import os
 import re
@@ -16,11 +17,19 @@ import sys
 import tempfile
 from concurrent.futures import ThreadPoolExecutor
 
+import json_lines
+import marc_made
+import marc_views
+import views
 import worlds
 
 HERE = os.path.dirname(os.path.abspath(__file__))
-ZMETA = os.path.join(os.path.dirname(os.path.dirname(HERE)), "crates/zmeta/out/zmeta")
+BUILT = os.path.join(os.path.dirname(os.path.dirname(HERE)), "crates/zmeta/out/zmeta")
+ZMETA = os.path.abspath(os.environ.get("ZMETA") or BUILT)
 FILES = os.path.join(HERE, "files")
+MUTILATED = 5000
+JSON_WORLDS, JSON_FACTS = 3000, 20000
+SEED = 1
 
 
 def octets_of(name):
@@ -75,6 +84,15 @@ def fault_of_words(room, row):
     return None
 
 
+def fault_of_view(room, name, known, names, status, text):
+    """What is printed in place of a view, if it differs."""
+    for file, octets in ((name, known), (name + ".names", names)):
+        with open(os.path.join(room, file), "wb") as it:
+            it.write(octets)
+    found = run(room, ["join", "--titles", name, name + ".names"])
+    return None if found == (status, text, b"") else f"{name}: {found[0]} {found[2]}\n{found[1].decode()}"
+
+
 def nested(operators):
     """A query of so many operators, each before its operands."""
     return "@and " * operators + "x " * (operators + 1)
@@ -116,15 +134,22 @@ def main():
     with tempfile.TemporaryDirectory() as room, ThreadPoolExecutor(len(os.sched_getaffinity(0))) as pool:
         shutil.copytree(FILES, room, dirs_exist_ok=True)
         os.mkdir(os.path.join(room, "folder"))
-        for table in ("show", "pqf", "join", "records", "worlds", "words"):
+        for table in ("show", "pqf", "join", "records", "worlds", "search", "json", "words"):
             look = fault_of_words if table == "words" else fault_of_row
             rows = rows_of(table)
             faults += [it for it in pool.map(lambda row: look(room, row), rows) if it]
             print(f"program: {len(rows)} rows of {table}")
+        faults += [it for it in (fault_of_view(room, *it) for it in views.files()) if it]
+        print(f"program: {len(views.ALL)} whole views")
         faults += faults_of_large(room)
         made = [*worlds.made(octets_of)]
         faults += [it for it in pool.map(lambda it: fault_of_world(room, *it), [(number, *it) for number, it in enumerate(made)]) if it]
         print(f"program: {len(made)} worlds")
+        faults += marc_views.faults(ZMETA, room, [*marc_made.all_of_them(MUTILATED, SEED)], SEED)
+        print(f"program: {MUTILATED} mutilated records")
+        files = json_lines.files(JSON_WORLDS, JSON_FACTS, SEED)
+        faults += [it for it in pool.map(lambda it: json_lines.fault_of(ZMETA, room, *it), files) if it]
+        print(f"program: JSON of {JSON_WORLDS} worlds and {JSON_FACTS} facts")
     for it in faults:
         print(f"program: not as it should be: {it}")
     return 1 if faults else 0

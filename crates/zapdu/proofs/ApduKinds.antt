@@ -11,7 +11,7 @@ use Rattle.zapdu.specs.declared.apdu.Apdu.{Apdu}
 use Rattle.zapdu.specs.declared.apdu.Apdu.TheVariants as apdus
 use Rattle.zapdu.specs.declared.apdu.Kind.{Kind}
 use Rattle.zapdu.specs.declared.apdu.Kind.TheVariants as kinds
-use Rattle.zapdu.specs.Writes.{kind_of, tag_of_kind, parts_of, kind_at, kind_among, kinds_in_order, apdu_at}
+use Rattle.zapdu.specs.Writes.{kind_of, tag_of_kind, AreApduParts, kind_at, kind_among, kinds_in_order, apdu_at}
 use Rattle.zapdu.specs.Productions.InitRequests.{init_request_parts}
 use Rattle.zapdu.specs.Productions.InitResponses.{init_response_parts}
 use Rattle.zapdu.specs.Productions.SearchRequests.{search_request_parts}
@@ -20,8 +20,8 @@ use Rattle.zapdu.specs.Productions.PresentRequests.{present_request_parts}
 use Rattle.zapdu.specs.Productions.PresentResponses.{present_response_parts}
 use Rattle.zapdu.specs.Productions.Closes.{close_parts}
 
-abbrev pub Of : Kind → Apdu → List Element → Type 0
-Of kind v ns = (kind_of v ≡ kind) × parts_of v ns
+abbrev pub AreKindParts : Kind → Apdu → List Element → Type 0
+AreKindParts kind v ns = (kind_of v ≡ kind) × AreApduParts v ns
 
 abbrev ok : {V : Type 0} → V → Result V (List Element)
 ok v = Ok v
@@ -36,18 +36,18 @@ err_is : {V : Type 0} (x y : List Element) → err {V = V} x ≡ err y → x ≡
 err_is x y e = cc
 
 module _ {V : Type 0} (kind : Kind) (wrap : V → Apdu) (is_kind : (v : V) → kind_of (wrap v) ≡ kind) (back : (a : Apdu) → kind_of a ≡ kind → (v : V) × (wrap v ≡ a))
-    (walk : List Element → Result V (List Element)) (read : IsExact (λ v. parts_of (wrap v)) walk) where
-  reads_wrapped : (ns : List Element) (a : Apdu) (r : Result V (List Element)) → walk ns ≡ r → (r >>= λ v. ok (wrap v)) ≡ Ok a → Of kind a ns
-  reads_wrapped ns a (Ok v) e f = subst (λ (b : Apdu). Of kind b ns) (ok_is (wrap v) a f) (is_kind v, read.reads ns v e)
+    (walk : List Element → Result V (List Element)) (read : IsExact (λ v. AreApduParts (wrap v)) walk) where
+  reads_wrapped : (ns : List Element) (a : Apdu) (r : Result V (List Element)) → walk ns ≡ r → (r >>= λ v. ok (wrap v)) ≡ Ok a → AreKindParts kind a ns
+  reads_wrapped ns a (Ok v) e f = subst (λ (b : Apdu). AreKindParts kind b ns) (ok_is (wrap v) a f) (is_kind v, read.reads ns v e)
   reads_wrapped ns a (Err r) e f = absurd cc
 
-  unwrapped : (a : Apdu) (ns : List Element) → Of kind a ns → (v : V) × (wrap v ≡ a) × parts_of (wrap v) ns
-  unwrapped a ns h = let b = back a h.0 in (b.0, b.1, subst (λ (c : Apdu). parts_of c ns) (sym b.1) h.1)
+  unwrapped : (a : Apdu) (ns : List Element) → AreKindParts kind a ns → (v : V) × (wrap v ≡ a) × AreApduParts (wrap v) ns
+  unwrapped a ns h = let b = back a h.0 in (b.0, b.1, subst (λ (c : Apdu). AreApduParts c ns) (sym b.1) h.1)
 
-  finds_wrapped : (ns : List Element) (a : Apdu) → Of kind a ns → (walk ns >>= λ v. ok (wrap v)) ≡ Ok a
+  finds_wrapped : (ns : List Element) (a : Apdu) → AreKindParts kind a ns → (walk ns >>= λ v. ok (wrap v)) ≡ Ok a
   finds_wrapped ns a h = let b = unwrapped a ns h in rw (read.finds ns b.0 b.2) (ap (λ (c : Apdu). ok c) b.1)
 
-  fails_wrapped : (ns s : List Element) (r : Result V (List Element)) → walk ns ≡ r → (r >>= λ v. ok (wrap v)) ≡ Err s → IsMisfit (Of kind) ns s
+  fails_wrapped : (ns s : List Element) (r : Result V (List Element)) → walk ns ≡ r → (r >>= λ v. ok (wrap v)) ≡ Err s → IsMisfit (AreKindParts kind) ns s
   fails_wrapped ns s (Ok v) e f = absurd cc
   fails_wrapped ns s (Err r) e f =
       let m = read.fails ns s (e ∙ ap (λ (t : List Element). err t) (err_is {V = Apdu} r s f)) in
@@ -58,7 +58,7 @@ module _ {V : Type 0} (kind : Kind) (wrap : V → Apdu) (is_kind : (v : V) → k
         stops = λ n after g a more h. let b = unwrapped a (m.front ++ n ∷ more) h in m.stops n after g b.0 more b.2;
       }
 
-  pub wrapped_exact : IsExact (Of kind) (λ ns. walk ns >>= λ v. ok (wrap v))
+  pub wrapped_exact : IsExact (AreKindParts kind) (λ ns. walk ns >>= λ v. ok (wrap v))
   wrapped_exact = record {
     reads = λ ns a e. reads_wrapped ns a (walk ns) refl e;
     finds = finds_wrapped;
@@ -85,7 +85,7 @@ back kinds.Close (apdus.Close v) e = (v, refl)
 back kind a e = absurd cc
 
 -- reading the elements of a kind is exact, with the misfit
-pub apdu_exact : (kind : Kind) → IsExact (Of kind) (apdu_at kind)
+pub apdu_exact : (kind : Kind) → IsExact (AreKindParts kind) (apdu_at kind)
 apdu_exact kinds.InitRequest = wrapped_exact kinds.InitRequest apdus.InitRequest (λ v. refl) (back kinds.InitRequest) _ (elements_exact init_request_parts)
 apdu_exact kinds.InitResponse = wrapped_exact kinds.InitResponse apdus.InitResponse (λ v. refl) (back kinds.InitResponse) _ (elements_exact init_response_parts)
 apdu_exact kinds.SearchRequest = wrapped_exact kinds.SearchRequest apdus.SearchRequest (λ v. refl) (back kinds.SearchRequest) _ (elements_exact search_request_parts)

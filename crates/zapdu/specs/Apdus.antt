@@ -6,17 +6,17 @@ use Rattle.zapdu.specs.declared.apdu.ApduError.{ApduError}
 use Rattle.zapdu.specs.declared.apdu.ApduError.TheVariants as errors
 
 -- the kind's name in the standard's PDU choice
-abbrev pub kind_word : Kind → List ℕ
-kind_word kinds.InitRequest = codes "initRequest"
-kind_word kinds.InitResponse = codes "initResponse"
-kind_word kinds.SearchRequest = codes "searchRequest"
-kind_word kinds.SearchResponse = codes "searchResponse"
-kind_word kinds.PresentRequest = codes "presentRequest"
-kind_word kinds.PresentResponse = codes "presentResponse"
-kind_word kinds.Close = codes "close"
+abbrev pub apdu_kind_name : Kind → List ℕ
+apdu_kind_name kinds.InitRequest = codes "initRequest"
+apdu_kind_name kinds.InitResponse = codes "initResponse"
+apdu_kind_name kinds.SearchRequest = codes "searchRequest"
+apdu_kind_name kinds.SearchResponse = codes "searchResponse"
+apdu_kind_name kinds.PresentRequest = codes "presentRequest"
+apdu_kind_name kinds.PresentResponse = codes "presentResponse"
+apdu_kind_name kinds.Close = codes "close"
 
 -- the variant's name
-abbrev pub error_word : ApduError → List ℕ
-error_word errors.NotApdu = codes "NotApdu"
-error_word (errors.Malformed kind at) = codes "Malformed"
-error_word errors.Memory = codes "Memory"
+abbrev pub apdu_error_name : ApduError → List ℕ
+apdu_error_name errors.NotApdu = codes "NotApdu"
+apdu_error_name (errors.Malformed kind at) = codes "Malformed"
+apdu_error_name errors.Memory = codes "Memory"

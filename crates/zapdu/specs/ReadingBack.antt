@@ -6,14 +6,14 @@ use Rattle.zapdu.specs.declared.apdu.ApduError.{ApduError}
 use Rattle.zapdu.specs.declared.apdu.ApduError.TheVariants as errors
 use Rattle.zapdu.specs.declared.productions.diagnostic.DiagRec.{DiagRec}
 use Rattle.zapdu.specs.declared.productions.record.Record.{Record}
-use Rattle.zapdu.specs.Productions.Diagnostics.{WritesDiag, diag_spelt}
-use Rattle.zapdu.specs.Productions.Records.{WritesRecord, record_spelt}
-use Rattle.zapdu.specs.Writes.{Decodes, apdu_spelt}
+use Rattle.zapdu.specs.Productions.Diagnostics.{WritesDiag, diag_spelling}
+use Rattle.zapdu.specs.Productions.Records.{WritesRecord, record_spelling}
+use Rattle.zapdu.specs.Writes.{IsDecodeResult, apdu_spelling}
 
 -- decoding the element that was built of an APDU returns this APDU, unless no memory is found
 abbrev pub ApduReadBack : Type 0
 ApduReadBack = (v : Apdu) (n : Element) (r : Result Apdu ApduError)
-    → apdu_spelt v ≡ Some n → Decodes n r → (r ≡ Ok v) ⊎ (r ≡ Err errors.Memory)
+    → apdu_spelling v ≡ Some n → IsDecodeResult n r → (r ≡ Ok v) ⊎ (r ≡ Err errors.Memory)
 
 -- the record that the element stands for; none if it stands for none
 abbrev pub IsRecordOf : Element → Option Record → Type 0
@@ -22,7 +22,7 @@ IsRecordOf n None = (v : Record) → WritesRecord v n → ⊥
 
 -- reading the element that was built of a record returns this record
 abbrev pub RecordReadBack : Type 0
-RecordReadBack = (v : Record) (n : Element) (o : Option Record) → record_spelt v ≡ Some n → IsRecordOf n o → o ≡ Some v
+RecordReadBack = (v : Record) (n : Element) (o : Option Record) → record_spelling v ≡ Some n → IsRecordOf n o → o ≡ Some v
 
 -- the diagnostic that the element stands for; none if it stands for none
 abbrev pub IsDiagOf : Element → Option DiagRec → Type 0
@@ -31,4 +31,4 @@ IsDiagOf n None = (v : DiagRec) → WritesDiag v n → ⊥
 
 -- reading the element that was built of a diagnostic returns this diagnostic
 abbrev pub DiagReadBack : Type 0
-DiagReadBack = (v : DiagRec) (n : Element) (o : Option DiagRec) → diag_spelt v ≡ Some n → IsDiagOf n o → o ≡ Some v
+DiagReadBack = (v : DiagRec) (n : Element) (o : Option DiagRec) → diag_spelling v ≡ Some n → IsDiagOf n o → o ≡ Some v

@@ -22,15 +22,15 @@ use Rattle.zapdu.specs.Productions.Records.{whole_record}
 
 -- An octet in quotes: 20 to 7E unchanged, with a backslash before a quote and before a backslash; any other as `\x` and
 -- two hexadecimal digits.
-unfoldable pub shown : ℕ → List ℕ
-shown b =
+unfoldable pub quoted_octet : ℕ → List ℕ
+quoted_octet b =
     if b == 34 || b == 92 then 92 ∷ b ∷ [] else
     if nat_le 32 b && nat_le b 126 then b ∷ [] else
     codes "\\x" ++ encode_lower (b ∷ [])
 
 -- the octets in quotes
 abbrev pub quoted : List ℕ → List ℕ
-quoted octets = 34 ∷ [] ++ flat_map shown octets ++ 34 ∷ []
+quoted octets = 34 ∷ [] ++ flat_map quoted_octet octets ++ 34 ∷ []
 
 -- a text that may be absent: in quotes, or a dash
 abbrev pub quoted_or_dash : Option (List ℕ) → List ℕ
@@ -48,14 +48,14 @@ info_octets (V2 xs) = xs
 info_octets (V3 xs) = xs
 
 -- a diagnostic in the default format: `OID CONDITION "INFO"`
-unfoldable pub default_text : DefaultDiag → List ℕ
-default_text d =
+unfoldable pub default_diag_text : DefaultDiag → List ℕ
+default_diag_text d =
     dotted d.diag_set ++ codes " " ++ signed_decimal d.condition ++ codes " " ++ quoted (info_octets d.info)
 
 -- a diagnostic: in the default format, or as `ber`
 unfoldable pub diag_text : DiagRec → List ℕ
-diag_text (Default d) = default_text d
-diag_text (Ext v) = ber_text (diag_rec.spelt (Ext v))
+diag_text (Default d) = default_diag_text d
+diag_text (Ext v) = ber_text (diag_rec.spelling (Ext v))
 
 -- the object identifier and the octets of an EXTERNAL, if it has these and nothing else
 abbrev pub octets_alone : Option (List ℕ) → Option ℤ → Option (List ℕ) → Content → Option (List ℕ × List ℕ)
@@ -70,12 +70,12 @@ octets_text hex octets = if hex then encode_lower octets else quoted octets
 abbrev pub retrieval_text : Bool → Record → Option (List ℕ × List ℕ) → List ℕ
 retrieval_text hex r (Some p) =
     codes "rec " ++ dotted p.0 ++ codes " " ++ quoted_or_dash r.name ++ codes " " ++ octets_text hex p.1
-retrieval_text hex r None = ber_text (whole_record.spelt r)
+retrieval_text hex r None = ber_text (whole_record.spelling r)
 
 abbrev pub body_text : Bool → Record → RecordBody → List ℕ
 body_text hex r (Retrieval v) = retrieval_text hex r (octets_alone v.direct v.indirect v.descriptor v.content)
 body_text hex r (Surrogate d) = codes "diag " ++ quoted_or_dash r.name ++ codes " " ++ diag_text d
-body_text hex r (Fragment m) = ber_text (whole_record.spelt r)
+body_text hex r (Fragment m) = ber_text (whole_record.spelling r)
 
 -- a record, with its octets in hexadecimal if `hex` is set
 abbrev pub record_text : Bool → Record → List ℕ

@@ -41,18 +41,18 @@ tag_of_kind kinds.PresentResponse = context 25
 tag_of_kind kinds.Close = context 48
 
 -- these are the elements of the APDU
-abbrev pub parts_of : Apdu → List Element → Type 0
-parts_of (apdus.InitRequest v) = init_request_parts.stand v
-parts_of (apdus.InitResponse v) = init_response_parts.stand v
-parts_of (apdus.SearchRequest v) = search_request_parts.stand v
-parts_of (apdus.SearchResponse v) = search_response_parts.stand v
-parts_of (apdus.PresentRequest v) = present_request_parts.stand v
-parts_of (apdus.PresentResponse v) = present_response_parts.stand v
-parts_of (apdus.Close v) = close_parts.stand v
+abbrev pub AreApduParts : Apdu → List Element → Type 0
+AreApduParts (apdus.InitRequest v) = init_request_parts.writes v
+AreApduParts (apdus.InitResponse v) = init_response_parts.writes v
+AreApduParts (apdus.SearchRequest v) = search_request_parts.writes v
+AreApduParts (apdus.SearchResponse v) = search_response_parts.writes v
+AreApduParts (apdus.PresentRequest v) = present_request_parts.writes v
+AreApduParts (apdus.PresentResponse v) = present_response_parts.writes v
+AreApduParts (apdus.Close v) = close_parts.writes v
 
 -- the element stands for the APDU: an IMPLICIT SEQUENCE with its kind's tag
 abbrev pub Writes : Apdu → Element → Type 0
-Writes v n = sequence (tag_of_kind (kind_of v)) (parts_of v) n
+Writes v n = sequence (tag_of_kind (kind_of v)) (AreApduParts v) n
 
 -- the kinds, in the order of their tags
 abbrev pub kinds_in_order : List Kind
@@ -70,14 +70,14 @@ abbrev pub kind_at : AsnTag → Option Kind
 kind_at t = kind_among t kinds_in_order
 
 -- the elements of some APDU of the kind begin with these
-abbrev pub BeginsWith : Kind → List Element → Type 0
-BeginsWith kind ns = (v : Apdu) × (kind_of v ≡ kind) × (more : List Element) × parts_of v (ns ++ more)
+abbrev pub IsApduFront : Kind → List Element → Type 0
+IsApduFront kind ns = (v : Apdu) × (kind_of v ≡ kind) × (more : List Element) × AreApduParts v (ns ++ more)
 
 -- `at` is the largest number of first elements of `ns` with which some APDU of the kind begins
 pub record IsMisfitAt (kind : Kind) (ns : List Element) (at : ℕ) : Type 0 where
   pub within : at ≤ length ns
-  pub begins : BeginsWith kind (take at ns)
-  pub largest : (k : ℕ) → at < k → k ≤ length ns → BeginsWith kind (take k ns) → ⊥
+  pub begins : IsApduFront kind (take at ns)
+  pub largest : (k : ℕ) → at < k → k ≤ length ns → IsApduFront kind (take k ns) → ⊥
 
 -- the element has the kind's tag, and its first wrong place is `at`
 abbrev pub IsMalformed : Kind → ℕ → Element → Type 0
@@ -90,11 +90,11 @@ IsNoApdu (Primitive t xs) = Unit {0}
 IsNoApdu (Constructed t f) = (kind : Kind) → t ≡ tag_of_kind kind → ⊥
 
 -- the result of decoding an element
-abbrev pub Decodes : Element → Result Apdu ApduError → Type 0
-Decodes n (Ok v) = Writes v n
-Decodes n (Err errors.NotApdu) = IsNoApdu n
-Decodes n (Err (errors.Malformed kind at)) = ((v : Apdu) → Writes v n → ⊥) × IsMalformed kind at n
-Decodes n (Err errors.Memory) = Unit {0}
+abbrev pub IsDecodeResult : Element → Result Apdu ApduError → Type 0
+IsDecodeResult n (Ok v) = Writes v n
+IsDecodeResult n (Err errors.NotApdu) = IsNoApdu n
+IsDecodeResult n (Err (errors.Malformed kind at)) = ((v : Apdu) → Writes v n → ⊥) × IsMalformed kind at n
+IsDecodeResult n (Err errors.Memory) = Unit {0}
 
 -- the APDU of this kind that has these elements, or the elements left at the first wrong place
 abbrev pub apdu_at : Kind → List Element → Result Apdu (List Element)
@@ -107,18 +107,18 @@ apdu_at kinds.PresentResponse ns = present_response_parts.at ns >>= λ v. Ok (ap
 apdu_at kinds.Close ns = close_parts.at ns >>= λ v. Ok (apdus.Close v)
 
 -- the elements of an APDU
-abbrev pub apdu_made : Apdu → Option (List Element)
-apdu_made (apdus.InitRequest v) = init_request_parts.made v []
-apdu_made (apdus.InitResponse v) = init_response_parts.made v []
-apdu_made (apdus.SearchRequest v) = search_request_parts.made v []
-apdu_made (apdus.SearchResponse v) = search_response_parts.made v []
-apdu_made (apdus.PresentRequest v) = present_request_parts.made v []
-apdu_made (apdus.PresentResponse v) = present_response_parts.made v []
-apdu_made (apdus.Close v) = close_parts.made v []
+abbrev pub apdu_parts : Apdu → Option (List Element)
+apdu_parts (apdus.InitRequest v) = init_request_parts.spelling v []
+apdu_parts (apdus.InitResponse v) = init_response_parts.spelling v []
+apdu_parts (apdus.SearchRequest v) = search_request_parts.spelling v []
+apdu_parts (apdus.SearchResponse v) = search_response_parts.spelling v []
+apdu_parts (apdus.PresentRequest v) = present_request_parts.spelling v []
+apdu_parts (apdus.PresentResponse v) = present_response_parts.spelling v []
+apdu_parts (apdus.Close v) = close_parts.spelling v []
 
 -- the element that is built for an APDU
-abbrev pub apdu_spelt : Apdu → Option Element
-apdu_spelt v = around (tag_of_kind (kind_of v)) (apdu_made v)
+abbrev pub apdu_spelling : Apdu → Option Element
+apdu_spelling v = around (tag_of_kind (kind_of v)) (apdu_parts v)
 
 -- An element that stands for an APDU is not `NotApdu`. No element is both `NotApdu` and `Malformed`, and a malformed
 -- one has one kind and one place.

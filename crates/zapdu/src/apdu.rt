@@ -1,6 +1,6 @@
 //! An APDU of any kind.
 ghost use Rattle.std.specs.Prelude.{◌≡◌};
-ghost use Rattle.zapdu.specs.Apdus.{kind_word, error_word};
+ghost use Rattle.zapdu.specs.Apdus.{apdu_kind_name, apdu_error_name};
 
 use crate::productions::close::Close;
 use crate::productions::init_request::InitRequest;
@@ -52,8 +52,8 @@ pub enum Kind {
 impl Kind {
     /// Returns the kind's name in the PDU choice of the standard (Z39.50-2003, 4.1), for example `presentResponse`. It
     /// takes no memory.
-    pub fn word(self) -> &'static str
-        ensures { result.now ≡ kind_word self }
+    pub fn name(self) -> &'static str
+        ensures { result.now ≡ apdu_kind_name self }
     {
         match self {
             Kind::InitRequest => "initRequest",
@@ -84,8 +84,8 @@ pub enum ApduError {
 
 impl ApduError {
     /// Returns the variant's name, for example `NotApdu`. It takes no memory.
-    pub fn word(self) -> &'static str
-        ensures { result.now ≡ error_word self }
+    pub fn name(self) -> &'static str
+        ensures { result.now ≡ apdu_error_name self }
     {
         match self {
             ApduError::NotApdu => "NotApdu",

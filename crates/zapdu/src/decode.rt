@@ -1,11 +1,11 @@
 //! Reads elements as APDUs, records and diagnostics.
 ghost use Rattle.std.specs.Prelude.{◌≡◌, IfOk, IfSome, IfNone};
-ghost use Rattle.zasn.specs.Answers.{Finds, FindsAway, FindsSo};
+ghost use Rattle.zasn.specs.Answers.{ReadingResult, OwnReadingResult, CountedReadingResult};
 ghost use Rattle.zapdu.specs.declared.productions.record.Record.{Record};
 ghost use Rattle.zapdu.specs.declared.productions.diagnostic.DiagRec.{DiagRec};
 ghost use Rattle.zapdu.specs.Productions.Records.{WritesRecord};
 ghost use Rattle.zapdu.specs.Productions.Diagnostics.{WritesDiag};
-ghost use Rattle.zapdu.specs.Writes.{kind_at, Decodes, apdu_at};
+ghost use Rattle.zapdu.specs.Writes.{kind_at, IsDecodeResult, apdu_at};
 
 use crate::apdu::{Apdu, ApduError, Kind};
 use crate::productions::close::Close;
@@ -46,7 +46,7 @@ fn kind_of_tag(tag: Tag) -> Option<Kind>
 
 /// Reads these elements as those of an APDU of this kind.
 fn apdu_of(alloc: Global, kind: Kind, parts: &mut Parts<'_>) -> Result<Apdu, PartError>
-    ensures { Finds (apdu_at kind parts.old) result parts.new }
+    ensures { ReadingResult (apdu_at kind parts.old) result parts.new }
 {
     match kind {
         Kind::InitRequest => {
@@ -81,14 +81,14 @@ fn apdu_of(alloc: Global, kind: Kind, parts: &mut Parts<'_>) -> Result<Apdu, Par
 }
 
 fn take_search_response(alloc: Global, parts: &mut OwnParts) -> Result<Apdu, PartError>
-    ensures { FindsAway (apdu_at Kind.SearchResponse parts.old) result parts.new }
+    ensures { OwnReadingResult (apdu_at Kind.SearchResponse parts.old) result parts.new }
 {
     let apdu = SearchResponse::take(alloc, parts)?;
     Ok(Apdu::SearchResponse(apdu))
 }
 
 fn take_present_response(alloc: Global, parts: &mut OwnParts) -> Result<Apdu, PartError>
-    ensures { FindsAway (apdu_at Kind.PresentResponse parts.old) result parts.new }
+    ensures { OwnReadingResult (apdu_at Kind.PresentResponse parts.old) result parts.new }
 {
     let apdu = PresentResponse::take(alloc, parts)?;
     Ok(Apdu::PresentResponse(apdu))
@@ -97,7 +97,7 @@ fn take_present_response(alloc: Global, parts: &mut OwnParts) -> Result<Apdu, Pa
 /// Reads these elements as those of an APDU of this kind. Returns the APDU, or the error, with the number of elements
 /// that are left. The responses that can have records take the elements over.
 fn take_apdu(alloc: Global, kind: Kind, nodes: Vec<Node>) -> (Result<Apdu, PartError>, usize)
-    ensures { FindsSo (apdu_at kind nodes.items) result.0 result.1 }
+    ensures { CountedReadingResult (apdu_at kind nodes.items) result.0 result.1 }
 {
     match kind {
         Kind::SearchResponse => {
@@ -123,7 +123,7 @@ fn take_apdu(alloc: Global, kind: Kind, nodes: Vec<Node>) -> (Result<Apdu, PartE
 /// Returns `NotApdu` if the element is primitive or has the tag of no APDU. Returns `Malformed` if its elements are not
 /// those of an APDU of its kind. Returns `Memory` if no memory is found.
 pub fn from_node(alloc: Global, node: &Node) -> Result<Apdu, ApduError>
-    ensures { Decodes node.now result }
+    ensures { IsDecodeResult node.now result }
 {
     let Body::Cons(nodes) = &node.body else {
         return Err(ApduError::NotApdu);
@@ -147,7 +147,7 @@ pub fn from_node(alloc: Global, node: &Node) -> Result<Apdu, ApduError>
 /// Returns the APDU that the element stands for, and consumes the element. Records in syntaxes of elements are moved
 /// into the APDU; `from_node` copies them. Results and errors are those of `from_node`.
 pub fn from_element(alloc: Global, node: Node) -> Result<Apdu, ApduError>
-    ensures { Decodes node result }
+    ensures { IsDecodeResult node result }
 {
     let Some(kind) = kind_of_tag(node.tag) else {
         return Err(ApduError::NotApdu);
@@ -170,8 +170,8 @@ pub fn from_element(alloc: Global, node: Node) -> Result<Apdu, ApduError>
 /// Returns the value that the element stands for. Returns `None` if it stands for none, and `AllocError` if no memory
 /// is found.
 fn tagged_of<T: Tagged>(alloc: Global, node: &Node) -> Result<Option<T>, AllocError>
-    ensures some { IfOk result (λ o. IfSome o (λ v. T.place.stands v node.now)) }
-    ensures none { IfOk result (λ o. IfNone o ((v : T) → T.place.stands v node.now → ⊥)) }
+    ensures some { IfOk result (λ o. IfSome o (λ v. T.place.writes v node.now)) }
+    ensures none { IfOk result (λ o. IfNone o ((v : T) → T.place.writes v node.now → ⊥)) }
 {
     if !T::has(node.tag) {
         return Ok(None);

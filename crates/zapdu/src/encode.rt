@@ -1,8 +1,8 @@
 //! Builds the elements of APDUs, records and diagnostics.
-ghost use Rattle.zasn.specs.Answers.{Makes, IsWritten};
-ghost use Rattle.zapdu.specs.Productions.Records.{WritesRecord, record_spelt};
-ghost use Rattle.zapdu.specs.Productions.Diagnostics.{WritesDiag, diag_spelt};
-ghost use Rattle.zapdu.specs.Writes.{Writes, apdu_spelt};
+ghost use Rattle.zasn.specs.Answers.{BuildResult, WritingResult};
+ghost use Rattle.zapdu.specs.Productions.Records.{WritesRecord, record_spelling};
+ghost use Rattle.zapdu.specs.Productions.Diagnostics.{WritesDiag, diag_spelling};
+ghost use Rattle.zapdu.specs.Writes.{Writes, apdu_spelling};
 
 use crate::apdu::Apdu;
 use crate::productions::diagnostic::DiagRec;
@@ -13,7 +13,7 @@ use zber::{Node, Tag};
 
 /// Builds the element of an APDU, with the tag of its kind.
 fn write_apdu(alloc: Global, apdu: &Apdu) -> Result<Node, BuildError>
-    ensures { Makes (apdu_spelt apdu.now) result }
+    ensures { BuildResult (apdu_spelling apdu.now) result }
 {
     match apdu {
         Apdu::InitRequest(value) => write_within(alloc, value, Tag::context(20)),
@@ -33,16 +33,16 @@ fn write_apdu(alloc: Global, apdu: &Apdu) -> Result<Node, BuildError>
 /// Returns `NotSpellable` if a part that the APDU keeps as an element has no lawful tag or form for its place, and
 /// `Memory` if no memory is found.
 pub fn to_node(alloc: Global, apdu: &Apdu) -> Result<Node, BuildError>
-    ensures exact { Makes (apdu_spelt apdu.now) result }
-    ensures written { IsWritten (Writes apdu.now) result }
+    ensures exact { BuildResult (apdu_spelling apdu.now) result }
+    ensures written { WritingResult (Writes apdu.now) result }
 {
     write_apdu(alloc, apdu)
 }
 
 /// Builds the element that stands for a value.
 fn element_of<T: Tagged>(alloc: Global, value: &T) -> Result<Node, BuildError>
-    ensures exact { Makes (T.place.spelt value.now) result }
-    ensures written { IsWritten (T.place.stands value.now) result }
+    ensures exact { BuildResult (T.place.spelling value.now) result }
+    ensures written { WritingResult (T.place.writes value.now) result }
 {
     value.to_element(alloc)
 }
@@ -50,8 +50,8 @@ fn element_of<T: Tagged>(alloc: Global, value: &T) -> Result<Node, BuildError>
 /// Builds the element that stands for a record (Z39.50-2003, 4.1: NamePlusRecord). Contents octets and errors are as
 /// those of `to_node`.
 pub fn record_node(alloc: Global, value: &Record) -> Result<Node, BuildError>
-    ensures exact { Makes (record_spelt value.now) result }
-    ensures written { IsWritten (WritesRecord value.now) result }
+    ensures exact { BuildResult (record_spelling value.now) result }
+    ensures written { WritingResult (WritesRecord value.now) result }
 {
     element_of(alloc, value)
 }
@@ -59,8 +59,8 @@ pub fn record_node(alloc: Global, value: &Record) -> Result<Node, BuildError>
 /// Builds the element that stands for a diagnostic (Z39.50-2003, 4.1: DiagRec). Contents octets and errors are as those
 /// of `to_node`.
 pub fn diag_node(alloc: Global, diag: &DiagRec) -> Result<Node, BuildError>
-    ensures exact { Makes (diag_spelt diag.now) result }
-    ensures written { IsWritten (WritesDiag diag.now) result }
+    ensures exact { BuildResult (diag_spelling diag.now) result }
+    ensures written { WritingResult (WritesDiag diag.now) result }
 {
     element_of(alloc, diag)
 }

@@ -4,7 +4,7 @@ ghost use Rattle.std.specs.List.{flat_map};
 ghost use Rattle.hex.specs.Hex.{encode_lower};
 ghost use Rattle.zber.specs.Canonical.{canonical};
 ghost use Rattle.zapdu.specs.Productions.Records.{whole_record};
-ghost use Rattle.zapdu.specs.Text.{shown, quoted, quoted_or_dash, ber_text, default_text, diag_text, octets_alone, octets_text, retrieval_text, record_text};
+ghost use Rattle.zapdu.specs.Text.{quoted_octet, quoted, quoted_or_dash, ber_text, default_diag_text, diag_text, octets_alone, octets_text, retrieval_text, record_text};
 
 use crate::productions::diagnostic::{DefaultDiag, DiagRec, Info};
 use crate::productions::external::{Content, External};
@@ -16,9 +16,9 @@ use zber::text::{put_number, put_oid};
 use zber::{Duplicate, Node, Oid};
 
 /// Appends an octet as it stands in quotes: behind a backslash, as `\x` and two hexadecimal digits, or unchanged.
-#[tactic(auto, unfolding(crate::specs::Text::shown))]
+#[tactic(auto, unfolding(crate::specs::Text::quoted_octet))]
 fn put_octet(octet: u8, out: &mut Vec<u8>) -> Result<(), AllocError>
-    ensures { OnOk result (out.new.items ≡ out.old.items ++ shown octet) }
+    ensures { OnOk result (out.new.items ≡ out.old.items ++ quoted_octet octet) }
 {
     if octet == b'"' || octet == b'\\' {
         out.extend_from_slice(&[b'\\', octet])
@@ -47,9 +47,9 @@ pub fn put_hex(alloc: Global, octets: &[u8], out: &mut Vec<u8>) -> Result<(), Al
 }
 
 /// Whether the octet stands unchanged in quotes.
-#[tactic(auto, unfolding(crate::specs::Text::shown))]
+#[tactic(auto, unfolding(crate::specs::Text::quoted_octet))]
 fn is_plain(octet: u8) -> bool
-    ensures { IsTrue result → shown octet ≡ octet ∷ [] }
+    ensures { IsTrue result → quoted_octet octet ≡ octet ∷ [] }
 {
     32 <= octet && octet <= 126 && octet != b'"' && octet != b'\\'
 }
@@ -57,7 +57,7 @@ fn is_plain(octet: u8) -> bool
 /// Returns the number of octets before the first that does not stand unchanged in quotes.
 fn plain_front(octets: &[u8]) -> usize
     ensures within { result ≤ length octets.now }
-    ensures plain { flat_map shown (take result octets.now) ≡ take result octets.now }
+    ensures plain { flat_map quoted_octet (take result octets.now) ≡ take result octets.now }
 {
     for (index, octet) in octets.iter().enumerate() {
         if !is_plain(*octet) {
@@ -70,7 +70,7 @@ fn plain_front(octets: &[u8]) -> usize
 /// Appends the octets up to and with the first that does not stand unchanged in quotes. Returns the others.
 fn put_run<'a>(octets: &'a [u8], out: &mut Vec<u8>) -> Result<&'a [u8], AllocError>
     ensures whole { IfOk result (λ rest.
-        out.new.items ++ flat_map shown rest.now ≡ out.old.items ++ flat_map shown octets.now) }
+        out.new.items ++ flat_map quoted_octet rest.now ≡ out.old.items ++ flat_map quoted_octet octets.now) }
     ensures shorter { IfOk result (λ rest. 0 < length octets.now → length rest.now < length octets.now) }
 {
     let (plain, others) = octets.split_at(plain_front(octets));
@@ -117,7 +117,7 @@ pub fn put_node(alloc: Global, node: &Node, out: &mut Vec<u8>) -> Result<(), All
 
 /// Appends `ber` and the canonical encoding of the value's element; only `ber` if no element stands for the value.
 fn put_given_ber<T: Tagged>(alloc: Global, value: T, out: &mut Vec<u8>) -> Result<(), AllocError>
-    ensures { OnOk result (out.new.items ≡ out.old.items ++ ber_text (T.place.spelt value)) }
+    ensures { OnOk result (out.new.items ≡ out.old.items ++ ber_text (T.place.spelling value)) }
 {
     out.extend_from_slice(b"ber ")?;
     match value.into_element(alloc) {
@@ -133,15 +133,15 @@ fn put_ber<T: Tagged + Duplicate>(
     value: &T,
     out: &mut Vec<u8>,
 ) -> Result<(), AllocError>
-    ensures { OnOk result (out.new.items ≡ out.old.items ++ ber_text (T.place.spelt value.now)) }
+    ensures { OnOk result (out.new.items ≡ out.old.items ++ ber_text (T.place.spelling value.now)) }
 {
     let copy = value.duplicate(alloc)?;
     put_given_ber(alloc, copy, out)
 }
 
-#[tactic(auto, unfolding(crate::specs::Text::default_text))]
+#[tactic(auto, unfolding(crate::specs::Text::default_diag_text))]
 fn put_default(alloc: Global, diag: &DefaultDiag, out: &mut Vec<u8>) -> Result<(), AllocError>
-    ensures { OnOk result (out.new.items ≡ out.old.items ++ default_text diag.now) }
+    ensures { OnOk result (out.new.items ≡ out.old.items ++ default_diag_text diag.now) }
 {
     put_oid(alloc, &diag.diag_set, out)?;
     out.extend_from_slice(b" ")?;
@@ -232,7 +232,7 @@ fn put_record(alloc: Global, value: &Record, hex: bool, out: &mut Vec<u8>) -> Re
 
 /// Whether the record is printed as `ber`, in each mode.
 fn is_ber(value: &Record) -> bool
-    ensures { IsTrue result → (hex : Bool) → record_text hex value.now ≡ ber_text (whole_record.spelt value.now) }
+    ensures { IsTrue result → (hex : Bool) → record_text hex value.now ≡ ber_text (whole_record.spelling value.now) }
 {
     match &value.body {
         RecordBody::Retrieval(external) => octet_aligned(external).is_none(),
@@ -286,7 +286,7 @@ pub fn print_default_diag(
     diag: &DefaultDiag,
     out: &mut Vec<u8>,
 ) -> Result<(), AllocError>
-    ensures ok { OnOk result (out.new.items ≡ out.old.items ++ default_text diag.now) }
+    ensures ok { OnOk result (out.new.items ≡ out.old.items ++ default_diag_text diag.now) }
     ensures err { OnErr result (out.new.items ≡ out.old.items) }
 {
     let mut text = Vec::new(alloc);

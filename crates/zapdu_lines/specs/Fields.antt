@@ -5,7 +5,7 @@ use Rattle.std.specs.Fmt.{signed_decimal}
 use Rattle.hex.specs.Hex.{encode_lower}
 use Rattle.zapdu.specs.Text.{quoted_or_dash}
 use Rattle.zapdu.specs.declared.apdu.Kind.{Kind}
-use Rattle.zapdu.specs.Apdus.{kind_word}
+use Rattle.zapdu.specs.Apdus.{apdu_kind_name}
 
 -- a reference id in hexadecimal, or a dash if there is none
 abbrev pub reference_text : Option (List ℕ) → List ℕ
@@ -32,13 +32,13 @@ abbrev pub truth_text : Bool → List ℕ
 truth_text b = if b then codes " true" else codes " false"
 
 -- a space and a name in quotes, or a dash if there is none
-abbrev pub name_text : Option (List ℕ) → List ℕ
-name_text name = codes " " ++ quoted_or_dash name
+abbrev pub name_field : Option (List ℕ) → List ℕ
+name_field name = codes " " ++ quoted_or_dash name
 
 -- the kind's name and the reference id
 unfoldable pub start_text : Kind → Option (List ℕ) → List ℕ
-start_text kind reference = kind_word kind ++ codes " " ++ reference_text reference
+start_text kind reference = apdu_kind_name kind ++ codes " " ++ reference_text reference
 
 -- the line of the kind's name, the reference id and numbers
 unfoldable pub head_line : Kind → Option (List ℕ) → List ℤ → List ℕ
-head_line kind reference ns = kind_word kind ++ codes " " ++ reference_text reference ++ numbers_text ns ++ codes "\n"
+head_line kind reference ns = apdu_kind_name kind ++ codes " " ++ reference_text reference ++ numbers_text ns ++ codes "\n"

@@ -1,7 +1,7 @@
 -- The lines of an APDU, as the command `show` prints them.
 use Rattle.std.specs.Prelude.{ℕ, List, [], ◌∷◌, ◌++◌, Option, Some, None, false, codes}
 use Rattle.std.specs.List.{flat_map}
-use Rattle.zapdu.specs.Text.{quoted, record_text, default_text, diag_text}
+use Rattle.zapdu.specs.Text.{quoted, record_text, default_diag_text, diag_text}
 use Rattle.zapdu.specs.declared.apdu.Apdu.{Apdu}
 use Rattle.zapdu.specs.declared.apdu.Apdu.TheVariants as apdus
 use Rattle.zapdu.specs.declared.apdu.Kind.TheVariants as kinds
@@ -17,21 +17,21 @@ use Rattle.zapdu.specs.declared.productions.present_response.PresentResponse.{Pr
 use Rattle.zapdu.specs.declared.productions.record.Record.{Record}
 use Rattle.zapdu.specs.declared.productions.record.Records.{Records}
 use Rattle.zapdu.specs.declared.productions.record.Records.TheVariants as records
-use Rattle.zapdu_lines.specs.Fields.{numbers_text, bits_text, truth_text, name_text, start_text, head_line}
+use Rattle.zapdu_lines.specs.Fields.{numbers_text, bits_text, truth_text, name_field, start_text, head_line}
 use Rattle.zapdu_lines.specs.Searches.{search_request_text}
 
-abbrev pub record_line : Record → List ℕ
-record_line r = codes "  " ++ record_text false r ++ codes "\n"
+abbrev pub apdu_record_line : Record → List ℕ
+apdu_record_line r = codes "  " ++ record_text false r ++ codes "\n"
 
-abbrev pub record_lines : List Record → List ℕ
-record_lines rs = flat_map record_line rs
+abbrev pub apdu_record_lines : List Record → List ℕ
+apdu_record_lines rs = flat_map apdu_record_line rs
 
 -- the beginning of the line of a nonsurrogate diagnostic
 unfoldable pub nonsurrogate : List ℕ
 nonsurrogate = codes "  nonsurrogate "
 
-abbrev pub default_line : DefaultDiag → List ℕ
-default_line d = nonsurrogate ++ default_text d ++ codes "\n"
+abbrev pub default_diag_line : DefaultDiag → List ℕ
+default_diag_line d = nonsurrogate ++ default_diag_text d ++ codes "\n"
 
 abbrev pub diag_line : DiagRec → List ℕ
 diag_line d = nonsurrogate ++ diag_text d ++ codes "\n"
@@ -40,16 +40,16 @@ abbrev pub diag_lines : List DiagRec → List ℕ
 diag_lines ds = flat_map diag_line ds
 
 abbrev pub records_text : Records → List ℕ
-records_text (records.List rs) = record_lines rs
-records_text (records.OneDiag d) = default_line d
+records_text (records.List rs) = apdu_record_lines rs
+records_text (records.OneDiag d) = default_diag_line d
 records_text (records.ManyDiags ds) = diag_lines ds
 
 abbrev pub optional_records : Option Records → List ℕ
 optional_records None = []
 optional_records (Some rs) = records_text rs
 
-abbrev pub response_text : PresentResponse → List ℕ
-response_text v =
+abbrev pub present_response_text : PresentResponse → List ℕ
+present_response_text v =
     head_line kinds.PresentResponse v.reference_id
     (v.number_of_records_returned ∷ v.next_result_set_position ∷ v.present_status ∷ [])
     ++ optional_records v.records
@@ -57,24 +57,24 @@ response_text v =
 abbrev pub init_request_text : InitRequest → List ℕ
 init_request_text v =
     start_text kinds.InitRequest v.reference_id ++ bits_text v.protocol_version ++ bits_text v.options
-    ++ numbers_text (v.preferred_message_size ∷ v.exceptional_record_size ∷ []) ++ name_text v.implementation_name
+    ++ numbers_text (v.preferred_message_size ∷ v.exceptional_record_size ∷ []) ++ name_field v.implementation_name
     ++ codes "\n"
 
 abbrev pub init_response_text : InitResponse → List ℕ
 init_response_text v =
     start_text kinds.InitResponse v.reference_id ++ bits_text v.protocol_version ++ bits_text v.options
     ++ numbers_text (v.preferred_message_size ∷ v.exceptional_record_size ∷ []) ++ truth_text v.result
-    ++ name_text v.implementation_name ++ codes "\n"
+    ++ name_field v.implementation_name ++ codes "\n"
 
 -- the first line of a SearchResponse
-abbrev pub found_line : SearchResponse → List ℕ
-found_line v =
+abbrev pub search_response_line : SearchResponse → List ℕ
+search_response_line v =
     start_text kinds.SearchResponse v.reference_id
     ++ numbers_text (v.result_count ∷ v.number_of_records_returned ∷ v.next_result_set_position ∷ [])
     ++ truth_text v.search_status ++ codes "\n"
 
 abbrev pub search_response_text : SearchResponse → List ℕ
-search_response_text v = found_line v ++ optional_records v.records
+search_response_text v = search_response_line v ++ optional_records v.records
 
 abbrev pub range_line : Range → List ℕ
 range_line r = codes "  range" ++ numbers_text (r.starting_position ∷ r.number_of_records ∷ []) ++ codes "\n"
@@ -88,7 +88,7 @@ optional_ranges (Some rs) = range_lines rs
 
 abbrev pub present_request_text : PresentRequest → List ℕ
 present_request_text v =
-    start_text kinds.PresentRequest v.reference_id ++ name_text (Some v.result_set_id)
+    start_text kinds.PresentRequest v.reference_id ++ name_field (Some v.result_set_id)
     ++ numbers_text (v.result_set_start_point ∷ v.number_of_records_requested ∷ []) ++ codes "\n"
     ++ optional_ranges v.additional_ranges
 
@@ -109,5 +109,5 @@ apdu_text (apdus.InitResponse v) = init_response_text v
 apdu_text (apdus.SearchRequest v) = search_request_text v
 apdu_text (apdus.SearchResponse v) = search_response_text v
 apdu_text (apdus.PresentRequest v) = present_request_text v
-apdu_text (apdus.PresentResponse v) = response_text v
+apdu_text (apdus.PresentResponse v) = present_response_text v
 apdu_text (apdus.Close v) = close_text v

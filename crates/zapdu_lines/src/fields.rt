@@ -1,6 +1,6 @@
 //! Prints the fields of an APDU's line.
 ghost use Rattle.std.specs.Prelude.{◌≡◌, ◌++◌, OnOk};
-ghost use Rattle.zapdu_lines.specs.Fields.{reference_text, numbers_text, number_text, bits_text, truth_text, name_text, start_text};
+ghost use Rattle.zapdu_lines.specs.Fields.{reference_text, numbers_text, number_text, bits_text, truth_text, name_field, start_text};
 
 use bytes::Bytes;
 use std::alloc::{AllocError, Global};
@@ -18,7 +18,7 @@ pub(crate) fn put_start(
 ) -> Result<(), AllocError>
     ensures { OnOk result (text.new.items ≡ text.old.items ++ start_text kind reference.now) }
 {
-    text.extend_from_slice(kind.word().as_bytes())?;
+    text.extend_from_slice(kind.name().as_bytes())?;
     text.extend_from_slice(b" ")?;
     put_reference(alloc, reference, text)
 }
@@ -51,7 +51,7 @@ pub(crate) fn put_name(
     name: &Option<Bytes>,
     text: &mut Vec<u8>,
 ) -> Result<(), AllocError>
-    ensures { OnOk result (text.new.items ≡ text.old.items ++ name_text name.now) }
+    ensures { OnOk result (text.new.items ≡ text.old.items ++ name_field name.now) }
 {
     text.extend_from_slice(b" ")?;
     match name {

@@ -1,7 +1,7 @@
 //! Prints the lines of an APDU, as the command `show` does.
 ghost use Rattle.std.specs.Prelude.{◌≡◌, ◌++◌, OnOk, OnErr};
 ghost use Rattle.zapdu_lines.specs.Fields.{head_line};
-ghost use Rattle.zapdu_lines.specs.Lines.{apdu_text, init_request_text, init_response_text, found_line, search_response_text, present_request_text, range_line, range_lines, response_text, close_text, records_text, optional_records, record_lines, record_line, nonsurrogate, default_line, diag_lines, diag_line, info_text};
+ghost use Rattle.zapdu_lines.specs.Lines.{apdu_text, init_request_text, init_response_text, search_response_line, search_response_text, present_request_text, range_line, range_lines, present_response_text, close_text, records_text, optional_records, apdu_record_lines, apdu_record_line, nonsurrogate, default_diag_line, diag_lines, diag_line, info_text};
 
 use crate::fields::{put_bits, put_name, put_numbers, put_reference, put_start, put_truth};
 use crate::search::put_search_request;
@@ -32,31 +32,31 @@ fn put_apdu(alloc: Global, apdu: Apdu, text: &mut Vec<u8>) -> Result<(), AllocEr
     // one call drops each value that is only read, so that the drops of its fields are not written out here
     match apdu {
         Apdu::InitRequest(request) => {
-            let told = put_init_request(alloc, &request, text);
+            let appended = put_init_request(alloc, &request, text);
             drop(request);
-            told
+            appended
         }
         Apdu::InitResponse(response) => {
-            let told = put_init_response(alloc, &response, text);
+            let appended = put_init_response(alloc, &response, text);
             drop(response);
-            told
+            appended
         }
         Apdu::SearchRequest(request) => {
-            let told = put_search_request(alloc, &request, text);
+            let appended = put_search_request(alloc, &request, text);
             drop(request);
-            told
+            appended
         }
         Apdu::SearchResponse(response) => put_search_response(alloc, response, text),
         Apdu::PresentRequest(request) => {
-            let told = put_present_request(alloc, &request, text);
+            let appended = put_present_request(alloc, &request, text);
             drop(request);
-            told
+            appended
         }
         Apdu::PresentResponse(response) => put_response(alloc, response, text),
         Apdu::Close(close) => {
-            let told = put_close(alloc, &close, text);
+            let appended = put_close(alloc, &close, text);
             drop(close);
-            told
+            appended
         }
     }
 }
@@ -101,8 +101,12 @@ fn put_init_response(
 }
 
 /// Appends the first line of a SearchResponse.
-fn put_found(alloc: Global, response: &SearchResponse, text: &mut Vec<u8>) -> Result<(), AllocError>
-    ensures { OnOk result (text.new.items ≡ text.old.items ++ found_line response.now) }
+fn put_search_response_line(
+    alloc: Global,
+    response: &SearchResponse,
+    text: &mut Vec<u8>,
+) -> Result<(), AllocError>
+    ensures { OnOk result (text.new.items ≡ text.old.items ++ search_response_line response.now) }
 {
     let numbers = [
         response.result_count,
@@ -122,7 +126,7 @@ fn put_search_response(
 ) -> Result<(), AllocError>
     ensures { OnOk result (text.new.items ≡ text.old.items ++ search_response_text response) }
 {
-    put_found(alloc, &response, text)?;
+    put_search_response_line(alloc, &response, text)?;
     put_optional_records(alloc, response.records, text)
 }
 
@@ -171,7 +175,7 @@ fn put_response(
     response: PresentResponse,
     text: &mut Vec<u8>,
 ) -> Result<(), AllocError>
-    ensures { OnOk result (text.new.items ≡ text.old.items ++ response_text response) }
+    ensures { OnOk result (text.new.items ≡ text.old.items ++ present_response_text response) }
 {
     let numbers = [
         response.number_of_records_returned,
@@ -228,7 +232,7 @@ fn put_head(
 ) -> Result<(), AllocError>
     ensures { OnOk result (text.new.items ≡ text.old.items ++ head_line kind reference.now numbers.now) }
 {
-    text.extend_from_slice(kind.word().as_bytes())?;
+    text.extend_from_slice(kind.name().as_bytes())?;
     text.extend_from_slice(b" ")?;
     put_reference(alloc, reference, text)?;
     put_numbers(alloc, numbers, text)?;
@@ -254,7 +258,7 @@ fn put_records(alloc: Global, records: Records, text: &mut Vec<u8>) -> Result<()
 }
 
 fn put_list(alloc: Global, records: Seq<Record>, text: &mut Vec<u8>) -> Result<(), AllocError>
-    ensures { OnOk result (text.new.items ≡ text.old.items ++ record_lines records) }
+    ensures { OnOk result (text.new.items ≡ text.old.items ++ apdu_record_lines records) }
 {
     for record in records.into_vec() {
         put_record(alloc, record, text)?;
@@ -263,7 +267,7 @@ fn put_list(alloc: Global, records: Seq<Record>, text: &mut Vec<u8>) -> Result<(
 }
 
 fn put_record(alloc: Global, value: Record, text: &mut Vec<u8>) -> Result<(), AllocError>
-    ensures { OnOk result (text.new.items ≡ text.old.items ++ record_line value) }
+    ensures { OnOk result (text.new.items ≡ text.old.items ++ apdu_record_line value) }
 {
     text.extend_from_slice(b"  ")?;
     print_given_record(alloc, value, false, text)?;
@@ -278,7 +282,7 @@ fn put_nonsurrogate(text: &mut Vec<u8>) -> Result<(), AllocError>
 }
 
 fn put_default(alloc: Global, diag: &DefaultDiag, text: &mut Vec<u8>) -> Result<(), AllocError>
-    ensures { OnOk result (text.new.items ≡ text.old.items ++ default_line diag.now) }
+    ensures { OnOk result (text.new.items ≡ text.old.items ++ default_diag_line diag.now) }
 {
     put_nonsurrogate(text)?;
     print_default_diag(alloc, diag, text)?;

@@ -1,8 +1,8 @@
 //! Prints the lines of a SearchRequest.
 ghost use Rattle.std.specs.Prelude.{◌≡◌, ◌++◌, Some, OnOk};
-ghost use Rattle.zquery.specs.Element.Type1Reading.{query_spelt};
+ghost use Rattle.zquery.specs.Element.Type1Reading.{query_spelling};
 ghost use Rattle.zapdu.specs.Text.{ber_text};
-ghost use Rattle.zapdu_lines.specs.Searches.{search_request_text, database_line, database_lines, optional_syntax, search_line, type_1_text, sought_text, query_line};
+ghost use Rattle.zapdu_lines.specs.Searches.{search_request_text, searched_database_line, searched_database_lines, optional_syntax, search_line, type_1_text, search_query_text, query_line};
 
 use crate::fields::{put_numbers, put_start, put_truth};
 use bytes::Bytes;
@@ -47,7 +47,7 @@ fn put_search_line(
 }
 
 fn put_databases(alloc: Global, names: &[Bytes], text: &mut Vec<u8>) -> Result<(), AllocError>
-    ensures { OnOk result (text.new.items ≡ text.old.items ++ database_lines names.now) }
+    ensures { OnOk result (text.new.items ≡ text.old.items ++ searched_database_lines names.now) }
 {
     for name in names {
         put_database(alloc, name, text)?;
@@ -56,7 +56,7 @@ fn put_databases(alloc: Global, names: &[Bytes], text: &mut Vec<u8>) -> Result<(
 }
 
 fn put_database(alloc: Global, name: &Bytes, text: &mut Vec<u8>) -> Result<(), AllocError>
-    ensures { OnOk result (text.new.items ≡ text.old.items ++ database_line name.now) }
+    ensures { OnOk result (text.new.items ≡ text.old.items ++ searched_database_line name.now) }
 {
     text.extend_from_slice(b"  db ")?;
     quote(alloc, name.as_slice(), text)?;
@@ -79,12 +79,16 @@ fn put_query(alloc: Global, query: &SearchQuery, text: &mut Vec<u8>) -> Result<(
     ensures { OnOk result (text.new.items ≡ text.old.items ++ query_line query.now) }
 {
     text.extend_from_slice(b"  query ")?;
-    put_sought(alloc, query, text)?;
+    put_search_query(alloc, query, text)?;
     text.extend_from_slice(b"\n")
 }
 
-fn put_sought(alloc: Global, query: &SearchQuery, text: &mut Vec<u8>) -> Result<(), AllocError>
-    ensures { OnOk result (text.new.items ≡ text.old.items ++ sought_text query.now) }
+fn put_search_query(
+    alloc: Global,
+    query: &SearchQuery,
+    text: &mut Vec<u8>,
+) -> Result<(), AllocError>
+    ensures { OnOk result (text.new.items ≡ text.old.items ++ search_query_text query.now) }
 {
     match query {
         SearchQuery::Rpn(query) => put_type_1(alloc, query, text),
@@ -105,7 +109,7 @@ fn put_type_1(alloc: Global, query: &Query, text: &mut Vec<u8>) -> Result<(), Al
 
 /// Appends `ber` and the canonical encoding of the query's element; only `ber` if no element stands for the query.
 fn put_spelling(alloc: Global, query: &Query, text: &mut Vec<u8>) -> Result<(), AllocError>
-    ensures { OnOk result (text.new.items ≡ text.old.items ++ ber_text (query_spelt query.now)) }
+    ensures { OnOk result (text.new.items ≡ text.old.items ++ ber_text (query_spelling query.now)) }
 {
     match to_node(alloc, query) {
         Ok(node) => put_element(alloc, &node, text),

@@ -5,10 +5,10 @@ use Rattle.zasn.specs.declared.error.PartError.TheVariants as parts
 use Rattle.zasn.specs.declared.error.BuildError.{BuildError}
 use Rattle.zasn.specs.declared.error.BuildError.TheVariants as builds
 
-abbrev pub part_word : PartError → List ℕ
-part_word parts.Misfit = codes "Misfit"
-part_word parts.Memory = codes "Memory"
+abbrev pub part_error_name : PartError → List ℕ
+part_error_name parts.Misfit = codes "Misfit"
+part_error_name parts.Memory = codes "Memory"
 
-abbrev pub build_word : BuildError → List ℕ
-build_word builds.NotSpellable = codes "NotSpellable"
-build_word builds.Memory = codes "Memory"
+abbrev pub build_error_name : BuildError → List ℕ
+build_error_name builds.NotSpellable = codes "NotSpellable"
+build_error_name builds.Memory = codes "Memory"

@@ -5,13 +5,13 @@ use Rattle.zber.specs.Elements.{Element, tag_of}
 use Rattle.zber.specs.Tags.{among}
 use Rattle.zasn_tables.specs.Standing.{required as one, ended as no_more, tagged, sequence}
 use Rattle.zasn_tables.specs.Reading.{constructed}
-use Rattle.zasn_tables.specs.Building.{constructed_spelt}
-use Rattle.zasn_tables.specs.Laws.{IsPlace, IsSpelled}
-use Rattle.zasn_tables.specs.Meanings.{octets_of, octets_spelt, oid_of, oid_spelt, bits_of, bits_spelt, int_of, int_spelt, bool_of, bool_spelt}
+use Rattle.zasn_tables.specs.Building.{constructed_spelling}
+use Rattle.zasn_tables.specs.Laws.{IsLawfulPlace, IsSpelled}
+use Rattle.zasn_tables.specs.Meanings.{octets_meaning, octets_spelling, oid_meaning, oid_spelling, bits_meaning, bits_spelling, int_meaning, int_spelling, bool_meaning, bool_spelling}
 use Rattle.zasn_tables.specs.Place.{Place}
-use Rattle.zasn_tables.specs.Within.{sequence_of, around, itself, any_at, is_kept, each, list_of, whole_of, all_spelt}
-use Rattle.zasn_tables.specs.Choice.{Choice, Pick, picked, Says, choice_of, choice_spelt, choice_tags, distinct}
-use Rattle.zasn_tables.specs.Table.{ComponentTable, required, ended, Elements, Fields, fields, Maker, make_of, Stand, walk, put, tags_of, clear}
+use Rattle.zasn_tables.specs.Within.{sequence_of, around, itself, any_at, is_kept, each, list_meaning, whole_of, all_spellings}
+use Rattle.zasn_tables.specs.Choice.{Choice, Pick, picked, ValueWrites, choice_meaning, choice_spelling, choice_tags, distinct}
+use Rattle.zasn_tables.specs.Table.{ComponentTable, required, ended, Elements, Fields, fields, Maker, make_of, TableWrites, walk, put, tags_of, clear}
 use Rattle.zasn_tables.proofs.Readings.{constructed_at_tag}
 use Rattle.zasn_tables.proofs.Builds.{constructed_spelled}
 use Rattle.zasn_tables.proofs.Meanings.{octets_place, octets_spelled, oid_place, oid_spelled, bits_place, bits_spelled, int_place, int_spelled, bool_place, bool_spelled}
@@ -25,21 +25,21 @@ abbrev pub of_table : {V : Type 0} (t : ComponentTable V) (make : Maker t V)
     → clear t ≡ true → Elements V
 of_table t make same back c = record {
   tags = tags_of t;
-  stand = λ v. Stand t (fields t v);
+  writes = λ v. TableWrites t (fields t v);
   at = walk t make;
-  made = λ v. put t (fields t v);
+  spelling = λ v. put t (fields t v);
   read = value_read t make same back c;
   build = value_made t make same back;
 }
 
 -- a place, from its laws
-abbrev pub lawful : {A : Type 0} {P : A → Element → Type 0} {tags : List AsnTag} {meaning : Element → Option A}
-    {spelt : A → Option Element} → IsPlace P tags meaning → IsSpelled P spelt → Place A
-lawful {P = P} {tags = tags} {meaning = meaning} {spelt = spelt} place spelled = record {
+abbrev pub lawful_place : {A : Type 0} {P : A → Element → Type 0} {tags : List AsnTag} {meaning : Element → Option A}
+    {spelling : A → Option Element} → IsLawfulPlace P tags meaning → IsSpelled P spelling → Place A
+lawful_place {P = P} {tags = tags} {meaning = meaning} {spelling = spelling} place spelled = record {
   tags = tags;
-  stands = P;
+  writes = P;
   meaning = meaning;
-  spelt = spelt;
+  spelling = spelling;
   some = place.some;
   begins = place.begins;
   reads = place.reads;
@@ -51,41 +51,41 @@ lawful {P = P} {tags = tags} {meaning = meaning} {spelt = spelt} place spelled =
 -- OCTET STRING and the character strings, with their octets unchanged; OBJECT IDENTIFIER; BIT STRING
 abbrev pub octets : AsnTag → Place (List ℕ)
 octets tag =
-    lawful {P = tagged tag octets_of} {tags = tag ∷ []} {meaning = octets_of} {spelt = octets_spelt tag}
+    lawful_place {P = tagged tag octets_meaning} {tags = tag ∷ []} {meaning = octets_meaning} {spelling = octets_spelling tag}
     (octets_place tag) (octets_spelled tag)
 
 abbrev pub oid : AsnTag → Place (List ℕ)
 oid tag =
-    lawful {P = tagged tag oid_of} {tags = tag ∷ []} {meaning = oid_of} {spelt = oid_spelt tag} (oid_place tag)
+    lawful_place {P = tagged tag oid_meaning} {tags = tag ∷ []} {meaning = oid_meaning} {spelling = oid_spelling tag} (oid_place tag)
     (oid_spelled tag)
 
 abbrev pub bits : AsnTag → Place (List Bool)
 bits tag =
-    lawful {P = tagged tag bits_of} {tags = tag ∷ []} {meaning = bits_of} {spelt = bits_spelt tag} (bits_place tag)
+    lawful_place {P = tagged tag bits_meaning} {tags = tag ∷ []} {meaning = bits_meaning} {spelling = bits_spelling tag} (bits_place tag)
     (bits_spelled tag)
 
 -- INTEGER, BOOLEAN
 abbrev pub integer : AsnTag → Place ℤ
 integer tag =
-    lawful {P = tagged tag int_of} {tags = tag ∷ []} {meaning = int_of} {spelt = int_spelt tag} (int_place tag)
+    lawful_place {P = tagged tag int_meaning} {tags = tag ∷ []} {meaning = int_meaning} {spelling = int_spelling tag} (int_place tag)
     (int_spelled tag)
 
 abbrev pub boolean : AsnTag → Place Bool
 boolean tag =
-    lawful {P = tagged tag bool_of} {tags = tag ∷ []} {meaning = bool_of} {spelt = bool_spelt tag} (bool_place tag)
+    lawful_place {P = tagged tag bool_meaning} {tags = tag ∷ []} {meaning = bool_meaning} {spelling = bool_spelling tag} (bool_place tag)
     (bool_spelled tag)
 
 -- a constructed element, kept with whatever it contains
 abbrev pub opaque : AsnTag → Place Element
 opaque tag =
-    lawful {P = tagged tag constructed} {tags = tag ∷ []} {meaning = constructed} {spelt = constructed_spelt tag}
+    lawful_place {P = tagged tag constructed} {tags = tag ∷ []} {meaning = constructed} {spelling = constructed_spelling tag}
     (constructed_at_tag tag) (constructed_spelled tag)
 
 -- the elements of a value, within an element with the tag
 abbrev pub within : {V : Type 0} → AsnTag → Elements V → Place V
 within tag e =
-    lawful {P = λ v. sequence tag (e.stand v)} {tags = tag ∷ []} {meaning = sequence_of e.at}
-    {spelt = λ v. around tag (e.made v [])} (within_place tag e) (within_spelled tag e)
+    lawful_place {P = λ v. sequence tag (e.writes v)} {tags = tag ∷ []} {meaning = sequence_of e.at}
+    {spelling = λ v. around tag (e.spelling v [])} (within_place tag e) (within_spelled tag e)
 
 -- one element alone, within an element with the tag (EXPLICIT)
 abbrev pub alone : {A : Type 0} → Place A → Elements A
@@ -97,30 +97,30 @@ explicit tag p = within tag (alone p)
 -- any element, within an element with the tag
 abbrev pub any : AsnTag → Place Element
 any tag =
-    lawful {P = λ m. sequence tag (one itself m no_more)} {tags = tag ∷ []} {meaning = sequence_of any_at}
-    {spelt = λ m. around tag (Some (m ∷ []))} (any_place tag) (any_spelled tag)
+    lawful_place {P = λ m. sequence tag (one itself m no_more)} {tags = tag ∷ []} {meaning = sequence_of any_at}
+    {spelling = λ m. around tag (Some (m ∷ []))} (any_place tag) (any_spelled tag)
 
 -- an element with one of the tags, of either form, kept unchanged
 abbrev pub kept : AsnTag → List AsnTag → Place Element
 kept tag tags =
-    lawful {P = is_kept (tag ∷ tags)} {tags = tag ∷ tags} {meaning = λ n. Some n}
-    {spelt = λ m. if among (tag_of m) (tag ∷ tags) then Some m else None} (kept_place tag tags)
+    lawful_place {P = is_kept (tag ∷ tags)} {tags = tag ∷ tags} {meaning = λ n. Some n}
+    {spelling = λ m. if among (tag_of m) (tag ∷ tags) then Some m else None} (kept_place tag tags)
     (kept_spelled (tag ∷ tags))
 
 -- SEQUENCE OF: values in order, within an element with the tag
 abbrev pub list : {A : Type 0} → AsnTag → Place A → Place (List A)
 list tag p =
-    lawful {P = λ xs. sequence tag (each p.stands xs)} {tags = tag ∷ []} {meaning = list_of (whole_of p)}
-    {spelt = λ xs. around tag (all_spelt p.spelt xs)} (list_place p tag) (list_spelled p tag)
+    lawful_place {P = λ xs. sequence tag (each p.writes xs)} {tags = tag ∷ []} {meaning = list_meaning (whole_of p)}
+    {spelling = λ xs. around tag (all_spellings p.spelling xs)} (list_place p tag) (list_spelled p tag)
 
 -- SEQUENCE OF strings that all have the inner tag
 abbrev pub text_under : AsnTag → Element → Option (List ℕ)
-text_under tag n = if among (tag_of n) (tag ∷ []) then octets_of n else None
+text_under tag n = if among (tag_of n) (tag ∷ []) then octets_meaning n else None
 
 abbrev pub strings : AsnTag → AsnTag → Place (List (List ℕ))
 strings tag inner =
-    lawful {P = λ xs. sequence tag (each (tagged inner octets_of) xs)} {tags = tag ∷ []}
-    {meaning = list_of (text_under inner)} {spelt = λ xs. around tag (all_spelt (octets_spelt inner) xs)}
+    lawful_place {P = λ xs. sequence tag (each (tagged inner octets_meaning) xs)} {tags = tag ∷ []}
+    {meaning = list_meaning (text_under inner)} {spelling = λ xs. around tag (all_spellings (octets_spelling inner) xs)}
     (list_place (octets inner) tag) (list_spelled (octets inner) tag)
 
 -- CHOICE: a value of several kinds, each with its own place
@@ -128,9 +128,9 @@ abbrev pub of_choice : {C : Type 0} (c : Choice C) (pick : C → Pick c) → ((d
     → ((x : Pick c) → pick (picked c x) ≡ x) → distinct c ≡ true → Place C
 of_choice c pick same back k = record {
   tags = choice_tags c;
-  stands = λ d. Says c (pick d);
-  meaning = choice_of c;
-  spelt = λ d. choice_spelt c (pick d);
+  writes = λ d. ValueWrites c (pick d);
+  meaning = choice_meaning c;
+  spelling = λ d. choice_spelling c (pick d);
   some = pick_some c pick same back;
   begins = λ d n h. choice_begins c (pick d) n h;
   reads = λ d n b e. pick_reads c pick same back d n e;

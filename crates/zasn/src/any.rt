@@ -2,7 +2,7 @@
 ghost use Rattle.std.specs.Prelude.{◌≡◌, [], ◌∷◌, Some, None, IfSome, IfNone};
 ghost use Rattle.zasn_tables.specs.Within.{any_at, around, sequence_of};
 ghost use Rattle.zasn_tables.specs.Place.{Place};
-ghost use Rattle.zasn.specs.Answers.{Means, Makes};
+ghost use Rattle.zasn.specs.Answers.{MeaningResult, BuildResult};
 ghost use Rattle.zasn.specs.Places.{kept};
 
 use crate::build::PartsBuf;
@@ -30,7 +30,7 @@ pub fn sole(node: &Node) -> Option<&Node>
 ///
 /// Returns `Misfit` if the outer one is primitive, or contains none or several. Returns `Memory` if no memory is found.
 pub fn read_any(alloc: Global, node: &Node) -> Result<Node, PartError>
-    ensures { Means (sequence_of any_at node.now) result }
+    ensures { MeaningResult (sequence_of any_at node.now) result }
 {
     match sole(node) {
         Some(only) => Ok(only.copy(alloc)?),
@@ -41,7 +41,7 @@ pub fn read_any(alloc: Global, node: &Node) -> Result<Node, PartError>
 /// Returns the element with the tag around this one element. Returns `Memory` if no memory is found, and never
 /// `NotSpellable`.
 pub fn write_around(alloc: Global, node: Node, tag: Tag) -> Result<Node, BuildError>
-    ensures { Makes (around tag (Some (node ∷ []))) result }
+    ensures { BuildResult (around tag (Some (node ∷ []))) result }
 {
     let mut out = PartsBuf::new(alloc);
     out.push(node)?;
@@ -51,7 +51,7 @@ pub fn write_around(alloc: Global, node: Node, tag: Tag) -> Result<Node, BuildEr
 /// Returns the element with the tag around a copy of this element. Returns `Memory` if no memory is found, and never
 /// `NotSpellable`.
 pub fn write_any(alloc: Global, node: &Node, tag: Tag) -> Result<Node, BuildError>
-    ensures { Makes (around tag (Some (node.now ∷ []))) result }
+    ensures { BuildResult (around tag (Some (node.now ∷ []))) result }
 {
     let copy = node.copy(alloc)?;
     write_around(alloc, copy, tag)
@@ -60,7 +60,7 @@ pub fn write_any(alloc: Global, node: &Node, tag: Tag) -> Result<Node, BuildErro
 /// Returns a copy of an element of either form that has the tag. Returns `NotSpellable` if it has another tag, and
 /// `Memory` if no memory is found.
 pub(crate) fn write_kept(alloc: Global, node: &Node, tag: Tag) -> Result<Node, BuildError>
-    ensures { Makes ((kept tag []).spelt node.now) result }
+    ensures { BuildResult ((kept tag []).spelling node.now) result }
 {
     if node.tag != tag {
         return Err(BuildError::NotSpellable);

@@ -3,7 +3,7 @@ ghost use Rattle.std.specs.Prelude.{◌≡◌, [], ◌∷◌, ◌++◌, Some, On
 ghost use Rattle.zber.specs.Elements.{cons};
 ghost use Rattle.zasn_tables.specs.Building.{optional_put, required_put};
 ghost use Rattle.zasn_tables.specs.Place.{Place};
-ghost use Rattle.zasn.specs.Answers.{Puts};
+ghost use Rattle.zasn.specs.Answers.{BuildStepResult};
 ghost use Rattle.zasn.specs.Places.{any, explicit, kept, strings};
 
 use crate::any::{write_any, write_kept};
@@ -48,7 +48,7 @@ impl PartsBuf {
 
     /// Adds an element. Returns `Memory` if no memory is found, and never `NotSpellable`.
     pub fn push(&mut self, node: Node) -> Result<(), BuildError>
-        ensures puts { Puts (Some (self.old ++ node ∷ [])) result self.new }
+        ensures puts { BuildStepResult (Some (self.old ++ node ∷ [])) result self.new }
         ensures err { OnErr result (self.new ≡ self.old) }
     {
         self.nodes.push(node)?;
@@ -64,7 +64,7 @@ impl PartsBuf {
         tag: Tag,
         value: &T,
     ) -> Result<(), BuildError>
-        ensures puts { Puts (required_put (T.place tag).spelt value.now self.old) result self.new }
+        ensures puts { BuildStepResult (required_put (T.place tag).spelling value.now self.old) result self.new }
         ensures err { OnErr result (self.new ≡ self.old) }
     {
         let node = value.to_node(alloc, tag)?;
@@ -80,7 +80,7 @@ impl PartsBuf {
         tag: Tag,
         value: &Option<T>,
     ) -> Result<(), BuildError>
-        ensures puts { Puts (optional_put (T.place tag).spelt value.now self.old) result self.new }
+        ensures puts { BuildStepResult (optional_put (T.place tag).spelling value.now self.old) result self.new }
         ensures err { OnErr result (self.new ≡ self.old) }
     {
         match value {
@@ -93,7 +93,7 @@ impl PartsBuf {
     ///
     /// Returns `NotSpellable` if the value has none, and `Memory` if no memory is found.
     pub fn required_tagged<T: Tagged>(&mut self, alloc: Global, value: &T) -> Result<(), BuildError>
-        ensures puts { Puts (required_put T.place.spelt value.now self.old) result self.new }
+        ensures puts { BuildStepResult (required_put T.place.spelling value.now self.old) result self.new }
         ensures err { OnErr result (self.new ≡ self.old) }
     {
         let node = value.to_element(alloc)?;
@@ -108,7 +108,7 @@ impl PartsBuf {
         alloc: Global,
         value: &Option<T>,
     ) -> Result<(), BuildError>
-        ensures puts { Puts (optional_put T.place.spelt value.now self.old) result self.new }
+        ensures puts { BuildStepResult (optional_put T.place.spelling value.now self.old) result self.new }
         ensures err { OnErr result (self.new ≡ self.old) }
     {
         match value {
@@ -127,7 +127,7 @@ impl PartsBuf {
         inner: Tag,
         value: &Option<T>,
     ) -> Result<(), BuildError>
-        ensures puts { Puts (optional_put (explicit outer (T.place inner)).spelt value.now self.old) result self.new }
+        ensures puts { BuildStepResult (optional_put (explicit outer (T.place inner)).spelling value.now self.old) result self.new }
         ensures err { OnErr result (self.new ≡ self.old) }
     {
         match value {
@@ -148,7 +148,7 @@ impl PartsBuf {
         outer: Tag,
         value: &T,
     ) -> Result<(), BuildError>
-        ensures puts { Puts (required_put (explicit outer T.place).spelt value.now self.old) result self.new }
+        ensures puts { BuildStepResult (required_put (explicit outer T.place).spelling value.now self.old) result self.new }
         ensures err { OnErr result (self.new ≡ self.old) }
     {
         let node = write_alone_tagged(alloc, value, outer)?;
@@ -164,7 +164,7 @@ impl PartsBuf {
         outer: Tag,
         value: &Option<T>,
     ) -> Result<(), BuildError>
-        ensures puts { Puts (optional_put (explicit outer T.place).spelt value.now self.old) result self.new }
+        ensures puts { BuildStepResult (optional_put (explicit outer T.place).spelling value.now self.old) result self.new }
         ensures err { OnErr result (self.new ≡ self.old) }
     {
         match value {
@@ -182,7 +182,7 @@ impl PartsBuf {
         inner: Tag,
         texts: &Seq<Bytes>,
     ) -> Result<(), BuildError>
-        ensures puts { Puts (required_put (strings outer inner).spelt texts.now self.old) result self.new }
+        ensures puts { BuildStepResult (required_put (strings outer inner).spelling texts.now self.old) result self.new }
         ensures err { OnErr result (self.new ≡ self.old) }
     {
         let node = write_texts(alloc, texts, outer, inner)?;
@@ -197,7 +197,7 @@ impl PartsBuf {
         tag: Tag,
         value: &Option<Node>,
     ) -> Result<(), BuildError>
-        ensures puts { Puts (optional_put (any tag).spelt value.now self.old) result self.new }
+        ensures puts { BuildStepResult (optional_put (any tag).spelling value.now self.old) result self.new }
         ensures err { OnErr result (self.new ≡ self.old) }
     {
         match value {
@@ -218,7 +218,7 @@ impl PartsBuf {
         tag: Tag,
         value: &Option<Node>,
     ) -> Result<(), BuildError>
-        ensures puts { Puts (optional_put (kept tag []).spelt value.now self.old) result self.new }
+        ensures puts { BuildStepResult (optional_put (kept tag []).spelling value.now self.old) result self.new }
         ensures err { OnErr result (self.new ≡ self.old) }
     {
         match value {
@@ -234,7 +234,7 @@ impl PartsBuf {
     ///
     /// Returns `NotSpellable` if the value has none, and `Memory` if no memory is found.
     pub fn give_tagged<T: Tagged>(&mut self, alloc: Global, value: T) -> Result<(), BuildError>
-        ensures puts { Puts (required_put T.place.spelt value self.old) result self.new }
+        ensures puts { BuildStepResult (required_put T.place.spelling value self.old) result self.new }
         ensures err { OnErr result (self.new ≡ self.old) }
     {
         let node = value.into_element(alloc)?;
@@ -251,7 +251,7 @@ impl PartsBuf {
         outer: Tag,
         value: T,
     ) -> Result<(), BuildError>
-        ensures puts { Puts (required_put (explicit outer T.place).spelt value self.old) result self.new }
+        ensures puts { BuildStepResult (required_put (explicit outer T.place).spelling value self.old) result self.new }
         ensures err { OnErr result (self.new ≡ self.old) }
     {
         let node = give_alone_tagged(alloc, value, outer)?;

@@ -4,7 +4,7 @@ ghost use Rattle.zber.specs.AsnTags.{AsnTag};
 ghost use Rattle.zber.specs.Elements.{tag_of};
 ghost use Rattle.zber.specs.Tags.{among};
 ghost use Rattle.zasn_tables.specs.Place.{Place};
-ghost use Rattle.zasn.specs.Answers.{Means, Makes};
+ghost use Rattle.zasn.specs.Answers.{MeaningResult, BuildResult};
 ghost use Rattle.zasn.specs.Places.{octets, integer, boolean, oid, bits, opaque};
 
 use crate::error::{BuildError, PartError};
@@ -21,12 +21,12 @@ pub trait Contents: Sized + Drop {
     ///
     /// Returns `Misfit` if the element has no such value, and `Memory` if no memory is found.
     fn of_node(alloc: Global, node: &Node) -> Result<Self, PartError>
-        ensures { Means ((place (tag_of node.now)).meaning node.now) result };
+        ensures { MeaningResult ((place (tag_of node.now)).meaning node.now) result };
 
     /// Does the same with an element that it takes over, and returns the same errors. What the value keeps of the
     /// element is moved, not copied.
     fn take_node(alloc: Global, node: Node) -> Result<Self, PartError>
-        ensures { Means ((place (tag_of node)).meaning node) result }
+        ensures { MeaningResult ((place (tag_of node)).meaning node) result }
     {
         Self::of_node(alloc, &node)
     }
@@ -35,12 +35,12 @@ pub trait Contents: Sized + Drop {
     ///
     /// Returns `NotSpellable` if the value has none, and `Memory` if no memory is found.
     fn to_node(&self, alloc: Global, tag: Tag) -> Result<Node, BuildError>
-        ensures { Makes ((place tag).spelt self.now) result };
+        ensures { BuildResult ((place tag).spelling self.now) result };
 
     /// Does the same with a value that it takes over, and returns the same errors. What the value keeps of elements is
     /// moved, not copied.
     fn into_node(self, alloc: Global, tag: Tag) -> Result<Node, BuildError>
-        ensures { Makes ((place tag).spelt self) result }
+        ensures { BuildResult ((place tag).spelling self) result }
     {
         self.to_node(alloc, tag)
     }
@@ -59,12 +59,12 @@ pub trait Tagged: Sized + Drop {
     ///
     /// Returns `Misfit` if the element has no such value, and `Memory` if no memory is found.
     fn of_element(alloc: Global, node: &Node) -> Result<Self, PartError>
-        ensures { Means (place.meaning node.now) result };
+        ensures { MeaningResult (place.meaning node.now) result };
 
     /// Does the same with an element that it takes over, and returns the same errors. What the value keeps of the
     /// element is moved, not copied.
     fn take_element(alloc: Global, node: Node) -> Result<Self, PartError>
-        ensures { Means (place.meaning node) result }
+        ensures { MeaningResult (place.meaning node) result }
     {
         Self::of_element(alloc, &node)
     }
@@ -73,12 +73,12 @@ pub trait Tagged: Sized + Drop {
     ///
     /// Returns `NotSpellable` if the value has none, and `Memory` if no memory is found.
     fn to_element(&self, alloc: Global) -> Result<Node, BuildError>
-        ensures { Makes (place.spelt self.now) result };
+        ensures { BuildResult (place.spelling self.now) result };
 
     /// Does the same with a value that it takes over, and returns the same errors. What the value keeps of elements is
     /// moved, not copied.
     fn into_element(self, alloc: Global) -> Result<Node, BuildError>
-        ensures { Makes (place.spelt self) result }
+        ensures { BuildResult (place.spelling self) result }
     {
         self.to_element(alloc)
     }

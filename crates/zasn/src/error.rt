@@ -1,7 +1,7 @@
 //! Why elements were not read, or not built.
 ghost use Rattle.std.specs.Prelude.{◌≡◌};
 ghost use Rattle.zasn.specs.Answers.{part_error_of};
-ghost use Rattle.zasn.specs.Errors.{part_word, build_word};
+ghost use Rattle.zasn.specs.Errors.{part_error_name, build_error_name};
 
 use std::alloc::{AllocError, AllocFailed};
 use thiserror::Error;
@@ -20,8 +20,8 @@ pub enum PartError {
 
 impl PartError {
     /// Returns the name of the variant, as in `Misfit`. It takes no memory.
-    pub fn word(self) -> &'static str
-        ensures { result.now ≡ part_word self }
+    pub fn name(self) -> &'static str
+        ensures { result.now ≡ part_error_name self }
     {
         match self {
             PartError::Misfit => "Misfit",
@@ -79,8 +79,8 @@ pub enum BuildError {
 
 impl BuildError {
     /// Returns the name of the variant, as in `NotSpellable`. It takes no memory.
-    pub fn word(self) -> &'static str
-        ensures { result.now ≡ build_word self }
+    pub fn name(self) -> &'static str
+        ensures { result.now ≡ build_error_name self }
     {
         match self {
             BuildError::NotSpellable => "NotSpellable",

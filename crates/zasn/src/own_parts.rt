@@ -6,7 +6,7 @@ ghost use Rattle.zasn_tables.specs.Reading.{optional_at, required_at, ended_at};
 ghost use Rattle.zasn_tables.specs.Place.{Place};
 ghost use Rattle.zber.specs.Tags.{among};
 ghost use Rattle.zasn_tables.specs.Within.{alone_at, sequence_of};
-ghost use Rattle.zasn.specs.Answers.{TakesAway, Finds, begins, starts};
+ghost use Rattle.zasn.specs.Answers.{OwnStepResult, ReadingResult, has_first_tag, has_first_tag_in};
 
 use crate::contents::{Contents, Tagged};
 use crate::error::PartError;
@@ -57,8 +57,8 @@ impl OwnParts {
     }
 
     /// Whether the next element has the tag.
-    fn begins(&self, tag: Tag) -> bool
-        ensures { result ≡ begins tag self.now }
+    fn has_first_tag(&self, tag: Tag) -> bool
+        ensures { result ≡ has_first_tag tag self.now }
     {
         match self.left.front() {
             Some(first) => first.tag == tag,
@@ -67,8 +67,8 @@ impl OwnParts {
     }
 
     /// Whether the next element has one of a value's tags.
-    fn starts<T: Tagged>(&self) -> bool
-        ensures { result ≡ starts T.place.tags self.now }
+    fn has_first_tag_in<T: Tagged>(&self) -> bool
+        ensures { result ≡ has_first_tag_in T.place.tags self.now }
     {
         match self.left.front() {
             Some(first) => T::has(first.tag),
@@ -86,10 +86,14 @@ impl OwnParts {
 
     /// Removes the next element and returns it, if it has the tag. Otherwise returns `None`, and nothing changes.
     fn next_with(&mut self, tag: Tag) -> Option<Node>
-        ensures some { IfSome result (λ n. begins tag self.old ≡ true × self.old ≡ n ∷ self.new) }
-        ensures none { IfNone result ((begins tag self.old ≡ false) × (self.new ≡ self.old)) }
+        ensures some { IfSome result (λ n. has_first_tag tag self.old ≡ true × self.old ≡ n ∷ self.new) }
+        ensures none { IfNone result ((has_first_tag tag self.old ≡ false) × (self.new ≡ self.old)) }
     {
-        if self.begins(tag) { self.next() } else { None }
+        if self.has_first_tag(tag) {
+            self.next()
+        } else {
+            None
+        }
     }
 
     /// Adds an element in front, for one that was at fault. Returns an error if no memory is found; the elements are
@@ -108,7 +112,7 @@ impl OwnParts {
     ///
     /// Returns `Misfit` if it has the tag and no such value, and `Memory` if no memory is found.
     pub fn optional<T: Contents>(&mut self, alloc: Global, tag: Tag) -> Result<Option<T>, PartError>
-        ensures { TakesAway (optional_at (tag ∷ []) (T.place tag).meaning self.old) result self.old self.new }
+        ensures { OwnStepResult (optional_at (tag ∷ []) (T.place tag).meaning self.old) result self.old self.new }
     {
         let Some(first) = self.next_with(tag) else {
             return Ok(None);
@@ -128,7 +132,7 @@ impl OwnParts {
     /// Returns `Misfit` if none is left, or if it has another tag or no such value. Returns `Memory` if no memory is
     /// found.
     pub fn required<T: Contents>(&mut self, alloc: Global, tag: Tag) -> Result<T, PartError>
-        ensures { TakesAway (required_at (tag ∷ []) (T.place tag).meaning self.old) result self.old self.new }
+        ensures { OwnStepResult (required_at (tag ∷ []) (T.place tag).meaning self.old) result self.old self.new }
     {
         self.optional(alloc, tag)?.ok_or(PartError::Misfit)
     }
@@ -138,9 +142,9 @@ impl OwnParts {
     ///
     /// Returns `Misfit` if it has such a tag and no such value, and `Memory` if no memory is found.
     pub fn optional_tagged<T: Tagged>(&mut self, alloc: Global) -> Result<Option<T>, PartError>
-        ensures { TakesAway (optional_at T.place.tags T.place.meaning self.old) result self.old self.new }
+        ensures { OwnStepResult (optional_at T.place.tags T.place.meaning self.old) result self.old self.new }
     {
-        if !self.starts::<T>() {
+        if !self.has_first_tag_in::<T>() {
             return Ok(None);
         }
         let Some(first) = self.next() else {
@@ -161,7 +165,7 @@ impl OwnParts {
     /// Returns `Misfit` if none is left, or if it has another tag or no such value. Returns `Memory` if no memory is
     /// found.
     pub fn required_tagged<T: Tagged>(&mut self, alloc: Global) -> Result<T, PartError>
-        ensures { TakesAway (required_at T.place.tags T.place.meaning self.old) result self.old self.new }
+        ensures { OwnStepResult (required_at T.place.tags T.place.meaning self.old) result self.old self.new }
     {
         self.optional_tagged(alloc)?.ok_or(PartError::Misfit)
     }
@@ -176,7 +180,7 @@ impl OwnParts {
         alloc: Global,
         outer: Tag,
     ) -> Result<T, PartError>
-        ensures { TakesAway (required_at (outer ∷ [])
+        ensures { OwnStepResult (required_at (outer ∷ [])
             (sequence_of (alone_at T.place.tags T.place.meaning)) self.old) result self.old self.new }
     {
         let Some(first) = self.next_with(outer) else {
@@ -194,7 +198,7 @@ impl OwnParts {
 
     /// Checks that nothing is left; returns `Misfit` if an element is. It changes nothing.
     pub fn end(&self) -> Result<(), PartError>
-        ensures finds { Finds (ended_at self.now) result self.now }
+        ensures finds { ReadingResult (ended_at self.now) result self.now }
         ensures none { IfOk result (λ _. self.now ≡ []) }
         ensures misfit { IfErr result (λ e. e ≡ PartError.Misfit) }
     {

@@ -3,7 +3,7 @@ ghost use Rattle.std.specs.Prelude.{◌≡◌, [], ◌∷◌, IfOk};
 ghost use Rattle.zasn_tables.specs.Table.{Elements};
 ghost use Rattle.zasn_tables.specs.Place.{Place};
 ghost use Rattle.zasn_tables.specs.Within.{alone_at, any_at, around, sequence_of};
-ghost use Rattle.zasn.specs.Answers.{Finds, FindsAway, Makes, Means, Puts};
+ghost use Rattle.zasn.specs.Answers.{ReadingResult, OwnReadingResult, BuildResult, MeaningResult, BuildStepResult};
 ghost use Rattle.zasn.specs.Places.{explicit};
 
 use crate::any::write_around;
@@ -25,7 +25,7 @@ pub trait Taken: Sized + Drop {
     /// Returns `Misfit` if one misfits; as many elements are left as from that one on. Returns `Memory` if no memory is
     /// found; nothing is promised of the elements left.
     fn take(alloc: Global, parts: &mut OwnParts) -> Result<Self, PartError>
-        ensures finds { FindsAway (table.at parts.old) result parts.new }
+        ensures finds { OwnReadingResult (table.at parts.old) result parts.new }
         ensures none { IfOk result (λ _. parts.new ≡ []) };
 }
 
@@ -39,7 +39,7 @@ pub trait Given: Sized + Drop {
     /// Returns `NotSpellable` if the value has none, and `Memory` if no memory is found. Then nothing is promised of
     /// `out`.
     fn give(self, alloc: Global, out: &mut PartsBuf) -> Result<(), BuildError>
-        ensures { Puts (table.made self out.old) result out.new };
+        ensures { BuildStepResult (table.spelling self out.old) result out.new };
 }
 
 /// Returns the value of copies of all elements that are left; then none is left.
@@ -47,7 +47,7 @@ pub trait Given: Sized + Drop {
 /// Returns `Misfit` if one misfits; it is the first that is left. Returns `Memory` if no memory is found; nothing is
 /// promised of the elements left.
 pub fn read_copies<T: Taken>(alloc: Global, parts: &mut Parts<'_>) -> Result<T, PartError>
-    ensures finds { Finds (T.table.at parts.old) result parts.new }
+    ensures finds { ReadingResult (T.table.at parts.old) result parts.new }
     ensures none { IfOk result (λ _. parts.new ≡ []) }
 {
     let mut own = parts.copies(alloc)?;
@@ -61,7 +61,7 @@ pub fn read_copies<T: Taken>(alloc: Global, parts: &mut Parts<'_>) -> Result<T, 
 /// Returns `Misfit` if the outer one is primitive, or if those within have no such value. Returns `Memory` if no memory
 /// is found.
 pub fn take_within<T: Taken>(alloc: Global, node: Node) -> Result<T, PartError>
-    ensures { Means (sequence_of T.table.at node) result }
+    ensures { MeaningResult (sequence_of T.table.at node) result }
 {
     match node.body {
         Body::Prim(_) => Err(PartError::Misfit),
@@ -77,7 +77,7 @@ pub fn take_within<T: Taken>(alloc: Global, node: Node) -> Result<T, PartError>
 /// Returns `Misfit` if the outer one is primitive, or contains anything but one element of such a value under the tag.
 /// Returns `Memory` if no memory is found.
 pub fn take_alone<T: Contents>(alloc: Global, node: Node, tag: Tag) -> Result<T, PartError>
-    ensures { Means (sequence_of (alone_at (tag ∷ []) (T.place tag).meaning) node) result }
+    ensures { MeaningResult (sequence_of (alone_at (tag ∷ []) (T.place tag).meaning) node) result }
 {
     match node.body {
         Body::Prim(_) => Err(PartError::Misfit),
@@ -95,7 +95,7 @@ pub fn take_alone<T: Contents>(alloc: Global, node: Node, tag: Tag) -> Result<T,
 /// Returns `Misfit` if the outer one is primitive, or contains anything but one element of such a value. Returns
 /// `Memory` if no memory is found.
 pub fn take_alone_tagged<T: Tagged>(alloc: Global, node: Node) -> Result<T, PartError>
-    ensures { Means (sequence_of (alone_at T.place.tags T.place.meaning) node) result }
+    ensures { MeaningResult (sequence_of (alone_at T.place.tags T.place.meaning) node) result }
 {
     match node.body {
         Body::Prim(_) => Err(PartError::Misfit),
@@ -126,7 +126,7 @@ pub fn take_any(node: Node) -> Option<Node>
 /// Returns the element with the tag around the elements of the value. Returns `NotSpellable` if the value has none, and
 /// `Memory` if no memory is found.
 pub fn give_within<T: Given>(alloc: Global, value: T, tag: Tag) -> Result<Node, BuildError>
-    ensures { Makes (around tag (T.table.made value [])) result }
+    ensures { BuildResult (around tag (T.table.spelling value [])) result }
 {
     let mut out = PartsBuf::new(alloc);
     value.give(alloc, &mut out)?;
@@ -141,7 +141,7 @@ pub fn give_alone<T: Contents>(
     outer: Tag,
     inner: Tag,
 ) -> Result<Node, BuildError>
-    ensures { Makes ((explicit outer (T.place inner)).spelt value) result }
+    ensures { BuildResult ((explicit outer (T.place inner)).spelling value) result }
 {
     let node = value.into_node(alloc, inner)?;
     write_around(alloc, node, outer)
@@ -150,7 +150,7 @@ pub fn give_alone<T: Contents>(
 /// Returns the element with the outer tag around the element of the value, which has a tag of its own. Returns
 /// `NotSpellable` if the value has none, and `Memory` if no memory is found.
 pub fn give_alone_tagged<T: Tagged>(alloc: Global, value: T, outer: Tag) -> Result<Node, BuildError>
-    ensures { Makes ((explicit outer T.place).spelt value) result }
+    ensures { BuildResult ((explicit outer T.place).spelling value) result }
 {
     let node = value.into_element(alloc)?;
     write_around(alloc, node, outer)

@@ -3,8 +3,8 @@ ghost use Rattle.std.specs.Prelude.{◌≡◌, [], ◌∷◌, true, false, lengt
 ghost use Rattle.zasn_tables.specs.Reading.{optional_at, required_at, ended_at};
 ghost use Rattle.zasn_tables.specs.Place.{Place};
 ghost use Rattle.zasn_tables.specs.Table.{Elements};
-ghost use Rattle.zasn_tables.specs.Within.{alone_at, any_at, list_of, sequence_of};
-ghost use Rattle.zasn.specs.Answers.{Takes, Finds, begins};
+ghost use Rattle.zasn_tables.specs.Within.{alone_at, any_at, list_meaning, sequence_of};
+ghost use Rattle.zasn.specs.Answers.{StepResult, ReadingResult, has_first_tag};
 ghost use Rattle.zasn.specs.Places.{alone, kept, text_under};
 
 use crate::any::read_any;
@@ -73,8 +73,8 @@ impl<'a> Parts<'a> {
 
     /// Returns the next element and those after it, if the next has the tag.
     fn next_with(&self, tag: Tag) -> Option<(&'a Node, &'a [Node])>
-        ensures some { IfSome result (λ n. begins tag self.now ≡ true × self.now ≡ n.0.now ∷ n.1.now) }
-        ensures none { IfNone result (begins tag self.now ≡ false) }
+        ensures some { IfSome result (λ n. has_first_tag tag self.now ≡ true × self.now ≡ n.0.now ∷ n.1.now) }
+        ensures none { IfNone result (has_first_tag tag self.now ≡ false) }
     {
         match self.left {
             [first, others @ ..] if first.tag == tag => Some((first, others)),
@@ -87,7 +87,7 @@ impl<'a> Parts<'a> {
     ///
     /// Returns `Misfit` if it has the tag and no such value, and `Memory` if no memory is found.
     pub fn optional<T: Contents>(&mut self, alloc: Global, tag: Tag) -> Result<Option<T>, PartError>
-        ensures takes { Takes (optional_at (tag ∷ []) (T.place tag).meaning self.old) result self.new }
+        ensures takes { StepResult (optional_at (tag ∷ []) (T.place tag).meaning self.old) result self.new }
         ensures err { OnErr result (self.new ≡ self.old) }
     {
         let Some((first, others)) = self.next_with(tag) else {
@@ -103,7 +103,7 @@ impl<'a> Parts<'a> {
     /// Returns `Misfit` if none is left, or if it has another tag or no such value. Returns `Memory` if no memory is
     /// found.
     pub fn required<T: Contents>(&mut self, alloc: Global, tag: Tag) -> Result<T, PartError>
-        ensures takes { Takes (required_at (tag ∷ []) (T.place tag).meaning self.old) result self.new }
+        ensures takes { StepResult (required_at (tag ∷ []) (T.place tag).meaning self.old) result self.new }
         ensures err { OnErr result (self.new ≡ self.old) }
     {
         self.optional(alloc, tag)?.ok_or(PartError::Misfit)
@@ -114,7 +114,7 @@ impl<'a> Parts<'a> {
     ///
     /// Returns `Misfit` if it has such a tag and no such value, and `Memory` if no memory is found.
     pub fn optional_tagged<T: Tagged>(&mut self, alloc: Global) -> Result<Option<T>, PartError>
-        ensures takes { Takes (optional_at T.place.tags T.place.meaning self.old) result self.new }
+        ensures takes { StepResult (optional_at T.place.tags T.place.meaning self.old) result self.new }
         ensures err { OnErr result (self.new ≡ self.old) }
     {
         match self.left {
@@ -135,7 +135,7 @@ impl<'a> Parts<'a> {
     /// Returns `Misfit` if none is left, or if it has another tag or no such value. Returns `Memory` if no memory is
     /// found.
     pub fn required_tagged<T: Tagged>(&mut self, alloc: Global) -> Result<T, PartError>
-        ensures takes { Takes (required_at T.place.tags T.place.meaning self.old) result self.new }
+        ensures takes { StepResult (required_at T.place.tags T.place.meaning self.old) result self.new }
         ensures err { OnErr result (self.new ≡ self.old) }
     {
         self.optional_tagged(alloc)?.ok_or(PartError::Misfit)
@@ -152,7 +152,7 @@ impl<'a> Parts<'a> {
         outer: Tag,
         inner: Tag,
     ) -> Result<Option<T>, PartError>
-        ensures takes { Takes (optional_at (outer ∷ [])
+        ensures takes { StepResult (optional_at (outer ∷ [])
             (sequence_of (alone_at (inner ∷ []) (T.place inner).meaning)) self.old) result self.new }
         ensures err { OnErr result (self.new ≡ self.old) }
     {
@@ -174,7 +174,7 @@ impl<'a> Parts<'a> {
         alloc: Global,
         outer: Tag,
     ) -> Result<T, PartError>
-        ensures takes { Takes (required_at (outer ∷ [])
+        ensures takes { StepResult (required_at (outer ∷ [])
             (sequence_of (alone_at T.place.tags T.place.meaning)) self.old) result self.new }
         ensures err { OnErr result (self.new ≡ self.old) }
     {
@@ -192,7 +192,7 @@ impl<'a> Parts<'a> {
         alloc: Global,
         outer: Tag,
     ) -> Result<Option<T>, PartError>
-        ensures takes { Takes (optional_at (outer ∷ []) (sequence_of (alone T.place).at) self.old) result self.new }
+        ensures takes { StepResult (optional_at (outer ∷ []) (sequence_of (alone T.place).at) self.old) result self.new }
         ensures err { OnErr result (self.new ≡ self.old) }
     {
         let Some((first, others)) = self.next_with(outer) else {
@@ -214,7 +214,7 @@ impl<'a> Parts<'a> {
         outer: Tag,
         inner: Tag,
     ) -> Result<Seq<Bytes>, PartError>
-        ensures takes { Takes (required_at (outer ∷ []) (list_of (text_under inner)) self.old) result self.new }
+        ensures takes { StepResult (required_at (outer ∷ []) (list_meaning (text_under inner)) self.old) result self.new }
         ensures err { OnErr result (self.new ≡ self.old) }
     {
         let Some((first, others)) = self.next_with(outer) else {
@@ -231,7 +231,7 @@ impl<'a> Parts<'a> {
     /// Returns `Misfit` if the next has the tag and is primitive, or contains none or several. Returns `Memory` if no
     /// memory is found.
     pub fn optional_any(&mut self, alloc: Global, tag: Tag) -> Result<Option<Node>, PartError>
-        ensures takes { Takes (optional_at (tag ∷ []) (sequence_of any_at) self.old) result self.new }
+        ensures takes { StepResult (optional_at (tag ∷ []) (sequence_of any_at) self.old) result self.new }
         ensures err { OnErr result (self.new ≡ self.old) }
     {
         let Some((first, others)) = self.next_with(tag) else {
@@ -247,7 +247,7 @@ impl<'a> Parts<'a> {
     ///
     /// Returns `Memory` if no memory is found, and never `Misfit`.
     pub fn optional_kept(&mut self, alloc: Global, tag: Tag) -> Result<Option<Node>, PartError>
-        ensures takes { Takes (optional_at (tag ∷ []) (kept tag []).meaning self.old) result self.new }
+        ensures takes { StepResult (optional_at (tag ∷ []) (kept tag []).meaning self.old) result self.new }
         ensures err { OnErr result (self.new ≡ self.old) }
     {
         let Some((first, others)) = self.next_with(tag) else {
@@ -260,7 +260,7 @@ impl<'a> Parts<'a> {
 
     /// Checks that nothing is left; returns `Misfit` if an element is. It changes nothing.
     pub fn end(&self) -> Result<(), PartError>
-        ensures finds { Finds (ended_at self.now) result self.now }
+        ensures finds { ReadingResult (ended_at self.now) result self.now }
         ensures none { IfOk result (λ _. self.now ≡ []) }
         ensures misfit { IfErr result (λ e. e ≡ PartError.Misfit) }
     {

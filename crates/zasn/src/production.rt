@@ -3,7 +3,7 @@ ghost use Rattle.std.specs.Prelude.{◌≡◌, [], ◌∷◌, Some, IfOk};
 ghost use Rattle.zasn_tables.specs.Table.{Elements};
 ghost use Rattle.zasn_tables.specs.Place.{Place};
 ghost use Rattle.zasn_tables.specs.Within.{sequence_of, around, alone_at};
-ghost use Rattle.zasn.specs.Answers.{Finds, Puts, Means, Makes};
+ghost use Rattle.zasn.specs.Answers.{ReadingResult, BuildStepResult, MeaningResult, BuildResult};
 ghost use Rattle.zasn.specs.Places.{explicit};
 
 use crate::build::PartsBuf;
@@ -23,7 +23,7 @@ pub trait Production: Sized + Drop {
     /// Returns `Misfit` if one misfits; it is the first that is left. Returns `Memory` if no memory is found; nothing
     /// is promised of the elements left.
     fn read(alloc: Global, parts: &mut Parts<'_>) -> Result<Self, PartError>
-        ensures finds { Finds (table.at parts.old) result parts.new }
+        ensures finds { ReadingResult (table.at parts.old) result parts.new }
         ensures none { IfOk result (λ _. parts.new ≡ []) };
 
     /// Adds the elements of the value.
@@ -31,7 +31,7 @@ pub trait Production: Sized + Drop {
     /// Returns `NotSpellable` if the value has none, and `Memory` if no memory is found. Then nothing is promised of
     /// `out`.
     fn write(&self, alloc: Global, out: &mut PartsBuf) -> Result<(), BuildError>
-        ensures { Puts (table.made self.now out.old) result out.new };
+        ensures { BuildStepResult (table.spelling self.now out.old) result out.new };
 }
 
 /// Returns the value of the elements within one, whatever its tag.
@@ -39,7 +39,7 @@ pub trait Production: Sized + Drop {
 /// Returns `Misfit` if the outer one is primitive, or if those within have no such value. Returns `Memory` if no memory
 /// is found.
 pub fn read_within<T: Production>(alloc: Global, node: &Node) -> Result<T, PartError>
-    ensures { Means (sequence_of T.table.at node.now) result }
+    ensures { MeaningResult (sequence_of T.table.at node.now) result }
 {
     match &node.body {
         Body::Prim(_) => Err(PartError::Misfit),
@@ -53,7 +53,7 @@ pub fn read_within<T: Production>(alloc: Global, node: &Node) -> Result<T, PartE
 /// Returns the element with the tag around the elements of the value. Returns `NotSpellable` if the value has none, and
 /// `Memory` if no memory is found.
 pub fn write_within<T: Production>(alloc: Global, value: &T, tag: Tag) -> Result<Node, BuildError>
-    ensures { Makes (around tag (T.table.made value.now [])) result }
+    ensures { BuildResult (around tag (T.table.spelling value.now [])) result }
 {
     let mut out = PartsBuf::new(alloc);
     value.write(alloc, &mut out)?;
@@ -65,7 +65,7 @@ pub fn write_within<T: Production>(alloc: Global, value: &T, tag: Tag) -> Result
 /// Returns `Misfit` if the outer one is primitive, or contains anything but one element of such a value under the tag.
 /// Returns `Memory` if no memory is found.
 pub fn read_alone<T: Contents>(alloc: Global, node: &Node, tag: Tag) -> Result<T, PartError>
-    ensures { Means (sequence_of (alone_at (tag ∷ []) (T.place tag).meaning) node.now) result }
+    ensures { MeaningResult (sequence_of (alone_at (tag ∷ []) (T.place tag).meaning) node.now) result }
 {
     match &node.body {
         Body::Prim(_) => Err(PartError::Misfit),
@@ -83,7 +83,7 @@ pub fn read_alone<T: Contents>(alloc: Global, node: &Node, tag: Tag) -> Result<T
 /// Returns `Misfit` if the outer one is primitive, or contains anything but one element of such a value. Returns
 /// `Memory` if no memory is found.
 pub fn read_alone_tagged<T: Tagged>(alloc: Global, node: &Node) -> Result<T, PartError>
-    ensures { Means (sequence_of (alone_at T.place.tags T.place.meaning) node.now) result }
+    ensures { MeaningResult (sequence_of (alone_at T.place.tags T.place.meaning) node.now) result }
 {
     match &node.body {
         Body::Prim(_) => Err(PartError::Misfit),
@@ -104,7 +104,7 @@ pub fn write_alone<T: Contents>(
     outer: Tag,
     inner: Tag,
 ) -> Result<Node, BuildError>
-    ensures { Makes ((explicit outer (T.place inner)).spelt value.now) result }
+    ensures { BuildResult ((explicit outer (T.place inner)).spelling value.now) result }
 {
     let mut out = PartsBuf::new(alloc);
     out.required(alloc, inner, value)?;
@@ -118,7 +118,7 @@ pub fn write_alone_tagged<T: Tagged>(
     value: &T,
     outer: Tag,
 ) -> Result<Node, BuildError>
-    ensures { Makes ((explicit outer T.place).spelt value.now) result }
+    ensures { BuildResult ((explicit outer T.place).spelling value.now) result }
 {
     let mut out = PartsBuf::new(alloc);
     out.required_tagged(alloc, value)?;

@@ -1,7 +1,7 @@
 //! SEQUENCE OF: values in order, each in an element with a tag of its own.
 ghost use Rattle.std.specs.Prelude.{◌≡◌};
-ghost use Rattle.zasn_tables.specs.Within.{all_of, all_spelt, whole_of};
-ghost use Rattle.zasn.specs.Answers.{Means, Makes};
+ghost use Rattle.zasn_tables.specs.Within.{all_meanings, all_spellings, whole_of};
+ghost use Rattle.zasn.specs.Answers.{MeaningResult, BuildResult};
 ghost use Rattle.zasn.specs.Places.{list};
 
 use crate::build::PartsBuf;
@@ -12,7 +12,7 @@ use zber::{Body, Node, Seq, Tag};
 
 /// Returns the values of elements, in order.
 fn all_in<T: Tagged>(alloc: Global, nodes: &[Node]) -> Result<Seq<T>, PartError>
-    ensures { Means (all_of (whole_of T.place) nodes.now) result }
+    ensures { MeaningResult (all_meanings (whole_of T.place) nodes.now) result }
 {
     let mut values = Vec::new(alloc);
     for node in nodes {
@@ -27,7 +27,7 @@ fn all_in<T: Tagged>(alloc: Global, nodes: &[Node]) -> Result<Seq<T>, PartError>
 
 /// Does the same with elements that it takes over.
 fn all_taken<T: Tagged>(alloc: Global, nodes: Vec<Node>) -> Result<Seq<T>, PartError>
-    ensures { Means (all_of (whole_of T.place) nodes.items) result }
+    ensures { MeaningResult (all_meanings (whole_of T.place) nodes.items) result }
 {
     let mut values = Vec::new(alloc);
     for given in nodes {
@@ -42,7 +42,7 @@ fn all_taken<T: Tagged>(alloc: Global, nodes: Vec<Node>) -> Result<Seq<T>, PartE
 
 /// Returns the elements of values, in order.
 fn all_of_them<T: Tagged>(alloc: Global, values: &[T]) -> Result<PartsBuf, BuildError>
-    ensures { Makes (all_spelt T.place.spelt values.now) result }
+    ensures { BuildResult (all_spellings T.place.spelling values.now) result }
 {
     let mut out = PartsBuf::new(alloc);
     for value in values {

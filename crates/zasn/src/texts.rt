@@ -1,7 +1,7 @@
 //! SEQUENCE OF strings: texts in order, each in an element with the same tag.
-ghost use Rattle.zasn_tables.specs.Within.{all_of, all_spelt, list_of};
-ghost use Rattle.zasn_tables.specs.Meanings.{octets_spelt};
-ghost use Rattle.zasn.specs.Answers.{Means, Makes};
+ghost use Rattle.zasn_tables.specs.Within.{all_meanings, all_spellings, list_meaning};
+ghost use Rattle.zasn_tables.specs.Meanings.{octets_spelling};
+ghost use Rattle.zasn.specs.Answers.{MeaningResult, BuildResult};
 ghost use Rattle.zasn.specs.Places.{strings, text_under};
 
 use crate::build::PartsBuf;
@@ -12,7 +12,7 @@ use std::alloc::Global;
 use zber::{Body, Node, Seq, Tag};
 
 fn text_in(alloc: Global, node: &Node, tag: Tag) -> Result<Bytes, PartError>
-    ensures { Means (text_under tag node.now) result }
+    ensures { MeaningResult (text_under tag node.now) result }
 {
     if node.tag != tag {
         return Err(PartError::Misfit);
@@ -21,7 +21,7 @@ fn text_in(alloc: Global, node: &Node, tag: Tag) -> Result<Bytes, PartError>
 }
 
 fn all_in(alloc: Global, nodes: &[Node], tag: Tag) -> Result<Seq<Bytes>, PartError>
-    ensures { Means (all_of (text_under tag) nodes.now) result }
+    ensures { MeaningResult (all_meanings (text_under tag) nodes.now) result }
 {
     let mut texts = Vec::new(alloc);
     for node in nodes {
@@ -32,7 +32,7 @@ fn all_in(alloc: Global, nodes: &[Node], tag: Tag) -> Result<Seq<Bytes>, PartErr
 }
 
 fn all_of_them(alloc: Global, texts: &[Bytes], tag: Tag) -> Result<PartsBuf, BuildError>
-    ensures { Makes (all_spelt (octets_spelt tag) texts.now) result }
+    ensures { BuildResult (all_spellings (octets_spelling tag) texts.now) result }
 {
     let mut out = PartsBuf::new(alloc);
     for text in texts {
@@ -48,7 +48,7 @@ fn all_of_them(alloc: Global, texts: &[Bytes], tag: Tag) -> Result<PartsBuf, Bui
 /// Returns `Misfit` if the outer one is primitive, or if an element within has another tag or is no string. Returns
 /// `Memory` if no memory is found.
 pub fn read_texts(alloc: Global, node: &Node, tag: Tag) -> Result<Seq<Bytes>, PartError>
-    ensures { Means (list_of (text_under tag) node.now) result }
+    ensures { MeaningResult (list_meaning (text_under tag) node.now) result }
 {
     match &node.body {
         Body::Prim(_) => Err(PartError::Misfit),
@@ -64,7 +64,7 @@ pub fn write_texts(
     outer: Tag,
     inner: Tag,
 ) -> Result<Node, BuildError>
-    ensures { Makes ((strings outer inner).spelt texts.now) result }
+    ensures { BuildResult ((strings outer inner).spelling texts.now) result }
 {
     let out = all_of_them(alloc, texts.as_slice(), inner)?;
     Ok(out.into_node(outer))

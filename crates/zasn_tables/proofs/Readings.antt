@@ -10,7 +10,7 @@ use Rattle.zber.specs.Elements.{Element, Constructed, end, tag_of}
 use Rattle.zber.proofs.Tests.{both_true}
 use Rattle.zasn_tables.specs.Standing.{tagged, required, optional, ended}
 use Rattle.zber.specs.Tags.{apart, same_class, same_tag, among}
-use Rattle.zasn_tables.specs.Laws.{IsPlace, IsMisfit, IsRead}
+use Rattle.zasn_tables.specs.Laws.{IsLawfulPlace, IsMisfit, IsReader}
 use Rattle.zasn_tables.specs.Reading.{constructed, option_map, filled, ◌>>=◌, optional_at, required_at, ended_at}
 
 -- ---- tags
@@ -127,7 +127,7 @@ module _ {V : Type 0} (v : V) where
     stops = λ m after _ x more h. h;
   }
 
-  pub end_read : IsRead (λ (x : Unit {0}). ended) (λ _. v) (λ ns. ended_at ns >>= λ _. Ok v) []
+  pub end_read : IsReader (λ (x : Unit {0}). ended) (λ _. v) (λ ns. ended_at ns >>= λ _. Ok v) []
   end_read = record {
     some = (tt, [], tt);
     begins = λ x n ns h. absurd h;
@@ -137,7 +137,7 @@ module _ {V : Type 0} (v : V) where
   }
 
 -- a place that may be left out
-module _ {A R V : Type 0} (P : A → Element → Type 0) (us : List AsnTag) (meaning : Element → Option A) (place : IsPlace P us meaning) (L : R → List Element → Type 0) (make : Option A × R → V) (walk : Option A → List Element → Result V (List Element)) (vs : List AsnTag) (rest : (o : Option A) → IsRead L (λ x. make (o, x)) (walk o) vs) (new : apart us vs ≡ true) where
+module _ {A R V : Type 0} (P : A → Element → Type 0) (us : List AsnTag) (meaning : Element → Option A) (place : IsLawfulPlace P us meaning) (L : R → List Element → Type 0) (make : Option A × R → V) (walk : Option A → List Element → Result V (List Element)) (vs : List AsnTag) (rest : (o : Option A) → IsReader L (λ x. make (o, x)) (walk o) vs) (new : apart us vs ≡ true) where
   abbrev OptionalL : Option A × R → List Element → Type 0
   OptionalL p = optional P p.0 (L p.1)
 
@@ -241,7 +241,7 @@ module _ {A R V : Type 0} (P : A → Element → Type 0) (us : List AsnTag) (mea
       out n after f = absurd cc
   optional_fails (n ∷ ns) r e = fails_turn n ns r (among (tag_of n) us) (meaning n) refl refl e
 
-  pub optional_read : IsRead OptionalL make optional_walk (us ++ vs)
+  pub optional_read : IsReader OptionalL make optional_walk (us ++ vs)
   optional_read = record {
     some = let s = (rest None).some in ((None, s.0), s.1, s.2);
     begins = optional_begins;
@@ -251,7 +251,7 @@ module _ {A R V : Type 0} (P : A → Element → Type 0) (us : List AsnTag) (mea
   }
 
 -- a place that is always filled
-module _ {A R V : Type 0} (P : A → Element → Type 0) (us : List AsnTag) (meaning : Element → Option A) (place : IsPlace P us meaning) (L : R → List Element → Type 0) (make : A × R → V) (walk : A → List Element → Result V (List Element)) (vs : List AsnTag) (rest : (x : A) → IsRead L (λ y. make (x, y)) (walk x) vs) where
+module _ {A R V : Type 0} (P : A → Element → Type 0) (us : List AsnTag) (meaning : Element → Option A) (place : IsLawfulPlace P us meaning) (L : R → List Element → Type 0) (make : A × R → V) (walk : A → List Element → Result V (List Element)) (vs : List AsnTag) (rest : (x : A) → IsReader L (λ y. make (x, y)) (walk x) vs) where
   abbrev RequiredL : A × R → List Element → Type 0
   RequiredL p = required P p.0 (L p.1)
 
@@ -324,7 +324,7 @@ module _ {A R V : Type 0} (P : A → Element → Type 0) (us : List AsnTag) (mea
       not k after f x h = let g : [] ≡ k ∷ after = err_is {V = V} [] r e ∙ f in cc
   required_fails (n ∷ ns) r e = required_fails_turn n ns r (among (tag_of n) us) (meaning n) refl refl e
 
-  pub required_read : IsRead RequiredL make required_walk (us ++ vs)
+  pub required_read : IsReader RequiredL make required_walk (us ++ vs)
   required_read = record {
     some = begun_here;
     begins = required_begins;
@@ -339,7 +339,7 @@ pub one_tag : (tag : AsnTag) (k : Element) → among (tag_of k) (tag ∷ []) ≡
 one_tag tag k b = elim (either (same_tag (tag_of k) tag) false b) [ inl same ↦ same_tag-true (tag_of k) tag same | inr other ↦ absurd cc ]
 
 -- a value under a tag, where some contents mean a value
-pub tagged_place : {A : Type 0} (tag : AsnTag) (meaning : Element → Option A) (x : A) (n : Element) → tag_of n ≡ tag → meaning n ≡ Some x → IsPlace (tagged tag meaning) (tag ∷ []) meaning
+pub tagged_place : {A : Type 0} (tag : AsnTag) (meaning : Element → Option A) (x : A) (n : Element) → tag_of n ≡ tag → meaning n ≡ Some x → IsLawfulPlace (tagged tag meaning) (tag ∷ []) meaning
 tagged_place tag meaning x n t m = record {
   some = (x, n, (t, m));
   begins = λ y k h. rw h.0 (or_left (same_tag tag tag) false (same_tag-refl tag));
@@ -347,13 +347,13 @@ tagged_place tag meaning x n t m = record {
   finds = λ y k h. h.1;
 }
 
-pub constructed_at_tag : (tag : AsnTag) → IsPlace (tagged tag constructed) (tag ∷ []) constructed
+pub constructed_at_tag : (tag : AsnTag) → IsLawfulPlace (tagged tag constructed) (tag ∷ []) constructed
 constructed_at_tag tag = tagged_place tag constructed (Constructed tag end) (Constructed tag end) refl refl
 
 -- ---- whole productions
 
 -- the same read by one who makes something of the value
-module _ {R V W : Type 0} (L : R → List Element → Type 0) (make : R → V) (walk : List Element → Result V (List Element)) (tags : List AsnTag) (g : V → W) (read : IsRead L make walk tags) where
+module _ {R V W : Type 0} (L : R → List Element → Type 0) (make : R → V) (walk : List Element → Result V (List Element)) (tags : List AsnTag) (g : V → W) (read : IsReader L make walk tags) where
   mapped_ok : (ns : List Element) (w : W) (r : Result V (List Element)) → walk ns ≡ r → (r >>= λ v. Ok (g v)) ≡ Ok w → (x : R) × (g (make x) ≡ w) × L x ns
   mapped_ok ns w (Ok v) e f = let h = read.reads ns v e in (h.0, ap g h.1 ∙ ok_is (g v) w f, h.2)
   mapped_ok ns w (Err r) e f = absurd cc
@@ -362,7 +362,7 @@ module _ {R V W : Type 0} (L : R → List Element → Type 0) (make : R → V) (
   mapped_err ns s (Ok v) e f = absurd cc
   mapped_err ns s (Err r) e f = read.fails ns s (e ∙ ap (λ (t : List Element). err t) (err_is {V = W} r s f))
 
-  pub mapped_read : IsRead L (λ x. g (make x)) (λ ns. walk ns >>= λ v. Ok (g v)) tags
+  pub mapped_read : IsReader L (λ x. g (make x)) (λ ns. walk ns >>= λ v. Ok (g v)) tags
   mapped_read = record {
     some = read.some;
     begins = read.begins;

@@ -11,14 +11,14 @@ abbrev pub ◌>>=◌ : {A B : Type 0} → Option A → (A → Option B) → Opti
 None >>= f = None
 
 -- an opaque element is its own spelling, if it has the tag
-abbrev pub constructed_spelt : AsnTag → Element → Option Element
-constructed_spelt tag (Primitive t b) = None
-constructed_spelt tag (Constructed t f) = if same_tag t tag then Some (Constructed t f) else None
+abbrev pub constructed_spelling : AsnTag → Element → Option Element
+constructed_spelling tag (Primitive t b) = None
+constructed_spelling tag (Constructed t f) = if same_tag t tag then Some (Constructed t f) else None
 
 -- adds the element of a value, and the same if there is a value
 abbrev pub required_put : {A : Type 0} → (A → Option Element) → A → List Element → Option (List Element)
-required_put spelt x out = option_map (λ n. out ++ n ∷ []) (spelt x)
+required_put spelling x out = option_map (λ n. out ++ n ∷ []) (spelling x)
 
 abbrev pub optional_put : {A : Type 0} → (A → Option Element) → Option A → List Element → Option (List Element)
-optional_put spelt None out = Some out
-optional_put spelt (Some x) out = required_put spelt x out
+optional_put spelling None out = Some out
+optional_put spelling (Some x) out = required_put spelling x out

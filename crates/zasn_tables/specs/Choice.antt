@@ -24,21 +24,21 @@ picked (either p wrap more) (inl x) = wrap x
 picked (either p wrap more) (inr y) = picked more y
 
 -- the element has this value of the choice
-abbrev pub Says : {C : Type 0} (c : Choice C) → Pick c → Element → Type 0
-Says (finally p wrap) x n = p.stands x n
-Says (either p wrap more) (inl x) n = p.stands x n
-Says (either p wrap more) (inr y) n = Says more y n
+abbrev pub ValueWrites : {C : Type 0} (c : Choice C) → Pick c → Element → Type 0
+ValueWrites (finally p wrap) x n = p.writes x n
+ValueWrites (either p wrap more) (inl x) n = p.writes x n
+ValueWrites (either p wrap more) (inr y) n = ValueWrites more y n
 
 -- what an element means, by the first kind that has its tag
-abbrev pub choice_of : {C : Type 0} → Choice C → Element → Option C
-choice_of (finally p wrap) n = if among (tag_of n) p.tags then option_map wrap (p.meaning n) else None
-choice_of (either p wrap more) n = if among (tag_of n) p.tags then option_map wrap (p.meaning n) else choice_of more n
+abbrev pub choice_meaning : {C : Type 0} → Choice C → Element → Option C
+choice_meaning (finally p wrap) n = if among (tag_of n) p.tags then option_map wrap (p.meaning n) else None
+choice_meaning (either p wrap more) n = if among (tag_of n) p.tags then option_map wrap (p.meaning n) else choice_meaning more n
 
 -- the element of a value
-abbrev pub choice_spelt : {C : Type 0} (c : Choice C) → Pick c → Option Element
-choice_spelt (finally p wrap) x = p.spelt x
-choice_spelt (either p wrap more) (inl x) = p.spelt x
-choice_spelt (either p wrap more) (inr y) = choice_spelt more y
+abbrev pub choice_spelling : {C : Type 0} (c : Choice C) → Pick c → Option Element
+choice_spelling (finally p wrap) x = p.spelling x
+choice_spelling (either p wrap more) (inl x) = p.spelling x
+choice_spelling (either p wrap more) (inr y) = choice_spelling more y
 
 -- the tags of all kinds
 abbrev pub choice_tags : {C : Type 0} → Choice C → List AsnTag

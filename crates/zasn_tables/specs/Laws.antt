@@ -5,7 +5,7 @@ use Rattle.zber.specs.Elements.{Element, tag_of}
 use Rattle.zber.specs.Tags.{among}
 
 -- the elements of values at a place have one of the tags, and mean their values
-pub record IsPlace {A : Type 0} (P : A → Element → Type 0) (tags : List AsnTag)
+pub record IsLawfulPlace {A : Type 0} (P : A → Element → Type 0) (tags : List AsnTag)
     (meaning : Element → Option A) : Type 0 where
   pub some : (x : A) × (n : Element) × P x n
   pub begins : (x : A) (n : Element) → P x n → among (tag_of n) tags ≡ true
@@ -21,7 +21,7 @@ pub record IsMisfit {R : Type 0} (L : R → List Element → Type 0) (ns r : Lis
       → L x (front ++ n ∷ more) → ⊥
 
 -- reading finds what is written, and nothing else; otherwise it stops at the misfit
-pub record IsRead {R V : Type 0} (L : R → List Element → Type 0) (make : R → V)
+pub record IsReader {R V : Type 0} (L : R → List Element → Type 0) (make : R → V)
     (walk : List Element → Result V (List Element)) (tags : List AsnTag) : Type 0 where
   pub some : (x : R) × (ns : List Element) × L x ns
   pub begins : (x : R) (n : Element) (ns : List Element) → L x (n ∷ ns) → among (tag_of n) tags ≡ true
@@ -30,12 +30,12 @@ pub record IsRead {R V : Type 0} (L : R → List Element → Type 0) (make : R �
   pub fails : (ns r : List Element) → walk ns ≡ Err r → IsMisfit L ns r
 
 -- a spelling is an element of the value; a value without a spelling has no element
-pub record IsSpelled {A : Type 0} (P : A → Element → Type 0) (spelt : A → Option Element) : Type 0 where
-  pub makes : (x : A) (n : Element) → spelt x ≡ Some n → P x n
-  pub none : (x : A) → spelt x ≡ None → (n : Element) → P x n → ⊥
+pub record IsSpelled {A : Type 0} (P : A → Element → Type 0) (spelling : A → Option Element) : Type 0 where
+  pub makes : (x : A) (n : Element) → spelling x ≡ Some n → P x n
+  pub none : (x : A) → spelling x ≡ None → (n : Element) → P x n → ⊥
 
 -- the same for elements that are added to a list
-pub record IsMade {R : Type 0} (L : R → List Element → Type 0)
+pub record IsBuilder {R : Type 0} (L : R → List Element → Type 0)
     (made : List Element → R → Option (List Element)) : Type 0 where
   pub makes : (out : List Element) (x : R) (new : List Element) → made out x ≡ Some new → (ns : List Element)
       × (new ≡ out ++ ns) × L x ns

@@ -14,40 +14,40 @@ meant (Ok x) = Some x
 meant (Err e) = None
 
 -- OCTET STRING and the character strings (X.690, 8.7 and 8.23)
-abbrev pub octets_of : Element → Option (List ℕ)
-octets_of e = meant (as_octets e)
+abbrev pub octets_meaning : Element → Option (List ℕ)
+octets_meaning e = meant (as_octets e)
 
-abbrev pub octets_spelt : AsnTag → List ℕ → Option Element
-octets_spelt tag xs = Some (Primitive tag xs)
+abbrev pub octets_spelling : AsnTag → List ℕ → Option Element
+octets_spelling tag xs = Some (Primitive tag xs)
 
 -- OBJECT IDENTIFIER (X.690, 8.19)
-abbrev pub oid_of : Element → Option (List ℕ)
-oid_of e = meant (as_oid e)
+abbrev pub oid_meaning : Element → Option (List ℕ)
+oid_meaning e = meant (as_oid e)
 
-abbrev pub oid_spelt : AsnTag → List ℕ → Option Element
-oid_spelt tag arcs = if is_oid arcs then Some (Primitive tag (oid_octets arcs)) else None
+abbrev pub oid_spelling : AsnTag → List ℕ → Option Element
+oid_spelling tag arcs = if is_oid arcs then Some (Primitive tag (oid_octets arcs)) else None
 
 -- BIT STRING (X.690, 8.6)
-abbrev pub bits_of : Element → Option (List Bool)
-bits_of e = meant (as_bits e)
+abbrev pub bits_meaning : Element → Option (List Bool)
+bits_meaning e = meant (as_bits e)
 
-abbrev pub bits_spelt : AsnTag → List Bool → Option Element
-bits_spelt tag bits = Some (Primitive tag (bit_octets bits))
+abbrev pub bits_spelling : AsnTag → List Bool → Option Element
+bits_spelling tag bits = Some (Primitive tag (bit_octets bits))
 
 -- INTEGER (X.690, 8.3), if it fits 64 bits
 abbrev pub is_i64 : ℤ → Bool
 is_i64 (pos n) = nat_lt n (2 ^ 63)
 is_i64 (negsuc n) = nat_lt n (2 ^ 63)
 
-abbrev pub int_of : Element → Option ℤ
-int_of e = meant (as_int e)
+abbrev pub int_meaning : Element → Option ℤ
+int_meaning e = meant (as_int e)
 
-abbrev pub int_spelt : AsnTag → ℤ → Option Element
-int_spelt tag z = if is_i64 z then Some (Primitive tag (integer_octets z)) else None
+abbrev pub int_spelling : AsnTag → ℤ → Option Element
+int_spelling tag z = if is_i64 z then Some (Primitive tag (integer_octets z)) else None
 
 -- BOOLEAN (X.690, 8.2)
-abbrev pub bool_of : Element → Option Bool
-bool_of e = meant (as_bool e)
+abbrev pub bool_meaning : Element → Option Bool
+bool_meaning e = meant (as_bool e)
 
-abbrev pub bool_spelt : AsnTag → Bool → Option Element
-bool_spelt tag b = Some (Primitive tag (bool_octets b))
+abbrev pub bool_spelling : AsnTag → Bool → Option Element
+bool_spelling tag b = Some (Primitive tag (bool_octets b))

@@ -9,18 +9,18 @@ pub record Place (A : Type 0) : Type 1 where
   -- the tags of its elements
   pub tags : List AsnTag
   -- the element has the value
-  pub stands : A → Element → Type 0
+  pub writes : A → Element → Type 0
   -- the value that an element with one of the tags means
   pub meaning : Element → Option A
   -- the element that is written for the value
-  pub spelt : A → Option Element
-  pub some : (x : A) × (n : Element) × stands x n
-  pub begins : (x : A) (n : Element) → stands x n → among (tag_of n) tags ≡ true
-  pub reads : (x : A) (n : Element) → among (tag_of n) tags ≡ true → meaning n ≡ Some x → stands x n
-  pub finds : (x : A) (n : Element) → stands x n → meaning n ≡ Some x
-  pub makes : (x : A) (n : Element) → spelt x ≡ Some n → stands x n
-  pub none : (x : A) → spelt x ≡ None → (n : Element) → stands x n → ⊥
+  pub spelling : A → Option Element
+  pub some : (x : A) × (n : Element) × writes x n
+  pub begins : (x : A) (n : Element) → writes x n → among (tag_of n) tags ≡ true
+  pub reads : (x : A) (n : Element) → among (tag_of n) tags ≡ true → meaning n ≡ Some x → writes x n
+  pub finds : (x : A) (n : Element) → writes x n → meaning n ≡ Some x
+  pub makes : (x : A) (n : Element) → spelling x ≡ Some n → writes x n
+  pub none : (x : A) → spelling x ≡ None → (n : Element) → writes x n → ⊥
 
 -- some element has the value
 abbrev pub IsSpellable : {A : Type 0} → Place A → A → Type 0
-IsSpellable p x = (n : Element) × p.stands x n
+IsSpellable p x = (n : Element) × p.writes x n

@@ -7,16 +7,16 @@ use Rattle.zber.specs.Tags.{apart}
 use Rattle.zasn_tables.specs.Reading.{◌>>=◌, optional_at, required_at, ended_at}
 use Rattle.zasn_tables.specs.Building.{◌>>=◌ as and_then, required_put, optional_put}
 use Rattle.zasn_tables.specs.Place.{Place}
-use Rattle.zasn_tables.specs.Laws.{IsRead, IsMade}
+use Rattle.zasn_tables.specs.Laws.{IsReader, IsBuilder}
 
 -- The elements of a value of V, up to the last: which they are, how they are read, and how they are built.
 pub record Elements (V : Type 0) : Type 1 where
   pub tags : List AsnTag
-  pub stand : V → List Element → Type 0
+  pub writes : V → List Element → Type 0
   pub at : List Element → Result V (List Element)
-  pub made : V → List Element → Option (List Element)
-  pub read : IsRead stand (λ v. v) at tags
-  pub build : IsMade stand (λ out v. made v out)
+  pub spelling : V → List Element → Option (List Element)
+  pub read : IsReader writes (λ v. v) at tags
+  pub build : IsBuilder writes (λ out v. spelling v out)
 
 -- The places in order, up to the end or to a table of the last places.
 pub data ComponentTable (V : Type 0) : Type 1 where
@@ -58,11 +58,11 @@ make_of (optional p get more) make x = make_of more (make x.0) x.1
 make_of (also e get) make x = make x
 
 -- the elements have these values, place by place
-abbrev pub Stand : {V : Type 0} (t : ComponentTable V) → Fields t → List Element → Type 0
-Stand ended x = no_more
-Stand (required p get more) x = one p.stands x.0 (Stand more x.1)
-Stand (optional p get more) x = perhaps p.stands x.0 (Stand more x.1)
-Stand (also e get) x = e.stand x
+abbrev pub TableWrites : {V : Type 0} (t : ComponentTable V) → Fields t → List Element → Type 0
+TableWrites ended x = no_more
+TableWrites (required p get more) x = one p.writes x.0 (TableWrites more x.1)
+TableWrites (optional p get more) x = perhaps p.writes x.0 (TableWrites more x.1)
+TableWrites (also e get) x = e.writes x
 
 -- reading from left to right
 abbrev pub walk : {V W : Type 0} (t : ComponentTable V) → Maker t W → List Element → Result W (List Element)
@@ -74,9 +74,9 @@ walk (also e get) make ns = e.at ns >>= λ w. Ok (make w)
 -- building from left to right
 abbrev pub put : {V : Type 0} (t : ComponentTable V) → Fields t → List Element → Option (List Element)
 put ended x out = Some out
-put (required p get more) x out = and_then (required_put p.spelt x.0 out) (λ a. put more x.1 a)
-put (optional p get more) x out = and_then (optional_put p.spelt x.0 out) (λ a. put more x.1 a)
-put (also e get) x out = e.made x out
+put (required p get more) x out = and_then (required_put p.spelling x.0 out) (λ a. put more x.1 a)
+put (optional p get more) x out = and_then (optional_put p.spelling x.0 out) (λ a. put more x.1 a)
+put (also e get) x out = e.spelling x out
 
 -- the tags of all places
 abbrev pub tags_of : {V : Type 0} → ComponentTable V → List AsnTag

@@ -45,26 +45,26 @@ each P [] (n ∷ ns) = ⊥
 each P (x ∷ xs) [] = ⊥
 
 -- the value and the others, if all are there
-abbrev pub onto : {A : Type 0} → Option A → Option (List A) → Option (List A)
-onto (Some x) (Some xs) = Some (x ∷ xs)
-onto (Some x) None = None
-onto None o = None
+abbrev pub with_head : {A : Type 0} → Option A → Option (List A) → Option (List A)
+with_head (Some x) (Some xs) = Some (x ∷ xs)
+with_head (Some x) None = None
+with_head None o = None
 
 -- what elements mean, if each means a value
-abbrev pub all_of : {A : Type 0} → (Element → Option A) → List Element → Option (List A)
-all_of meaning [] = Some []
-all_of meaning (n ∷ ns) = onto (meaning n) (all_of meaning ns)
+abbrev pub all_meanings : {A : Type 0} → (Element → Option A) → List Element → Option (List A)
+all_meanings meaning [] = Some []
+all_meanings meaning (n ∷ ns) = with_head (meaning n) (all_meanings meaning ns)
 
 -- what the elements within an element mean, in order
-abbrev pub list_of : {A : Type 0} → (Element → Option A) → Element → Option (List A)
-list_of meaning (Primitive t b) = None
-list_of meaning (Constructed t f) = all_of meaning (elements f)
+abbrev pub list_meaning : {A : Type 0} → (Element → Option A) → Element → Option (List A)
+list_meaning meaning (Primitive t b) = None
+list_meaning meaning (Constructed t f) = all_meanings meaning (elements f)
 
 -- what an element means, if it has one of the place's tags
 abbrev pub whole_of : {A : Type 0} → Place A → Element → Option A
 whole_of p n = if among (tag_of n) p.tags then p.meaning n else None
 
 -- the elements of values, if each has one
-abbrev pub all_spelt : {A : Type 0} → (A → Option Element) → List A → Option (List Element)
-all_spelt spelt [] = Some []
-all_spelt spelt (x ∷ xs) = onto (spelt x) (all_spelt spelt xs)
+abbrev pub all_spellings : {A : Type 0} → (A → Option Element) → List A → Option (List Element)
+all_spellings spelling [] = Some []
+all_spellings spelling (x ∷ xs) = with_head (spelling x) (all_spellings spelling xs)

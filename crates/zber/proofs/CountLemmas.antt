@@ -7,14 +7,14 @@ use Rattle.zber.specs.Feeds.{IsCounted}
 use Rattle.zber.proofs.ScanSteps.{path_contents, spells_contents}
 use Rattle.zber.specs.declared.scan.Scan.{Scan}
 use Rattle.zber.specs.declared.scan.Reading.{Reading}
-use Rattle.zber.specs.Scans.{len_of, IsGoing, Holds, HoldsBy}
+use Rattle.zber.specs.Scans.{len_of, IsGoing, IsScanned, IsScannedAs}
 use Rattle.zber.specs.Moves.{pos}
-use Rattle.zber.specs.Counts.{Rose, Counts, CountsAtFault}
+use Rattle.zber.specs.Counts.{IsRaisedBy, ScanCounts, CountsAtFault}
 
-pub rose_one : (a b : ℕ) → b ≡ min (a + 1) (2 ^ 64 - 1) → Rose 1 a b
+pub rose_one : (a b : ℕ) → b ≡ min (a + 1) (2 ^ 64 - 1) → IsRaisedBy 1 a b
 rose_one a b e = record { most = omega (arith, e); least = λ l. omega (arith, e, l); fits = λ l. omega (arith, e); grown = λ l. omega (arith, e, l) }
 
-rose_then : (m n a b c : ℕ) → Rose m a b → Rose n b c → Rose (m + n) a c
+rose_then : (m n a b c : ℕ) → IsRaisedBy m a b → IsRaisedBy n b c → IsRaisedBy (m + n) a c
 rose_then m n a b c f g = record {
   most = omega (arith, f.most, g.most);
   least = λ l. (let p : b ≡ a + m = f.least (omega (arith, l)) in let q : c ≡ b + n = g.least (omega (arith, l, p)) in omega (arith, p, q));
@@ -22,13 +22,13 @@ rose_then m n a b c f g = record {
   grown = λ l. (let p : a ≤ b = f.grown l in let q : b ≤ c = g.grown (f.fits l) in omega (arith, p, q));
 }
 
-pub counts_then : {s t u : Scan} {a b c : ℕ} → Counts s t a b → Counts t u b c → Counts s u a c
+pub counts_then : {s t u : Scan} {a b c : ℕ} → ScanCounts s t a b → ScanCounts t u b c → ScanCounts s u a c
 counts_then {a = a} {b = b} {c = c} f g = record { n = f.n + g.n; looked = omega (arith, f.looked, g.looked); rose = rose_then f.n g.n a b c f.rose g.rose }
 
-pub fault_then : {s t : Scan} {size a b c : ℕ} → Counts s t a b → CountsAtFault size t b c → CountsAtFault size s a c
+pub fault_then : {s t : Scan} {size a b c : ℕ} → ScanCounts s t a b → CountsAtFault size t b c → CountsAtFault size s a c
 fault_then {a = a} {b = b} {c = c} f g = record { n = f.n + g.n; within = omega (arith, f.looked, g.within); rose = rose_then f.n g.n a b c f.rose g.rose }
 
-pub counts_looked : (s : Scan) (r old : Reading) (a b : ℕ) → s.reading ≡ old → len_of r ≡ len_of old + 1 → b ≡ min (a + 1) (2 ^ 64 - 1) → Counts s (record s { reading = r }) a b
+pub counts_looked : (s : Scan) (r old : Reading) (a b : ℕ) → s.reading ≡ old → len_of r ≡ len_of old + 1 → b ≡ min (a + 1) (2 ^ 64 - 1) → ScanCounts s (record s { reading = r }) a b
 counts_looked s r old a b e l q = record { n = 1; looked = rw (e, l) (omega arith); rose = rose_one a b q }
 
 pub fault_looked : (size : ℕ) (s : Scan) (old : Reading) (a b : ℕ) → s.reading ≡ old → s.at + len_of old < size → b ≡ min (a + 1) (2 ^ 64 - 1) → CountsAtFault size s a b
@@ -38,16 +38,16 @@ fault_looked size s old a b e l q = record { n = 1; within = rw e (omega (arith,
 going_pos : {limit : ℕ} {xs : List ℕ} {s : Scan} {r : Reading} → IsGoing limit xs s r → (s.at + len_of r ≤ length xs) × (s.contents ≤ s.at)
 going_pos {xs = xs} {s = s} g = (g.looked, omega (arith, g.going.contents, path_contents g.going.path, length-take-le s.at xs g.going.within))
 
-pos_by : (limit : ℕ) (xs : List ℕ) (s : Scan) (r : Reading) → HoldsBy limit xs s r → (s.at + len_of r ≤ length xs) × (s.contents ≤ s.at)
+pos_by : (limit : ℕ) (xs : List ℕ) (s : Scan) (r : Reading) → IsScannedAs limit xs s r → (s.at + len_of r ≤ length xs) × (s.contents ≤ s.at)
 pos_by limit xs s (Front f len) h = going_pos h
 pos_by limit xs s (Head n c size len) h = going_pos h
 pos_by limit xs s End h = going_pos h
 pos_by limit xs s Whole h = (omega (arith, h.1.within), omega (arith, h.1.contents, spells_contents h.1.message.spelled, length-take-le s.at xs h.1.within))
 
-pub holds_pos : (limit : ℕ) (xs : List ℕ) (s : Scan) → Holds limit xs s → (pos s ≤ length xs) × (s.contents ≤ s.at)
+pub holds_pos : (limit : ℕ) (xs : List ℕ) (s : Scan) → IsScanned limit xs s → (pos s ≤ length xs) × (s.contents ≤ s.at)
 holds_pos limit xs s h = pos_by limit xs s s.reading h
 
-pub counted_on : {size : ℕ} {s t : Scan} {fault : Option (FaultKind × ℕ)} {a b fed skipped : ℕ} → IsCounted size s fault a fed skipped → fault ≡ None → Counts s t a b → (pos t ≤ size) × (t.contents ≤ t.at) → IsCounted size t fault b fed skipped
+pub counted_on : {size : ℕ} {s t : Scan} {fault : Option (FaultKind × ℕ)} {a b fed skipped : ℕ} → IsCounted size s fault a fed skipped → fault ≡ None → ScanCounts s t a b → (pos t ≤ size) × (t.contents ≤ t.at) → IsCounted size t fault b fed skipped
 counted_on {size} {s} {t} {fault} {a} {b} {fed} {skipped} f none c p = record {
   fits = f.fits;
   most = by_room (cases_order fed (2 ^ 64 - 1));

@@ -2,8 +2,8 @@
 use Rattle.std.proofs.Common.{◌≡◌, ℕ, ◌+◌, ◌<◌, ◌≤◌, ◌^◌, ◌-◌, ◌⊎◌, inr, Bool, true, subst, List, [], ◌++◌, length, Option, Some, None, refl, sym, ap, ◌∙◌, arith, length-append}
 use Rattle.zber.specs.declared.fault.FaultKind.{FaultKind}
 use Rattle.zber.specs.Elements.{Element}
-use Rattle.zber.specs.Spelling.{IsMessage, Begins}
-use Rattle.zber.specs.Shown.{Shows}
+use Rattle.zber.specs.Spelling.{IsMessage, HasFirstMessage}
+use Rattle.zber.specs.Shown.{HasFault}
 use Rattle.zber.specs.Unfinished.{IsUnfinished}
 use Rattle.zber.specs.Stream.{Stream, Counted}
 use Rattle.zber.specs.declared.scan.Scan.{Scan}
@@ -29,13 +29,13 @@ pub front_answer : (limit : ℕ) (xs ys : List ℕ) (f : Option (FaultKind × �
 front_answer limit xs ys f a old was none e s =
     rw (← was) (none, subst (IsUnfinished limit) e s, ap (λ z. state limit z f true) e)
 
-pub fault_answer : (limit : ℕ) (xs ys : List ℕ) (f : Option (FaultKind × ℕ)) (a : Bool) (old : Stream) (k : FaultKind) (at : ℕ) → state limit xs f a ≡ old → f ≡ None → ys ≡ xs → Shows limit ys k at
-    → (state limit ys (Some (k, at)) a ≡ record old { fault = Some (k, at) }) × ((old.fault ≡ Some (k, at)) ⊎ ((old.fault ≡ None) × Shows old.limit old.octets k at))
+pub fault_answer : (limit : ℕ) (xs ys : List ℕ) (f : Option (FaultKind × ℕ)) (a : Bool) (old : Stream) (k : FaultKind) (at : ℕ) → state limit xs f a ≡ old → f ≡ None → ys ≡ xs → HasFault limit ys k at
+    → (state limit ys (Some (k, at)) a ≡ record old { fault = Some (k, at) }) × ((old.fault ≡ Some (k, at)) ⊎ ((old.fault ≡ None) × HasFault old.limit old.octets k at))
 fault_answer limit xs ys f a old k at was none e s =
-    rw (← was) (ap (λ z. state limit z (Some (k, at)) a) e, inr (none, subst (λ z. Shows limit z k at) e s))
+    rw (← was) (ap (λ z. state limit z (Some (k, at)) a) e, inr (none, subst (λ z. HasFault limit z k at) e s))
 
 pub message_answer : (limit : ℕ) (xs m o n : List ℕ) (f : Option (FaultKind × ℕ)) (a : Bool) (old : Stream) (e : Element) → state limit xs f a ≡ old → f ≡ None → m ++ o ≡ xs → IsMessage limit e m → n ≡ []
-    → (old.fault ≡ None) × Begins old.limit old.octets e (n ++ o) × (state limit (n ++ o) f a ≡ record old { octets = n ++ o })
+    → (old.fault ≡ None) × HasFirstMessage old.limit old.octets e (n ++ o) × (state limit (n ++ o) f a ≡ record old { octets = n ++ o })
 message_answer limit xs m o n f a old e was none same is empty =
     rw (← was) (none, record { message = m; is = is; cut = sym same ∙ ap (λ z. m ++ (z ++ o)) (sym empty) }, refl)
 

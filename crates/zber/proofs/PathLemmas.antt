@@ -4,10 +4,10 @@ use Rattle.zber.specs.declared.fault.HeaderPlace.{HeaderPlace}
 use Rattle.zber.specs.declared.fault.FaultKind.{FaultKind}
 use Rattle.zber.specs.AsnTags.{AsnTag}
 use Rattle.zber.specs.Elements.{Element}
-use Rattle.zber.specs.Spelling.{SpellsAll, none, more}
-use Rattle.zber.specs.Paths.{start, after, Opens, definite, indefinite, Reached, top, inside, IsHere}
-use Rattle.zber.specs.Shown.{Shows}
-use Rattle.zber.proofs.Stopping.{Outcome, fault, behind, behind-behind, behind-zero, Stops, at_fault, in_definite, in_indefinite, StopsInside, next, later}
+use Rattle.zber.specs.Spelling.{AreSpellings, none, more}
+use Rattle.zber.specs.Paths.{start, after, IsOpening, definite, indefinite, IsPathTo, top, inside, IsHere}
+use Rattle.zber.specs.Shown.{HasFault}
+use Rattle.zber.proofs.Stopping.{Outcome, fault, behind, behind-behind, behind-zero, IsStopAt, at_fault, in_definite, in_indefinite, IsInnerStopAt, next, later}
 use Rattle.zber.proofs.ElementLemmas.{head_some}
 
 pub take_all : (n : ℕ) (xs : List ℕ) → length xs ≤ n → take n xs ≡ xs
@@ -37,47 +37,47 @@ after_zero : (p : HeaderPlace) → after p 0 ≡ p
 after_zero p = same_place p (p.size - 0) p.size (omega arith)
 
 -- behind whole elements
-pub behind_all : {es : List Element} {ys : List ℕ} (p : HeaderPlace) (zs : List ℕ) (o : Outcome) → SpellsAll p.room es ys → length ys ≤ p.size → StopsInside (after p (length ys)) zs o → StopsInside p (ys ++ zs) (behind (length ys) o)
-behind_all p zs o none l s = rw behind-zero (subst (λ q. StopsInside q zs o) (after_zero p) s)
+pub behind_all : {es : List Element} {ys : List ℕ} (p : HeaderPlace) (zs : List ℕ) (o : Outcome) → AreSpellings p.room es ys → length ys ≤ p.size → IsInnerStopAt (after p (length ys)) zs o → IsInnerStopAt p (ys ++ zs) (behind (length ys) o)
+behind_all p zs o none l s = rw behind-zero (subst (λ q. IsInnerStopAt q zs o) (after_zero p) s)
 behind_all p zs o (more {xs = xs} {ys = ys} f fs) l s =
     let len : length (xs ++ ys) ≡ length xs + length ys = length-append xs ys in
     let place : after p (length (xs ++ ys)) ≡ after (after p (length xs)) (length ys) = same_place p (p.size - length (xs ++ ys)) ((p.size - length xs) - length ys) (omega (arith, len)) in
-    let inner : StopsInside (after p (length xs)) (ys ++ zs) (behind (length ys) o) = behind_all (after p (length xs)) zs o fs (omega (arith, l, len)) (subst (λ q. StopsInside q zs o) place s) in
-    let whole : StopsInside p (xs ++ (ys ++ zs)) (behind (length xs) (behind (length ys) o)) = later f (omega (arith, l, len)) inner in
+    let inner : IsInnerStopAt (after p (length xs)) (ys ++ zs) (behind (length ys) o) = behind_all (after p (length xs)) zs o fs (omega (arith, l, len)) (subst (λ q. IsInnerStopAt q zs o) place s) in
+    let whole : IsInnerStopAt p (xs ++ (ys ++ zs)) (behind (length xs) (behind (length ys) o)) = later f (omega (arith, l, len)) inner in
     rw (append_assoc xs ys zs, len, ← behind-behind (length xs) (length ys) o) whole
 
 -- one element further out
-outwards : {p : HeaderPlace} {n : AsnTag} {h : List ℕ} {q : HeaderPlace} (us : List ℕ) (o : Outcome) → Opens p n h q → StopsInside q (take q.size us) o → Stops p (take p.size (h ++ us)) (behind (length h) o)
+outwards : {p : HeaderPlace} {n : AsnTag} {h : List ℕ} {q : HeaderPlace} (us : List ℕ) (o : Outcome) → IsOpening p n h q → IsInnerStopAt q (take q.size us) o → IsStopAt p (take p.size (h ++ us)) (behind (length h) o)
 outwards {p} us o (definite {size = size} {h = h} head fits room) s =
     let same : take size (take (p.size - length h) us) ≡ take size us = take_take size (p.size - length h) us (omega (arith, fits)) in
     rw (take_behind p.size h us (omega (arith, fits))) (in_definite {o = o} (take (p.size - length h) us) head fits room (rw same s))
 outwards {p} us o (indefinite {h = h} head fits room) s =
     rw (take_behind p.size h us fits) (in_indefinite {o = o} head room s)
 
-pub opens_some : {p : HeaderPlace} {n : AsnTag} {h : List ℕ} {q : HeaderPlace} → Opens p n h q → 0 < length h
+pub opens_some : {p : HeaderPlace} {n : AsnTag} {h : List ℕ} {q : HeaderPlace} → IsOpening p n h q → 0 < length h
 opens_some (definite head fits room) = head_some head
 opens_some (indefinite head fits room) = head_some head
 
-open_here : {p : HeaderPlace} {n : AsnTag} {h : List ℕ} {q : HeaderPlace} → Opens p n h q → IsHere p
+open_here : {p : HeaderPlace} {n : AsnTag} {h : List ℕ} {q : HeaderPlace} → IsOpening p n h q → IsHere p
 open_here (definite head fits room) m = omega (arith, head_some head, fits)
 open_here (indefinite head fits room) m = omega (arith, head_some head, fits)
 
 -- from the place to the front of the message
-pub from_front : {limit : ℕ} {xs : List ℕ} {p : HeaderPlace} (zs : List ℕ) (o : Outcome) → Reached limit xs p → Stops p (take p.size zs) o → (0 < length xs → IsHere p) → Stops (start limit) (take limit (xs ++ zs)) (behind (length xs) o)
+pub from_front : {limit : ℕ} {xs : List ℕ} {p : HeaderPlace} (zs : List ℕ) (o : Outcome) → IsPathTo limit xs p → IsStopAt p (take p.size zs) o → (0 < length xs → IsHere p) → IsStopAt (start limit) (take limit (xs ++ zs)) (behind (length xs) o)
 from_front zs o top s h = rw behind-zero s
 from_front {limit} zs o (inside {p = p} {q = q} {xs = xs} {h = h} {ys = ys} r opens all fits) s here =
     let some : 0 < length (xs ++ (h ++ ys)) = omega (arith, length-append xs (h ++ ys), length-append h ys, opens_some opens) in
-    let in_rest : StopsInside q (ys ++ take (q.size - length ys) zs) (behind (length ys) o) = behind_all q (take (q.size - length ys) zs) o all fits (next (here some) s) in
-    let in_window : StopsInside q (take q.size (ys ++ zs)) (behind (length ys) o) = rw (take_behind q.size ys zs fits) in_rest in
-    let out : Stops p (take p.size (h ++ (ys ++ zs))) (behind (length h) (behind (length ys) o)) = outwards (ys ++ zs) (behind (length ys) o) opens in_window in
+    let in_rest : IsInnerStopAt q (ys ++ take (q.size - length ys) zs) (behind (length ys) o) = behind_all q (take (q.size - length ys) zs) o all fits (next (here some) s) in
+    let in_window : IsInnerStopAt q (take q.size (ys ++ zs)) (behind (length ys) o) = rw (take_behind q.size ys zs fits) in_rest in
+    let out : IsStopAt p (take p.size (h ++ (ys ++ zs))) (behind (length h) (behind (length ys) o)) = outwards (ys ++ zs) (behind (length ys) o) opens in_window in
     let there = from_front (h ++ (ys ++ zs)) (behind (length h) (behind (length ys) o)) r out (λ _. open_here opens) in
     let octets : (xs ++ (h ++ ys)) ++ zs ≡ xs ++ (h ++ (ys ++ zs)) = append_assoc xs (h ++ ys) zs ∙ ap (λ z. xs ++ z) (append_assoc h ys zs) in
     let far : behind (length xs) (behind (length h) (behind (length ys) o)) ≡ behind (length (xs ++ (h ++ ys))) o = ap (behind (length xs)) (behind-behind (length h) (length ys) o) ∙ behind-behind (length xs) (length h + length ys) o ∙ ap (λ z. behind z o) (omega (arith, length-append xs (h ++ ys), length-append h ys)) in
     rw (octets, ← far) there
 
 -- what octets show, they show from the front
-pub shown_there : {limit : ℕ} {xs : List ℕ} {k : FaultKind} {at : ℕ} → Shows limit xs k at → Stops (start limit) (take limit xs) (fault k at)
+pub shown_there : {limit : ℕ} {xs : List ℕ} {k : FaultKind} {at : ℕ} → HasFault limit xs k at → IsStopAt (start limit) (take limit xs) (fault k at)
 shown_there {limit} {xs} {k} {at} s =
     let o : behind (length s.front) (fault k 0) ≡ fault k at = ap (fault k) (omega (arith, s.at_is)) in
-    let stops : Stops (start limit) (take limit (s.front ++ s.rest)) (behind (length s.front) (fault k 0)) = from_front s.rest (fault k 0) s.reached (at_fault s.shown) (λ l. s.here (λ e. absurd (omega (arith, l, s.at_is, e)))) in
+    let stops : IsStopAt (start limit) (take limit (s.front ++ s.rest)) (behind (length s.front) (fault k 0)) = from_front s.rest (fault k 0) s.reached (at_fault s.shown) (λ l. s.here (λ e. absurd (omega (arith, l, s.at_is, e)))) in
     rw (← o, s.cut) stops

@@ -7,9 +7,9 @@ use Rattle.std.proofs.lemmas.List.Elements.{All-nil, All-cons, All-head, All-tai
 use native.Mathlib.Nat.{pow-suc}
 use Rattle.zber.specs.AsnTags.{AsnTag, IsTag}
 use Rattle.zber.specs.Elements.{Element, Forest, end, leaf, branch, Primitive, Constructed, prim, cons, elements, forest, one, height_of, height}
-use Rattle.zber.specs.Spelling.{octets_from, Identifier, low, high, Length, short, long, Spells, primitive, definite, indefinite, SpellsAll, none, more}
+use Rattle.zber.specs.Spelling.{octets_from, Identifier, low, high, Length, short, long, IsSpelling, primitive, definite, indefinite, AreSpellings, none, more}
 use Rattle.zber.specs.Canonical.{places, identifier, size, canonical_run, canonical, AreLawful, IsLawful}
-use Rattle.zber.specs.Shortest.{AreOctets, SpellsDefinite, SpellsAllDefinite, primitive as primitive_so, constructed, none as none_so, more as more_so}
+use Rattle.zber.specs.Shortest.{AreOctets, IsDefiniteSpelling, AreDefiniteSpellings, primitive as primitive_so, constructed, none as none_so, more as more_so}
 use Rattle.zber.proofs.CanonicalLemmas.{by_test, size_is, identifier_is}
 use Rattle.zber.proofs.CanonicalSteps.{canonical_before, canonical_cons}
 use Rattle.zber.proofs.OidSpelling.{only_groups}
@@ -132,13 +132,13 @@ cons_least {n} es i l xs id len o few =
       at_most f g = omega arith
 
 mutual
-  pub shortest_spelling : {room : ℕ} {e : Element} {xs : List ℕ} → SpellsDefinite room e xs → AreOctets xs → length (canonical e) ≤ length xs
+  pub shortest_spelling : {room : ℕ} {e : Element} {xs : List ℕ} → IsDefiniteSpelling room e xs → AreOctets xs → length (canonical e) ≤ length xs
   shortest_spelling (primitive_so {i = i} {l = l} {xs = xs} id len) o = prim_least i l xs id len o
   shortest_spelling (constructed {es = es} {i = i} {l = l} {xs = xs} id len all) o =
       let octets = octets_parts l xs (octets_parts i (l ++ xs) o).1 in
       cons_least es i l xs id len octets.0 (shortest_run all octets.1)
 
-  shortest_run : {room : ℕ} {es : List Element} {xs : List ℕ} → SpellsAllDefinite room es xs → AreOctets xs → run_len es ≤ length xs
+  shortest_run : {room : ℕ} {es : List Element} {xs : List ℕ} → AreDefiniteSpellings room es xs → AreOctets xs → run_len es ≤ length xs
   shortest_run none_so o = omega arith
   shortest_run (more_so {e = e} {es = es} {xs = xs} {ys = ys} f fs) o =
       let octets = octets_parts xs ys o in
@@ -161,7 +161,7 @@ contents_small n es h = parts _ _ _ _ (cons_size n es) h where
   parts whole i s m e f = omega arith
 
 mutual
-  pub shortest_within : {room : ℕ} {e : Element} {xs : List ℕ} → Spells room e xs → AreOctets xs → length (canonical e) ≤ 65535 → length (canonical e) ≤ length xs
+  pub shortest_within : {room : ℕ} {e : Element} {xs : List ℕ} → IsSpelling room e xs → AreOctets xs → length (canonical e) ≤ 65535 → length (canonical e) ≤ length xs
   shortest_within (primitive {i = i} {l = l} {xs = xs} id len) o small = prim_least i l xs id len o
   shortest_within (definite {n = n} {es = es} {i = i} {l = l} {xs = xs} id len all) o small =
       let octets = octets_parts l xs (octets_parts i (l ++ xs) o).1 in
@@ -171,7 +171,7 @@ mutual
       let few = contents_small n es small in
       marked_least es i xs id few (within_run all (All-tail (λ y. y < 256) 128 xs rest.0) few)
 
-  within_run : {room : ℕ} {es : List Element} {xs : List ℕ} → SpellsAll room es xs → AreOctets xs → run_len es ≤ 65535 → run_len es ≤ length xs
+  within_run : {room : ℕ} {es : List Element} {xs : List ℕ} → AreSpellings room es xs → AreOctets xs → run_len es ≤ 65535 → run_len es ≤ length xs
   within_run none o small = omega arith
   within_run (more {e = e} {es = es} {xs = xs} {ys = ys} f fs) o small =
       let octets = octets_parts xs ys o in
@@ -180,31 +180,31 @@ mutual
 
 -- ---- spellings with definite lengths
 mutual
-  pub definite_is_spelling : {room : ℕ} {e : Element} {xs : List ℕ} → SpellsDefinite room e xs → Spells room e xs
+  pub definite_is_spelling : {room : ℕ} {e : Element} {xs : List ℕ} → IsDefiniteSpelling room e xs → IsSpelling room e xs
   definite_is_spelling (primitive_so id len) = primitive id len
   definite_is_spelling (constructed id len all) = definite id len (run_is_spelling all)
 
-  run_is_spelling : {room : ℕ} {es : List Element} {xs : List ℕ} → SpellsAllDefinite room es xs → SpellsAll room es xs
+  run_is_spelling : {room : ℕ} {es : List Element} {xs : List ℕ} → AreDefiniteSpellings room es xs → AreSpellings room es xs
   run_is_spelling none_so = none
   run_is_spelling (more_so f fs) = more (definite_is_spelling f) (run_is_spelling fs)
 
-canonical_run_is : (room : ℕ) (f : Forest) → AreLawful f → height_of f ≤ room → SpellsAllDefinite room (elements f) (canonical_run f)
+canonical_run_is : (room : ℕ) (f : Forest) → AreLawful f → height_of f ≤ room → AreDefiniteSpellings room (elements f) (canonical_run f)
 canonical_run_is room end l h = none_so
 canonical_run_is room (leaf n xs rest) l h = more_so (primitive_so (identifier_is n false l.0) (size_is (length xs) l.1)) (canonical_run_is room rest l.2 h)
 canonical_run_is zero (branch n kids rest) l h = absurd (omega arith)
 canonical_run_is (suc room) (branch n kids rest) l h =
-    let inside : SpellsAllDefinite room (elements kids) (canonical_run kids) = canonical_run_is room kids l.2 (omega arith) in
+    let inside : AreDefiniteSpellings room (elements kids) (canonical_run kids) = canonical_run_is room kids l.2 (omega arith) in
     let x : List ℕ = identifier n true ++ (size (length (canonical_run kids)) ++ canonical_run kids) in
-    let whole : SpellsDefinite (suc room) (cons n (elements kids)) x = constructed (identifier_is n true l.0) (size_is (length (canonical_run kids)) l.1) inside in
-    let here : SpellsDefinite (suc room) (Constructed n kids) x = subst (λ f. SpellsDefinite (suc room) (Constructed n f) x) (forest-elements kids) whole in
+    let whole : IsDefiniteSpelling (suc room) (cons n (elements kids)) x = constructed (identifier_is n true l.0) (size_is (length (canonical_run kids)) l.1) inside in
+    let here : IsDefiniteSpelling (suc room) (Constructed n kids) x = subst (λ f. IsDefiniteSpelling (suc room) (Constructed n f) x) (forest-elements kids) whole in
     more_so here (canonical_run_is (suc room) rest l.3 (omega arith))
 
-only_one : {room : ℕ} {e : Element} {xs : List ℕ} → SpellsAllDefinite room (e ∷ []) xs → SpellsDefinite room e xs
-only_one {room} {e} (more_so {xs = xs} f none_so) = subst (SpellsDefinite room e) (sym (append-nil xs)) f
+only_one : {room : ℕ} {e : Element} {xs : List ℕ} → AreDefiniteSpellings room (e ∷ []) xs → IsDefiniteSpelling room e xs
+only_one {room} {e} (more_so {xs = xs} f none_so) = subst (IsDefiniteSpelling room e) (sym (append-nil xs)) f
 
 elements_one : (e : Element) → elements (one e) ≡ e ∷ []
 elements_one (Primitive n xs) = refl
 elements_one (Constructed n f) = refl
 
-pub canonical_is_definite : (room : ℕ) (e : Element) → IsLawful e → height e ≤ room → SpellsDefinite room e (canonical e)
-canonical_is_definite room e l h = only_one (subst (λ es. SpellsAllDefinite room es (canonical e)) (elements_one e) (canonical_run_is room (one e) l h))
+pub canonical_is_definite : (room : ℕ) (e : Element) → IsLawful e → height e ≤ room → IsDefiniteSpelling room e (canonical e)
+canonical_is_definite room e l h = only_one (subst (λ es. AreDefiniteSpellings room es (canonical e)) (elements_one e) (canonical_run_is room (one e) l h))

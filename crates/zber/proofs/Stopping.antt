@@ -4,8 +4,8 @@ use Rattle.zber.specs.declared.fault.FaultKind.{FaultKind}
 use Rattle.zber.specs.declared.fault.HeaderPlace.{HeaderPlace}
 use Rattle.zber.specs.AsnTags.{AsnTag}
 use Rattle.zber.specs.Elements.{Element}
-use Rattle.zber.specs.Spelling.{Spells}
-use Rattle.zber.specs.Headers.{IsFront, Header, HeaderShows}
+use Rattle.zber.specs.Spelling.{IsSpelling}
+use Rattle.zber.specs.Headers.{IsFront, Header, HasHeaderFault}
 use Rattle.zber.specs.Paths.{within_size, within_mark, after, IsHere}
 
 pub data Outcome : Type 0 where
@@ -27,15 +27,15 @@ behind-zero lack = refl
 
 -- Octets that begin at a header stop: in the header, in primitive contents, or inside, behind whole elements.
 mutual
-  pub data Stops : HeaderPlace → List ℕ → Outcome → Type 0 where
-    at_fault : {p : HeaderPlace} {xs : List ℕ} {k : FaultKind} → HeaderShows p xs k → Stops p xs (fault k 0)
-    at_front : {p : HeaderPlace} {xs : List ℕ} → IsFront p.marked xs → length xs < p.size → Stops p xs lack
-    in_octets : {p : HeaderPlace} {n : AsnTag} {size : ℕ} {h : List ℕ} (xs : List ℕ) → Header n false (Some size) h → length h + size ≤ p.size → length xs < size → Stops p (h ++ xs) lack
+  pub data IsStopAt : HeaderPlace → List ℕ → Outcome → Type 0 where
+    at_fault : {p : HeaderPlace} {xs : List ℕ} {k : FaultKind} → HasHeaderFault p xs k → IsStopAt p xs (fault k 0)
+    at_front : {p : HeaderPlace} {xs : List ℕ} → IsFront p.marked xs → length xs < p.size → IsStopAt p xs lack
+    in_octets : {p : HeaderPlace} {n : AsnTag} {size : ℕ} {h : List ℕ} (xs : List ℕ) → Header n false (Some size) h → length h + size ≤ p.size → length xs < size → IsStopAt p (h ++ xs) lack
     in_definite : {p : HeaderPlace} {n : AsnTag} {size room : ℕ} {h : List ℕ} {o : Outcome} (xs : List ℕ) → Header n true (Some size) h → length h + size ≤ p.size → p.room ≡ suc room
-        → StopsInside (within_size size room) (take size xs) o → Stops p (h ++ xs) (behind (length h) o)
+        → IsInnerStopAt (within_size size room) (take size xs) o → IsStopAt p (h ++ xs) (behind (length h) o)
     in_indefinite : {p : HeaderPlace} {n : AsnTag} {room : ℕ} {h xs : List ℕ} {o : Outcome} → Header n true None h → p.room ≡ suc room
-        → StopsInside (within_mark p (length h) room) xs o → Stops p (h ++ xs) (behind (length h) o)
+        → IsInnerStopAt (within_mark p (length h) room) xs o → IsStopAt p (h ++ xs) (behind (length h) o)
 
-  pub data StopsInside : HeaderPlace → List ℕ → Outcome → Type 0 where
-    next : {p : HeaderPlace} {xs : List ℕ} {o : Outcome} → IsHere p → Stops p xs o → StopsInside p xs o
-    later : {p : HeaderPlace} {e : Element} {xs ys : List ℕ} {o : Outcome} → Spells p.room e xs → length xs ≤ p.size → StopsInside (after p (length xs)) ys o → StopsInside p (xs ++ ys) (behind (length xs) o)
+  pub data IsInnerStopAt : HeaderPlace → List ℕ → Outcome → Type 0 where
+    next : {p : HeaderPlace} {xs : List ℕ} {o : Outcome} → IsHere p → IsStopAt p xs o → IsInnerStopAt p xs o
+    later : {p : HeaderPlace} {e : Element} {xs ys : List ℕ} {o : Outcome} → IsSpelling p.room e xs → length xs ≤ p.size → IsInnerStopAt (after p (length xs)) ys o → IsInnerStopAt p (xs ++ ys) (behind (length xs) o)

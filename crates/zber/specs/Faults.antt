@@ -3,13 +3,13 @@ use Rattle.std.specs.Prelude.{ℕ, List, codes}
 use Rattle.zber.specs.declared.fault.FaultKind.{FaultKind}
 use Rattle.zber.specs.declared.fault.FaultKind.TheVariants as kind
 
-abbrev pub kind_word : FaultKind → List ℕ
-kind_word kind.TagForm = codes "TagForm"
-kind_word kind.TagTooLarge = codes "TagTooLarge"
-kind_word kind.StrayEnd = codes "StrayEnd"
-kind_word kind.LengthForm = codes "LengthForm"
-kind_word kind.IndefinitePrimitive = codes "IndefinitePrimitive"
-kind_word kind.Overrun = codes "Overrun"
-kind_word kind.TooLong = codes "TooLong"
-kind_word kind.TooDeep = codes "TooDeep"
-kind_word kind.Truncated = codes "Truncated"
+abbrev pub fault_kind_name : FaultKind → List ℕ
+fault_kind_name kind.TagForm = codes "TagForm"
+fault_kind_name kind.TagTooLarge = codes "TagTooLarge"
+fault_kind_name kind.StrayEnd = codes "StrayEnd"
+fault_kind_name kind.LengthForm = codes "LengthForm"
+fault_kind_name kind.IndefinitePrimitive = codes "IndefinitePrimitive"
+fault_kind_name kind.Overrun = codes "Overrun"
+fault_kind_name kind.TooLong = codes "TooLong"
+fault_kind_name kind.TooDeep = codes "TooDeep"
+fault_kind_name kind.Truncated = codes "Truncated"

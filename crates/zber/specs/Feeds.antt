@@ -5,14 +5,14 @@ use Rattle.zber.specs.declared.scan.Scan.{Scan}
 use Rattle.zber.specs.declared.scan.Reading.TheVariants.{Whole}
 use Rattle.zber.specs.declared.scan.Found.{Found}
 use Rattle.zber.specs.declared.scan.Found.TheVariants.{Message, Front, Fault}
-use Rattle.zber.specs.Shown.{Shows}
+use Rattle.zber.specs.Shown.{HasFault}
 use Rattle.zber.specs.Unfinished.{IsUnfinished}
-use Rattle.zber.specs.Scans.{Holds}
+use Rattle.zber.specs.Scans.{IsScanned}
 use Rattle.zber.specs.Moves.{pos}
 
 -- The scan covers these octets. Either nothing is cut off, or the message is whole and cut off where the scan is.
 pub record IsFed (limit : ℕ) (message octets : List ℕ) (s : Scan) : Type 0 where
-  pub holds : Holds limit (message ++ octets) s
+  pub holds : IsScanned limit (message ++ octets) s
   pub cut : (message ≡ []) ⊎ ((s.reading ≡ Whole) × (s.at ≡ length message))
 
 -- the message is whole, and cut off where the scan is
@@ -23,7 +23,7 @@ IsCut limit message octets s = IsFed limit message octets s × (s.reading ≡ Wh
 abbrev pub IsFound : ℕ → List ℕ → List ℕ → Scan → Found → Type 0
 IsFound limit message octets s Message = IsCut limit message octets s
 IsFound limit message octets s Front = IsFed limit message octets s × IsUnfinished limit (message ++ octets)
-IsFound limit message octets s (Fault k) = Shows limit (message ++ octets) k s.at
+IsFound limit message octets s (Fault k) = HasFault limit (message ++ octets) k s.at
 
 -- The counts of a framer that holds `size` octets. They add up unless there is a fault or `fed` has stopped.
 pub record IsCounted (size : ℕ) (s : Scan) (fault : Option (FaultKind × ℕ)) (examined fed skipped : ℕ) : Type 0 where

@@ -4,7 +4,7 @@ use Rattle.zber.specs.declared.fault.FaultKind.TheVariants as kind
 use Rattle.zber.specs.declared.fault.HeaderPlace.{HeaderPlace}
 use Rattle.zber.specs.AsnTags.{AsnTag}
 use Rattle.zber.specs.Elements.{Element}
-use Rattle.zber.specs.Spelling.{SpellsAll, deepest}
+use Rattle.zber.specs.Spelling.{AreSpellings, deepest}
 use Rattle.zber.specs.Headers.{Header}
 
 -- the place where a message begins
@@ -24,19 +24,19 @@ abbrev pub after : HeaderPlace → ℕ → HeaderPlace
 after p n = record { size = p.size - n; past = p.past; marked = p.marked; room = p.room }
 
 -- at the place, this lawful header opens an element, and the first place inside it is this one
-pub data Opens (p : HeaderPlace) (n : AsnTag) : List ℕ → HeaderPlace → Type 0 where
+pub data IsOpening (p : HeaderPlace) (n : AsnTag) : List ℕ → HeaderPlace → Type 0 where
   definite : {size room : ℕ} {h : List ℕ}
-      → Header n true (Some size) h → length h + size ≤ p.size → p.room ≡ suc room → Opens p n h (within_size size room)
+      → Header n true (Some size) h → length h + size ≤ p.size → p.room ≡ suc room → IsOpening p n h (within_size size room)
   indefinite : {room : ℕ} {h : List ℕ}
-      → Header n true None h → length h ≤ p.size → p.room ≡ suc room → Opens p n h (within_mark p (length h) room)
+      → Header n true None h → length h ≤ p.size → p.room ≡ suc room → IsOpening p n h (within_mark p (length h) room)
 
 -- The octets lead to the place. They are the headers of the open elements, each followed by the whole elements within
 -- it so far.
-pub data Reached (limit : ℕ) : List ℕ → HeaderPlace → Type 0 where
-  top : Reached limit [] (start limit)
+pub data IsPathTo (limit : ℕ) : List ℕ → HeaderPlace → Type 0 where
+  top : IsPathTo limit [] (start limit)
   inside : {p q : HeaderPlace} {n : AsnTag} {es : List Element} {xs h ys : List ℕ}
-      → Reached limit xs p → Opens p n h q → SpellsAll q.room es ys → length ys ≤ q.size
-      → Reached limit (xs ++ (h ++ ys)) (after q (length ys))
+      → IsPathTo limit xs p → IsOpening p n h q → AreSpellings q.room es ys → length ys ≤ q.size
+      → IsPathTo limit (xs ++ (h ++ ys)) (after q (length ys))
 
 -- there can be a header at the place: its element is not at its end
 abbrev pub IsHere : HeaderPlace → Type 0

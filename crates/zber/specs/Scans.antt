@@ -12,10 +12,10 @@ use Rattle.zber.specs.declared.scan.Scan.{Scan}
 use Rattle.zber.specs.AsnTags.{AsnTag}
 use Rattle.zber.specs.declared.front.Front.TheVariants.{Nothing}
 use Rattle.zber.specs.Elements.{Element, forest, prim, cons, contents_in}
-use Rattle.zber.specs.Spelling.{SpellsAll, IsMessage}
+use Rattle.zber.specs.Spelling.{AreSpellings, IsMessage}
 use Rattle.zber.specs.Headers.{Header}
-use Rattle.zber.specs.Fronts.{FrontIs}
-use Rattle.zber.specs.Paths.{start, after, Opens}
+use Rattle.zber.specs.Fronts.{IsHeaderFrontOf}
+use Rattle.zber.specs.Paths.{start, after, IsOpening}
 
 -- From the first elements, the list of finished elements makes the second ones. Contents are a range of the octets.
 -- Children are all elements so far but the first `behind`.
@@ -29,7 +29,7 @@ pub data IsAssembly (xs : List ℕ) : List Element → List Finished → List El
       → IsAssembly xs es (Cons n behind ∷ fs) ds
 
 -- the window is that of the place, which is `at` octets from the start
-pub record WindowIs (w : Window) (at : ℕ) (p : HeaderPlace) : Type 0 where
+pub record IsWindowOf (w : Window) (at : ℕ) (p : HeaderPlace) : Type 0 where
   pub end_is : w.end ≡ at + p.size
   pub past_is : w.past ≡ p.past
   pub marked_is : w.marked ≡ p.marked
@@ -38,15 +38,15 @@ pub record WindowIs (w : Window) (at : ℕ) (p : HeaderPlace) : Type 0 where
 pub data Path (limit : ℕ) : List Open → List ℕ → List Element → HeaderPlace → Type 0 where
   top : Path limit [] [] [] (start limit)
   inside : {o : Open} {os : List Open} {xs h ys : List ℕ} {es fs : List Element} {p q : HeaderPlace}
-      → Path limit os xs es p → WindowIs o.outer (length xs) p → o.behind ≡ length es
-      → Opens p o.tag h q → SpellsAll q.room fs ys → length ys ≤ q.size
+      → Path limit os xs es p → IsWindowOf o.outer (length xs) p → o.behind ≡ length es
+      → IsOpening p o.tag h q → AreSpellings q.room fs ys → length ys ≤ q.size
       → Path limit (os ++ o ∷ []) (xs ++ (h ++ ys)) (es ++ fs) (after q (length ys))
 
 -- The scan is at this place, and these elements are finished.
-pub record Going (limit : ℕ) (xs : List ℕ) (s : Scan) (es : List Element) (p : HeaderPlace) : Type 0 where
+pub record ScanPlace (limit : ℕ) (xs : List ℕ) (s : Scan) (es : List Element) (p : HeaderPlace) : Type 0 where
   pub within : s.at ≤ length xs
   pub path : Path limit s.opened.items (take s.at xs) es p
-  pub window : WindowIs s.window s.at p
+  pub window : IsWindowOf s.window s.at p
   pub assembled : IsAssembly (take s.at xs) [] s.finished.items es
   pub count : s.count ≡ length es
   pub contents : s.contents ≡ contents_in (forest es)
@@ -59,16 +59,16 @@ len_of End = 2
 len_of Whole = 0
 
 -- these octets at the place are what was read
-abbrev pub ReadingIs : HeaderPlace → List ℕ → Reading → Type 0
-ReadingIs p hs (Front front len) = (len ≡ length hs) × FrontIs p.marked front hs × (len ≤ p.size)
-ReadingIs p hs (Head n c size len) =
+abbrev pub IsReadingOf : HeaderPlace → List ℕ → Reading → Type 0
+IsReadingOf p hs (Front front len) = (len ≡ length hs) × IsHeaderFrontOf p.marked front hs × (len ≤ p.size)
+IsReadingOf p hs (Head n c size len) =
     (len ≡ length hs)
     × Header n c size hs
     × (len ≤ p.size)
     × IfSome size (λ z. len + z ≤ p.size)
     × (c ≡ true → 0 < p.room)
-ReadingIs p hs End = (p.marked ≡ true) × (hs ≡ 0 ∷ 0 ∷ []) × (2 ≤ p.size)
-ReadingIs p hs Whole = ⊥
+IsReadingOf p hs End = (p.marked ≡ true) × (hs ≡ 0 ∷ 0 ∷ []) × (2 ≤ p.size)
+IsReadingOf p hs Whole = ⊥
 
 -- the scan has this whole message
 pub record IsWhole (limit : ℕ) (xs : List ℕ) (s : Scan) (e : Element) : Type 0 where
@@ -82,9 +82,9 @@ pub record IsWhole (limit : ℕ) (xs : List ℕ) (s : Scan) (e : Element) : Type
 pub record IsGoing (limit : ℕ) (xs : List ℕ) (s : Scan) (r : Reading) : Type 0 where
   pub es : List Element
   pub place : HeaderPlace
-  pub going : Going limit xs s es place
+  pub going : ScanPlace limit xs s es place
   pub looked : s.at + len_of r ≤ length xs
-  pub reading : ReadingIs place (take (len_of r) (drop s.at xs)) r
+  pub reading : IsReadingOf place (take (len_of r) (drop s.at xs)) r
 
 -- what was read after a finished element, if so many others are open
 abbrev pub behind_reading : ℕ → Reading
@@ -97,7 +97,7 @@ inner_window w at (Some size) = record { end = at + size; past = kind.Overrun; m
 inner_window w at None = record { end = w.end; past = w.past; marked = true }
 
 -- the scans are the same, apart from the capacity of their vectors
-pub record Same (s t : Scan) : Type 0 where
+pub record SameScan (s t : Scan) : Type 0 where
   pub at : s.at ≡ t.at
   pub window : s.window ≡ t.window
   pub reading : s.reading ≡ t.reading
@@ -107,19 +107,19 @@ pub record Same (s t : Scan) : Type 0 where
   pub contents : s.contents ≡ t.contents
 
 -- before `pass`: a whole header is at the place, and its contents have come
-pub record IsPassed (limit : ℕ) (xs : List ℕ) (s : Scan) (n : AsnTag) (len size : ℕ) : Type 0 where
+pub record BeforePass (limit : ℕ) (xs : List ℕ) (s : Scan) (n : AsnTag) (len size : ℕ) : Type 0 where
   pub es : List Element
   pub place : HeaderPlace
-  pub going : Going limit xs s es place
+  pub going : ScanPlace limit xs s es place
   pub header : Header n false (Some size) (take len (drop s.at xs))
   pub fits : len + size ≤ place.size
   pub come : s.at + len + size ≤ length xs
 
 -- before `enter`: an element opens at the place
-pub record IsEntered (limit : ℕ) (xs : List ℕ) (s : Scan) (n : AsnTag) (size : Option ℕ) (len : ℕ) : Type 0 where
+pub record BeforeEnter (limit : ℕ) (xs : List ℕ) (s : Scan) (n : AsnTag) (size : Option ℕ) (len : ℕ) : Type 0 where
   pub es : List Element
   pub place : HeaderPlace
-  pub going : Going limit xs s es place
+  pub going : ScanPlace limit xs s es place
   pub header : Header n true size (take len (drop s.at xs))
   pub fits : IfSome size (λ z. len + z ≤ place.size)
   pub within : len ≤ place.size
@@ -127,28 +127,28 @@ pub record IsEntered (limit : ℕ) (xs : List ℕ) (s : Scan) (n : AsnTag) (size
   pub come : s.at + len ≤ length xs
 
 -- an element ends at the place, and its end has `len` octets: its length ends it, or the end-of-contents octets do
-abbrev pub EndsBySize : HeaderPlace → ℕ → Type 0
-EndsBySize p len = (len ≡ 0) × (p.marked ≡ false) × (p.size ≡ 0)
+abbrev pub IsEndBySize : HeaderPlace → ℕ → Type 0
+IsEndBySize p len = (len ≡ 0) × (p.marked ≡ false) × (p.size ≡ 0)
 
-abbrev pub EndsByMark : HeaderPlace → ℕ → List ℕ → Type 0
-EndsByMark p len ys = (len ≡ 2) × (p.marked ≡ true) × (2 ≤ p.size) × (take 2 ys ≡ 0 ∷ 0 ∷ [])
+abbrev pub IsEndByMark : HeaderPlace → ℕ → List ℕ → Type 0
+IsEndByMark p len ys = (len ≡ 2) × (p.marked ≡ true) × (2 ≤ p.size) × (take 2 ys ≡ 0 ∷ 0 ∷ [])
 
 -- before `close`: the innermost open element ends here, and its end has `len` octets
-pub record IsClosed (limit : ℕ) (xs : List ℕ) (s : Scan) (len : ℕ) : Type 0 where
+pub record BeforeClose (limit : ℕ) (xs : List ℕ) (s : Scan) (len : ℕ) : Type 0 where
   pub es : List Element
   pub place : HeaderPlace
-  pub going : Going limit xs s es place
+  pub going : ScanPlace limit xs s es place
   pub some_open : 0 < length s.opened.items
   pub come : s.at + len ≤ length xs
-  pub end_is : EndsBySize place len ⊎ EndsByMark place len (drop s.at xs)
+  pub end_is : IsEndBySize place len ⊎ IsEndByMark place len (drop s.at xs)
 
 -- the scan covers the octets, and has read this of the next header
-abbrev pub HoldsBy : ℕ → List ℕ → Scan → Reading → Type 0
-HoldsBy limit xs s (Front front len) = IsGoing limit xs s (Front front len)
-HoldsBy limit xs s (Head n c size len) = IsGoing limit xs s (Head n c size len)
-HoldsBy limit xs s End = IsGoing limit xs s End
-HoldsBy limit xs s Whole = (e : Element) × IsWhole limit xs s e
+abbrev pub IsScannedAs : ℕ → List ℕ → Scan → Reading → Type 0
+IsScannedAs limit xs s (Front front len) = IsGoing limit xs s (Front front len)
+IsScannedAs limit xs s (Head n c size len) = IsGoing limit xs s (Head n c size len)
+IsScannedAs limit xs s End = IsGoing limit xs s End
+IsScannedAs limit xs s Whole = (e : Element) × IsWhole limit xs s e
 
 -- the scan is what looking at these octets made
-abbrev pub Holds : ℕ → List ℕ → Scan → Type 0
-Holds limit xs s = HoldsBy limit xs s s.reading
+abbrev pub IsScanned : ℕ → List ℕ → Scan → Type 0
+IsScanned limit xs s = IsScannedAs limit xs s s.reading

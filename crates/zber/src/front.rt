@@ -1,7 +1,7 @@
 //! The front of a header, read octet by octet.
 ghost use Rattle.std.specs.Prelude.{◌≡◌, ◌≢◌, ◌⊎◌, ◌≤◌, true, false, ◌+◌, length, ◌<◌, ◌++◌, ◌∷◌, [], List, ℕ, Bool};
 ghost use Rattle.zber.specs.Spelling.{lead, Identifier};
-ghost use Rattle.zber.specs.Fronts.{Formed, SizeFront, FrontIs, StepIs};
+ghost use Rattle.zber.specs.Fronts.{GroupsFront, SizeFront, IsHeaderFrontOf, IsStepOf};
 
 use crate::fault::FaultKind;
 use crate::tag::{Class, Tag};
@@ -59,7 +59,7 @@ fn parts(x: u8) -> (Class, bool, u8)
 }
 
 fn first_octet(marked: bool, x: u8) -> Step
-    ensures { StepIs marked (x ∷ []) result }
+    ensures { IsStepOf marked (x ∷ []) result }
 {
     let (class, constructed, low) = parts(x);
     if low == 31 {
@@ -83,7 +83,7 @@ fn first_octet(marked: bool, x: u8) -> Step
 
 /// Whether a first group of a tag number is idle, or is the whole of a number below 31, which belongs in the low five
 /// bits.
-fn begins_badly(number: u32, x: u8) -> bool
+fn is_bad_group_start(number: u32, x: u8) -> bool
     ensures yes { result ≡ true → (number ≡ 0) × ((x ≡ 128) ⊎ (x < 31)) }
     ensures no { result ≡ false → number ≡ 0 → (x ≢ 128) × (31 ≤ x) }
 {
@@ -92,9 +92,9 @@ fn begins_badly(number: u32, x: u8) -> bool
 
 fn group(class: Class, constructed: bool, number: u32, x: u8) -> Step
     ensures { (marked : Bool) (xs : List ℕ)
-        → Formed xs number → StepIs marked (lead class constructed 31 ∷ (xs ++ x ∷ [])) result }
+        → GroupsFront xs number → IsStepOf marked (lead class constructed 31 ∷ (xs ++ x ∷ [])) result }
 {
-    if begins_badly(number, x) {
+    if is_bad_group_start(number, x) {
         return Step::Bad(FaultKind::TagForm);
     }
     let number = u64::from(number) * 128 + u64::from(x % 128);
@@ -116,7 +116,7 @@ fn group(class: Class, constructed: bool, number: u32, x: u8) -> Step
 }
 
 fn length_octet(tag: Tag, constructed: bool, x: u8) -> Step
-    ensures { (marked : Bool) (i : List ℕ) → Identifier tag constructed i → StepIs marked (i ++ x ∷ []) result }
+    ensures { (marked : Bool) (i : List ℕ) → Identifier tag constructed i → IsStepOf marked (i ++ x ∷ []) result }
 {
     if x < 128 {
         return Step::Whole {
@@ -150,7 +150,7 @@ fn size_octet(tag: Tag, constructed: bool, left: usize, size: usize, x: u8) -> S
     requires { (xs : List ℕ) × SizeFront xs left size }
     ensures { (marked : Bool) (i xs : List ℕ)
         → Identifier tag constructed i → SizeFront xs left size
-        → StepIs marked (i ++ (128 + (length xs + left)) ∷ (xs ++ x ∷ [])) result }
+        → IsStepOf marked (i ++ (128 + (length xs + left)) ∷ (xs ++ x ∷ [])) result }
 {
     let size = size * 256 + usize::from(x);
     if left == 1 {
@@ -171,8 +171,8 @@ fn size_octet(tag: Tag, constructed: bool, left: usize, size: usize, x: u8) -> S
 /// Returns what the next octet makes of the front of a header.
 #[inline(always)]
 pub(crate) fn advance(front: Front, marked: bool, x: u8) -> Step
-    requires { (xs : List ℕ) × FrontIs marked front xs }
-    ensures { (xs : List ℕ) → FrontIs marked front xs → StepIs marked (xs ++ x ∷ []) result }
+    requires { (xs : List ℕ) × IsHeaderFrontOf marked front xs }
+    ensures { (xs : List ℕ) → IsHeaderFrontOf marked front xs → IsStepOf marked (xs ++ x ∷ []) result }
 {
     match front {
         Front::Nothing => first_octet(marked, x),

@@ -2,13 +2,13 @@
 ghost use Rattle.std.specs.Prelude.{◌≡◌, ◌≢◌, ◌+◌, ◌-◌, ◌<◌, ◌≤◌, ◌^◌, ◌++◌, ◌∷◌, [], List, ℕ, Bool, true, false, length, take, drop, get_or, min, IfOk, IfErr, OnOk, OnErr, IfSome, Ok, Err, IsTrue, ◌↔◌};
 ghost use Rattle.zber.specs.Elements.{Element};
 ghost use Rattle.zber.specs.declared.fault.HeaderPlace.{HeaderPlace};
-ghost use Rattle.zber.specs.Headers.{Header, HeaderShows};
-ghost use Rattle.zber.specs.Fronts.{FrontIs};
+ghost use Rattle.zber.specs.Headers.{Header, HasHeaderFault};
+ghost use Rattle.zber.specs.Fronts.{IsHeaderFrontOf};
 ghost use Rattle.zber.specs.declared.scan.Reading.TheVariants.{Head, Whole, Front as AtFront};
-ghost use Rattle.zber.specs.Shown.{Shows};
-ghost use Rattle.zber.specs.Counts.{Looked, IsQuiet, Counts, CountsAtFault, MoveCounts, FoundCounts};
-ghost use Rattle.zber.specs.Moves.{MoveIs, FoundIs, WentOn, StandsAt, pos};
-ghost use Rattle.zber.specs.Scans.{Going, IsGoing, Holds, ReadingIs, behind_reading, inner_window, IsPassed, IsEntered, IsClosed, Same};
+ghost use Rattle.zber.specs.Shown.{HasFault};
+ghost use Rattle.zber.specs.Counts.{ScanProgress, IsQuiet, ScanCounts, CountsAtFault, MoveCounts, FoundCounts};
+ghost use Rattle.zber.specs.Moves.{AfterMove, AfterScan, AfterLookOn, HasPosition, pos};
+ghost use Rattle.zber.specs.Scans.{ScanPlace, IsGoing, IsScanned, IsReadingOf, behind_reading, inner_window, BeforePass, BeforeEnter, BeforeClose, SameScan};
 
 use crate::fault::{FaultKind, HeaderPlace};
 use crate::front::{Front, Step, advance};
@@ -109,11 +109,11 @@ fn examine(octets: &[u8], at: usize, examined: &mut u64) -> u8
 /// Returns what the next octet makes of a header, or the fault that it shows.
 #[inline(always)]
 fn look(front: Front, len: usize, place: HeaderPlace, x: u8) -> Result<Reading, FaultKind>
-    requires { (xs : List ℕ) × FrontIs place.marked front xs × (len ≡ length xs) × (len < place.size) }
+    requires { (xs : List ℕ) × IsHeaderFrontOf place.marked front xs × (len ≡ length xs) × (len < place.size) }
     ensures goes { IfOk result (λ r. (xs : List ℕ)
-        → FrontIs place.marked front xs → len ≡ length xs → ReadingIs place (xs ++ x ∷ []) r) }
+        → IsHeaderFrontOf place.marked front xs → len ≡ length xs → IsReadingOf place (xs ++ x ∷ []) r) }
     ensures fault { IfErr result (λ k. (xs rest : List ℕ)
-        → FrontIs place.marked front xs → len ≡ length xs → HeaderShows place ((xs ++ x ∷ []) ++ rest) k) }
+        → IsHeaderFrontOf place.marked front xs → len ≡ length xs → HasHeaderFault place ((xs ++ x ∷ []) ++ rest) k) }
 {
     let len = len + 1;
     match advance(front, place.marked, x) {
@@ -186,7 +186,7 @@ fn inner(outer: Window, at: usize, size: Option<usize>) -> Window
 impl Scan {
     /// Makes the scan of a message of at most `limit` octets, before its first octet. It takes no memory.
     pub fn new(alloc: Global, limit: u32) -> Scan
-        ensures holds { (xs : List ℕ) → Holds limit xs result }
+        ensures holds { (xs : List ℕ) → IsScanned limit xs result }
         ensures begins { (pos result ≡ 0) × (result.contents ≡ 0) }
     {
         Scan {
@@ -217,7 +217,7 @@ impl Scan {
     /// Starts again, at the next message.
     pub fn restart(&mut self, limit: u32)
         requires { self.old.opened.items ≡ [] }
-        ensures holds { (xs : List ℕ) → Holds limit xs self.new }
+        ensures holds { (xs : List ℕ) → IsScanned limit xs self.new }
         ensures begins { (pos self.new ≡ 0) × (self.new.contents ≡ 0) }
     {
         self.window = Window {
@@ -240,7 +240,7 @@ impl Scan {
         requires end { self.now.at ≤ self.now.window.end }
         requires few { length self.now.opened.items ≤ 64 }
         ensures { (limit : ℕ) (xs : List ℕ) (es : List Element) (p : HeaderPlace)
-            → Going limit xs self.now es p → result ≡ p }
+            → ScanPlace limit xs self.now es p → result ≡ p }
     {
         HeaderPlace {
             size: self.window.end - self.at,
@@ -253,12 +253,12 @@ impl Scan {
     /// Finishes the innermost open element, whose end takes `len` octets. Returns an error if no memory is found; the
     /// scan is the same.
     fn close(&mut self, len: usize) -> Result<(), AllocError>
-        requires { (limit : ℕ) × (xs : List ℕ) × IsClosed limit xs self.old len × (length xs < 2 ^ 64) }
+        requires { (limit : ℕ) × (xs : List ℕ) × BeforeClose limit xs self.old len × (length xs < 2 ^ 64) }
         ensures ok { OnOk result ((limit : ℕ) (xs : List ℕ)
-            → IsClosed limit xs self.old len → Holds limit xs self.new) }
+            → BeforeClose limit xs self.old len → IsScanned limit xs self.new) }
         ensures stands { OnOk result
-            (StandsAt self.new (self.old.at + len) self.old.contents (length self.old.opened.items - 1)) }
-        ensures err { OnErr result (Same self.old self.new) }
+            (HasPosition self.new (self.old.at + len) self.old.contents (length self.old.opened.items - 1)) }
+        ensures err { OnErr result (SameScan self.old self.new) }
     {
         self.finished.reserve(1)?;
         let Some(open) = self.opened.pop() else {
@@ -278,12 +278,12 @@ impl Scan {
     /// Goes past a primitive element: its header of `len` octets and its contents of `size` octets. Returns an error if
     /// no memory is found; the scan is the same.
     fn pass(&mut self, tag: Tag, len: usize, size: usize) -> Result<(), AllocError>
-        requires { (limit : ℕ) × (xs : List ℕ) × IsPassed limit xs self.old tag len size × (length xs < 2 ^ 64) }
+        requires { (limit : ℕ) × (xs : List ℕ) × BeforePass limit xs self.old tag len size × (length xs < 2 ^ 64) }
         ensures ok { OnOk result ((limit : ℕ) (xs : List ℕ)
-            → IsPassed limit xs self.old tag len size → Holds limit xs self.new) }
+            → BeforePass limit xs self.old tag len size → IsScanned limit xs self.new) }
         ensures stands { OnOk result
-            (StandsAt self.new (self.old.at + (len + size)) (self.old.contents + size) (length self.old.opened.items)) }
-        ensures err { OnErr result (Same self.old self.new) }
+            (HasPosition self.new (self.old.at + (len + size)) (self.old.contents + size) (length self.old.opened.items)) }
+        ensures err { OnErr result (SameScan self.old self.new) }
     {
         self.finished.push(Finished::Prim {
             tag,
@@ -302,14 +302,14 @@ impl Scan {
     fn enter(&mut self, tag: Tag, size: Option<usize>, len: usize) -> Result<(), AllocError>
         requires { (limit : ℕ)
             × (xs : List ℕ)
-            × IsEntered limit xs self.old tag size len
+            × BeforeEnter limit xs self.old tag size len
             × (limit < 2 ^ 32)
             × (length xs < 2 ^ 64) }
         ensures ok { OnOk result ((limit : ℕ) (xs : List ℕ)
-            → IsEntered limit xs self.old tag size len → Holds limit xs self.new) }
+            → BeforeEnter limit xs self.old tag size len → IsScanned limit xs self.new) }
         ensures stands { OnOk result
-            (StandsAt self.new (self.old.at + len) self.old.contents (length self.old.opened.items + 1)) }
-        ensures err { OnErr result (Same self.old self.new) }
+            (HasPosition self.new (self.old.at + len) self.old.contents (length self.old.opened.items + 1)) }
+        ensures err { OnErr result (SameScan self.old self.new) }
     {
         self.opened.push(Open {
             tag,
@@ -340,9 +340,9 @@ impl Scan {
         requires reads { self.old.reading ≡ Head tag constructed size len }
         ensures ok { IfOk result (λ m. (limit : ℕ)
             → IsGoing limit octets.now self.old (Head tag constructed size len)
-            → MoveIs limit octets.now self.old self.new m) }
-        ensures err { OnErr result (Same self.old self.new) }
-        ensures quiet { IfOk result (λ m. (Looked 0 self.old self.new) × IsQuiet m) }
+            → AfterMove limit octets.now self.old self.new m) }
+        ensures err { OnErr result (SameScan self.old self.new) }
+        ensures quiet { IfOk result (λ m. (ScanProgress 0 self.old self.new) × IsQuiet m) }
     {
         if constructed {
             self.enter(tag, size, len)?;
@@ -358,12 +358,12 @@ impl Scan {
 
     /// If the next octet is the first of a length and has come, looks at it. Otherwise changes nothing.
     fn look_on(&mut self, octets: &[u8], examined: &mut u64) -> Result<(), FaultKind>
-        requires holds { (limit : ℕ) × Holds limit octets.now self.old × (limit < 2 ^ 32) }
-        ensures ok { OnOk result ((limit : ℕ) → Holds limit octets.now self.old
-            → WentOn limit octets.now self.old self.new) }
-        ensures fault { IfErr result (λ k. (limit : ℕ) → Holds limit octets.now self.old
-            → Shows limit octets.now k self.new.at) }
-        ensures counts { OnOk result (Counts self.old self.new examined.old examined.new) }
+        requires holds { (limit : ℕ) × IsScanned limit octets.now self.old × (limit < 2 ^ 32) }
+        ensures ok { OnOk result ((limit : ℕ) → IsScanned limit octets.now self.old
+            → AfterLookOn limit octets.now self.old self.new) }
+        ensures fault { IfErr result (λ k. (limit : ℕ) → IsScanned limit octets.now self.old
+            → HasFault limit octets.now k self.new.at) }
+        ensures counts { OnOk result (ScanCounts self.old self.new examined.old examined.new) }
         ensures at_fault { OnErr result
             (CountsAtFault (length octets.now) self.old examined.old examined.new) }
     {
@@ -402,8 +402,8 @@ impl Scan {
         requires some { 0 < length octets.now }
         // the step
         ensures ok { IfOk result (λ m. (limit : ℕ)
-            → IsGoing limit octets.now self.old (AtFront front len) → MoveIs limit octets.now self.old self.new m) }
-        ensures err { OnErr result (Same self.old self.new) }
+            → IsGoing limit octets.now self.old (AtFront front len) → AfterMove limit octets.now self.old self.new m) }
+        ensures err { OnErr result (SameScan self.old self.new) }
         // how many octets were examined
         ensures counts { IfOk result
             (λ m. MoveCounts (length octets.now) self.old self.new examined.old examined.new m) }
@@ -436,13 +436,13 @@ impl Scan {
     /// Takes one step. Returns an error if no memory is found; the scan is the same.
     fn go(&mut self, octets: &[u8], examined: &mut u64) -> Result<Move, AllocError>
         // where the scan is
-        requires holds { (limit : ℕ) × Holds limit octets.now self.old × (limit < 2 ^ 32) }
+        requires holds { (limit : ℕ) × IsScanned limit octets.now self.old × (limit < 2 ^ 32) }
         requires some { 0 < length octets.now }
         requires going { self.old.reading ≢ Whole }
         // the step
         ensures ok { IfOk result (λ m. (limit : ℕ)
-            → Holds limit octets.now self.old → MoveIs limit octets.now self.old self.new m) }
-        ensures err { OnErr result (Same self.old self.new) }
+            → IsScanned limit octets.now self.old → AfterMove limit octets.now self.old self.new m) }
+        ensures err { OnErr result (SameScan self.old self.new) }
         // how many octets were examined
         ensures counts { IfOk result
             (λ m. MoveCounts (length octets.now) self.old self.new examined.old examined.new m) }
@@ -470,16 +470,16 @@ impl Scan {
     /// Returns an error if no memory is found. The scan keeps its progress.
     pub fn scan(&mut self, octets: &[u8], examined: &mut u64) -> Result<Found, AllocError>
         // where the scan is
-        requires holds { (limit : ℕ) × Holds limit octets.now self.old × (limit < 2 ^ 32) }
+        requires holds { (limit : ℕ) × IsScanned limit octets.now self.old × (limit < 2 ^ 32) }
         requires some { 0 < length octets.now }
         // what was found
         ensures ok { IfOk result (λ f. (limit : ℕ)
-            → Holds limit octets.now self.old → FoundIs limit octets.now self.new f) }
-        ensures err { OnErr result ((limit : ℕ) → Holds limit octets.now self.old → Holds limit octets.now self.new) }
+            → IsScanned limit octets.now self.old → AfterScan limit octets.now self.new f) }
+        ensures err { OnErr result ((limit : ℕ) → IsScanned limit octets.now self.old → IsScanned limit octets.now self.new) }
         // how many octets were examined
         ensures counts { IfOk result
             (λ f. FoundCounts (length octets.now) self.old self.new examined.old examined.new f) }
-        ensures stopped { OnErr result (Counts self.old self.new examined.old examined.new) }
+        ensures stopped { OnErr result (ScanCounts self.old self.new examined.old examined.new) }
     {
         while !self.is_whole() {
             match self.go(octets, examined)? {

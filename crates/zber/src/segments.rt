@@ -1,7 +1,7 @@
 //! Strings, primitive or cut into segments (X.690, 8.7 and 8.23).
 ghost use Rattle.std.specs.Prelude.{◌≡◌, ◌++◌, true, false, IfSome, IfNone, OnOk};
 ghost use Rattle.zber.specs.Segments.{is_segment, is_string, string_octets};
-ghost use Rattle.zber.specs.Values.{as_octets, Gives};
+ghost use Rattle.zber.specs.Values.{as_octets, ValueResult};
 
 use crate::node::{Body, Node};
 use crate::tag::Tag;
@@ -74,7 +74,7 @@ impl Node {
     ///
     /// Returns `WrongForm` if an element within, at any depth, is no OCTET STRING, and `Memory` if no memory is found.
     pub fn as_octets(&self, alloc: Global) -> Result<Bytes, ValueError>
-        ensures { Gives result (as_octets self.now) }
+        ensures { ValueResult result (as_octets self.now) }
     {
         let Some(room) = self.string_room() else {
             return Err(ValueError::WrongForm);

@@ -1,7 +1,7 @@
 //! Diagnostics in a table, each with its place.
 ghost use Rattle.std.specs.Prelude.{◌≡◌, ◌++◌, OnOk, map};
 ghost use Rattle.zknow.specs.Known.{referenced_pairs};
-ghost use Rattle.zknow.specs.Tables.Sections.{numbered};
+ghost use Rattle.zknow.specs.Tables.Sections.{number_pairs};
 
 use crate::tables::distinct::Distinct;
 use crate::tables::encoded_diag::EncodedDiag;
@@ -30,7 +30,7 @@ pub(crate) fn take_all_diags<'a>(
     found: &mut Vec<(i64, &'a DiagRec)>,
 ) -> Result<(), AllocError>
     ensures { OnOk result (referenced_pairs found.new.items
-        ≡ referenced_pairs found.old.items ++ numbered diags.now) }
+        ≡ referenced_pairs found.old.items ++ number_pairs diags.now) }
 {
     for (place, diags) in diags.iter() {
         take_diags(*place, diags.values(), found)?;

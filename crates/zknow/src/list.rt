@@ -5,10 +5,10 @@ ghost use Rattle.std.specs.Fmt.{decimal, signed_decimal};
 ghost use Rattle.std.specs.List.{flat_map, filter_map};
 ghost use Rattle.zapdu.specs.Text.{record_text, diag_text};
 ghost use Rattle.zknow.specs.Tables.Keys.{set_cmp, row_cmp};
-ghost use Rattle.zknow.specs.Known.{Shows, records_at};
-ghost use Rattle.zknow.specs.List.Listing.{ascending, block_of, row_of, name_text, line, line_in, block_text, entry_text, row_text, is_hex, listing};
-ghost use Rattle.zknow.specs.Tables.Sections.{facts_of, counts_of, failed_of, diags_of, marked, numbered};
-ghost use Rattle.zknow.specs.Tables.Tables.{AreLawful, KnowsLawfully};
+ghost use Rattle.zknow.specs.Known.{IsKnownOf, records_at};
+ghost use Rattle.zknow.specs.List.Listing.{ascending, block_key_of, row_key_of, target_text, line, line_in, block_text, entry_text, row_text, is_hex, listing};
+ghost use Rattle.zknow.specs.Tables.Sections.{table_facts, counts_of, failed_of, diags_of, marked, number_pairs};
+ghost use Rattle.zknow.specs.Tables.Tables.{AreLawfulTables, IsLawfulKnowledge};
 
 pub mod list_keys;
 
@@ -35,7 +35,7 @@ fn put_natural(alloc: Global, number: u32, out: &mut Vec<u8>) -> Result<(), Allo
 
 /// Appends the quoted name of a target, or # and its number if it has no name.
 fn put_name(alloc: Global, names: &Names, target: u32, out: &mut Vec<u8>) -> Result<(), AllocError>
-    ensures { OnOk result (out.new.items ≡ out.old.items ++ name_text names.now target) }
+    ensures { OnOk result (out.new.items ≡ out.old.items ++ target_text names.now target) }
 {
     match names.as_slice().get(target as usize) {
         None => {
@@ -150,7 +150,7 @@ fn put_all_diags(
 ) -> Result<(), AllocError>
     ensures { OnOk result (out.new.items ≡ out.old.items
         ++ flat_map (λ x. line names.now key.now
-        (codes " diag " ++ signed_decimal x.0 ++ codes " " ++ diag_text x.1)) (numbered diags.now)) }
+        (codes " diag " ++ signed_decimal x.0 ++ codes " " ++ diag_text x.1)) (number_pairs diags.now)) }
 {
     for (place, diags) in diags.iter() {
         put_diags(alloc, names, key, place, diags.values(), out)?;
@@ -166,7 +166,7 @@ fn put_counts_at(
     key: &SetKey,
     out: &mut Vec<u8>,
 ) -> Result<(), AllocError>
-    requires { AreLawful tables.now }
+    requires { AreLawfulTables tables.now }
     ensures { OnOk result (out.new.items ≡ out.old.items
         ++ flat_map (line_in names.now key.now) (counts_of tables.now)) }
 {
@@ -184,7 +184,7 @@ fn put_failed_at(
     key: &SetKey,
     out: &mut Vec<u8>,
 ) -> Result<(), AllocError>
-    requires { AreLawful tables.now }
+    requires { AreLawfulTables tables.now }
     ensures { OnOk result (out.new.items ≡ out.old.items
         ++ flat_map (line_in names.now key.now) (failed_of tables.now)) }
 {
@@ -202,7 +202,7 @@ fn put_diags_at(
     key: &SetKey,
     out: &mut Vec<u8>,
 ) -> Result<(), AllocError>
-    requires { AreLawful tables.now }
+    requires { AreLawfulTables tables.now }
     ensures { OnOk result (out.new.items ≡ out.old.items
         ++ flat_map (line_in names.now key.now) (diags_of tables.now)) }
 {
@@ -220,8 +220,8 @@ fn put_block(
     key: &SetKey,
     out: &mut Vec<u8>,
 ) -> Result<(), AllocError>
-    requires { AreLawful tables.now }
-    ensures { OnOk result (out.new.items ≡ out.old.items ++ block_text names.now (facts_of tables.now) key.now) }
+    requires { AreLawfulTables tables.now }
+    ensures { OnOk result (out.new.items ≡ out.old.items ++ block_text names.now (table_facts tables.now) key.now) }
 {
     put_counts_at(alloc, names, tables, key, out)?;
     put_failed_at(alloc, names, tables, key, out)?;
@@ -253,7 +253,7 @@ fn put_entry(
     known: &Known<'_, Record>,
     out: &mut Vec<u8>,
 ) -> Result<(), AllocError>
-    ensures { OnOk result ((records : List Record) → Shows known.now records → out.new.items ≡ out.old.items
+    ensures { OnOk result ((records : List Record) → IsKnownOf known.now records → out.new.items ≡ out.old.items
         ++ entry_text hex records) }
 {
     match known {
@@ -300,10 +300,10 @@ fn put_blocks(
     tables: &Tables,
     out: &mut Vec<u8>,
 ) -> Result<(), AllocError>
-    requires { AreLawful tables.now }
+    requires { AreLawfulTables tables.now }
     ensures { OnOk result (out.new.items ≡ out.old.items
-        ++ flat_map (block_text names.now (facts_of tables.now))
-        (ascending set_cmp (filter_map block_of (facts_of tables.now)))) }
+        ++ flat_map (block_text names.now (table_facts tables.now))
+        (ascending set_cmp (filter_map block_key_of (table_facts tables.now)))) }
 {
     let keys = block_keys(alloc, tables)?;
     for key in &keys {
@@ -321,7 +321,7 @@ fn put_rows(
     out: &mut Vec<u8>,
 ) -> Result<(), AllocError>
     ensures { OnOk result (out.new.items ≡ out.old.items
-        ++ flat_map (row_text names.now hex knowledge.now) (ascending row_cmp (filter_map row_of knowledge.now))) }
+        ++ flat_map (row_text names.now hex knowledge.now) (ascending row_cmp (filter_map row_key_of knowledge.now))) }
 {
     let keys = row_keys(alloc, knowledge.tables())?;
     for key in &keys {

@@ -1,6 +1,7 @@
 -- Which records are taken, where their octets stand, and how many they are.
 use Rattle.std.proofs.Common.{◌≡◌, ◌↔◌, ◌⊎◌, ◌≤◌, ◌+◌, ℕ, zero, suc, Bool, true, false, List, [], ◌∷◌, length, Option, cond, refl, sym, ap, subst, ◌∙◌, inl, inr, ⊎_elim, arith}
 use Rattle.std.specs.Prelude.{Contains, not, ◌&&◌, is_some, filter, nat_lt}
+use Rattle.std.specs.Borrow.{Bor}
 use Rattle.std.specs.List.{flat_map, filter_map, count_by}
 use Rattle.std.proofs.lemmas.Bool.{ltb-false, le-ltb, and_right}
 use Rattle.std.proofs.lemmas.List.Elements.{Contains-append_cases, Contains-append_left, Contains-append_right}
@@ -12,13 +13,14 @@ use Rattle.zknow.specs.declared.fact.Fact.{Fact}
 use Rattle.zknow.specs.declared.fact.Fact.TheVariants.{Seen}
 use Rattle.zknow.specs.declared.tables.keys.RowKey.{RowKey}
 use Rattle.zknow.specs.Facts.{AreFacts}
-use Rattle.zknow.specs.List.Listing.{row_of}
+use Rattle.zknow.specs.List.Listing.{row_key_of}
 use Rattle.zknow.specs.Tables.DistinctLaws.{none_in_nil, in_cons, in_head, in_tail}
 use Rattle.zknow.specs.Tables.Keys.{row_cmp, row_total, row_exact}
 use Rattle.zknow.proofs.ListTheory.Ascending.{ascending_members}
-use Rattle.zknow.proofs.ListTheory.Places.{told, records_are, conflict_is}
-use Rattle.zknow_records.specs.Records.{is_wanted, body_octets, own_octets, is_surrogate, is_diagnostic, is_other, is_conflict, taken, records_in, rows, all_taken}
-use Rattle.zknow_records.specs.RecordLaws.{IsTaken, written}
+use Rattle.zknow.proofs.ListTheory.Places.{image_found, records_are, conflict_is}
+use Rattle.zknow_records.specs.declared.left_out.LeftOut.{LeftOut}
+use Rattle.zknow_records.specs.Records.{is_wanted, body_octets, own_octets, is_surrogate, is_diagnostic, is_other, is_conflict, taken, row_records, rows, all_taken, referenced}
+use Rattle.zknow_records.specs.RecordLaws.{IsTakenRecord, count_written}
 
 -- ---- members of lists of lists
 
@@ -113,38 +115,38 @@ module _ (asked : Option (List ℕ)) (conflicts : Bool) where
 
 module _ (asked : Option (List ℕ)) (conflicts : Bool) (facts : List Fact) (good : AreFacts facts) where
   abbrev taken_at : RowKey → List Record
-  taken_at k = taken asked conflicts (records_in facts k)
+  taken_at k = taken asked conflicts (row_records facts k)
 
-  taken_is_seen : (r : Record) → Contains (all_taken asked conflicts facts) r → IsTaken asked conflicts facts r
+  taken_is_seen : (r : Record) → Contains (all_taken asked conflicts facts) r → IsTakenRecord asked conflicts facts r
   taken_is_seen r h =
       let at = flat_in taken_at (rows facts) r h in
       let k : RowKey = at.0 in
-      let found = taken_out asked conflicts (records_in facts k) r at.2 in
+      let found = taken_out asked conflicts (row_records facts k) r at.2 in
       record {
         row = k;
         seen = (records_are k.target k.set facts k.position r).0 found.1;
         wanted = found.2;
-        alone = λ no two. let few = few_known (records_in facts k) conflicts found.0 no in
+        alone = λ no two. let few = few_known (row_records facts k) conflicts found.0 no in
             let many = (conflict_is k.target k.set k.position facts good).1 two in
             omega (arith, few, many);
       }
 
   row_there : (k : RowKey) (r : Record) → Contains facts (Seen k.target k.set k.position r) → Contains (rows facts) k
   row_there k r seen =
-      (ascending_members row_cmp row_total row_exact (filter_map row_of facts) k).1
-      (told row_of facts (Seen k.target k.set k.position r) k seen refl)
+      (ascending_members row_cmp row_total row_exact (filter_map row_key_of facts) k).1
+      (image_found row_key_of facts (Seen k.target k.set k.position r) k seen refl)
 
-  seen_is_taken : (r : Record) → IsTaken asked conflicts facts r → Contains (all_taken asked conflicts facts) r
+  seen_is_taken : (r : Record) → IsTakenRecord asked conflicts facts r → Contains (all_taken asked conflicts facts) r
   seen_is_taken r t =
       let k : RowKey = t.row in
-      let records : List Record = records_in facts k in
+      let records : List Record = row_records facts k in
       let two = (conflict_is k.target k.set k.position facts good).0 in
       let few = λ (no : conflicts ≡ false). below_two (length records) (λ many. t.alone no (two many)) in
       let here = (records_are k.target k.set facts k.position r).1 t.seen in
       in_flat taken_at (rows facts) k r (row_there k r t.seen)
       (taken_in asked conflicts records r (not_left records conflicts few, here, t.wanted))
 
-  pub members_are : (r : Record) → Contains (all_taken asked conflicts facts) r ↔ IsTaken asked conflicts facts r
+  pub members_are : (r : Record) → Contains (all_taken asked conflicts facts) r ↔ IsTakenRecord asked conflicts facts r
   members_are r = (taken_is_seen r, seen_is_taken r)
 
 -- ---- how many they are
@@ -163,7 +165,7 @@ counted_next : (p : Record → Bool) (r : Record) (rs : List Record)
     → count_by p (r ∷ rs) ≡ cond (p r) 1 0 + count_by p rs
 counted_next p r rs = sum_by-cons (λ x. cond (p x) 1 0) r rs
 
-pub all_counted : (rs : List Record) → written rs + count_by is_diagnostic rs + count_by is_other rs ≡ length rs
+pub all_counted : (rs : List Record) → count_written rs + count_by is_diagnostic rs + count_by is_other rs ≡ length rs
 all_counted [] = refl
 all_counted (r ∷ rs) =
     let octets = counted_next (λ x. is_some (own_octets x)) r rs in
@@ -172,3 +174,15 @@ all_counted (r ∷ rs) =
     let one = one_of_three r.body in
     let rest = all_counted rs in
     omega (arith, octets, diagnostics, others, one, rest)
+
+pub same_left : (a b c d e f g h : ℕ) → a ≡ e → b ≡ f → c ≡ g → d ≡ h
+    → ◌≡◌ {A = LeftOut} (record { conflicts = a; syntaxes = b; diagnostics = c; others = d }) (record { conflicts = e; syntaxes = f; diagnostics = g; others = h })
+same_left a b c d e f g h p q r s = rw (p, q, r, s) refl
+
+pub taken_counted : (f : Record → Bool) (asked : Option (List ℕ)) (conflicts : Bool) (facts : List Fact) (n : ℕ) (shown items : List (Bor Record))
+    (keys seen : List RowKey) → n ≡ count_by f (referenced shown) → shown ≡ items
+    → referenced items ≡ flat_map (λ k. taken asked conflicts (row_records facts k)) seen → seen ≡ keys → keys ≡ rows facts
+    → n ≡ count_by f (all_taken asked conflicts facts)
+taken_counted f asked conflicts facts n shown items keys seen counted same is look at =
+    counted ∙ ap (λ z. count_by f (referenced z)) same ∙ ap (count_by f) is
+    ∙ ap (λ z. count_by f (flat_map (λ k. taken asked conflicts (row_records facts k)) z)) (look ∙ at)

@@ -11,7 +11,7 @@ use Rattle.zapdu.specs.Text.{octets_alone}
 use Rattle.zknow.specs.declared.fact.Fact.{Fact}
 use Rattle.zknow.specs.declared.tables.keys.RowKey.{RowKey}
 use Rattle.zknow.specs.Known.{records_at}
-use Rattle.zknow.specs.List.Listing.{ascending, row_of}
+use Rattle.zknow.specs.List.Listing.{ascending, row_key_of}
 use Rattle.zknow.specs.Tables.Keys.{row_cmp}
 use Rattle.zknow_records.specs.declared.left_out.LeftOut.{LeftOut}
 
@@ -31,6 +31,10 @@ is_body_wanted asked (Fragment m) = true
 -- the record is not of another syntax than the one asked for
 abbrev pub is_wanted : Option (List ℕ) → Record → Bool
 is_wanted asked r = is_body_wanted asked r.body
+
+-- the record is of another syntax than the one asked for
+abbrev pub is_unwanted : Option (List ℕ) → Record → Bool
+is_unwanted asked r = not (is_wanted asked r)
 
 abbrev pub body_octets : RecordBody → Option (List ℕ)
 body_octets (Retrieval v) = option_map (λ p. p.1) (octets_alone v.direct v.indirect v.descriptor v.content)
@@ -70,18 +74,18 @@ taken asked conflicts records =
     if is_conflict records && not conflicts then [] else filter (is_wanted asked) records
 
 -- the known records of a row of the list
-abbrev pub records_in : List Fact → RowKey → List Record
-records_in facts k = records_at k.target k.set k.position facts
+abbrev pub row_records : List Fact → RowKey → List Record
+row_records facts k = records_at k.target k.set k.position facts
 
 -- ---- all positions
 
 -- the rows of the list: by position, target and set
 abbrev pub rows : List Fact → List RowKey
-rows facts = ascending row_cmp (filter_map row_of facts)
+rows facts = ascending row_cmp (filter_map row_key_of facts)
 
 -- the records that are taken, row by row
 abbrev pub all_taken : Option (List ℕ) → Bool → List Fact → List Record
-all_taken asked conflicts facts = flat_map (λ k. taken asked conflicts (records_in facts k)) (rows facts)
+all_taken asked conflicts facts = flat_map (λ k. taken asked conflicts (row_records facts k)) (rows facts)
 
 -- their octets, one record after the other
 abbrev pub records_octets : Option (List ℕ) → Bool → List Fact → List ℕ
@@ -89,17 +93,22 @@ records_octets asked conflicts facts = flat_map record_octets (all_taken asked c
 
 -- how many positions are left out because of a conflict
 abbrev pub conflicts_left : Bool → List Fact → ℕ
-conflicts_left conflicts facts = if conflicts then 0 else count_by (λ k. is_conflict (records_in facts k)) (rows facts)
+conflicts_left conflicts facts = if conflicts then 0 else count_by (λ k. is_conflict (row_records facts k)) (rows facts)
 
--- counts of what is left out: conflicts, and records taken that have no octets
+-- how many records are left out because of their syntax
+abbrev pub syntaxes_left : Option (List ℕ) → Bool → List Fact → ℕ
+syntaxes_left asked conflicts facts = count_by (is_unwanted asked) (all_taken None conflicts facts)
+
+-- counts of what is left out: conflicts, records of another syntax, and records taken that have no octets
 abbrev pub left_out : Option (List ℕ) → Bool → List Fact → LeftOut
 left_out asked conflicts facts =
     record {
       conflicts = conflicts_left conflicts facts;
+      syntaxes = syntaxes_left asked conflicts facts;
       diagnostics = count_by is_diagnostic (all_taken asked conflicts facts);
       others = count_by is_other (all_taken asked conflicts facts);
     }
 
 -- the records behind references
-abbrev pub behind : List (Bor Record) → List Record
-behind found = map (λ r. r.now) found
+abbrev pub referenced : List (Bor Record) → List Record
+referenced found = map (λ r. r.now) found

@@ -1,11 +1,13 @@
 //! Counts of the records that are left out.
 
 /// Counts of what was left out of the octets written. A position that is left out is counted once, and its records are
-/// not counted. A record of another syntax than the one asked for is not counted, except with such a position.
+/// not counted.
 #[derive(Clone, Copy, Debug, PartialEq, Eq, Default)]
 pub struct LeftOut {
     /// How many positions have several records, whatever their syntaxes; 0 if conflicts were asked for.
     pub conflicts: u64,
+    /// How many records have another syntax than the one asked for; 0 if none was asked for.
+    pub syntaxes: u64,
     /// How many surrogate diagnostics were taken. Each takes the place of a record (Z39.50-2003, 4.1: NamePlusRecord).
     pub diagnostics: u64,
     /// How many other records without octets of their own were taken: fragments, and EXTERNALs with anything but a

@@ -2,8 +2,8 @@
 ghost use Rattle.std.specs.Prelude.{◌≡◌, ◌++◌, IfOk, OnOk, filter};
 ghost use Rattle.std.specs.List.{flat_map, count_by};
 ghost use Rattle.std.specs.Option.{option_copied};
-ghost use Rattle.zknow.specs.Known.{Shows};
-ghost use Rattle.zknow_records.specs.Records.{is_wanted, is_conflict, taken, records_in, behind};
+ghost use Rattle.zknow.specs.Known.{IsKnownOf};
+ghost use Rattle.zknow_records.specs.Records.{is_wanted, is_conflict, taken, row_records, referenced};
 
 use crate::one_record::is_wanted;
 use std::alloc::{AllocError, Global};
@@ -13,7 +13,7 @@ use zknow::{Knowledge, Known, RowKey};
 
 /// Returns what is known of the record in a row of the list.
 fn known_in<'a>(knowledge: &'a Knowledge, row: &RowKey) -> Known<'a, Record>
-    ensures { Shows result (records_in knowledge.now row.now) }
+    ensures { IsKnownOf result (row_records knowledge.now row.now) }
 {
     knowledge.at(row.target, row.set, row.position)
 }
@@ -24,8 +24,8 @@ fn take_wanted<'a>(
     records: &'a [Record],
     found: &mut Vec<&'a Record>,
 ) -> Result<(), AllocError>
-    ensures { OnOk result (behind found.new.items
-        ≡ behind found.old.items ++ filter (is_wanted (option_copied asked.entry)) records.now) }
+    ensures { OnOk result (referenced found.new.items
+        ≡ referenced found.old.items ++ filter (is_wanted (option_copied asked.entry)) records.now) }
 {
     for record in records {
         if is_wanted(asked, record) {
@@ -43,8 +43,8 @@ fn take_row<'a>(
     conflicts: bool,
     found: &mut Vec<&'a Record>,
 ) -> Result<(), AllocError>
-    ensures { OnOk result (behind found.new.items
-        ≡ behind found.old.items ++ taken (option_copied asked.entry) conflicts (records_in knowledge.now row.now)) }
+    ensures { OnOk result (referenced found.new.items
+        ≡ referenced found.old.items ++ taken (option_copied asked.entry) conflicts (row_records knowledge.now row.now)) }
 {
     match known_in(knowledge, row) {
         Known::Nothing => Ok(()),
@@ -67,8 +67,8 @@ pub(crate) fn take_rows<'a>(
     asked: Option<&Oid>,
     conflicts: bool,
 ) -> Result<Vec<&'a Record>, AllocError>
-    ensures { IfOk result (λ found. behind found.items
-        ≡ flat_map (λ k. taken (option_copied asked.entry) conflicts (records_in knowledge.now k)) rows.now) }
+    ensures { IfOk result (λ found. referenced found.items
+        ≡ flat_map (λ k. taken (option_copied asked.entry) conflicts (row_records knowledge.now k)) rows.now) }
 {
     let mut found = Vec::new(alloc);
     for row in rows {
@@ -79,7 +79,7 @@ pub(crate) fn take_rows<'a>(
 
 /// Whether several records are known in a row.
 fn is_conflict(knowledge: &Knowledge, row: &RowKey) -> bool
-    ensures { result ≡ is_conflict (records_in knowledge.now row.now) }
+    ensures { result ≡ is_conflict (row_records knowledge.now row.now) }
 {
     match known_in(knowledge, row) {
         Known::Nothing | Known::One(_) => false,
@@ -89,7 +89,7 @@ fn is_conflict(knowledge: &Knowledge, row: &RowKey) -> bool
 
 /// Counts the rows in which several records are known.
 pub(crate) fn count_conflicts(knowledge: &Knowledge, rows: &[RowKey]) -> u64
-    ensures { result ≡ count_by (λ k. is_conflict (records_in knowledge.now k)) rows.now }
+    ensures { result ≡ count_by (λ k. is_conflict (row_records knowledge.now k)) rows.now }
 {
     let mut count = 0;
     for row in rows {

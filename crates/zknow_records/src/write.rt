@@ -2,10 +2,10 @@
 ghost use Rattle.std.specs.Prelude.{◌≡◌, ◌++◌, IfOk, OnOk, OnErr};
 ghost use Rattle.std.specs.List.{flat_map, count_by};
 ghost use Rattle.std.specs.Option.{option_copied};
-ghost use Rattle.zknow_records.specs.Records.{behind, record_octets, is_diagnostic, is_other, conflicts_left, rows, records_octets, left_out};
+ghost use Rattle.zknow_records.specs.Records.{referenced, record_octets, is_unwanted, is_diagnostic, is_other, syntaxes_left, conflicts_left, rows, records_octets, left_out};
 
 use crate::left_out::LeftOut;
-use crate::one_record::{is_diagnostic, is_other, own_octets};
+use crate::one_record::{is_diagnostic, is_other, is_wanted, own_octets};
 use crate::taken::{count_conflicts, take_rows};
 use std::alloc::{AllocError, Global};
 use zapdu::Record;
@@ -24,7 +24,7 @@ fn put_record(record: &Record, out: &mut Vec<u8>) -> Result<(), AllocError>
 
 /// Appends the octets of records.
 fn put_records(taken: &[&Record], out: &mut Vec<u8>) -> Result<(), AllocError>
-    ensures { OnOk result (out.new.items ≡ out.old.items ++ flat_map record_octets (behind taken.now)) }
+    ensures { OnOk result (out.new.items ≡ out.old.items ++ flat_map record_octets (referenced taken.now)) }
 {
     for record in taken {
         put_record(record, out)?;
@@ -34,7 +34,7 @@ fn put_records(taken: &[&Record], out: &mut Vec<u8>) -> Result<(), AllocError>
 
 /// Counts the surrogate diagnostics.
 fn count_diagnostics(taken: &[&Record]) -> u64
-    ensures { result ≡ count_by is_diagnostic (behind taken.now) }
+    ensures { result ≡ count_by is_diagnostic (referenced taken.now) }
 {
     let mut count = 0;
     for record in taken {
@@ -47,7 +47,7 @@ fn count_diagnostics(taken: &[&Record]) -> u64
 
 /// Counts the records that have no octets and are no surrogate diagnostics.
 fn count_others(taken: &[&Record]) -> u64
-    ensures { result ≡ count_by is_other (behind taken.now) }
+    ensures { result ≡ count_by is_other (referenced taken.now) }
 {
     let mut count = 0;
     for record in taken {
@@ -56,6 +56,34 @@ fn count_others(taken: &[&Record]) -> u64
         }
     }
     count
+}
+
+/// Counts the records of another syntax than the one asked for.
+fn count_unwanted(asked: Option<&Oid>, taken: &[&Record]) -> u64
+    ensures { result ≡ count_by (is_unwanted (option_copied asked.entry)) (referenced taken.now) }
+{
+    let mut count = 0;
+    for record in taken {
+        if !is_wanted(asked, record) {
+            count += 1;
+        }
+    }
+    count
+}
+
+/// Counts the records that are left out because of their syntax.
+fn syntaxes_left(
+    alloc: Global,
+    knowledge: &Knowledge,
+    keys: &[RowKey],
+    asked: Option<&Oid>,
+    conflicts: bool,
+) -> Result<u64, AllocError>
+    requires { keys.now ≡ rows knowledge.now }
+    ensures { IfOk result (λ n. n ≡ syntaxes_left (option_copied asked.entry) conflicts knowledge.now) }
+{
+    let all = take_rows(alloc, knowledge, keys, None, conflicts)?;
+    Ok(count_unwanted(asked, &all))
 }
 
 /// Counts the conflicts that are left out.
@@ -91,8 +119,10 @@ pub fn write_records(
 {
     let rows = knowledge.rows()?;
     let taken = take_rows(alloc, knowledge, &rows, syntax, conflicts)?;
+    let syntaxes = syntaxes_left(alloc, knowledge, &rows, syntax, conflicts)?;
     let left = LeftOut {
         conflicts: conflicts_left(knowledge, &rows, conflicts),
+        syntaxes,
         diagnostics: count_diagnostics(&taken),
         others: count_others(&taken),
     };

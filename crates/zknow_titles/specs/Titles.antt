@@ -4,7 +4,7 @@ use Rattle.std.specs.List.{flat_map, filter_map}
 use Rattle.zknow.specs.declared.fact.Fact.{Fact}
 use Rattle.zknow.specs.declared.tables.keys.RowKey.{RowKey}
 use Rattle.zknow.specs.declared.tables.keys.SetKey.{SetKey}
-use Rattle.zknow.specs.List.Listing.{ascending, block_of, row_of}
+use Rattle.zknow.specs.List.Listing.{ascending, block_key_of, row_key_of}
 use Rattle.zknow.specs.Tables.Keys.{set_cmp, row_cmp}
 use Rattle.zknow_titles.specs.Blocks.{block_line}
 use Rattle.zknow_titles.specs.Lines.{ended}
@@ -13,11 +13,11 @@ use Rattle.zknow_titles.specs.Rows.{widths, row_lines}
 
 -- the sets of which a count, a failure or a diagnostic is known, by target and set
 abbrev pub sets_of : List Fact → List SetKey
-sets_of facts = ascending set_cmp (filter_map block_of facts)
+sets_of facts = ascending set_cmp (filter_map block_key_of facts)
 
 -- the rows of the list, by position, target and set
 abbrev pub rows_of : List Fact → List RowKey
-rows_of facts = ascending row_cmp (filter_map row_of facts)
+rows_of facts = ascending row_cmp (filter_map row_key_of facts)
 
 -- an empty line between the head and the rows, where there are both
 abbrev pub between : List SetKey → List RowKey → List (List ℕ)

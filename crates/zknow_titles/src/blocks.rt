@@ -2,7 +2,7 @@
 ghost use Rattle.std.specs.Prelude.{◌≡◌, ◌++◌, ◌∷◌, OnOk, IfOk, map, string_bytes};
 ghost use Rattle.std.specs.Fmt.{signed_decimal};
 ghost use Rattle.std.specs.List.{flat_map, list_any, count_by};
-ghost use Rattle.zknow.specs.Known.{Shows, counts_at, records_at, referenced_pairs};
+ghost use Rattle.zknow.specs.Known.{IsKnownOf, counts_at, records_at, referenced_pairs};
 ghost use Rattle.zknow_titles.specs.Blocks.{joined_behind, joined_by, is_shown_at, shown_count, count_text, count_part, behind_colon, heading, failure_part, search_text, request_text, block_parts, block_line};
 ghost use Rattle.zknow_titles.specs.Entries.{is_shown};
 ghost use Rattle.zknow_titles.specs.Lines.{ended_line};
@@ -70,7 +70,7 @@ fn known_at<'a>(
     set: u32,
     position: &i64,
 ) -> Known<'a, Record>
-    ensures { Shows result (records_at target set position.now knowledge.now) }
+    ensures { IsKnownOf result (records_at target set position.now knowledge.now) }
 {
     knowledge.at(target, set, *position)
 }

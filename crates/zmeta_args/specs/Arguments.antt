@@ -4,8 +4,9 @@ use Rattle.std.specs.Option.{option_map}
 use Rattle.std.specs.Str.Parse.{digits_value, without_leading_plus}
 use Rattle.clap.specs.Words.{first_value, one_text, matched_of, raw_values}
 use Rattle.clap.specs.declared.parser.matches.Found.{Found}
-use Rattle.zber.specs.declared.text.Mode.{Mode}
-use Rattle.zber.specs.declared.text.Mode.TheVariants as modes
+use Rattle.zmeta_args.specs.declared.arguments.View.{View}
+use Rattle.zmeta_args.specs.declared.arguments.View.TheVariants as views
+use Rattle.zmeta_args.specs.declared.arguments.SearchOptions.{SearchOptions}
 use Rattle.zmeta_args.specs.declared.arguments.Arguments.{Arguments}
 use Rattle.zmeta_args.specs.declared.arguments.Arguments.TheVariants.{Show, Pqf, Join, Records, Run, Ask, Loop, Serve}
 use Rattle.zmeta_args.specs.Texts.{texts_of, now_of}
@@ -33,33 +34,56 @@ pub record HasFlag (found : Found) (id : List ℕ) (given : Bool) : Type 0 where
   pub holds : one_text found id ≡ Some (codes "true") → given ≡ true
   pub left_out : (one_text found id ≡ None) ⊎ (one_text found id ≡ Some (codes "false")) → given ≡ false
 
--- records are printed in hexadecimal exactly if the option is given
-pub record HasMode (found : Found) (mode : Mode) : Type 0 where
-  pub given : one_text found (codes "hex") ≡ Some (codes "true") → mode ≡ modes.Hex
-  pub left_out : (one_text found (codes "hex") ≡ None) ⊎ (one_text found (codes "hex") ≡ Some (codes "false"))
-      → mode ≡ modes.Text
+-- the option is given, or it is left out; it takes no value
+abbrev pub IsGiven : Found → List ℕ → Type 0
+IsGiven found id = one_text found id ≡ Some (codes "true")
 
--- the paths of a world file and of a saved file, and how records are printed
-abbrev pub HasSearch : Found → List ℕ → Option (List ℕ) → Mode → Type 0
-HasSearch found world saved mode =
-    HasValue found (codes "FILE") world × (saved ≡ first_value found (codes "save")) × HasMode found mode
+abbrev pub IsLeftOut : Found → List ℕ → Type 0
+IsLeftOut found id = (one_text found id ≡ None) ⊎ (one_text found id ≡ Some (codes "false"))
+
+-- what is printed: the titles, JSON or the list in hexadecimal if that is asked for, else the list
+pub record HasView (found : Found) (view : View) : Type 0 where
+  pub titles : IsGiven found (codes "titles") → view ≡ views.Titles
+  pub json : IsLeftOut found (codes "titles") → IsGiven found (codes "json") → view ≡ views.Json
+  pub hex : IsLeftOut found (codes "titles") → IsLeftOut found (codes "json") → IsGiven found (codes "hex")
+      → view ≡ views.Hex
+  pub left_out : IsLeftOut found (codes "titles") → IsLeftOut found (codes "json") → IsLeftOut found (codes "hex")
+      → view ≡ views.Text
+
+-- what is put to every question: the values of these options
+pub record HasSearch (found : Found) (s : SearchOptions) : Type 0 where
+  pub query : now_of s.query ≡ first_value found (codes "query")
+  pub titles : HasValues found (codes "title") (texts_of s.titles.items)
+  pub authors : HasValues found (codes "author") (texts_of s.authors.items)
+  pub subjects : HasValues found (codes "subject") (texts_of s.subjects.items)
+  pub isbns : HasValues found (codes "isbn") (texts_of s.isbns.items)
+  pub words : HasValues found (codes "any") (texts_of s.words.items)
+  pub records : now_of s.records ≡ first_value found (codes "records")
+  pub elements : now_of s.elements ≡ first_value found (codes "elements")
+  pub syntax : now_of s.syntax ≡ first_value found (codes "syntax")
+
+-- the paths of a world file and of a saved file, what is put to every question, and what is printed
+abbrev pub HasWorld : Found → List ℕ → Option (List ℕ) → SearchOptions → View → Type 0
+HasWorld found world saved search view = HasValue found (codes "FILE") world
+    × (saved ≡ first_value found (codes "save")) × HasSearch found search × HasView found view
 
 -- the arguments of the command with this name, as they were found
 abbrev pub AreArgumentsOf : List ℕ → Found → Arguments → Type 0
 AreArgumentsOf name found Show = name ≡ codes "show"
 AreArgumentsOf name found (Pqf text) = (name ≡ codes "pqf") × HasValue found (codes "TEXT") text.now
-AreArgumentsOf name found (Join first others mode) = (name ≡ codes "join") × HasValue found (codes "A") first.now
-    × HasValues found (codes "B") (texts_of others.items) × HasMode found mode
-AreArgumentsOf name found (Records first others syntax conflicts) =
+AreArgumentsOf name found (Join first others view) = (name ≡ codes "join") × HasValue found (codes "A") first.now
+    × HasValues found (codes "B") (texts_of others.items) × HasView found view
+AreArgumentsOf name found (Records first others only syntax conflicts) =
     (name ≡ codes "records") × HasValue found (codes "A") first.now
-    × HasValues found (codes "B") (texts_of others.items)
+    × HasValues found (codes "B") (texts_of others.items) × HasValues found (codes "only") (texts_of only.items)
     × (now_of syntax ≡ first_value found (codes "syntax")) × HasFlag found (codes "conflicts") conflicts
-AreArgumentsOf name found (Run world saved mode) = (name ≡ codes "run") × HasSearch found world.now (now_of saved) mode
-AreArgumentsOf name found (Ask world saved at_once only mode) =
-    (name ≡ codes "ask") × HasSearch found world.now (now_of saved) mode
+AreArgumentsOf name found (Run world saved search view) =
+    (name ≡ codes "run") × HasWorld found world.now (now_of saved) search view
+AreArgumentsOf name found (Ask world saved at_once only search view) =
+    (name ≡ codes "ask") × HasWorld found world.now (now_of saved) search view
     × HasFlag found (codes "at-once") at_once × HasValues found (codes "only") (texts_of only.items)
-AreArgumentsOf name found (Loop world saved mode) =
-    (name ≡ codes "loop") × HasSearch found world.now (now_of saved) mode
+AreArgumentsOf name found (Loop world saved search view) =
+    (name ≡ codes "loop") × HasWorld found world.now (now_of saved) search view
 AreArgumentsOf name found (Serve address whose world count) =
     (name ≡ codes "serve") × HasValue found (codes "ADDRESS") address.now
     × HasValue found (codes "NAME") whose.now × HasValue found (codes "FILE") world.now

@@ -4,13 +4,49 @@ ghost use Rattle.std.specs.Prelude.{◌≡◌, IfOk, IfSome, codes, map, option_
 ghost use Rattle.clap.specs.Words.{kind_of, found_of};
 ghost use Rattle.clap.specs.declared.error.kind.ErrorKind.TheVariants.{InvalidValue};
 ghost use Rattle.zmeta_args.specs.Texts.{texts_of};
-ghost use Rattle.zmeta_args.specs.Arguments.{IsParsed, AreArgumentsOf, HasValues, HasMode};
+ghost use Rattle.zmeta_args.specs.Arguments.{IsParsed, AreArgumentsOf, HasValues, HasSearch, HasView};
 
 use crate::forms::command;
 use clap::error::ErrorKind;
 use clap::{ArgMatches, Command, Error};
 use std::alloc::{AllocError, Global};
-use zber::Mode;
+
+/// What a command prints of what is known.
+#[derive(Clone, Copy, Debug, PartialEq, Eq, Drop)]
+pub enum View {
+    /// The list, with the octets of records in quotes.
+    Text,
+    /// The list, with the octets of records in hexadecimal.
+    Hex,
+    /// The years and titles of the records, for people.
+    Titles,
+    /// One JSON object for each line of the list, for programs.
+    Json,
+}
+
+/// What is put to every question of a world file, in place of what its line says. What is not given stays as the
+/// line says.
+#[derive(Debug, Drop)]
+pub struct SearchOptions<'a> {
+    /// A query in the prefix notation.
+    pub query: Option<&'a str>,
+    /// Words of titles (Use 4 of bib-1). With the terms below they make a query, which `query` excludes.
+    pub titles: Vec<&'a str>,
+    /// Names of authors (Use 1003).
+    pub authors: Vec<&'a str>,
+    /// Subjects (Use 21).
+    pub subjects: Vec<&'a str>,
+    /// ISBNs (Use 7).
+    pub isbns: Vec<&'a str>,
+    /// Words from anywhere (Use 1016).
+    pub words: Vec<&'a str>,
+    /// The wanted records: a number, or ranges of positions as `1-3,10-12`.
+    pub records: Option<&'a str>,
+    /// The element set name.
+    pub elements: Option<&'a str>,
+    /// The record syntax: a name, or an object identifier.
+    pub syntax: Option<&'a str>,
+}
 
 /// A command of the program, with its arguments.
 #[derive(Debug, Drop)]
@@ -25,19 +61,21 @@ pub enum Arguments<'a> {
     Join {
         first: &'a str,
         others: Vec<&'a str>,
-        mode: Mode,
+        view: View,
     },
     /// Ask the targets of a world file in memory, and print the list. Save the facts if `saved` is a path.
     Run {
         world: &'a str,
         saved: Option<&'a str>,
-        mode: Mode,
+        search: SearchOptions<'a>,
+        view: View,
     },
-    /// Write the records of saved files: of one syntax, or of any. With `conflicts`, write all records of a
-    /// position that has several, else none of them.
+    /// Write the records of saved files: of one syntax, or of any; of the catalogues of these names, or of all if
+    /// `only` is empty. With `conflicts`, write all records of a position that has several, else none of them.
     Records {
         first: &'a str,
         others: Vec<&'a str>,
+        only: Vec<&'a str>,
         syntax: Option<&'a str>,
         conflicts: bool,
     },
@@ -48,13 +86,15 @@ pub enum Arguments<'a> {
         saved: Option<&'a str>,
         at_once: bool,
         only: Vec<&'a str>,
-        mode: Mode,
+        search: SearchOptions<'a>,
+        view: View,
     },
     /// As `Run`, but over TCP on 127.0.0.1 and without moves.
     Loop {
         world: &'a str,
         saved: Option<&'a str>,
-        mode: Mode,
+        search: SearchOptions<'a>,
+        view: View,
     },
     /// Serve a target of a world file at an address, for `count` connections.
     Serve {
@@ -133,6 +173,8 @@ fn arguments_of<'a>(
         "join" => joins_of(alloc, found),
         "records" => records_of(alloc, found),
         "ask" => asks_of(alloc, found),
+        "run" => runs_of(alloc, found),
+        "loop" => loops_of(alloc, found),
         _ => Ok(single_of(name, found)),
     }
 }
@@ -163,7 +205,7 @@ fn joins_of<'a>(alloc: Global, found: &ArgMatches<'a>) -> Result<Option<Argument
     Ok(Some(Arguments::Join {
         first,
         others,
-        mode: mode_of(found),
+        view: view_of(found),
     }))
 }
 
@@ -178,9 +220,11 @@ fn records_of<'a>(
         return Ok(None);
     };
     let others = values_of(alloc, found, "B")?;
+    let only = values_of(alloc, found, "only")?;
     Ok(Some(Arguments::Records {
         first,
         others,
+        only,
         syntax: found.get_str("syntax"),
         conflicts: found.get_flag("conflicts"),
     }))
@@ -194,13 +238,69 @@ fn asks_of<'a>(alloc: Global, found: &ArgMatches<'a>) -> Result<Option<Arguments
         return Ok(None);
     };
     let only = values_of(alloc, found, "only")?;
+    let search = search_of(alloc, found)?;
     Ok(Some(Arguments::Ask {
         world,
         saved: found.get_str("save"),
         at_once: found.get_flag("at-once"),
         only,
-        mode: mode_of(found),
+        search,
+        view: view_of(found),
     }))
+}
+
+/// Returns `run` with its world file.
+fn runs_of<'a>(alloc: Global, found: &ArgMatches<'a>) -> Result<Option<Arguments<'a>>, AllocError>
+    ensures asks { IfOk result (λ arguments. IfSome arguments (AreArgumentsOf (codes "run") (found_of found.now))) }
+{
+    let Some(world) = found.get_str("FILE") else {
+        return Ok(None);
+    };
+    let search = search_of(alloc, found)?;
+    Ok(Some(Arguments::Run {
+        world,
+        saved: found.get_str("save"),
+        search,
+        view: view_of(found),
+    }))
+}
+
+/// Returns `loop` with its world file.
+fn loops_of<'a>(alloc: Global, found: &ArgMatches<'a>) -> Result<Option<Arguments<'a>>, AllocError>
+    ensures asks { IfOk result (λ arguments. IfSome arguments (AreArgumentsOf (codes "loop") (found_of found.now))) }
+{
+    let Some(world) = found.get_str("FILE") else {
+        return Ok(None);
+    };
+    let search = search_of(alloc, found)?;
+    Ok(Some(Arguments::Loop {
+        world,
+        saved: found.get_str("save"),
+        search,
+        view: view_of(found),
+    }))
+}
+
+/// Returns what is put to every question.
+fn search_of<'a>(alloc: Global, found: &ArgMatches<'a>) -> Result<SearchOptions<'a>, AllocError>
+    ensures { IfOk result (HasSearch (found_of found.now)) }
+{
+    let titles = values_of(alloc, found, "title")?;
+    let authors = values_of(alloc, found, "author")?;
+    let subjects = values_of(alloc, found, "subject")?;
+    let isbns = values_of(alloc, found, "isbn")?;
+    let words = values_of(alloc, found, "any")?;
+    Ok(SearchOptions {
+        query: found.get_str("query"),
+        titles,
+        authors,
+        subjects,
+        isbns,
+        words,
+        records: found.get_str("records"),
+        elements: found.get_str("elements"),
+        syntax: found.get_str("syntax"),
+    })
 }
 
 /// Returns a command that takes a fixed number of arguments.
@@ -212,16 +312,6 @@ fn single_of<'a>(name: &str, found: &ArgMatches<'a>) -> Option<Arguments<'a>>
         "pqf" => Some(Arguments::Pqf {
             text: found.get_str("TEXT")?,
         }),
-        "run" => Some(Arguments::Run {
-            world: found.get_str("FILE")?,
-            saved: found.get_str("save"),
-            mode: mode_of(found),
-        }),
-        "loop" => Some(Arguments::Loop {
-            world: found.get_str("FILE")?,
-            saved: found.get_str("save"),
-            mode: mode_of(found),
-        }),
         "serve" => Some(Arguments::Serve {
             address: found.get_str("ADDRESS")?,
             name: found.get_str("NAME")?,
@@ -232,14 +322,19 @@ fn single_of<'a>(name: &str, found: &ArgMatches<'a>) -> Option<Arguments<'a>>
     }
 }
 
-/// Returns how records are printed: in hexadecimal if `--hex` is given, else as text.
-fn mode_of(found: &ArgMatches<'_>) -> Mode
-    ensures { HasMode (found_of found.now) result }
+/// Returns what is printed: the titles if `--titles` is given, JSON if `--json` is given, else the list, in
+/// hexadecimal if `--hex` is given.
+fn view_of(found: &ArgMatches<'_>) -> View
+    ensures { HasView (found_of found.now) result }
 {
-    if found.get_flag("hex") {
-        Mode::Hex
+    if found.get_flag("titles") {
+        View::Titles
+    } else if found.get_flag("json") {
+        View::Json
+    } else if found.get_flag("hex") {
+        View::Hex
     } else {
-        Mode::Text
+        View::Text
     }
 }
 

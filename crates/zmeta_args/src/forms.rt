@@ -12,6 +12,8 @@ struct Extra {
     value: Option<&'static str>,
     /// Whether it may be given more than once.
     is_many: bool,
+    /// The options that may not be given together with it.
+    excludes: &'static [&'static str],
 }
 
 const HEX: Extra = Extra {
@@ -19,6 +21,95 @@ const HEX: Extra = Extra {
     help: "Prints the octets of records in hexadecimal",
     value: None,
     is_many: false,
+    excludes: &[],
+};
+
+const TITLES: Extra = Extra {
+    id: "titles",
+    help: "Prints years and titles, to be read, in place of the list",
+    value: None,
+    is_many: false,
+    excludes: &["hex", "json"],
+};
+
+const JSON: Extra = Extra {
+    id: "json",
+    help: "Prints a JSON object a line, for programs, in place of the list",
+    value: None,
+    is_many: false,
+    excludes: &["hex"],
+};
+
+const QUERY: Extra = Extra {
+    id: "query",
+    help: "Asks every catalogue this query (PQF), in place of the file's",
+    value: Some("PQF"),
+    is_many: false,
+    excludes: &["title", "author", "subject", "isbn", "any"],
+};
+
+const TITLE: Extra = Extra {
+    id: "title",
+    help: "Asks every catalogue for this in a title; may be given several times, and all terms must match",
+    value: Some("TEXT"),
+    is_many: true,
+    excludes: &[],
+};
+
+const AUTHOR: Extra = Extra {
+    id: "author",
+    help: "Asks every catalogue for this author; may be given several times",
+    value: Some("TEXT"),
+    is_many: true,
+    excludes: &[],
+};
+
+const SUBJECT: Extra = Extra {
+    id: "subject",
+    help: "Asks every catalogue for this subject; may be given several times",
+    value: Some("TEXT"),
+    is_many: true,
+    excludes: &[],
+};
+
+const ISBN: Extra = Extra {
+    id: "isbn",
+    help: "Asks every catalogue for this ISBN; may be given several times",
+    value: Some("TEXT"),
+    is_many: true,
+    excludes: &[],
+};
+
+const ANY: Extra = Extra {
+    id: "any",
+    help: "Asks every catalogue for this anywhere in a record; may be given several times",
+    value: Some("TEXT"),
+    is_many: true,
+    excludes: &[],
+};
+
+const WANTED: Extra = Extra {
+    id: "records",
+    help: "Asks every catalogue for these records: a number, or positions as 1-3,10-12",
+    value: Some("WANT"),
+    is_many: false,
+    excludes: &[],
+};
+
+const ELEMENTS: Extra = Extra {
+    id: "elements",
+    help: "Asks every catalogue for records of this element set, as F (full) or B (brief)",
+    value: Some("NAME"),
+    is_many: false,
+    excludes: &[],
+};
+
+const ASKED_SYNTAX: Extra = Extra {
+    id: "syntax",
+    help: "Asks every catalogue for records of this syntax: a name as marc21, or an OID",
+    value: Some("SYNTAX"),
+    is_many: false,
+    excludes: &[],
 };
 
 const SAVE: Extra = Extra {
@@ -26,6 +117,7 @@ const SAVE: Extra = Extra {
     help: "Saves what was brought, in the file OUT",
     value: Some("OUT"),
     is_many: false,
+    excludes: &[],
 };
 
 const AT_ONCE: Extra = Extra {
@@ -33,6 +125,7 @@ const AT_ONCE: Extra = Extra {
     help: "Asks all catalogues at once, and not one after the other",
     value: None,
     is_many: false,
+    excludes: &[],
 };
 
 const ONLY: Extra = Extra {
@@ -40,13 +133,23 @@ const ONLY: Extra = Extra {
     help: "Asks just the question of this name; may be given several times",
     value: Some("NAME"),
     is_many: true,
+    excludes: &[],
 };
 
 const SYNTAX: Extra = Extra {
     id: "syntax",
-    help: "Writes just the records of this record syntax",
-    value: Some("OID"),
+    help: "Writes just the records of this syntax: a name as marc21, or an OID",
+    value: Some("SYNTAX"),
     is_many: false,
+    excludes: &[],
+};
+
+const ONLY_OF: Extra = Extra {
+    id: "only",
+    help: "Writes just the records of this catalogue; may be given several times",
+    value: Some("NAME"),
+    is_many: true,
+    excludes: &[],
 };
 
 const CONFLICTS: Extra = Extra {
@@ -54,6 +157,7 @@ const CONFLICTS: Extra = Extra {
     help: "Writes all records of a position for which several are known",
     value: None,
     is_many: false,
+    excludes: &[],
 };
 
 /// The most connections that one `serve` takes.
@@ -103,6 +207,9 @@ const WORLD: Argument = Argument {
     is_many: false,
     is_needed: true,
 };
+
+/// The program's version, which `--version` prints.
+const VERSION: &str = "1.0.0";
 
 const ABOUT: &str = "Asks library catalogues over Z39.50, and shows what they answer";
 
@@ -176,7 +283,7 @@ prints lines as
             is_needed: true,
         },
     ],
-    may: &[HEX],
+    may: &[TITLES, JSON, HEX],
 };
 
 const RECORDS: Form = Form {
@@ -185,13 +292,14 @@ const RECORDS: Form = Form {
     example: "A and each B are saved files, of the same catalogues in the same order; one is enough.
 Writes the octets of the records, one after the other in the order of the list of 'zmeta join',
 as cataloguing tools read them. Where several records are known for one position, all of these
-are left out, or none with --conflicts. What is left out is told on standard error: such positions,
-whatever stands there, and of the others diagnostics that stand for records, and records that
-have no octets of their own. Records of another syntax than the one asked for are not told.
+are left out, or none with --conflicts. Standard error says how many things are left out: such
+positions, diagnostics that stand for records, records of another syntax than the one asked for,
+and structured records, as OPAC and GRS-1. --only takes the records of some
+catalogues alone. SYNTAX is marc21, unimarc, xml, sutrs, opac, grs1 or an object identifier.
 
-Example, the MARC 21 records that a search brought:
+Example, the MARC 21 records that a search brought from loc:
   zmeta ask --save books.saved catalogues
-  zmeta records --syntax 1.2.840.10003.5.10 books.saved > books.mrc",
+  zmeta records --only loc --syntax marc21 books.saved > books.mrc",
     wants: &[
         SAVED,
         Argument {
@@ -203,7 +311,7 @@ Example, the MARC 21 records that a search brought:
             is_needed: false,
         },
     ],
-    may: &[SYNTAX, CONFLICTS],
+    may: &[ONLY_OF, SYNTAX, CONFLICTS],
 };
 
 const RUN: Form = Form {
@@ -222,7 +330,8 @@ line each:
                               SYNTAX may be -; WANT is a number, or as 1-3,10-12
   to NAME K, from NAME K      at most K octets are carried to it, or from it; rel NAME K releases
                               its reply K
-Prints one list of all that they answer.
+Prints one list of all that they answer. --title and the other terms, or --query, are asked in place
+of the queries of FILE, and --records, --elements and --syntax in place of what its lines say.
 
 Example:
   zmeta run world
@@ -230,7 +339,21 @@ prints lines as
   target \"city library\" set 1 count 2
   1 \"city library\" 1 rec 1.2.840.10003.5.10 \"books\" \"first record\"",
     wants: &[WORLD],
-    may: &[HEX, SAVE],
+    may: &[
+        TITLE,
+        AUTHOR,
+        SUBJECT,
+        ISBN,
+        ANY,
+        QUERY,
+        WANTED,
+        ELEMENTS,
+        ASKED_SYNTAX,
+        TITLES,
+        JSON,
+        HEX,
+        SAVE,
+    ],
 };
 
 const ASK: Form = Form {
@@ -246,17 +369,35 @@ Connects to all of them, asks each, and prints one list of all that they answer.
 cannot be reached, or is silent for 30 seconds, is told of, and the others are listed: status 1.
 With --at-once no catalogue waits for another. With --only just the questions of these names are
 asked, so that saved files of parts can be joined; status 3 where there is no such question.
+One search for all: --title, --author, --subject, --isbn and --any, or --query, are asked in place
+of the queries of FILE, and --records, --elements and --syntax in place of what its lines say.
+SYNTAX is marc21, unimarc, xml, sutrs, opac, grs1, an object identifier, or - for none.
 
 Example, a file with the two lines
   host loc lx2.loc.gov:210
   ask loc LCDB 1.2.840.10003.5.10 5 \"@attr 1=4 dune\"
 is asked by
-  zmeta ask --at-once catalogues
-and prints lines as
-  target \"loc\" set 1 count 2
-  1 \"loc\" 1 rec 1.2.840.10003.5.10 \"LCDB\" \"first record\"",
+  zmeta ask --at-once --titles catalogues
+or, with another question and the same file, by
+  zmeta ask --at-once --titles --author herbert --title dune --records 20 catalogues",
     wants: &[WORLD],
-    may: &[AT_ONCE, ONLY, HEX, SAVE],
+    may: &[
+        AT_ONCE,
+        ONLY,
+        TITLE,
+        AUTHOR,
+        SUBJECT,
+        ISBN,
+        ANY,
+        QUERY,
+        WANTED,
+        ELEMENTS,
+        ASKED_SYNTAX,
+        TITLES,
+        JSON,
+        HEX,
+        SAVE,
+    ],
 };
 
 const SERVE: Form = Form {
@@ -319,7 +460,21 @@ prints lines as
   target \"city library\" set 1 count 2
   1 \"city library\" 1 rec 1.2.840.10003.5.10 \"books\" \"first record\"",
     wants: &[WORLD],
-    may: &[HEX, SAVE],
+    may: &[
+        TITLE,
+        AUTHOR,
+        SUBJECT,
+        ISBN,
+        ANY,
+        QUERY,
+        WANTED,
+        ELEMENTS,
+        ASKED_SYNTAX,
+        TITLES,
+        JSON,
+        HEX,
+        SAVE,
+    ],
 };
 
 const FORMS: [Form; 8] = [ASK, RUN, LOOP, JOIN, RECORDS, SERVE, SHOW, PQF];
@@ -349,13 +504,14 @@ fn action_of(extra: &Extra) -> ArgAction {
     }
 }
 
-fn option(alloc: Global, extra: &Extra) -> Arg<'static> {
+fn option(alloc: Global, extra: &Extra) -> Result<Arg<'static>, AllocError> {
     let option = Arg::new(alloc, extra.id).long(extra.id).help(extra.help);
     let option = option.action(action_of(extra));
-    match extra.value {
+    let option = match extra.value {
         None => option,
         Some(value) => option.value_name(value),
-    }
+    };
+    option.conflicts_with_all(extra.excludes)
 }
 
 fn subcommand<'a>(alloc: Global, form: &Form) -> Result<Command<'a>, AllocError> {
@@ -366,7 +522,13 @@ fn subcommand<'a>(alloc: Global, form: &Form) -> Result<Command<'a>, AllocError>
         command = command.arg(clap_argument(alloc, wanted))?;
     }
     for extra in form.may {
-        command = command.arg(option(alloc, extra))?;
+        match option(alloc, extra) {
+            Ok(option) => command = command.arg(option)?,
+            Err(error) => {
+                drop(command);
+                return Err(error);
+            }
+        }
     }
     Ok(command)
 }
@@ -375,6 +537,7 @@ fn subcommand<'a>(alloc: Global, form: &Form) -> Result<Command<'a>, AllocError>
 pub(crate) fn command<'a>(alloc: Global) -> Result<Command<'a>, AllocError> {
     let mut command = Command::new(alloc, "zmeta")
         .about(ABOUT)
+        .version(VERSION)
         .after_help(ADVICE)
         .subcommand_required(true);
     for form in &FORMS {

@@ -4,4 +4,4 @@
 mod arguments;
 mod forms;
 
-pub use arguments::{Arguments, odd_arguments, parse};
+pub use arguments::{Arguments, SearchOptions, View, odd_arguments, parse};

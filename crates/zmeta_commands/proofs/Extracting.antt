@@ -3,12 +3,13 @@ use Rattle.std.proofs.Common.{◌≡◌, ◌∙◌, ap, subst, refl, ℕ, List, 
 use Rattle.zknow.specs.declared.fact.Fact.{Fact}
 use Rattle.zknow_records.specs.declared.left_out.LeftOut.{LeftOut}
 use Rattle.zknow_records.specs.Records.{records_octets, left_out}
+use Rattle.zmeta_commands.specs.Catalogues.{CataloguesResult}
 use Rattle.zmeta_commands.specs.Devices.{Device, HasGained}
 use Rattle.zmeta_commands.specs.Finished.{AfterTellLines}
 use Rattle.zmeta_commands.specs.Join.{AreJoined, IsRefusedAmong, IsKnownStatus}
 use Rattle.zmeta_commands.specs.Records.{Wanted, IsSyntax, left_text, PutRecordsResult, RecordsResult}
 use Rattle.zmeta_commands.specs.declared.fault.Fault.{Fault}
-use Rattle.zmeta_commands.specs.declared.fault.Fault.TheVariants.{Read, Write, NotKnowledge, NotCanonical, NamesDiffer, NotOid, Memory}
+use Rattle.zmeta_commands.specs.declared.fault.Fault.TheVariants.{Read, Write, NotKnowledge, NotCanonical, NamesDiffer, NoCatalogue, NotOid, Memory}
 use Rattle.zmeta_commands.specs.declared.fault.Status.{Status}
 use Rattle.zmeta_commands.proofs.Joining.{kept, no_write}
 
@@ -17,6 +18,7 @@ module _ (e : Wanted) (octets : List ℕ → Option (List ℕ)) (paths : List (L
   no_file : (f : Fault) → IsRefusedAmong octets paths f → RecordsResult e octets paths output output errors errors (Err f)
   no_file (Write told) h = absurd (no_write octets paths (Write told) h)
   no_file (NotOid told) h = absurd (no_write octets paths (NotOid told) h)
+  no_file (NoCatalogue told) h = absurd (no_write octets paths (NoCatalogue told) h)
   no_file Memory h = (kept output, refl)
   no_file (Read path) h = (h, kept output, refl)
   no_file (NotKnowledge at) h = (h, kept output, refl)
@@ -28,8 +30,19 @@ module _ (e : Wanted) (octets : List ℕ → Option (List ℕ)) (paths : List (L
       → RecordsResult e octets paths output output errors errors r
   files_refused g f r is of h = rw (is, of) (no_file g h)
 
-  module _ (facts : List Fact) (names : List (List ℕ)) (oid : Option (List ℕ)) (text lines start : List ℕ)
-      (left : LeftOut) (joined : AreJoined octets names paths facts) (syntax : IsSyntax e.syntax oid)
+  -- no catalogue has a given name
+  no_name : (f : Fault) (names : List (List ℕ)) (all : List Fact) → AreJoined octets names paths all → CataloguesResult e.only names all (Err f)
+      → RecordsResult e octets paths output output errors errors (Err f)
+  no_name (NoCatalogue name) names all joined h = ((names, all, joined, h), kept output, refl)
+  no_name Memory names all joined h = (kept output, refl)
+  no_name f names all joined h = absurd h
+
+  pub name_refused : (g f : Fault) (r : Result Status Fault) (names : List (List ℕ)) (all : List Fact) → r ≡ Err f → f ≡ g
+      → AreJoined octets names paths all → CataloguesResult e.only names all (Err g) → RecordsResult e octets paths output output errors errors r
+  name_refused g f r names all is of joined h = rw (is, of) (no_name g names all joined h)
+
+  module _ (all facts : List Fact) (names : List (List ℕ)) (oid : Option (List ℕ)) (text lines start : List ℕ)
+      (left : LeftOut) (joined : AreJoined octets names paths all) (chosen : CataloguesResult e.only names all (Ok facts)) (syntax : IsSyntax e.syntax oid)
       (none : start ≡ []) (put : text ≡ start ++ records_octets oid e.conflicts facts)
       (which : left ≡ left_out oid e.conflicts facts) (told : lines ≡ left_text left) (printed said : Device) where
     whole : text ≡ records_octets oid e.conflicts facts
@@ -44,7 +57,7 @@ module _ (e : Wanted) (octets : List ℕ → Option (List ℕ)) (paths : List (L
     extracted status is h = (
       facts,
       oid,
-      record { names = names; joined = joined; syntax = syntax },
+      record { names = names; all = all; joined = joined; known = chosen.0; chosen = chosen.1; syntax = syntax },
       is,
       subst (λ z. HasGained output printed z) whole h.0,
       subst (λ z. AfterTellLines errors said z) all_told h.1,

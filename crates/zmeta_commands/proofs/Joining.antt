@@ -5,11 +5,11 @@ use Rattle.std.specs.Borrow.{Bor}
 use Rattle.std.proofs.KnownBytes.{Keeps-refl}
 use Rattle.std.proofs.lemmas.List.{take_more, take-append-drop, map-append}
 use Rattle.zknow.specs.declared.fact.Fact.{Fact}
-use Rattle.zber.specs.declared.text.Mode.{Mode}
-use Rattle.zknow.specs.List.Listing.{listing}
+use Rattle.zmeta_args.specs.declared.arguments.View.{View}
+use Rattle.zmeta_commands.specs.Views.{printed}
 use Rattle.zknow.specs.declared.saved.loading.LoadError.{LoadError}
 use Rattle.zknow.specs.declared.saved.loading.LoadError.TheVariants as loads
-use Rattle.zknow.specs.Saved.Loaded.{IsFault}
+use Rattle.zknow.specs.Saved.Loaded.{IsLoadFault}
 use Rattle.zmeta_commands.specs.Faults.{of_load}
 use Rattle.zmeta_args.specs.Texts.{texts_of}
 use Rattle.zmeta_commands.specs.Join.{LoadFileResult, IsSavedAt, IsFaultAt, AbsorbNamedResult, AreJoined, IsRefusedAmong, AbsorbAllResult, LoadAllResult, IsListOf, IsKnownStatus, PutListResult, JoinResult}
@@ -18,22 +18,22 @@ use Rattle.zmeta_commands.specs.Join.IsRefusedAmong.{first, later, other_names}
 use Rattle.zmeta_commands.specs.Devices.{Device, IsUnchanged}
 use Rattle.zmeta_commands.specs.declared.fault.Fault.{Fault}
 use Rattle.zmeta_commands.specs.declared.fault.Status.{Status}
-use Rattle.zmeta_commands.specs.declared.fault.Fault.TheVariants.{Read, Write, NotKnowledge, NotCanonical, NamesDiffer, NotOid, Memory}
+use Rattle.zmeta_commands.specs.declared.fault.Fault.TheVariants.{Read, Write, NotKnowledge, NotCanonical, NamesDiffer, NoCatalogue, NotOid, Memory}
 
 -- ---- one file
 
 -- a file is refused
-refused : (file : List ℕ) (e : LoadError) → IsFault file e → LoadFileResult file (Err (of_load e))
+refused : (file : List ℕ) (e : LoadError) → IsLoadFault file e → LoadFileResult file (Err (of_load e))
 refused file (loads.NotKnowledge at) h = h
 refused file (loads.NotCanonical at) h = h
 refused file loads.Memory h = tt
 
 pub load_refused : (p : Option (List ℕ)) (octets : List ℕ) (e : LoadError) (f : Fault)
     (r : Result (List Fact × List (List ℕ)) Fault) → r ≡ Err f → f ≡ of_load e → IfSome p (λ xs. octets ≡ xs)
-    → IsFault octets e → IfSome p (λ file. LoadFileResult file r)
+    → IsLoadFault octets e → IfSome p (λ file. LoadFileResult file r)
 load_refused None octets e f r is of whole fault = tt
 load_refused (Some file) octets e f r is of whole fault =
-    rw (is, of) (refused file e (subst (λ l. IsFault l e) whole fault))
+    rw (is, of) (refused file e (subst (λ l. IsLoadFault l e) whole fault))
 
 -- ---- one more file
 
@@ -122,6 +122,7 @@ kept s = record { kept = Keeps-refl s.known; path = refl; sound = refl }
 abbrev pub IsOfReading : Fault → Type 0
 IsOfReading (Write told) = ⊥
 IsOfReading (NotOid told) = ⊥
+IsOfReading (NoCatalogue told) = ⊥
 IsOfReading _ = Unit {0}
 
 at_reading : (octets : List ℕ → Option (List ℕ)) (path : List ℕ) (f : Fault) → IsFaultAt octets path f → IsOfReading f
@@ -137,34 +138,34 @@ no_write octets paths f (first p rest fault) = at_reading octets p f fault
 no_write octets paths f (later before names rest facts p joined fault) = at_reading octets p f fault
 no_write octets paths f (other_names before names rest facts p joined other) = tt
 
-told : (mode : Mode) (octets : List ℕ → Option (List ℕ)) (paths : List (List ℕ)) (f : Fault) (old : Device)
-    → IsRefusedAmong octets paths f → JoinResult mode octets paths old old (Err f)
-told mode octets paths (Read path) old h = (h, kept old)
-told mode octets paths (NotKnowledge at) old h = (h, kept old)
-told mode octets paths (NotCanonical at) old h = (h, kept old)
-told mode octets paths NamesDiffer old h = (h, kept old)
-told mode octets paths Memory old h = kept old
-told mode octets paths (Write path) old h = absurd (no_write octets paths (Write path) h)
-told mode octets paths f old h = (h, kept old)
+told : (view : View) (octets : List ℕ → Option (List ℕ)) (paths : List (List ℕ)) (f : Fault) (old : Device)
+    → IsRefusedAmong octets paths f → JoinResult view octets paths old old (Err f)
+told view octets paths (Read path) old h = (h, kept old)
+told view octets paths (NotKnowledge at) old h = (h, kept old)
+told view octets paths (NotCanonical at) old h = (h, kept old)
+told view octets paths NamesDiffer old h = (h, kept old)
+told view octets paths Memory old h = kept old
+told view octets paths (Write path) old h = absurd (no_write octets paths (Write path) h)
+told view octets paths f old h = (h, kept old)
 
-pub join_refused : (mode : Mode) (octets : List ℕ → Option (List ℕ)) (paths : List (List ℕ)) (old : Device) (g f : Fault)
-    (r : Result Status Fault) → r ≡ Err f → f ≡ g → IsRefusedAmong octets paths g → JoinResult mode octets paths old old r
-join_refused mode octets paths old g f r is of h = rw (is, of) (told mode octets paths g old h)
+pub join_refused : (view : View) (octets : List ℕ → Option (List ℕ)) (paths : List (List ℕ)) (old : Device) (g f : Fault)
+    (r : Result Status Fault) → r ≡ Err f → f ≡ g → IsRefusedAmong octets paths g → JoinResult view octets paths old old r
+join_refused view octets paths old g f r is of h = rw (is, of) (told view octets paths g old h)
 
 -- the list was written, or a front of it
-put_joined : (mode : Mode) (octets : List ℕ → Option (List ℕ)) (paths : List (List ℕ)) (facts : List Fact) (text : List ℕ)
-    (old new : Device) (status : Status) (r : Result Status Fault) → IsListOf octets mode paths facts text
-    → IsKnownStatus facts status → PutListResult text status old new r → JoinResult mode octets paths old new r
-put_joined mode octets paths facts text old new status (Ok s) l k p =
+put_joined : (view : View) (octets : List ℕ → Option (List ℕ)) (paths : List (List ℕ)) (facts : List Fact) (text : List ℕ)
+    (old new : Device) (status : Status) (r : Result Status Fault) → IsListOf octets view paths facts text
+    → IsKnownStatus facts status → PutListResult text status old new r → JoinResult view octets paths old new r
+put_joined view octets paths facts text old new status (Ok s) l k p =
     (facts, text, l, subst (IsKnownStatus facts) (sym p.0) k, p.1)
-put_joined mode octets paths facts text old new status (Err (Write told)) l k p = (facts, text, l, p)
-put_joined mode octets paths facts text old new status (Err f) l k p = absurd p
+put_joined view octets paths facts text old new status (Err (Write told)) l k p = (facts, text, l, p)
+put_joined view octets paths facts text old new status (Err f) l k p = absurd p
 
-pub join_done : (mode : Mode) (octets : List ℕ → Option (List ℕ)) (paths names : List (List ℕ)) (known : List Fact)
+pub join_done : (view : View) (octets : List ℕ → Option (List ℕ)) (paths names : List (List ℕ)) (known : List Fact)
     (old new : Device) (start text written : List ℕ) (status : Status) (r : Result Status Fault)
     → AreJoined octets names paths known → IsKnownStatus known status → start ≡ []
-    → text ≡ start ++ listing names mode known → written ≡ text → PutListResult written status old new r
-    → JoinResult mode octets paths old new r
-join_done mode octets paths names known old new start text written status r joined is s t o w =
-    put_joined mode octets paths known written old new status r
-    (names, joined, o ∙ t ∙ ap (λ z. z ++ listing names mode known) s) is w
+    → text ≡ start ++ printed names view known → written ≡ text → PutListResult written status old new r
+    → JoinResult view octets paths old new r
+join_done view octets paths names known old new start text written status r joined is s t o w =
+    put_joined view octets paths known written old new status r
+    (names, joined, o ∙ t ∙ ap (λ z. z ++ printed names view known) s) is w

@@ -1,6 +1,7 @@
 pub mod OneShowing
 pub mod Showing
 pub mod Choosing
+mod Picking
 pub mod Joining
 pub mod Extracting
 mod Querying

@@ -3,8 +3,8 @@ use Rattle.std.proofs.Common.{◌≡◌, ℕ, ◌<◌, List, [], ◌++◌, lengt
 use Rattle.zber.specs.declared.fault.FaultKind.{FaultKind}
 use Rattle.zber.specs.declared.fault.FaultKind.TheVariants as kinds
 use Rattle.zber.specs.Elements.{Element}
-use Rattle.zber.specs.Spelling.{Begins}
-use Rattle.zber.specs.Shown.{Shows}
+use Rattle.zber.specs.Spelling.{HasFirstMessage}
+use Rattle.zber.specs.Shown.{HasFault}
 use Rattle.zber.specs.Unfinished.{IsUnfinished}
 use Rattle.zapdu.specs.declared.apdu.Apdu.{Apdu}
 use Rattle.zapdu.specs.declared.apdu.Kind.{Kind}
@@ -26,10 +26,10 @@ data Begun (e : Element) (rest : List ℕ) : List ℕ → End → Type 0 where
   unknown : IsNoApdu e → Begun e rest [] (Err NotApdu)
   misfit : {kind : Kind} {at : ℕ} → ((v : Apdu) → Writes v e → ⊥) → IsMalformed kind at e → Begun e rest [] (Err (Malformed kind at))
 
-no_message : (xs rest : List ℕ) (e : Element) → xs ≡ [] → Begins MESSAGE_LIMIT xs e rest → ⊥
+no_message : (xs rest : List ℕ) (e : Element) → xs ≡ [] → HasFirstMessage MESSAGE_LIMIT xs e rest → ⊥
 no_message xs rest e q b = absurd (omega (arith, rest_shorter MESSAGE_LIMIT xs rest e b, ap length q))
 
-begun : (l : Laws) (xs rest text : List ℕ) (e : Element) (end : End) → Begins MESSAGE_LIMIT xs e rest → ShownText xs text end → Begun e rest text end
+begun : (l : Laws) (xs rest text : List ℕ) (e : Element) (end : End) → HasFirstMessage MESSAGE_LIMIT xs e rest → ShownText xs text end → Begun e rest text end
 begun l xs rest text e end b nothing_left = absurd (no_message xs rest e refl b)
 begun l xs rest text e end b (apdu {rest = r} {text = t} {e = d} v c w s) =
     let same = l.answer.one_message MESSAGE_LIMIT xs d e r rest c b in
@@ -44,10 +44,10 @@ begun l xs rest text e end b (malformed {rest = r} {e = d} {kind = k} {at = a} c
 -- how octets that begin with no message end
 data Halted (xs : List ℕ) : End → Type 0 where
   at_end : xs ≡ [] → Halted xs (Ok tt)
-  at_fault : {k : FaultKind} {at : ℕ} → Shows MESSAGE_LIMIT xs k at → Halted xs (Err (Frame k at))
+  at_fault : {k : FaultKind} {at : ℕ} → HasFault MESSAGE_LIMIT xs k at → Halted xs (Err (Frame k at))
   inside : 0 < length xs → IsUnfinished MESSAGE_LIMIT xs → Halted xs (Err (Frame kinds.Truncated (length xs)))
 
-halted : (l : Laws) (xs text : List ℕ) (end : End) → ((e : Element) (rest : List ℕ) → Begins MESSAGE_LIMIT xs e rest → ⊥) → ShownText xs text end → ([] ≡ text) × Halted xs end
+halted : (l : Laws) (xs text : List ℕ) (end : End) → ((e : Element) (rest : List ℕ) → HasFirstMessage MESSAGE_LIMIT xs e rest → ⊥) → ShownText xs text end → ([] ≡ text) × Halted xs end
 halted l xs text end stops nothing_left = (refl, at_end refl)
 halted l xs text end stops (apdu {rest = r} {e = e} v b w s) = absurd (stops e r b)
 halted l xs text end stops (fault f) = (refl, at_fault f)
@@ -55,7 +55,7 @@ halted l xs text end stops (unfinished m u) = (refl, inside m u)
 halted l xs text end stops (no_apdu {rest = r} {e = e} b n) = absurd (stops e r b)
 halted l xs text end stops (malformed {rest = r} {e = e} b n m) = absurd (stops e r b)
 
-no_fault : (xs : List ℕ) (k : FaultKind) (at : ℕ) → xs ≡ [] → Shows MESSAGE_LIMIT xs k at → ⊥
+no_fault : (xs : List ℕ) (k : FaultKind) (at : ℕ) → xs ≡ [] → HasFault MESSAGE_LIMIT xs k at → ⊥
 no_fault xs k at q f = absurd (omega (arith, f.some, ap length q))
 
 none : (xs : List ℕ) → xs ≡ [] → 0 < length xs → ⊥
@@ -79,7 +79,7 @@ halted_once l xs f g (inside m u) (inside n v) = refl
 same_misfit : {j k : Kind} {a b : ℕ} → (j ≡ k) × (a ≡ b) → ◌≡◌ {A = End} (Err (Malformed j a)) (Err (Malformed k b))
 same_misfit {j} {k} {a} {b} q = ap (λ z. Err (Malformed z a)) q.0 ∙ ap (λ z. Err (Malformed k z)) q.1
 
-halt : (l : Laws) (xs s t : List ℕ) (f g : End) → ((e : Element) (rest : List ℕ) → Begins MESSAGE_LIMIT xs e rest → ⊥) → ShownText xs s f → ShownText xs t g → (s ≡ t) × (f ≡ g)
+halt : (l : Laws) (xs s t : List ℕ) (f g : End) → ((e : Element) (rest : List ℕ) → HasFirstMessage MESSAGE_LIMIT xs e rest → ⊥) → ShownText xs s f → ShownText xs t g → (s ≡ t) × (f ≡ g)
 halt l xs s t f g stops p q =
     let a = halted l xs s f stops p in
     let b = halted l xs t g stops q in

@@ -3,13 +3,13 @@ use Rattle.std.proofs.Common.{◌≡◌, ℕ, List, true, false, Some, Result, O
 use Rattle.zber.specs.Elements.{Element}
 use Rattle.zquery.specs.BuildError.{BuildError}
 use Rattle.zquery.specs.BuildError.TheVariants as builds
-use Rattle.zquery.specs.Answers.{IsWritten, Makes}
+use Rattle.zquery.specs.Answers.{WritingResult, BuildResult}
 use Rattle.zquery.specs.declared.notation.print.PrintError.{PrintError}
 use Rattle.zquery.specs.declared.notation.print.PrintError.TheVariants as prints
 use Rattle.zquery.specs.Trees.{RpnQuery}
 use Rattle.zquery.specs.Notation.Printing.{printable}
 use Rattle.zquery.specs.Element.Type1.{WritesQuery}
-use Rattle.zquery.specs.Element.Type1Reading.{query_spelt}
+use Rattle.zquery.specs.Element.Type1Reading.{query_spelling}
 use Rattle.zquery.specs.Notation.Laws.{TextPrintable, TextSpellable}
 use Rattle.zmeta_commands.specs.Pqf.{IsQueryOf}
 
@@ -21,16 +21,16 @@ memory_or_no_text q (Err prints.Memory) is none = refl
 pub printed : (q : RpnQuery) (r : Result (Unit {0}) PrintError) → TextPrintable → ((text : List ℕ) × IsQueryOf text q) → (r ≡ Err prints.NotPrintable → printable q ≡ false) → IfErr r (λ e. e ≡ prints.Memory)
 printed q r law known none = memory_or_no_text q r (law known.0 q known.1.0 known.1.1) none
 
-memory_or_no_element : (q : RpnQuery) (r : Result Element BuildError) → ((n : Element) × WritesQuery q n) → IsWritten (WritesQuery q) r → IfErr r (λ e. e ≡ builds.Memory)
+memory_or_no_element : (q : RpnQuery) (r : Result Element BuildError) → ((n : Element) × WritesQuery q n) → WritingResult (WritesQuery q) r → IfErr r (λ e. e ≡ builds.Memory)
 memory_or_no_element q (Ok n) some is = tt
 memory_or_no_element q (Err builds.NotSpellable) some none = absurd (none some.0 some.1)
 memory_or_no_element q (Err builds.Memory) some is = refl
 
-pub built : (q : RpnQuery) (r : Result Element BuildError) → TextSpellable → ((text : List ℕ) × IsQueryOf text q) → IsWritten (WritesQuery q) r → IfErr r (λ e. e ≡ builds.Memory)
+pub built : (q : RpnQuery) (r : Result Element BuildError) → TextSpellable → ((text : List ℕ) × IsQueryOf text q) → WritingResult (WritesQuery q) r → IfErr r (λ e. e ≡ builds.Memory)
 built q r law known is = memory_or_no_element q r (law known.0 q known.1.0) is
 
 -- the element is the one that is made of the query
-pub spelled : (q : RpnQuery) (r : Result Element BuildError) → Makes (query_spelt q) r
-    → IfOk r (λ n. query_spelt q ≡ Some n)
+pub spelled : (q : RpnQuery) (r : Result Element BuildError) → BuildResult (query_spelling q) r
+    → IfOk r (λ n. query_spelling q ≡ Some n)
 spelled q (Ok n) is = is
 spelled q (Err e) is = tt

@@ -1,5 +1,6 @@
 -- The end of a command that asks, and what is written then.
-use Rattle.std.proofs.Common.{◌≡◌, ℕ, List, Option, Some, None, Result, Ok, Err, IfSome, inl, inr}
+use Rattle.std.proofs.Common.{◌≡◌, ℕ, List, Option, Some, None, Result, Ok, Err, IfSome, inl, inr, refl}
+use Rattle.zmeta_commands.specs.Ask.{IsOfAsking}
 use Rattle.zmeta_commands.specs.Devices.{Device}
 use Rattle.zmeta_commands.specs.Finished.{IsPrinted, PutFinishedResult, IsOfSaving, FinishResult, Conclusion}
 use Rattle.zmeta_world.specs.declared.world.World.{World}
@@ -9,6 +10,7 @@ use Rattle.zmeta_commands.specs.declared.fault.Fault.{Fault}
 use Rattle.zmeta_commands.specs.declared.fault.Fault.TheVariants.{Write, Serve, Memory}
 use Rattle.zmeta_commands.specs.declared.fault.Status.{Status}
 use Rattle.zmeta_commands.specs.declared.finished.Finished.{Finished}
+use Rattle.zmeta_commands.proofs.Joining.{kept}
 
 unput : (r : Finished) (saved : Option (List ℕ)) (output printed errors told : Device) (f : Fault)
     → PutFinishedResult r output printed errors told (Err f) → FinishResult r saved output printed errors told (Err f)
@@ -54,6 +56,21 @@ pub conclusion : (says : List ℕ → Result Finished Fault → Type 0)
 conclusion says None r saved output printed errors told answer h f = tt
 conclusion says (Some octets) r saved output printed errors told answer h f =
     finished (says octets) r saved output printed errors told answer h f
+
+-- no hosts were asked
+unasked : (says : Result Finished Fault → Type 0) (path : List ℕ) (saved : Option (List ℕ)) (output errors : Device) (f : Fault)
+    → IsOfAsking path f → says (Err f) → Conclusion says saved output output errors errors (Err f)
+unasked says path saved output errors (Write told) of h = absurd of
+unasked says path saved output errors Memory of h = inl (kept output, refl)
+unasked says path saved output errors f of h = (h, kept output, refl)
+
+pub asked_none : (says : List ℕ → Result Finished Fault → Type 0) (file : Option (List ℕ)) (path : List ℕ) (saved : Option (List ℕ))
+    (output errors : Device) (g f : Fault) (answer : Result Status Fault) → answer ≡ Err f → f ≡ g → IsOfAsking path g
+    → IfSome file (λ octets. says octets (Err g))
+    → IfSome file (λ octets. Conclusion (says octets) saved output output errors errors answer)
+asked_none says None path saved output errors g f answer is same of h = tt
+asked_none says (Some octets) path saved output errors g f answer is same of h =
+    rw (is, same) (unasked (says octets) path saved output errors g of h)
 
 -- ---- a target that is served
 

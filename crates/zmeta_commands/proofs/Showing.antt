@@ -5,15 +5,15 @@ use Rattle.zber.specs.declared.fault.FaultKind.TheVariants as kinds
 use Rattle.zber.specs.declared.fault.FrameError.{FrameError}
 use Rattle.zber.specs.declared.fault.FrameError.TheVariants as frames
 use Rattle.zber.specs.Elements.{Element}
-use Rattle.zber.specs.Spelling.{Begins}
-use Rattle.zber.specs.Shown.{Shows}
-use Rattle.zber.specs.Stream.{Stream, Answers, finished}
+use Rattle.zber.specs.Spelling.{HasFirstMessage}
+use Rattle.zber.specs.Shown.{HasFault}
+use Rattle.zber.specs.Stream.{Stream, AfterNext, finished}
 use Rattle.zber.specs.Unfinished.{IsUnfinished}
 use Rattle.zber.proofs.ScanSteps.{spells_some}
 use Rattle.zapdu.specs.declared.apdu.Apdu.{Apdu}
 use Rattle.zapdu.specs.declared.apdu.ApduError.{ApduError}
 use Rattle.zapdu.specs.declared.apdu.ApduError.TheVariants as apdus
-use Rattle.zapdu.specs.Writes.{Writes, Decodes}
+use Rattle.zapdu.specs.Writes.{Writes, IsDecodeResult}
 use Rattle.zmeta_commands.specs.Digits.{octets_of}
 use Rattle.zmeta_commands.specs.Faults.{of_frame, of_apdu}
 use Rattle.zapdu_lines.specs.Lines.{apdu_text}
@@ -25,7 +25,7 @@ use Rattle.zmeta_commands.specs.declared.fault.Fault.{Fault}
 use Rattle.zmeta_commands.specs.declared.fault.Fault.TheVariants.{Read, Write, Hex, Frame, Memory}
 
 -- a message takes octets away
-pub rest_shorter : (size : ℕ) (xs rest : List ℕ) (e : Element) → Begins size xs e rest → length rest < length xs
+pub rest_shorter : (size : ℕ) (xs rest : List ℕ) (e : Element) → HasFirstMessage size xs e rest → length rest < length xs
 rest_shorter size xs rest e b = omega (arith, spells_some b.is.spelled, ap length b.cut, length-append b.message rest)
 
 -- the text of the rest follows the text so far
@@ -34,7 +34,7 @@ pub record HasShown (xs rest old now : List ℕ) : Type 0 where
   pub written : now ≡ old ++ text
   pub goes_on : (t : List ℕ) (end : Result (Unit {0}) Fault) → ShownText rest t end → ShownText xs (text ++ t) end
 
-pub shown_more : (xs rest left old now then : List ℕ) (e : Element) (v : Apdu) → HasShown xs rest old now → Begins MESSAGE_LIMIT rest e left → Writes v e → then ≡ now ++ apdu_text v → HasShown xs left old then
+pub shown_more : (xs rest left old now then : List ℕ) (e : Element) (v : Apdu) → HasShown xs rest old now → HasFirstMessage MESSAGE_LIMIT rest e left → Writes v e → then ≡ now ++ apdu_text v → HasShown xs left old then
 shown_more xs rest left old now then e v h b w q = record {
   text = h.text ++ apdu_text v;
   written = q ∙ ap (λ z. z ++ apdu_text v) h.written ∙ append_assoc old h.text (apdu_text v);
@@ -49,27 +49,27 @@ is_err (Err f) x h = ap Err (sym h)
 no_fault : {A : Type 0} {x : A} {o : Option A} → o ≡ None → o ≡ Some x → ⊥
 no_fault p q = cc
 
-fault_here : (s t : Stream) (text : List ℕ) (e : FrameError) → s.limit ≡ MESSAGE_LIMIT → s.fault ≡ None → Answers s (Err e) t → ShowNextResult s t text text (Err (of_frame e))
-fault_here s t text (frames.Fault k at) l p a = (fault (subst (λ n. Shows n s.octets k at) l (elim a.1 [ inl q ↦ absurd (no_fault p q) | inr b ↦ b.1 ])), refl)
+fault_here : (s t : Stream) (text : List ℕ) (e : FrameError) → s.limit ≡ MESSAGE_LIMIT → s.fault ≡ None → AfterNext s (Err e) t → ShowNextResult s t text text (Err (of_frame e))
+fault_here s t text (frames.Fault k at) l p a = (fault (subst (λ n. HasFault n s.octets k at) l (elim a.1 [ inl q ↦ absurd (no_fault p q) | inr b ↦ b.1 ])), refl)
 fault_here s t text frames.Memory l p a = tt
 
-refused_here : (s t : Stream) (text : List ℕ) (n : Element) (e : ApduError) → s.limit ≡ MESSAGE_LIMIT → Answers s (Ok (Some n)) t → Decodes n (Err e) → ShowNextResult s t text text (Err (of_apdu e))
-refused_here s t text n apdus.NotApdu l a d = (no_apdu (subst (λ z. Begins z s.octets n t.octets) l a.1) d, refl)
-refused_here s t text n (apdus.Malformed kind at) l a d = (malformed (subst (λ z. Begins z s.octets n t.octets) l a.1) d.0 d.1, refl)
+refused_here : (s t : Stream) (text : List ℕ) (n : Element) (e : ApduError) → s.limit ≡ MESSAGE_LIMIT → AfterNext s (Ok (Some n)) t → IsDecodeResult n (Err e) → ShowNextResult s t text text (Err (of_apdu e))
+refused_here s t text n apdus.NotApdu l a d = (no_apdu (subst (λ z. HasFirstMessage z s.octets n t.octets) l a.1) d, refl)
+refused_here s t text n (apdus.Malformed kind at) l a d = (malformed (subst (λ z. HasFirstMessage z s.octets n t.octets) l a.1) d.0 d.1, refl)
 refused_here s t text n apdus.Memory l a d = tt
 
 -- a framing fault is shown next, as is a message that is refused
-pub fault_next : (s t : Stream) (text : List ℕ) (e : FrameError) (r : Result Bool Fault) → s.limit ≡ MESSAGE_LIMIT → s.fault ≡ None → Answers s (Err e) t → IsErrAnd r (λ f. f ≡ of_frame e) → ShowNextResult s t text text r
+pub fault_next : (s t : Stream) (text : List ℕ) (e : FrameError) (r : Result Bool Fault) → s.limit ≡ MESSAGE_LIMIT → s.fault ≡ None → AfterNext s (Err e) t → IsErrAnd r (λ f. f ≡ of_frame e) → ShowNextResult s t text text r
 fault_next s t text e r l p a w = subst (ShowNextResult s t text text) (is_err r (of_frame e) w) (fault_here s t text e l p a)
 
-pub refused_next : (s t : Stream) (text : List ℕ) (n : Element) (e : ApduError) (o : Option Element) (r : Result Bool Fault) → s.limit ≡ MESSAGE_LIMIT → Answers s (Ok o) t → o ≡ Some n → Decodes n (Err e) → IsErrAnd r (λ f. f ≡ of_apdu e) → ShowNextResult s t text text r
-refused_next s t text n e o r l a q d w = subst (ShowNextResult s t text text) (is_err r (of_apdu e) w) (refused_here s t text n e l (subst (λ z. Answers s (Ok z) t) q a) d)
+pub refused_next : (s t : Stream) (text : List ℕ) (n : Element) (e : ApduError) (o : Option Element) (r : Result Bool Fault) → s.limit ≡ MESSAGE_LIMIT → AfterNext s (Ok o) t → o ≡ Some n → IsDecodeResult n (Err e) → IsErrAnd r (λ f. f ≡ of_apdu e) → ShowNextResult s t text text r
+refused_next s t text n e o r l a q d w = subst (ShowNextResult s t text text) (is_err r (of_apdu e) w) (refused_here s t text n e l (subst (λ z. AfterNext s (Ok z) t) q a) d)
 
 -- a message was shown
 pub record IsShown (s t : Stream) (old new : List ℕ) : Type 0 where
   pub element : Element
   pub value : Apdu
-  pub begins : Begins MESSAGE_LIMIT s.octets element t.octets
+  pub begins : HasFirstMessage MESSAGE_LIMIT s.octets element t.octets
   pub writes : Writes value element
   pub text : new ≡ old ++ apdu_text value
   pub limited : t.limit ≡ s.limit
@@ -106,6 +106,15 @@ shown_end xs old now new s t h m end is = (h.text, subst (λ z. ShownText xs z e
 end_err : (xs old now new : List ℕ) (s t : Stream) (e : FrameError) → s.fault ≡ None → HasShown xs s.octets old now → ShowNextResult s t now new (Ok false) → Err e ≡ finished t → ShowOctetsResult xs old new (Err (of_frame e))
 end_err xs old now new s t (frames.Fault k at) p h m q = shown_end xs old now new s t h m (Err (Frame k at)) (finish_err s.limit s.octets (frames.Fault k at) m.0 (q ∙ ap finished (asked_is s t p m.2)))
 end_err xs old now new s t frames.Memory p h m q = tt
+
+fault_end : (xs old now new : List ℕ) (s t : Stream) (f : Fault) → HasShown xs s.octets old now → ShowNextResult s t now new (Err f) → ShowOctetsResult xs old new (Err f)
+fault_end xs old now new s t Memory h m = tt
+fault_end xs old now new s t f h m = (h.text, subst (λ z. ShownText xs z (Err f)) (append-nil h.text) (h.goes_on [] (Err f) m.0), m.1 ∙ h.written)
+
+-- a message is at fault
+pub refused_end : (xs old now new : List ℕ) (s t : Stream) (g f : Fault) (r : Result (Unit {0}) Fault) → r ≡ Err f → f ≡ g → HasShown xs s.octets old now
+    → ShowNextResult s t now new (Err g) → ShowOctetsResult xs old new r
+refused_end xs old now new s t g f r is of h m = rw (is, of) (fault_end xs old now new s t g h m)
 
 -- if no message follows, the octets end or are unfinished
 pub unfinished_end : (xs old now new : List ℕ) (s t : Stream) (b : Bool) (e : FrameError) (r : Result (Unit {0}) Fault) → s.fault ≡ None → HasShown xs s.octets old now

@@ -14,6 +14,7 @@ use Rattle.zmeta_commands.specs.Loop.{AfterLoop}
 use Rattle.zmeta_commands.specs.Pqf.{AfterPqf}
 use Rattle.zmeta_commands.specs.Records.{AfterRecords}
 use Rattle.zmeta_commands.specs.Run.{AfterRun}
+use Rattle.zmeta_commands.specs.Searches.{search_of}
 use Rattle.zmeta_commands.specs.Serve.{AfterServe}
 use Rattle.zmeta_commands.specs.Show.{AfterShow}
 use Rattle.zmeta_commands.specs.Devices.{Device, AfterTell}
@@ -28,18 +29,19 @@ AfterCall octets Show input rest output printed errors told status =
     AfterShow input rest output printed errors told status
 AfterCall octets (Pqf text) input rest output printed errors told status =
     (rest ≡ input) × AfterPqf text.now output printed errors told status
-AfterCall octets (Join first others mode) input rest output printed errors told status = (rest ≡ input)
-    × AfterJoin mode octets (first.now ∷ texts_of others.items) output printed errors told status
-AfterCall octets (Records first others syntax conflicts) input rest output printed errors told status = (rest ≡ input)
-    × AfterRecords (record { syntax = now_of syntax; conflicts = conflicts }) octets (first.now ∷ texts_of others.items)
-    output printed errors told status
-AfterCall octets (Run world saved mode) input rest output printed errors told status = (rest ≡ input)
-    × AfterRun mode world.now (now_of saved) (octets world.now) output printed errors told status
-AfterCall octets (Ask world saved at_once only mode) input rest output printed errors told status = (rest ≡ input)
-    × AfterAsk (record { at_once = at_once; only = texts_of only.items }) mode world.now (now_of saved)
-    (octets world.now) output printed errors told status
-AfterCall octets (Loop world saved mode) input rest output printed errors told status = (rest ≡ input)
-    × AfterLoop mode world.now (now_of saved) (octets world.now) output printed errors told status
+AfterCall octets (Join first others view) input rest output printed errors told status = (rest ≡ input)
+    × AfterJoin view octets (first.now ∷ texts_of others.items) output printed errors told status
+AfterCall octets (Records first others only syntax conflicts) input rest output printed errors told status =
+    (rest ≡ input) × AfterRecords
+    (record { only = texts_of only.items; syntax = now_of syntax; conflicts = conflicts }) octets
+    (first.now ∷ texts_of others.items) output printed errors told status
+AfterCall octets (Run world saved search view) input rest output printed errors told status = (rest ≡ input)
+    × AfterRun (search_of search) view world.now (now_of saved) (octets world.now) output printed errors told status
+AfterCall octets (Ask world saved at_once only search view) input rest output printed errors told status =
+    (rest ≡ input) × AfterAsk (record { at_once = at_once; only = texts_of only.items }) (search_of search) view
+    world.now (now_of saved) (octets world.now) output printed errors told status
+AfterCall octets (Loop world saved search view) input rest output printed errors told status = (rest ≡ input)
+    × AfterLoop (search_of search) view world.now (now_of saved) (octets world.now) output printed errors told status
 AfterCall octets (Serve address name world count) input rest output printed errors told status =
     (rest ≡ input) × (printed ≡ output) × AfterServe name.now world.now (octets world.now) errors told status
 

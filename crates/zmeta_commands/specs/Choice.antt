@@ -65,6 +65,11 @@ AddressesResult only names addresses (Err (NoQuestion told)) = IsFirstUnknown on
 AddressesResult only names addresses (Err Memory) = Unit {0}
 AddressesResult only names addresses (Err _) = ⊥
 
+-- each of the names is known, or this is the first that is not
+abbrev pub FirstUnknownResult : List (List ℕ) → List (List ℕ) → Option (List ℕ) → Type 0
+FirstUnknownResult only names None = AreAllKnown only names
+FirstUnknownResult only names (Some name) = IsFirstUnknown only names name
+
 -- each of the names is a question's, or this is the first that is not
 abbrev pub CheckNamesResult : List (List ℕ) → List (List ℕ) → Result (Unit {0}) Fault → Type 0
 CheckNamesResult only names (Ok u) = AreAllKnown only names

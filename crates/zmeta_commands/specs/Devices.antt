@@ -15,8 +15,8 @@ pub record Device : Type 0 where
   pub has_failed : Bool
 
 -- a stream that is read, by what its reader has left
-abbrev pub left : {R : Type 0} → (R → Option (List ℕ)) → Input R → Device
-left remaining s = record { known = remaining s.reader; path = s.path.now; has_failed = s.has_failed }
+abbrev pub input_device : {R : Type 0} → (R → Option (List ℕ)) → Input R → Device
+input_device remaining s = record { known = remaining s.reader; path = s.path.now; has_failed = s.has_failed }
 
 -- a stream that is written, by what its writer holds
 abbrev pub output_device : {W : Type 0} → (W → Option (List ℕ)) → Output W → Device

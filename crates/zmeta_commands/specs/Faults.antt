@@ -1,31 +1,33 @@
 -- The texts and statuses of faults.
 use Rattle.std.specs.Prelude.{ℕ, List, ◌++◌, Result, Ok, Err, codes}
 use Rattle.std.specs.Fmt.{decimal}
-use Rattle.zber.specs.Faults.{kind_word as fault_word}
+use Rattle.zber.specs.Faults.{fault_kind_name}
 use Rattle.zber.specs.declared.fault.FrameError.{FrameError}
 use Rattle.zber.specs.declared.fault.FrameError.TheVariants as frames
-use Rattle.zapdu.specs.Apdus.{kind_word}
+use Rattle.zapdu.specs.Apdus.{apdu_kind_name}
 use Rattle.zapdu.specs.declared.apdu.ApduError.{ApduError}
 use Rattle.zapdu.specs.declared.apdu.ApduError.TheVariants as apdus
 use Rattle.zquery.specs.BuildError.{BuildError}
 use Rattle.zquery.specs.BuildError.TheVariants as builds
 use Rattle.zquery.specs.declared.notation.error.PqfError.{PqfError}
-use Rattle.zquery.specs.Notation.Errors.{kind_word as query_word}
+use Rattle.zquery.specs.Notation.Errors.{pqf_kind_name}
 use Rattle.zquery.specs.declared.notation.error.PqfErrorKind.{PqfErrorKind}
 use Rattle.zquery.specs.declared.notation.error.PqfErrorKind.TheVariants as queries
 use Rattle.zquery.specs.declared.notation.print.PrintError.{PrintError}
 use Rattle.zquery.specs.declared.notation.print.PrintError.TheVariants as prints
 use Rattle.zknow.specs.declared.saved.loading.LoadError.{LoadError}
 use Rattle.zknow.specs.declared.saved.loading.LoadError.TheVariants as loads
-use Rattle.zknow.specs.Saved.Refusals.{load_word}
+use Rattle.zknow.specs.Saved.Refusals.{load_error_name}
 use Rattle.zmeta_world.specs.declared.world.WorldError.{WorldError}
 use Rattle.zmeta_world.specs.declared.world.WorldError.TheVariants as worlds
+use Rattle.zmeta_world.specs.declared.search.SearchError.{SearchError}
+use Rattle.zmeta_world.specs.declared.search.SearchError.TheVariants as searches
 use Rattle.zoom.specs.ServeError.{ServeError}
 use Rattle.zoom.specs.ServeError.TheVariants as serves
 use Rattle.zmeta_commands.specs.declared.fault.Fault.{Fault}
 use Rattle.zmeta_commands.specs.declared.fault.Fault.TheVariants.{Read, Write, Hex, Frame, NotApdu, Malformed, Query}
 use Rattle.zmeta_commands.specs.declared.fault.Fault.TheVariants.{NotPrintable, NotKnowledge, NotCanonical, NamesDiffer}
-use Rattle.zmeta_commands.specs.declared.fault.Fault.TheVariants.{Line, NoQuestion, NotOid, Serve, Memory}
+use Rattle.zmeta_commands.specs.declared.fault.Fault.TheVariants.{Line, Wanted, Syntax, NoQuestion, NoCatalogue, NotOid, Serve, Memory}
 use Rattle.zmeta_commands.specs.declared.fault.Status.{Status}
 use Rattle.zmeta_commands.specs.declared.fault.Status.TheVariants as statuses
 
@@ -42,18 +44,21 @@ abbrev pub fault_text : Fault → List ℕ
 fault_text (Read path) = codes "cannot read " ++ path.now
 fault_text (Write path) = codes "cannot write " ++ path.now
 fault_text Hex = codes "hex refused"
-fault_text (Frame kind at) = fault_word kind ++ codes " at " ++ decimal at
+fault_text (Frame kind at) = fault_kind_name kind ++ codes " at " ++ decimal at
 fault_text NotApdu = codes "not an APDU"
-fault_text (Malformed kind at) = kind_word kind ++ codes " malformed at " ++ decimal at
-fault_text (Query kind at) = query_word kind ++ codes " at " ++ decimal at
+fault_text (Malformed kind at) = apdu_kind_name kind ++ codes " malformed at " ++ decimal at
+fault_text (Query kind at) = pqf_kind_name kind ++ codes " at " ++ decimal at
 fault_text NotPrintable = codes "not printable"
 fault_text (NotKnowledge at) =
-    codes "knowledge refused: " ++ load_word (loads.NotKnowledge at) ++ codes " at " ++ decimal at
+    codes "knowledge refused: " ++ load_error_name (loads.NotKnowledge at) ++ codes " at " ++ decimal at
 fault_text (NotCanonical at) =
-    codes "knowledge refused: " ++ load_word (loads.NotCanonical at) ++ codes " at " ++ decimal at
+    codes "knowledge refused: " ++ load_error_name (loads.NotCanonical at) ++ codes " at " ++ decimal at
 fault_text NamesDiffer = codes "names differ"
 fault_text (Line number) = codes "line " ++ decimal number ++ codes " refused"
+fault_text Wanted = codes "--records refused"
+fault_text Syntax = codes "--syntax refused"
 fault_text (NoQuestion name) = codes "no question " ++ name.now
+fault_text (NoCatalogue name) = codes "no catalogue " ++ name.now
 fault_text (NotOid text) = codes "no OID " ++ text.now
 fault_text Serve = codes "cannot serve"
 fault_text Memory = codes "out of memory"
@@ -98,6 +103,13 @@ of_load loads.Memory = Memory
 abbrev pub of_world : WorldError → Fault
 of_world (worlds.Refused line) = Line line
 of_world worlds.Memory = Memory
+
+-- the fault for a search that cannot be put to the questions
+abbrev pub of_search : SearchError → Fault
+of_search (searches.Query kind at) = Query kind at
+of_search searches.Records = Wanted
+of_search searches.Syntax = Syntax
+of_search searches.Memory = Memory
 
 -- the fault for a target that cannot be served
 abbrev pub of_serve : ServeError → Fault

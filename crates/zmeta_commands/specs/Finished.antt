@@ -2,9 +2,9 @@
 use Rattle.std.specs.Prelude.{◌≡◌, ◌⊎◌, ℕ, ◌+◌, ◌<◌, ◌^◌, Bool, true, false, not, ◌||◌, List, [], ◌∷◌, ◌++◌, length}
 use Rattle.std.specs.Prelude.{codes, slice_get, Option, Some, None, Result, Ok, Err, IfSome}
 use Rattle.zapdu.specs.Text.{quoted}
-use Rattle.zber.specs.declared.text.Mode.{Mode}
-use Rattle.zknow.specs.Known.{HasFailed}
-use Rattle.zknow.specs.List.Listing.{listing}
+use Rattle.zmeta_args.specs.declared.arguments.View.{View}
+use Rattle.zknow.specs.Known.{HasFailure}
+use Rattle.zmeta_commands.specs.Views.{printed}
 use Rattle.zknow.specs.Saved.Saved.{IsSaved}
 use Rattle.zoom.specs.State.{State}
 use Rattle.zoom.specs.State.TheVariants as states
@@ -15,7 +15,7 @@ use Rattle.zoom.specs.Metas.{MetaLinks, IsTranscriptValue, is_skipped, is_comple
 use Rattle.zmeta_commands.specs.Faults.{end_status}
 use Rattle.zmeta_commands.specs.Devices.{Device, IsUnchanged, HasGained, HasStopped, AfterReport}
 use Rattle.zmeta_commands.specs.declared.fault.Fault.{Fault}
-use Rattle.zmeta_commands.specs.declared.fault.Fault.TheVariants.{Read, Write, Line, Memory}
+use Rattle.zmeta_commands.specs.declared.fault.Fault.TheVariants.{Read, Write, Line, Memory, Query, Wanted, Syntax}
 use Rattle.zmeta_commands.specs.declared.fault.Status.{Status}
 use Rattle.zmeta_commands.specs.declared.fault.Status.TheVariants as statuses
 use Rattle.zmeta_commands.specs.declared.finished.Finished.{Finished}
@@ -26,12 +26,12 @@ asker = codes "zmeta"
 
 -- the list of the facts of these connections, whose questions were put to these addresses, or to targets in memory
 pub record IsListed
-    (meta : MetaLinks) (names : List (List ℕ)) (addresses : List (Option (List ℕ))) (mode : Mode) (r : Finished)
+    (meta : MetaLinks) (names : List (List ℕ)) (addresses : List (Option (List ℕ))) (view : View) (r : Finished)
     : Type 0 where
   pub of : r.meta ≡ meta
   pub at : r.addresses.items ≡ addresses
   pub named : r.names ≡ names
-  pub list : r.list.items ≡ listing names mode meta.pool.knowledge
+  pub list : r.list.items ≡ printed names view meta.pool.knowledge
 
 -- each connection has a name, and there are fewer than 2 ^ 32
 pub record HasNames (r : Finished) : Type 0 where
@@ -109,8 +109,8 @@ HasTrouble addresses meta false = (c : ℕ) → c < length meta.pool.connections
 
 -- the status after connections for questions at these addresses
 abbrev pub IsStatusOf : List (Option (List ℕ)) → MetaLinks → Status → Type 0
-IsStatusOf addresses meta statuses.Failed = HasFailed meta.pool.knowledge ⊎ HasTrouble addresses meta true
-IsStatusOf addresses meta statuses.Done = (HasFailed meta.pool.knowledge → ⊥) × HasTrouble addresses meta false
+IsStatusOf addresses meta statuses.Failed = HasFailure meta.pool.knowledge ⊎ HasTrouble addresses meta true
+IsStatusOf addresses meta statuses.Done = (HasFailure meta.pool.knowledge → ⊥) × HasTrouble addresses meta false
 IsStatusOf addresses meta _ = ⊥
 
 -- the status after finished connections
@@ -159,6 +159,13 @@ IsOfWorld path (Read told) = told.now ≡ path
 IsOfWorld path (Line number) = Unit {0}
 IsOfWorld path Memory = Unit {0}
 IsOfWorld path _ = ⊥
+
+-- a fault of the world file at a path, or what is put to its questions is refused
+abbrev pub IsOfSearchedWorld : List ℕ → Fault → Type 0
+IsOfSearchedWorld path (Query kind at) = Unit {0}
+IsOfSearchedWorld path Wanted = Unit {0}
+IsOfSearchedWorld path Syntax = Unit {0}
+IsOfSearchedWorld path f = IsOfWorld path f
 
 -- The result of a command that asks, and the devices after it. Its end was done, or a part of it; or a fault came
 -- before anything was written.

@@ -1,11 +1,11 @@
 -- What `join` prints for saved files.
 use Rattle.std.specs.Prelude.{◌≡◌, ◌≢◌, ℕ, List, [], ◌∷◌, ◌++◌, Contains, Option, IfSome, Result, Ok, Err, MatchResult}
 use Rattle.zknow.specs.declared.fact.Fact.{Fact}
-use Rattle.zber.specs.declared.text.Mode.{Mode}
+use Rattle.zmeta_args.specs.declared.arguments.View.{View}
 use Rattle.zknow.specs.Facts.{AreFacts}
 use Rattle.zknow.specs.Tables.Join.{IsUnion}
-use Rattle.zknow.specs.Known.{HasFailed}
-use Rattle.zknow.specs.List.Listing.{listing}
+use Rattle.zknow.specs.Known.{HasFailure}
+use Rattle.zmeta_commands.specs.Views.{printed}
 use Rattle.zknow.specs.Saved.Saved.{IsSaved}
 use Rattle.zknow.specs.Saved.Loaded.{IsNotKnowledge, IsNotCanonical}
 use Rattle.zmeta_commands.specs.Faults.{end_status}
@@ -102,16 +102,16 @@ module _ (octets : List ℕ → Option (List ℕ)) where
   LoadAllResult paths (Err f) = IsRefusedAmong paths f
 
   -- the list of the facts of all files together
-  abbrev pub IsListOf : Mode → List (List ℕ) → List Fact → List ℕ → Type 0
-  IsListOf mode paths facts text =
-      (names : List (List ℕ)) × AreJoined names paths facts × (text ≡ listing names mode facts)
+  abbrev pub IsListOf : View → List (List ℕ) → List Fact → List ℕ → Type 0
+  IsListOf view paths facts text =
+      (names : List (List ℕ)) × AreJoined names paths facts × (text ≡ printed names view facts)
 
 -- ---- the command
 
 -- the status for these facts: whether a search or an association failed
 abbrev pub IsKnownStatus : List Fact → Status → Type 0
-IsKnownStatus known statuses.Failed = HasFailed known
-IsKnownStatus known statuses.Done = HasFailed known → ⊥
+IsKnownStatus known statuses.Failed = HasFailure known
+IsKnownStatus known statuses.Done = HasFailure known → ⊥
 IsKnownStatus known _ = ⊥
 
 -- the list was written, or a front of it if the stream failed
@@ -122,16 +122,16 @@ PutListResult text status old new result =
 -- the result of `join`: the list was written, a front of it if the stream failed, or nothing if a file is refused
 -- or no memory was found
 abbrev pub JoinResult
-    : Mode → (List ℕ → Option (List ℕ)) → List (List ℕ) → Device → Device → Result Status Fault → Type 0
-JoinResult mode octets paths old new (Ok status) = (facts : List Fact) × (text : List ℕ)
-    × IsListOf octets mode paths facts text × IsKnownStatus facts status × HasGained old new text
-JoinResult mode octets paths old new (Err (Write told)) = (facts : List Fact) × (text : List ℕ)
-    × IsListOf octets mode paths facts text × PutFailure old new text (Write told)
-JoinResult mode octets paths old new (Err Memory) = IsUnchanged old new
-JoinResult mode octets paths old new (Err f) = IsRefusedAmong octets paths f × IsUnchanged old new
+    : View → (List ℕ → Option (List ℕ)) → List (List ℕ) → Device → Device → Result Status Fault → Type 0
+JoinResult view octets paths old new (Ok status) = (facts : List Fact) × (text : List ℕ)
+    × IsListOf octets view paths facts text × IsKnownStatus facts status × HasGained old new text
+JoinResult view octets paths old new (Err (Write told)) = (facts : List Fact) × (text : List ℕ)
+    × IsListOf octets view paths facts text × PutFailure old new text (Write told)
+JoinResult view octets paths old new (Err Memory) = IsUnchanged old new
+JoinResult view octets paths old new (Err f) = IsRefusedAmong octets paths f × IsUnchanged old new
 
 -- the devices and the status after `join`
 abbrev pub AfterJoin
-    : Mode → (List ℕ → Option (List ℕ)) → List (List ℕ) → Device → Device → Device → Device → Status → Type 0
-AfterJoin mode octets paths output printed errors told status = (answer : Result Status Fault)
-    × (status ≡ end_status answer) × JoinResult mode octets paths output printed answer × AfterReport errors told answer
+    : View → (List ℕ → Option (List ℕ)) → List (List ℕ) → Device → Device → Device → Device → Status → Type 0
+AfterJoin view octets paths output printed errors told status = (answer : Result Status Fault)
+    × (status ≡ end_status answer) × JoinResult view octets paths output printed answer × AfterReport errors told answer

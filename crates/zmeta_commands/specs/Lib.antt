@@ -16,4 +16,7 @@ pub mod Serve
 pub mod Show
 pub mod Steps
 pub mod Arguments
+pub mod Views
 pub mod Worlds
+pub mod Searches
+pub mod Catalogues

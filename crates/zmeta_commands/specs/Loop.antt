@@ -1,10 +1,12 @@
 -- What `loop` prints and reports for a world file, and how it ends.
-use Rattle.std.specs.Prelude.{ℕ, List, Option, Result, Ok, Err}
-use Rattle.zber.specs.declared.text.Mode.{Mode}
+use Rattle.std.specs.Prelude.{◌≡◌, ℕ, List, Option, Result, Ok, Err}
+use Rattle.zmeta_args.specs.declared.arguments.View.{View}
 use Rattle.zmeta_world.specs.declared.in_memory.InMemoryRun.{InMemoryRun}
+use Rattle.zmeta_world.specs.Search.{SearchTexts}
+use Rattle.zmeta_commands.specs.Worlds.{IsSearchRefusal}
 use Rattle.zmeta_commands.specs.Devices.{Device}
 use Rattle.zmeta_commands.specs.declared.fault.Fault.{Fault}
-use Rattle.zmeta_commands.specs.declared.fault.Fault.TheVariants.{Read, Line, Serve, Memory}
+use Rattle.zmeta_commands.specs.declared.fault.Fault.TheVariants.{Read, Line, Query, Wanted, Syntax, Serve, Memory}
 use Rattle.zmeta_commands.specs.declared.fault.Status.{Status}
 use Rattle.zmeta_commands.specs.declared.finished.Finished.{Finished}
 use Rattle.zmeta_commands.specs.Finished.{Conclusion, Command, AfterCommand}
@@ -16,25 +18,36 @@ IsOfNetwork Serve = Unit {0}
 IsOfNetwork Memory = Unit {0}
 IsOfNetwork _ = ⊥
 
+-- a fault that can end running the world of the file at a path
+abbrev pub IsOfLoop : List ℕ → Fault → Type 0
+IsOfLoop path (Read told) = told.now ≡ path
+IsOfLoop path (Line number) = Unit {0}
+IsOfLoop path (Query kind at) = Unit {0}
+IsOfLoop path Wanted = Unit {0}
+IsOfLoop path Syntax = Unit {0}
+IsOfLoop path Serve = Unit {0}
+IsOfLoop path Memory = Unit {0}
+IsOfLoop path _ = ⊥
+
 -- the file has a world with an in-memory plan
-abbrev pub HasInMemoryRun : List ℕ → Type 0
-HasInMemoryRun file = (a : InMemoryRun) × IsInMemoryFile file a
+abbrev pub HasInMemoryRun : SearchTexts → List ℕ → Type 0
+HasInMemoryRun search file = (a : InMemoryRun) × IsInMemoryFile search file a
 
 -- the finished connections of the world of a file, or why it was not run
-abbrev pub LoopFileResult : Mode → List ℕ → Result Finished Fault → Type 0
-LoopFileResult mode file (Ok r) = IsFileRun mode file r
-LoopFileResult mode file (Err (Line number)) = IsLineAtFault file number
-LoopFileResult mode file (Err (Read path)) = Unit {0}
-LoopFileResult mode file (Err Serve) = HasInMemoryRun file
-LoopFileResult mode file (Err Memory) = Unit {0}
-LoopFileResult mode file (Err _) = ⊥
+abbrev pub LoopFileResult : SearchTexts → View → List ℕ → Result Finished Fault → Type 0
+LoopFileResult search view file (Ok r) = IsFileRun search view file r
+LoopFileResult search view file (Err (Line number)) = IsLineAtFault search file number
+LoopFileResult search view file (Err (Read path)) = Unit {0}
+LoopFileResult search view file (Err Serve) = HasInMemoryRun search file
+LoopFileResult search view file (Err Memory) = Unit {0}
+LoopFileResult search view file (Err f) = IsSearchRefusal search f
 
 -- the result of `loop`, and the devices after it
-abbrev pub LoopResult : Mode → List ℕ → Option (List ℕ)
+abbrev pub LoopResult : SearchTexts → View → List ℕ → Option (List ℕ)
     → Device → Device → Device → Device → Result Status Fault → Type 0
-LoopResult mode file saved output printed errors told answer =
-    Conclusion (LoopFileResult mode file) saved output printed errors told answer
+LoopResult search view file saved output printed errors told answer =
+    Conclusion (LoopFileResult search view file) saved output printed errors told answer
 
 -- the devices and the status after `loop`
-abbrev pub AfterLoop : Mode → Command
-AfterLoop mode = AfterCommand (LoopResult mode)
+abbrev pub AfterLoop : SearchTexts → View → Command
+AfterLoop search view = AfterCommand (LoopResult search view)

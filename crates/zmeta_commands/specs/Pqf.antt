@@ -5,10 +5,10 @@ use Rattle.zber.specs.AsnTags.{context}
 use Rattle.zber.specs.Elements.{Element, cons}
 use Rattle.zber.specs.Canonical.{canonical}
 use Rattle.zquery.specs.Trees.{RpnQuery, height}
-use Rattle.zquery.specs.Notation.Texts.{IsText, IsFault}
+use Rattle.zquery.specs.Notation.Texts.{IsText, IsTextFault}
 use Rattle.zquery.specs.Notation.Printing.{query_text}
 use Rattle.zquery.specs.Element.Type1.{WritesQuery}
-use Rattle.zquery.specs.Element.Type1Reading.{query_spelt}
+use Rattle.zquery.specs.Element.Type1Reading.{query_spelling}
 use Rattle.zmeta_commands.specs.Faults.{result_status}
 use Rattle.zmeta_commands.specs.Devices.{Device, IsUnchanged, HasGained, HasStopped, AfterReport}
 use Rattle.zmeta_commands.specs.declared.fault.Fault.{Fault}
@@ -25,7 +25,7 @@ IsQueryOf text q = IsText text q × (height q.root ≤ 32)
 
 -- the element encodes the query, and is the one that `zquery::to_node` makes
 abbrev pub IsElementOf : RpnQuery → Element → Type 0
-IsElementOf q n = WritesQuery q n × (query_spelt q ≡ Some n)
+IsElementOf q n = WritesQuery q n × (query_spelling q ≡ Some n)
 
 -- the printed query and its element, on two lines
 unfoldable pub query_lines : RpnQuery → Element → List ℕ
@@ -40,7 +40,7 @@ PutBothResult q old new (Err e) = e ≡ Memory
 abbrev pub PutQueryResult : List ℕ → List ℕ → List ℕ → Result (Unit {0}) Fault → Type 0
 PutQueryResult text old new (Ok _) = (q : RpnQuery) × (n : Element) × IsQueryOf text q × IsElementOf q n
     × (new ≡ old ++ query_lines q n)
-PutQueryResult text old new (Err (Query kind at)) = IsFault text (record { at = at; kind = kind })
+PutQueryResult text old new (Err (Query kind at)) = IsTextFault text (record { at = at; kind = kind })
 PutQueryResult text old new (Err Memory) = Unit {0}
 PutQueryResult text old new (Err _) = ⊥
 
@@ -51,7 +51,7 @@ AreLinesOf text lines = (q : RpnQuery) × (n : Element) × IsQueryOf text q × I
 -- the result of `pqf`, and the stream after it
 abbrev pub PqfResult : List ℕ → Device → Device → Result (Unit {0}) Fault → Type 0
 PqfResult text old new (Ok _) = (lines : List ℕ) × AreLinesOf text lines × HasGained old new lines
-PqfResult text old new (Err (Query kind at)) = IsFault text (record { at = at; kind = kind }) × IsUnchanged old new
+PqfResult text old new (Err (Query kind at)) = IsTextFault text (record { at = at; kind = kind }) × IsUnchanged old new
 PqfResult text old new (Err Memory) = IsUnchanged old new
 PqfResult text old new (Err (Write path)) =
     (path.now ≡ old.path) × ((lines : List ℕ) × AreLinesOf text lines × HasStopped old new lines)

@@ -4,31 +4,35 @@ use Rattle.std.specs.Fmt.{decimal}
 use Rattle.std.specs.Option.{option_map}
 use Rattle.zber.specs.declared.oid.OidError.{OidError}
 use Rattle.zber.specs.declared.oid.OidError.TheVariants as oids
-use Rattle.zber.specs.OidAnswers.{FromDotted}
+use Rattle.zber.specs.OidAnswers.{DottedResult}
 use Rattle.zknow.specs.declared.fact.Fact.{Fact}
 use Rattle.zknow_records.specs.declared.left_out.LeftOut.{LeftOut}
 use Rattle.zknow_records.specs.Records.{records_octets, left_out}
+use Rattle.zmeta_args.specs.Texts.{texts_of}
+use Rattle.zmeta_world.specs.Search.{dotted_syntax}
+use Rattle.zmeta_commands.specs.Catalogues.{IsOfCatalogues}
+use Rattle.zmeta_commands.specs.Choice.{AreAllKnown, IsFirstUnknown}
 use Rattle.zmeta_commands.specs.Faults.{end_status}
 use Rattle.zmeta_commands.specs.Devices.{Device, IsUnchanged, HasGained, HasStopped, AfterReport}
 use Rattle.zmeta_commands.specs.Finished.{AfterTellLines}
 use Rattle.zmeta_commands.specs.Join.{AreJoined, IsRefusedAmong, IsKnownStatus}
 use Rattle.zmeta_commands.specs.declared.records.Extract.{Extract}
 use Rattle.zmeta_commands.specs.declared.fault.Fault.{Fault}
-use Rattle.zmeta_commands.specs.declared.fault.Fault.TheVariants.{Write, NotOid, Memory}
+use Rattle.zmeta_commands.specs.declared.fault.Fault.TheVariants.{Write, NoCatalogue, NotOid, Memory}
 use Rattle.zmeta_commands.specs.declared.fault.Status.{Status}
 
 -- ---- the record syntax that is asked for
 
--- the object identifier of the text, if there is one
+-- the object identifier that the text is, or that it names, if there is a text
 abbrev pub IsSyntax : Option (List ℕ) → Option (List ℕ) → Type 0
 IsSyntax None None = Unit {0}
-IsSyntax (Some text) (Some oid) = FromDotted text (Ok oid)
+IsSyntax (Some text) (Some oid) = DottedResult (dotted_syntax text) (Ok oid)
 IsSyntax _ _ = ⊥
 
--- the text is not an object identifier
+-- the text is no object identifier, and names none
 abbrev pub IsNoOid : Option (List ℕ) → List ℕ → Type 0
 IsNoOid None told = ⊥
-IsNoOid (Some text) told = (told ≡ text) × (e : OidError) × (e ≢ oids.Memory) × FromDotted text (Err e)
+IsNoOid (Some text) told = (told ≡ text) × (e : OidError) × (e ≢ oids.Memory) × DottedResult (dotted_syntax text) (Err e)
 
 -- the object identifier of the text, or why it is refused
 abbrev pub SyntaxResult : Option (List ℕ) → Result (Option (List ℕ)) Fault → Type 0
@@ -49,18 +53,21 @@ abbrev pub left_text : LeftOut → List ℕ
 left_text left =
     left_line (codes "positions with several records") left.conflicts
     ++ left_line (codes "diagnostics") left.diagnostics
-    ++ left_line (codes "records without octets") left.others
+    ++ left_line (codes "records of another syntax") left.syntaxes
+    ++ left_line (codes "structured records (as OPAC and GRS-1)") left.others
 
 -- ---- the command
 
--- the record syntax by its text, or any; and whether all records of a position that has several are written
+-- the names of the catalogues, or none for all; the record syntax by its text, or any; and whether all records of a
+-- position that has several are written
 pub record Wanted : Type 0 where
+  pub only : List (List ℕ)
   pub syntax : Option (List ℕ)
   pub conflicts : Bool
 
 -- the records that are asked for
 abbrev pub extract : Extract → Wanted
-extract e = record { syntax = option_map (λ text. text.now) e.syntax; conflicts = e.conflicts }
+extract e = record { only = texts_of e.only.now; syntax = option_map (λ text. text.now) e.syntax; conflicts = e.conflicts }
 
 -- the octets were written and the lines reported; or the stream failed
 abbrev pub PutRecordsResult
@@ -71,17 +78,27 @@ PutRecordsResult text lines output printed errors told (Err (Write path)) =
     (path.now ≡ output.path) × HasStopped output printed text × (told ≡ errors)
 PutRecordsResult text lines output printed errors told (Err _) = ⊥
 
--- the files at these paths have these facts together, and this is the record syntax asked for
+-- these are the facts about the chosen catalogues that the files at these paths have together, and this is the record
+-- syntax asked for
 pub record IsExtract
     (octets : List ℕ → Option (List ℕ)) (paths : List (List ℕ)) (e : Wanted) (facts : List Fact)
     (oid : Option (List ℕ))
     : Type 0 where
   pub names : List (List ℕ)
-  pub joined : AreJoined octets names paths facts
+  pub all : List Fact
+  pub joined : AreJoined octets names paths all
+  pub known : AreAllKnown e.only names
+  pub chosen : IsOfCatalogues e.only names all facts
   pub syntax : IsSyntax e.syntax oid
 
+-- the name is the first that no catalogue of the files at these paths has
+abbrev pub HasNoCatalogue
+    : (List ℕ → Option (List ℕ)) → List (List ℕ) → List (List ℕ) → List ℕ → Type 0
+HasNoCatalogue octets paths only name =
+    (names : List (List ℕ)) × (facts : List Fact) × AreJoined octets names paths facts × IsFirstUnknown only names name
+
 -- The result of `records`: the octets and what was left out, or a front of the octets if the stream failed. Nothing
--- was written if a file or the record syntax is refused, or no memory was found.
+-- was written if a file, the record syntax or a name is refused, or no memory was found.
 abbrev pub RecordsResult
     : Wanted → (List ℕ → Option (List ℕ)) → List (List ℕ) → Device → Device → Device → Device
     → Result Status Fault → Type 0
@@ -95,6 +112,8 @@ RecordsResult e octets paths output printed errors told (Err (Write path)) =
     × HasStopped output printed (records_octets oid e.conflicts facts) × (told ≡ errors)
 RecordsResult e octets paths output printed errors told (Err (NotOid text)) =
     IsNoOid e.syntax text.now × IsUnchanged output printed × (told ≡ errors)
+RecordsResult e octets paths output printed errors told (Err (NoCatalogue name)) =
+    HasNoCatalogue octets paths e.only name.now × IsUnchanged output printed × (told ≡ errors)
 RecordsResult e octets paths output printed errors told (Err Memory) = IsUnchanged output printed × (told ≡ errors)
 RecordsResult e octets paths output printed errors told (Err f) =
     IsRefusedAmong octets paths f × IsUnchanged output printed × (told ≡ errors)

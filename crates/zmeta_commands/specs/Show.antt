@@ -4,8 +4,8 @@ use Rattle.zber.specs.declared.framer.TheConstants.{MESSAGE_LIMIT}
 use Rattle.zber.specs.declared.fault.FaultKind.{FaultKind}
 use Rattle.zber.specs.declared.fault.FaultKind.TheVariants as kinds
 use Rattle.zber.specs.Elements.{Element}
-use Rattle.zber.specs.Spelling.{Begins}
-use Rattle.zber.specs.Shown.{Shows}
+use Rattle.zber.specs.Spelling.{HasFirstMessage}
+use Rattle.zber.specs.Shown.{HasFault}
 use Rattle.zber.specs.Unfinished.{IsUnfinished}
 use Rattle.zapdu.specs.declared.apdu.Apdu.{Apdu}
 use Rattle.zapdu.specs.declared.apdu.Kind.{Kind}
@@ -22,15 +22,15 @@ use Rattle.zmeta_commands.specs.declared.fault.Status.{Status}
 pub data ShownText : List ℕ → List ℕ → Result (Unit {0}) Fault → Type 0 where
   nothing_left : ShownText [] [] (Ok tt)
   apdu : {xs rest text : List ℕ} {e : Element} {end : Result (Unit {0}) Fault} (v : Apdu)
-      → Begins MESSAGE_LIMIT xs e rest → Writes v e → ShownText rest text end → ShownText xs (apdu_text v ++ text) end
-  fault : {xs : List ℕ} {kind : FaultKind} {at : ℕ} → Shows MESSAGE_LIMIT xs kind at
+      → HasFirstMessage MESSAGE_LIMIT xs e rest → Writes v e → ShownText rest text end → ShownText xs (apdu_text v ++ text) end
+  fault : {xs : List ℕ} {kind : FaultKind} {at : ℕ} → HasFault MESSAGE_LIMIT xs kind at
       → ShownText xs [] (Err (Frame kind at))
   unfinished : {xs : List ℕ}
       → 0 < length xs → IsUnfinished MESSAGE_LIMIT xs → ShownText xs [] (Err (Frame kinds.Truncated (length xs)))
-  no_apdu : {xs rest : List ℕ} {e : Element} → Begins MESSAGE_LIMIT xs e rest → IsNoApdu e
+  no_apdu : {xs rest : List ℕ} {e : Element} → HasFirstMessage MESSAGE_LIMIT xs e rest → IsNoApdu e
       → ShownText xs [] (Err NotApdu)
   malformed : {xs rest : List ℕ} {e : Element} {kind : Kind} {at : ℕ}
-      → Begins MESSAGE_LIMIT xs e rest → ((v : Apdu) → Writes v e → ⊥) → IsMalformed kind at e
+      → HasFirstMessage MESSAGE_LIMIT xs e rest → ((v : Apdu) → Writes v e → ⊥) → IsMalformed kind at e
       → ShownText xs [] (Err (Malformed kind at))
 
 -- octets have only one text and one end

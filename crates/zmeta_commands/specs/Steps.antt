@@ -1,7 +1,7 @@
 -- The steps of `show`.
 use Rattle.std.specs.Prelude.{◌≡◌, ◌⊎◌, ℕ, List, [], ◌++◌, Bool, true, false, Result, Ok, Err, MatchResult}
 use Rattle.zber.specs.Elements.{Element}
-use Rattle.zber.specs.Spelling.{Begins}
+use Rattle.zber.specs.Spelling.{HasFirstMessage}
 use Rattle.zber.specs.Stream.{Stream}
 use Rattle.zber.specs.Unfinished.{IsUnfinished}
 use Rattle.zapdu.specs.declared.apdu.Apdu.{Apdu}
@@ -17,7 +17,7 @@ use Rattle.zmeta_commands.specs.declared.fault.Fault.TheVariants.{Memory}
 -- found
 abbrev pub ShowNextResult : Stream → Stream → List ℕ → List ℕ → Result Bool Fault → Type 0
 ShowNextResult s t old new (Ok true) =
-    (e : Element) × (v : Apdu) × Begins MESSAGE_LIMIT s.octets e t.octets × Writes v e
+    (e : Element) × (v : Apdu) × HasFirstMessage MESSAGE_LIMIT s.octets e t.octets × Writes v e
     × (new ≡ old ++ apdu_text v) × (t ≡ record s { octets = t.octets })
 ShowNextResult s t old new (Ok false) =
     IsUnfinished MESSAGE_LIMIT s.octets × (new ≡ old) × (t ≡ record s { asked = true })

@@ -5,8 +5,10 @@ ghost use Rattle.std.specs.Option.{option_map};
 ghost use Rattle.zoom.specs.Askable.{AreAskable, AreFit};
 ghost use Rattle.zoom.specs.Asking.{is_present, IsAsked};
 ghost use Rattle.zmeta_commands.specs.Devices.{output_device};
-ghost use Rattle.zmeta_commands.specs.Finished.{HasNames, IsOfPaths, IsOfWorld};
+ghost use Rattle.zmeta_commands.specs.Finished.{HasNames, IsOfPaths, IsOfSearchedWorld};
 ghost use Rattle.zmeta_commands.specs.Choice.{manner};
+ghost use Rattle.zmeta_world.specs.Search.{search_texts};
+ghost use Rattle.zmeta_commands.specs.Searches.{search_of};
 ghost use Rattle.zmeta_commands.specs.Ask.{ReadNetworkResult, CanBeAsked, AskNetworkResult, AskFileResult, AskResult, IsOfAsking, AfterAsk};
 
 use crate::choice::{Choice, addresses_of};
@@ -16,14 +18,16 @@ use crate::finished::{Finished, NAME, Paths, finish};
 use crate::input::Input;
 use crate::output::Output;
 use crate::progress::Progress;
-use crate::worlds::world_in;
+use crate::searches::copy_search;
+use crate::worlds::searched_world;
 use bytes::Bytes;
 use std::alloc::{AllocError, Global};
 use std::io::{Read, Write};
 use std::net::Net;
 use std::time::Clock;
-use zknow::Mode;
+use zmeta_args::{SearchOptions, View};
 use zmeta_world::network::NetworkRun;
+use zmeta_world::search::Search;
 use zoom::{Meta, MetaSettings, Question, Watch, ask, ask_at_once};
 
 /// Puts each chosen question of a world file to its host over TCP, and prints the list of the facts. The hosts are
@@ -39,18 +43,21 @@ pub fn ask_named<'a, 'o: 'a, S: Folder + Net + Clock, W: Write, E: Write, P: Wri
     system: &'a S,
     paths: Paths<'a>,
     choice: Choice<'a, '_>,
-    mode: Mode,
+    search: &SearchOptions<'_>,
+    view: View,
     screen: Option<P>,
     output: &mut Output<'o, W>,
     errors: &mut Output<'_, E>,
 ) -> Status
-    ensures { AfterAsk (manner choice.entry) mode paths.entry.world.now
+    ensures { AfterAsk (manner choice.entry) (search_of search.now) view paths.entry.world.now
         (option_map (λ path. path.now) paths.entry.saved)
         (S.octets system.now paths.entry.world.now) (output_device W.contents output.old)
         (output_device W.contents output.new)
         (output_device E.contents errors.old) (output_device E.contents errors.new) result }
 {
-    match ask_paths(alloc, system, paths, choice, mode, screen, output, errors) {
+    match ask_paths(
+        alloc, system, paths, choice, search, view, screen, output, errors,
+    ) {
         Ok(status) => status,
         Err(fault) => fault.report(errors),
     }
@@ -62,20 +69,30 @@ fn ask_paths<'a, 'o: 'a, S: Folder + Net + Clock, W: Write, E: Write, P: Write +
     system: &'a S,
     paths: Paths<'a>,
     choice: Choice<'a, '_>,
-    mode: Mode,
+    search: &SearchOptions<'_>,
+    view: View,
     screen: Option<P>,
     output: &mut Output<'o, W>,
     errors: &mut Output<'_, E>,
 ) -> Result<Status, Fault<'a>>
     ensures asks { IfSome (S.octets system.now paths.entry.world.now)
-        (λ octets. AskResult (manner choice.entry) mode octets (option_map (λ path. path.now) paths.entry.saved)
+        (λ octets. AskResult (manner choice.entry) (search_of search.now) view octets (option_map (λ path. path.now) paths.entry.saved)
         (output_device W.contents output.old) (output_device W.contents output.new)
         (output_device E.contents errors.old) (output_device E.contents errors.new) result) }
     ensures paths { IsOfPaths paths.entry.world.now (option_map (λ path. path.now) paths.entry.saved)
         (output_device W.contents output.new) result }
 {
+    let search = copy_search(alloc, search)?;
     let mut world = file_at(system, paths.world);
-    let finished = ask_file(alloc, system, &mut world, choice, mode, screen)?;
+    let finished = ask_file(
+        alloc,
+        system,
+        &mut world,
+        choice,
+        &search.texts(),
+        view,
+        screen,
+    )?;
     let answer = finish(alloc, system, &finished, paths.saved, output, errors);
     drop(finished);
     answer
@@ -87,28 +104,30 @@ fn ask_file<'a, N: Net + Clock, R: Read, P: Write + Drop>(
     net: &N,
     file: &mut Input<'a, R>,
     choice: Choice<'a, '_>,
-    mode: Mode,
+    search: &Search<'_>,
+    view: View,
     screen: Option<P>,
 ) -> Result<Finished, Fault<'a>>
     ensures asked { IfSome (R.remaining file.old.reader)
-        (λ octets. AskFileResult (manner choice.entry) mode octets result) }
+        (λ octets. AskFileResult (manner choice.entry) (search_texts search.now) view octets result) }
     ensures sound { IfOk result HasNames }
     ensures path { IfErr result (IsOfAsking file.old.path.now) }
 {
-    let network = read_network(alloc, file)?;
-    ask_network(alloc, net, network, choice, mode, screen)
+    let network = read_network(alloc, file, search)?;
+    ask_network(alloc, net, network, choice, view, screen)
 }
 
-/// Reads a file, and plans a network run of its world.
+/// Reads a file, puts the search to its questions, and plans a network run of its world.
 fn read_network<'a, R: Read>(
     alloc: Global,
     file: &mut Input<'a, R>,
+    search: &Search<'_>,
 ) -> Result<NetworkRun, Fault<'a>>
-    ensures enquires { IfSome (R.remaining file.old.reader) (λ octets. ReadNetworkResult octets result) }
+    ensures network { IfSome (R.remaining file.old.reader) (λ octets. ReadNetworkResult (search_texts search.now) octets result) }
     ensures fit { IfOk result CanBeAsked }
-    ensures path { IfErr result (IsOfWorld file.old.path.now) }
+    ensures path { IfErr result (IsOfSearchedWorld file.old.path.now) }
 {
-    let world = world_in(alloc, file)?;
+    let world = searched_world(alloc, file, search)?;
     let name = Bytes::copy_from_slice(alloc, NAME)?;
     Ok(world.network(alloc, name)?)
 }
@@ -119,11 +138,11 @@ fn ask_network<'a, N: Net + Clock, P: Write + Drop>(
     net: &N,
     network: NetworkRun,
     choice: Choice<'a, '_>,
-    mode: Mode,
+    view: View,
     screen: Option<P>,
 ) -> Result<Finished, Fault<'a>>
     requires { CanBeAsked network }
-    ensures asked { AskNetworkResult (manner choice.entry) mode network result }
+    ensures asked { AskNetworkResult (manner choice.entry) view network result }
     ensures sound { IfOk result HasNames }
 {
     let NetworkRun {
@@ -143,7 +162,7 @@ fn ask_network<'a, N: Net + Clock, P: Write + Drop>(
         choice.at_once,
         progress,
     )?;
-    Ok(Finished::new(alloc, meta, names, chosen, mode)?)
+    Ok(Finished::new(alloc, meta, names, chosen, view)?)
 }
 
 /// Asks hosts, and shows the progress meanwhile.

@@ -2,9 +2,10 @@
 
 ghost use Rattle.std.specs.Prelude.{◌≡◌, length, Ok, Err, IfOk, MatchResult};
 ghost use Rattle.std.specs.List.{list_any};
+ghost use Rattle.std.specs.Option.{option_map};
 ghost use Rattle.std.specs.Str.{bytes_eq};
 ghost use Rattle.zmeta_args.specs.Texts.{texts_of};
-ghost use Rattle.zmeta_commands.specs.Choice.{is_among, is_picked, address_if, IsChosen, AddressesResult, CheckNamesResult};
+ghost use Rattle.zmeta_commands.specs.Choice.{is_among, is_picked, address_if, IsChosen, AddressesResult, FirstUnknownResult, CheckNamesResult};
 
 use crate::fault::Fault;
 use bytes::Bytes;
@@ -34,22 +35,32 @@ fn is_text(texts: &[&str], name: &[u8]) -> bool
 }
 
 /// Returns whether the name is among `only`, or `only` is empty.
-fn is_picked(only: &[&str], name: &[u8]) -> bool
+pub(crate) fn is_picked(only: &[&str], name: &[u8]) -> bool
     ensures { result ≡ is_picked (texts_of only.now) name.now }
 {
     only.is_empty() || is_text(only, name)
+}
+
+/// Returns the first of these texts that is not among the names, if there is one.
+pub(crate) fn first_unknown<'a>(only: &[&'a str], names: &[Bytes]) -> Option<&'a str>
+    ensures { FirstUnknownResult (texts_of only.now) names.now (option_map (λ text. text.now) result) }
+{
+    for text in only {
+        if !is_among(names, text.as_bytes()) {
+            return Some(*text);
+        }
+    }
+    None
 }
 
 /// Checks that each name is that of a question. `NoQuestion` gives the first that is not.
 fn check_names<'a>(only: &[&'a str], names: &[Bytes]) -> Result<(), Fault<'a>>
     ensures { CheckNamesResult (texts_of only.now) names.now result }
 {
-    for text in only {
-        if !is_among(names, text.as_bytes()) {
-            return Err(Fault::NoQuestion(*text));
-        }
+    match first_unknown(only, names) {
+        Some(text) => Err(Fault::NoQuestion(text)),
+        None => Ok(()),
     }
-    Ok(())
 }
 
 /// Returns the address if the question's name is chosen, else `None`. It shares the octets.

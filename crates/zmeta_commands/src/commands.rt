@@ -1,6 +1,6 @@
 //! From the arguments of the command line to the command that they ask for.
 ghost use Rattle.std.specs.Prelude.{◌≡◌, Err, IfErr, IfOk, MatchResult, map, string_bytes};
-ghost use Rattle.zmeta_commands.specs.Devices.{left, output_device};
+ghost use Rattle.zmeta_commands.specs.Devices.{input_device, output_device};
 ghost use Rattle.zmeta_commands.specs.Arguments.{AfterCall, AfterArguments, AfterUsage, IsWrong};
 
 use crate::ask::ask_named;
@@ -44,7 +44,7 @@ pub fn run<'a, S: Folder + Net + Clock, R: Read, W: Write, E: Write, P: Write + 
 ) -> Status
     ensures done { IfOk arguments.entry (λ arguments. AfterArguments (S.octets system.now)
         (map string_bytes arguments.now)
-        (left R.remaining input.old) (left R.remaining input.new)
+        (input_device R.remaining input.old) (input_device R.remaining input.new)
         (output_device W.contents output.old) (output_device W.contents output.new)
         (output_device E.contents errors.old) (output_device E.contents errors.new) result) }
     ensures wrong { IfErr arguments.entry (λ _. IsWrong result) }
@@ -70,7 +70,7 @@ fn run_arguments<'a, S: Folder + Net + Clock, R: Read, W: Write, E: Write, P: Wr
     screen: Option<P>,
 ) -> Status
     ensures { AfterArguments (S.octets system.now) (map string_bytes arguments.now)
-        (left R.remaining input.old) (left R.remaining input.new)
+        (input_device R.remaining input.old) (input_device R.remaining input.new)
         (output_device W.contents output.old) (output_device W.contents output.new)
         (output_device E.contents errors.old) (output_device E.contents errors.new) result }
 {
@@ -89,7 +89,7 @@ fn answer<'a, S: Folder + Net + Clock, R: Read, W: Write, E: Write, P: Write + D
     screen: Option<P>,
 ) -> Status
     ensures { MatchResult asked.entry
-        (λ asked. AfterCall (S.octets system.now) asked (left R.remaining input.old) (left R.remaining input.new)
+        (λ asked. AfterCall (S.octets system.now) asked (input_device R.remaining input.old) (input_device R.remaining input.new)
         (output_device W.contents output.old) (output_device W.contents output.new)
         (output_device E.contents errors.old) (output_device E.contents errors.new) result)
         (λ error. (input.new ≡ input.old) × AfterUsage error (output_device W.contents output.old)
@@ -132,7 +132,7 @@ fn call<'a, S: Folder + Net + Clock, R: Read, W: Write, E: Write, P: Write + Dro
     errors: &mut Output<'a, E>,
     screen: Option<P>,
 ) -> Status
-    ensures { AfterCall (S.octets system.now) asked.entry (left R.remaining input.old) (left R.remaining input.new)
+    ensures { AfterCall (S.octets system.now) asked.entry (input_device R.remaining input.old) (input_device R.remaining input.new)
         (output_device W.contents output.old) (output_device W.contents output.new)
         (output_device E.contents errors.old) (output_device E.contents errors.new) result }
 {
@@ -142,22 +142,34 @@ fn call<'a, S: Folder + Net + Clock, R: Read, W: Write, E: Write, P: Write + Dro
         Arguments::Join {
             first,
             others,
-            mode,
+            view,
         } => join_named(
             alloc,
             system,
             first,
             others.as_slice(),
-            mode,
+            view,
             output,
             errors,
         ),
-        Arguments::Run { world, saved, mode } => {
-            run_named(alloc, system, Paths { world, saved }, mode, output, errors)
-        }
+        Arguments::Run {
+            world,
+            saved,
+            search,
+            view,
+        } => run_named(
+            alloc,
+            system,
+            Paths { world, saved },
+            &search,
+            view,
+            output,
+            errors,
+        ),
         Arguments::Records {
             first,
             others,
+            only,
             syntax,
             conflicts,
         } => {
@@ -165,7 +177,11 @@ fn call<'a, S: Folder + Net + Clock, R: Read, W: Write, E: Write, P: Write + Dro
                 first,
                 others: others.as_slice(),
             };
-            let wanted = Extract { syntax, conflicts };
+            let wanted = Extract {
+                only: only.as_slice(),
+                syntax,
+                conflicts,
+            };
             records_named(alloc, system, saved, wanted, output, errors)
         }
         Arguments::Ask {
@@ -173,18 +189,32 @@ fn call<'a, S: Folder + Net + Clock, R: Read, W: Write, E: Write, P: Write + Dro
             saved,
             at_once,
             only,
-            mode,
+            search,
+            view,
         } => {
             let choice = Choice {
                 at_once,
                 only: only.as_slice(),
             };
             let paths = Paths { world, saved };
-            ask_named(alloc, system, paths, choice, mode, screen, output, errors)
+            ask_named(
+                alloc, system, paths, choice, &search, view, screen, output, errors,
+            )
         }
-        Arguments::Loop { world, saved, mode } => {
-            loop_named(alloc, system, Paths { world, saved }, mode, output, errors)
-        }
+        Arguments::Loop {
+            world,
+            saved,
+            search,
+            view,
+        } => loop_named(
+            alloc,
+            system,
+            Paths { world, saved },
+            &search,
+            view,
+            output,
+            errors,
+        ),
         Arguments::Serve {
             address,
             name,

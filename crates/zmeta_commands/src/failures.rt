@@ -34,7 +34,7 @@ fn line_of(alloc: Global, name: &Bytes, reason: Reason) -> Result<Vec<u8>, Alloc
     line.extend_from_slice(b"zmeta: target ")?;
     quote(alloc, name.as_slice(), &mut line)?;
     line.extend_from_slice(b": ")?;
-    line.extend_from_slice(reason.word().as_bytes())?;
+    line.extend_from_slice(reason.name().as_bytes())?;
     line.extend_from_slice(b"\n")?;
     Ok(line)
 }

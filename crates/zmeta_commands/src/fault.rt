@@ -1,6 +1,6 @@
 //! Why a command stopped, and the status that it ends with.
 ghost use Rattle.std.specs.Prelude.{◌≡◌, Some};
-ghost use Rattle.zmeta_commands.specs.Faults.{code_of, status_of, fault_text, of_frame, of_apdu, of_query, of_print, of_build, of_load, of_world, of_serve};
+ghost use Rattle.zmeta_commands.specs.Faults.{code_of, status_of, fault_text, of_frame, of_apdu, of_query, of_print, of_build, of_load, of_world, of_search, of_serve};
 ghost use Rattle.zmeta_commands.specs.Devices.{output_device, AfterTell};
 ghost use Rattle.zmeta_commands.specs.declared.fault.Fault.TheVariants.{Memory};
 
@@ -11,6 +11,7 @@ use std::io::Write;
 use zapdu::{ApduError, Kind};
 use zber::{FaultKind, FrameError};
 use zknow::LoadError;
+use zmeta_world::search::SearchError;
 use zmeta_world::world::WorldError;
 use zoom::ServeError;
 use zquery::{BuildError, PqfError, PqfErrorKind, PrintError};
@@ -73,8 +74,14 @@ pub enum Fault<'a> {
     /// The line of a world file, from 1, is refused. It is no valid line, cannot follow the lines before it, or
     /// asks a target or host that the command does not ask.
     Line(u64),
+    /// The text of `--records` names no wanted positions.
+    Wanted,
+    /// The text of `--syntax` is no record syntax that a question can have.
+    Syntax,
     /// No question has this name.
     NoQuestion(&'a str),
+    /// No catalogue of the saved files has this name.
+    NoCatalogue(&'a str),
     /// The text is not an object identifier in dotted form.
     NotOid(&'a str),
     /// The file has no such target, the program cannot listen at the address, or it cannot take a connection.
@@ -92,30 +99,33 @@ impl fmt::Display for Fault<'_> {
             Fault::Write(path) => write!(f, "cannot write {path}"),
             Fault::Hex => write!(f, "hex refused"),
             Fault::Frame { kind, at } => {
-                let word = kind.word();
+                let word = kind.name();
                 write!(f, "{word} at {at}")
             }
             Fault::NotApdu => write!(f, "not an APDU"),
             Fault::Malformed { kind, at } => {
-                let word = kind.word();
+                let word = kind.name();
                 write!(f, "{word} malformed at {at}")
             }
             Fault::Query { kind, at } => {
-                let word = kind.word();
+                let word = kind.name();
                 write!(f, "{word} at {at}")
             }
             Fault::NotPrintable => write!(f, "not printable"),
             Fault::NotKnowledge { at } => {
-                let word = LoadError::NotKnowledge { at: *at }.word();
+                let word = LoadError::NotKnowledge { at: *at }.name();
                 write!(f, "knowledge refused: {word} at {at}")
             }
             Fault::NotCanonical { at } => {
-                let word = LoadError::NotCanonical { at: *at }.word();
+                let word = LoadError::NotCanonical { at: *at }.name();
                 write!(f, "knowledge refused: {word} at {at}")
             }
             Fault::NamesDiffer => write!(f, "names differ"),
             Fault::Line(number) => write!(f, "line {number} refused"),
+            Fault::Wanted => write!(f, "--records refused"),
+            Fault::Syntax => write!(f, "--syntax refused"),
             Fault::NoQuestion(name) => write!(f, "no question {name}"),
+            Fault::NoCatalogue(name) => write!(f, "no catalogue {name}"),
             Fault::NotOid(text) => write!(f, "no OID {text}"),
             Fault::Serve => write!(f, "cannot serve"),
             Fault::Memory => write!(f, "out of memory"),
@@ -210,6 +220,19 @@ impl From<WorldError> for Fault<'_> {
     }
 }
 
+impl From<SearchError> for Fault<'_> {
+    ghost from_gives = { λ e f. f ≡ of_search e };
+
+    fn from(error: SearchError) -> Self {
+        match error {
+            SearchError::Query { kind, at } => Fault::Query { kind, at },
+            SearchError::Records => Fault::Wanted,
+            SearchError::Syntax => Fault::Syntax,
+            SearchError::Memory => Fault::Memory,
+        }
+    }
+}
+
 impl From<ServeError> for Fault<'_> {
     ghost from_gives = { λ e f. f ≡ of_serve e };
 
@@ -236,7 +259,7 @@ impl Fault<'_> {
     /// be written.
     pub fn report<E: Write>(&self, errors: &mut Output<'_, E>) -> Status
         ensures status { result ≡ status_of self.now }
-        ensures told { AfterTell (output_device E.contents errors.old) (output_device E.contents errors.new) self.now }
+        ensures reported { AfterTell (output_device E.contents errors.old) (output_device E.contents errors.new) self.now }
     {
         errors.tell(self);
         self.status()

@@ -10,10 +10,12 @@ use crate::fault::{Fault, Status};
 use crate::files::Folder;
 use crate::output::Output;
 use crate::trouble::finished_status;
+use crate::view::print_view;
 use bytes::Bytes;
 use std::alloc::{AllocError, Global};
 use std::io::Write;
-use zknow::{Mode, Names, SaveError, print_list, save};
+use zknow::{Names, SaveError, save};
+use zmeta_args::View;
 use zoom::Meta;
 
 /// The program's name as an origin.
@@ -49,12 +51,12 @@ impl Finished {
         meta: Meta,
         names: Names,
         addresses: Vec<Option<Bytes>>,
-        mode: Mode,
+        view: View,
     ) -> Result<Finished, AllocError>
-        ensures { IfOk result (IsListed meta names addresses.items mode) }
+        ensures { IfOk result (IsListed meta names addresses.items view) }
     {
         let mut list = Vec::new(alloc);
-        print_list(alloc, meta.knowledge(), &names, mode, &mut list)?;
+        print_view(alloc, meta.knowledge(), &names, view, &mut list)?;
         Ok(Finished {
             meta,
             names,

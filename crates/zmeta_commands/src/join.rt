@@ -10,9 +10,11 @@ use crate::fault::{Fault, Status};
 use crate::files::{Folder, file_at};
 use crate::input::Input;
 use crate::output::Output;
+use crate::view::print_view;
 use std::alloc::Global;
 use std::io::{Read, Write};
-use zknow::{Knowledge, Mode, Names, load, print_list};
+use zknow::{Knowledge, Names, load};
+use zmeta_args::View;
 
 /// Prints the list of all facts of the saved files at these paths.
 ///
@@ -25,15 +27,15 @@ pub fn join_named<'a, 'o: 'a, F: Folder, W: Write, E: Write>(
     files: &'a F,
     first: &'a str,
     others: &[&'a str],
-    mode: Mode,
+    view: View,
     output: &mut Output<'o, W>,
     errors: &mut Output<'_, E>,
 ) -> Status
-    ensures { AfterJoin mode (F.octets files.now) (first.entry.now ∷ texts_of others.now)
+    ensures { AfterJoin view (F.octets files.now) (first.entry.now ∷ texts_of others.now)
         (output_device W.contents output.old) (output_device W.contents output.new)
         (output_device E.contents errors.old) (output_device E.contents errors.new) result }
 {
-    match join_files(alloc, files, first, others, mode, output) {
+    match join_files(alloc, files, first, others, view, output) {
         Ok(status) => status,
         Err(fault) => fault.report(errors),
     }
@@ -45,16 +47,16 @@ fn join_files<'a, 'o: 'a, F: Folder, W: Write>(
     files: &'a F,
     first: &'a str,
     others: &[&'a str],
-    mode: Mode,
+    view: View,
     output: &mut Output<'o, W>,
 ) -> Result<Status, Fault<'a>>
-    ensures { JoinResult mode (F.octets files.now) (first.entry.now ∷ texts_of others.now)
+    ensures { JoinResult view (F.octets files.now) (first.entry.now ∷ texts_of others.now)
         (output_device W.contents output.old) (output_device W.contents output.new) result }
 {
     let known = load_all(alloc, files, first, others)?;
     let status = known_status(&known.0);
     let mut text = Vec::new(alloc);
-    let printed = print_list(alloc, &known.0, &known.1, mode, &mut text);
+    let printed = print_view(alloc, &known.0, &known.1, view, &mut text);
     drop(known);
     printed?;
     put_list(output, text.as_slice(), status)

@@ -2,6 +2,7 @@
 #![tactic(auto)]
 
 pub mod ask;
+mod catalogues;
 pub mod choice;
 pub mod commands;
 mod digits;
@@ -17,8 +18,10 @@ pub mod pqf;
 mod progress;
 pub mod records;
 pub mod run;
+mod searches;
 pub mod serve;
 pub mod show;
 mod trouble;
 mod usage;
+mod view;
 mod worlds;

@@ -4,10 +4,11 @@ ghost use Rattle.std.specs.Prelude.{IfOk, IfErr, IfSome};
 ghost use Rattle.std.specs.Option.{option_map};
 ghost use Rattle.zmeta_commands.specs.Devices.{output_device};
 ghost use Rattle.zmeta_commands.specs.Finished.{HasNames, IsOfPaths};
-ghost use Rattle.zmeta_commands.specs.Loop.{IsOfNetwork, LoopFileResult, LoopResult, AfterLoop};
+ghost use Rattle.zmeta_world.specs.Search.{search_texts};
+ghost use Rattle.zmeta_commands.specs.Searches.{search_of};
+ghost use Rattle.zmeta_commands.specs.Loop.{IsOfNetwork, IsOfLoop, LoopFileResult, LoopResult, AfterLoop};
 ghost use Rattle.zmeta_world.specs.InMemoryRuns.{CanBeRun};
 ghost use Rattle.zmeta_commands.specs.Run.{IsListedRun};
-ghost use Rattle.zmeta_commands.specs.Serve.{IsOfService};
 
 use crate::fault::{Fault, Status};
 use crate::files::{Folder, file_at};
@@ -15,11 +16,13 @@ use crate::finished::{Finished, Paths, finish};
 use crate::input::Input;
 use crate::output::Output;
 use crate::run::read_in_memory;
+use crate::searches::copy_search;
 use std::alloc::Global;
 use std::io::{Read, Write};
 use std::net::Net;
-use zknow::Mode;
+use zmeta_args::{SearchOptions, View};
 use zmeta_world::in_memory::InMemoryRun;
+use zmeta_world::search::Search;
 use zoom::run_loopback;
 
 /// As `run_named`, but each connection goes over TCP on 127.0.0.1, with both of its ends in this process. The
@@ -28,16 +31,17 @@ pub fn loop_named<'a, 'o: 'a, S: Folder + Net, W: Write, E: Write>(
     alloc: Global,
     system: &'a S,
     paths: Paths<'a>,
-    mode: Mode,
+    search: &SearchOptions<'_>,
+    view: View,
     output: &mut Output<'o, W>,
     errors: &mut Output<'_, E>,
 ) -> Status
-    ensures { AfterLoop mode paths.entry.world.now (option_map (λ path. path.now) paths.entry.saved)
+    ensures { AfterLoop (search_of search.now) view paths.entry.world.now (option_map (λ path. path.now) paths.entry.saved)
         (S.octets system.now paths.entry.world.now) (output_device W.contents output.old)
         (output_device W.contents output.new)
         (output_device E.contents errors.old) (output_device E.contents errors.new) result }
 {
-    match loop_paths(alloc, system, paths, mode, output, errors) {
+    match loop_paths(alloc, system, paths, search, view, output, errors) {
         Ok(status) => status,
         Err(fault) => fault.report(errors),
     }
@@ -48,19 +52,21 @@ fn loop_paths<'a, 'o: 'a, S: Folder + Net, W: Write, E: Write>(
     alloc: Global,
     system: &'a S,
     paths: Paths<'a>,
-    mode: Mode,
+    search: &SearchOptions<'_>,
+    view: View,
     output: &mut Output<'o, W>,
     errors: &mut Output<'_, E>,
 ) -> Result<Status, Fault<'a>>
     ensures loops { IfSome (S.octets system.now paths.entry.world.now)
-        (λ octets. LoopResult mode octets (option_map (λ path. path.now) paths.entry.saved)
+        (λ octets. LoopResult (search_of search.now) view octets (option_map (λ path. path.now) paths.entry.saved)
         (output_device W.contents output.old) (output_device W.contents output.new)
         (output_device E.contents errors.old) (output_device E.contents errors.new) result) }
     ensures paths { IsOfPaths paths.entry.world.now (option_map (λ path. path.now) paths.entry.saved)
         (output_device W.contents output.new) result }
 {
+    let search = copy_search(alloc, search)?;
     let mut world = file_at(system, paths.world);
-    let finished = loop_file(alloc, system, &mut world, mode)?;
+    let finished = loop_file(alloc, system, &mut world, &search.texts(), view)?;
     let answer = finish(alloc, system, &finished, paths.saved, output, errors);
     drop(finished);
     answer
@@ -71,14 +77,15 @@ fn loop_file<'a, N: Net, R: Read>(
     alloc: Global,
     net: &N,
     file: &mut Input<'a, R>,
-    mode: Mode,
+    search: &Search<'_>,
+    view: View,
 ) -> Result<Finished, Fault<'a>>
-    ensures ran { IfSome (R.remaining file.old.reader) (λ octets. LoopFileResult mode octets result) }
+    ensures ran { IfSome (R.remaining file.old.reader) (λ octets. LoopFileResult (search_texts search.now) view octets result) }
     ensures sound { IfOk result HasNames }
-    ensures path { IfErr result (IsOfService file.old.path.now) }
+    ensures path { IfErr result (IsOfLoop file.old.path.now) }
 {
-    let run = read_in_memory(alloc, file)?;
-    loop_in_memory(alloc, net, run, mode)
+    let run = read_in_memory(alloc, file, search)?;
+    loop_in_memory(alloc, net, run, view)
 }
 
 /// Runs a planned world, and makes its list.
@@ -86,10 +93,10 @@ fn loop_in_memory<'a, N: Net>(
     alloc: Global,
     net: &N,
     run: InMemoryRun,
-    mode: Mode,
+    view: View,
 ) -> Result<Finished, Fault<'a>>
     requires { CanBeRun run }
-    ensures run { IfOk result (IsListedRun mode run) }
+    ensures run { IfOk result (IsListedRun view run) }
     ensures sound { IfOk result HasNames }
     ensures network { IfErr result IsOfNetwork }
 {
@@ -107,5 +114,5 @@ fn loop_in_memory<'a, N: Net>(
         settings,
         targets.into_vec(),
     )?;
-    Ok(Finished::new(alloc, meta, names, Vec::new(alloc), mode)?)
+    Ok(Finished::new(alloc, meta, names, Vec::new(alloc), view)?)
 }

@@ -3,7 +3,7 @@ ghost use Rattle.std.specs.Prelude.{◌≡◌, ℕ, List, ◌++◌, Some, OnOk, 
 ghost use Rattle.zber.specs.Elements.{Element};
 ghost use Rattle.zquery.specs.Notation.Printing.{query_text};
 ghost use Rattle.zquery.specs.Element.Type1.{WritesQuery};
-ghost use Rattle.zquery.specs.Element.Type1Reading.{query_spelt};
+ghost use Rattle.zquery.specs.Element.Type1Reading.{query_spelling};
 ghost use Rattle.zmeta_commands.specs.Pqf.{IsQueryOf, element_text, PutBothResult, PutQueryResult, PqfResult, AfterPqf};
 ghost use Rattle.zmeta_commands.specs.Devices.{output_device};
 
@@ -88,7 +88,7 @@ fn put_text(alloc: Global, query: &Query, lines: &mut Vec<u8>) -> Result<(), Pri
 fn node_of(alloc: Global, query: &Query) -> Result<Node, BuildError>
     requires { (text : List ℕ) × IsQueryOf text query.now }
     ensures written { IfOk result (WritesQuery query.now) }
-    ensures spelled { IfOk result (λ node. query_spelt query.now ≡ Some node) }
+    ensures spelled { IfOk result (λ node. query_spelling query.now ≡ Some node) }
     ensures memory { IfErr result (λ e. e ≡ BuildError.Memory) }
 {
     text_spellable();

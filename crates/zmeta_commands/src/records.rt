@@ -7,6 +7,7 @@ ghost use Rattle.zknow_records.specs.Records.{records_octets, left_out};
 ghost use Rattle.zmeta_args.specs.Texts.{texts_of};
 ghost use Rattle.zmeta_commands.specs.Records.{SyntaxResult, left_line, left_text, extract, PutRecordsResult, RecordsResult, AfterRecords};
 
+use crate::catalogues::facts_of;
 use crate::fault::{Fault, Status};
 use crate::files::Folder;
 use crate::join::{known_status, load_all};
@@ -16,12 +17,15 @@ use std::io::Write;
 use zber::{Oid, OidError};
 use zknow::Knowledge;
 use zknow_records::{LeftOut, write_records};
+use zmeta_world::search::dotted_syntax;
 
 /// Which records are written.
 #[derive(Clone, Copy)]
-pub struct Extract<'a> {
-    /// Their record syntax, as an object identifier in dotted form. If there is none, records of any syntax are
-    /// written.
+pub struct Extract<'a, 'w> {
+    /// The names of their catalogues. If there are none, records of all catalogues are written.
+    pub only: &'w [&'a str],
+    /// Their record syntax, as a name or an object identifier in dotted form. If there is none, records of any syntax
+    /// are written.
     pub syntax: Option<&'a str>,
     /// Whether all records of a position that has several are written. If not, none of them is.
     pub conflicts: bool,
@@ -39,15 +43,15 @@ pub struct SavedFiles<'a, 'w> {
 /// Writes the octets of the records of saved files, one after the other in the order of the list. Writes on
 /// `errors` how many records were left out.
 ///
-/// If a file is refused, or the syntax is not an object identifier, writes the reason on `errors` and nothing
-/// else.
+/// If a file is refused, the syntax is not an object identifier, or no catalogue has a given name, writes the reason on
+/// `errors` and nothing else.
 ///
-/// Returns `Failed` if a search or an association of the files failed.
+/// Returns `Failed` if a search or an association of the chosen catalogues failed.
 pub fn records_named<'a, 'o: 'a, F: Folder, W: Write, E: Write>(
     alloc: Global,
     files: &'a F,
     saved: SavedFiles<'a, '_>,
-    wanted: Extract<'a>,
+    wanted: Extract<'a, '_>,
     output: &mut Output<'o, W>,
     errors: &mut Output<'_, E>,
 ) -> Status
@@ -67,7 +71,7 @@ fn records_files<'a, 'o: 'a, F: Folder, W: Write, E: Write>(
     alloc: Global,
     files: &'a F,
     saved: SavedFiles<'a, '_>,
-    wanted: Extract<'a>,
+    wanted: Extract<'a, '_>,
     output: &mut Output<'o, W>,
     errors: &mut Output<'_, E>,
 ) -> Result<Status, Fault<'a>>
@@ -77,7 +81,10 @@ fn records_files<'a, 'o: 'a, F: Folder, W: Write, E: Write>(
         (output_device E.contents errors.old) (output_device E.contents errors.new) result }
 {
     let syntax = syntax_of(alloc, wanted.syntax)?;
-    let (knowledge, _) = load_all(alloc, files, saved.first, saved.others)?;
+    let known = load_all(alloc, files, saved.first, saved.others)?;
+    let chosen = facts_of(alloc, &known.0, &known.1, wanted.only);
+    drop(known);
+    let knowledge = chosen?;
     let status = known_status(&knowledge);
     let taken = take_records(alloc, &knowledge, &syntax, wanted.conflicts);
     drop(knowledge);
@@ -102,14 +109,14 @@ fn take_records(
     Ok((octets, left))
 }
 
-/// Returns the object identifier of a text, or `None` if there is no text.
+/// Returns the object identifier that a text names, or `None` if there is no text.
 fn syntax_of<'a>(alloc: Global, text: Option<&'a str>) -> Result<Option<Oid>, Fault<'a>>
     ensures { SyntaxResult (option_map (λ text. text.now) text.entry) result }
 {
     let Some(text) = text else {
         return Ok(None);
     };
-    match Oid::parse_dotted(alloc, text.as_bytes()) {
+    match Oid::parse_dotted(alloc, dotted_syntax(text.as_bytes())) {
         Ok(oid) => Ok(Some(oid)),
         Err(e) if e == OidError::Memory => Err(Fault::Memory),
         Err(_) => Err(Fault::NotOid(text)),
@@ -143,7 +150,13 @@ fn left_lines(alloc: Global, left: &LeftOut) -> Result<Vec<u8>, AllocError>
         &mut text,
     )?;
     put_left(alloc, "diagnostics", left.diagnostics, &mut text)?;
-    put_left(alloc, "records without octets", left.others, &mut text)?;
+    put_left(alloc, "records of another syntax", left.syntaxes, &mut text)?;
+    put_left(
+        alloc,
+        "structured records (as OPAC and GRS-1)",
+        left.others,
+        &mut text,
+    )?;
     Ok(text)
 }
 

@@ -3,7 +3,7 @@ ghost use Rattle.std.specs.Prelude.{◌≡◌, None, IfSome};
 ghost use Rattle.zmeta_commands.specs.Show.{ShowResult, AfterShow, OneShowing};
 ghost use Rattle.zber.specs.declared.framer.TheConstants.{MESSAGE_LIMIT};
 ghost use Rattle.zmeta_commands.specs.Steps.{PrintLinesResult, ShowOctetsResult, ShowNextResult};
-ghost use Rattle.zmeta_commands.specs.Devices.{left, output_device, IsOfStream};
+ghost use Rattle.zmeta_commands.specs.Devices.{input_device, output_device, IsOfStream};
 
 use crate::digits::decode;
 use crate::fault::{Fault, Status};
@@ -27,7 +27,7 @@ pub fn show<'a, R: Read, W: Write, E: Write>(
     output: &mut Output<'a, W>,
     errors: &mut Output<'_, E>,
 ) -> Status
-    ensures { AfterShow (left R.remaining input.old) (left R.remaining input.new)
+    ensures { AfterShow (input_device R.remaining input.old) (input_device R.remaining input.new)
         (output_device W.contents output.old) (output_device W.contents output.new)
         (output_device E.contents errors.old) (output_device E.contents errors.new) result }
 {
@@ -54,7 +54,7 @@ fn show_text<'a, R: Read, W: Write>(
     ensures shown { IfSome (R.remaining input.old.reader)
         (λ text. ShowResult text (output_device W.contents output.old) (output_device W.contents output.new) result) }
     ensures path { input.new.path ≡ input.old.path }
-    ensures failed { IsOfStream (left R.remaining input.new) (output_device W.contents output.new) result }
+    ensures failed { IsOfStream (input_device R.remaining input.new) (output_device W.contents output.new) result }
 {
     let text = input.read_all(alloc)?;
     let octets = decode(alloc, text.as_slice())?;

@@ -2,13 +2,15 @@
 
 ghost use Rattle.std.specs.Prelude.{IfOk, IfErr, IfSome};
 ghost use Rattle.zmeta_world.specs.InMemoryRuns.{IsFit};
-ghost use Rattle.zmeta_commands.specs.Finished.{IsOfWorld};
-ghost use Rattle.zmeta_commands.specs.Worlds.{WorldResult};
+ghost use Rattle.zmeta_commands.specs.Finished.{IsOfWorld, IsOfSearchedWorld};
+ghost use Rattle.zmeta_world.specs.Search.{search_texts};
+ghost use Rattle.zmeta_commands.specs.Worlds.{WorldResult, SearchedResult};
 
 use crate::fault::Fault;
 use crate::input::Input;
 use std::alloc::Global;
 use std::io::Read;
+use zmeta_world::search::Search;
 use zmeta_world::world::{World, read_world};
 
 /// Reads the world of a file.
@@ -22,4 +24,19 @@ pub(crate) fn world_in<'a, R: Read>(
 {
     let octets = file.read_all(alloc)?;
     Ok(read_world(alloc, octets.as_slice())?)
+}
+
+/// Reads the world of a file, and puts a search to every question.
+pub(crate) fn searched_world<'a, R: Read>(
+    alloc: Global,
+    file: &mut Input<'a, R>,
+    search: &Search<'_>,
+) -> Result<World, Fault<'a>>
+    ensures says { IfSome (R.remaining file.old.reader)
+        (λ octets. SearchedResult (search_texts search.now) octets result) }
+    ensures fit { IfOk result IsFit }
+    ensures path { IfErr result (IsOfSearchedWorld file.old.path.now) }
+{
+    let world = world_in(alloc, file)?;
+    Ok(world.with_search(alloc, search)?)
 }

@@ -11,18 +11,25 @@ const ASKED: &str = "\
 zmeta|show => Show
 zmeta|pqf|dune => Pqf { text: \"dune\" }
 zmeta|pqf|-5 => Pqf { text: \"-5\" }
-zmeta|join|a|b|--hex => Join { first: \"a\", others: [\"b\"], mode: Hex }
-zmeta|run|w|--save|s => Run { world: \"w\", saved: Some(\"s\"), mode: Text }
-zmeta|run|--hex|w => Run { world: \"w\", saved: None, mode: Hex }
-zmeta|ask|w|--save|s|--hex => Ask { world: \"w\", saved: Some(\"s\"), at_once: false, only: [], mode: Hex }
-zmeta|ask|--only|a|w|--at-once|--only|b c => Ask { world: \"w\", saved: None, at_once: true, only: [\"a\", \"b c\"], mode: Text }
-zmeta|records|a => Records { first: \"a\", others: [], syntax: None, conflicts: false }
-zmeta|records|a|--syntax|1.2|b|c|--conflicts => Records { first: \"a\", others: [\"b\", \"c\"], syntax: Some(\"1.2\"), conflicts: true }
-zmeta|loop|w|--hex|--save|s => Loop { world: \"w\", saved: Some(\"s\"), mode: Hex }
+zmeta|join|a|b|--hex => Join { first: \"a\", others: [\"b\"], view: Hex }
+zmeta|join|--titles|a|b => Join { first: \"a\", others: [\"b\"], view: Titles }
+zmeta|run|w|--save|s => Run { world: \"w\", saved: Some(\"s\"), search: SearchOptions { query: None, titles: [], authors: [], subjects: [], isbns: [], words: [], records: None, elements: None, syntax: None }, view: Text }
+zmeta|run|--hex|w => Run { world: \"w\", saved: None, search: SearchOptions { query: None, titles: [], authors: [], subjects: [], isbns: [], words: [], records: None, elements: None, syntax: None }, view: Hex }
+zmeta|run|w|--titles => Run { world: \"w\", saved: None, search: SearchOptions { query: None, titles: [], authors: [], subjects: [], isbns: [], words: [], records: None, elements: None, syntax: None }, view: Titles }
+zmeta|ask|w|--save|s|--hex => Ask { world: \"w\", saved: Some(\"s\"), at_once: false, only: [], search: SearchOptions { query: None, titles: [], authors: [], subjects: [], isbns: [], words: [], records: None, elements: None, syntax: None }, view: Hex }
+zmeta|ask|--only|a|w|--at-once|--only|b c => Ask { world: \"w\", saved: None, at_once: true, only: [\"a\", \"b c\"], search: SearchOptions { query: None, titles: [], authors: [], subjects: [], isbns: [], words: [], records: None, elements: None, syntax: None }, view: Text }
+zmeta|records|a => Records { first: \"a\", others: [], only: [], syntax: None, conflicts: false }
+zmeta|records|a|--syntax|1.2|b|c|--conflicts => Records { first: \"a\", others: [\"b\", \"c\"], only: [], syntax: Some(\"1.2\"), conflicts: true }
+zmeta|records|a|--only|x y|--only|z|--syntax|marc21 => Records { first: \"a\", others: [], only: [\"x y\", \"z\"], syntax: Some(\"marc21\"), conflicts: false }
+zmeta|run|w|--json|--query|@and a b => Run { world: \"w\", saved: None, search: SearchOptions { query: Some(\"@and a b\"), titles: [], authors: [], subjects: [], isbns: [], words: [], records: None, elements: None, syntax: None }, view: Json }
+zmeta|loop|--title|a b|--title|c|w|--author|d|--subject|e|--isbn|1|--any|f => Loop { world: \"w\", saved: None, search: SearchOptions { query: None, titles: [\"a b\", \"c\"], authors: [\"d\"], subjects: [\"e\"], isbns: [\"1\"], words: [\"f\"], records: None, elements: None, syntax: None }, view: Text }
+zmeta|ask|w|--records|1-3|--elements|F|--syntax|xml => Ask { world: \"w\", saved: None, at_once: false, only: [], search: SearchOptions { query: None, titles: [], authors: [], subjects: [], isbns: [], words: [], records: Some(\"1-3\"), elements: Some(\"F\"), syntax: Some(\"xml\") }, view: Text }
+zmeta|join|a|b|--json => Join { first: \"a\", others: [\"b\"], view: Json }
+zmeta|loop|w|--hex|--save|s => Loop { world: \"w\", saved: Some(\"s\"), search: SearchOptions { query: None, titles: [], authors: [], subjects: [], isbns: [], words: [], records: None, elements: None, syntax: None }, view: Hex }
 zmeta|serve|h:1|a b|w|0 => Serve { address: \"h:1\", name: \"a b\", world: \"w\", count: 0 }
 zmeta|serve|h:1|a|w|1000000 => Serve { address: \"h:1\", name: \"a\", world: \"w\", count: 1000000 }
-zmeta|join|a|b => Join { first: \"a\", others: [\"b\"], mode: Text }
-zmeta|join|a|--hex|b|c => Join { first: \"a\", others: [\"b\", \"c\"], mode: Hex }
+zmeta|join|a|b => Join { first: \"a\", others: [\"b\"], view: Text }
+zmeta|join|a|--hex|b|c => Join { first: \"a\", others: [\"b\", \"c\"], view: Hex }
 ";
 
 fn command_text(alloc: Global, line: &str) -> Result<String, Unread> {

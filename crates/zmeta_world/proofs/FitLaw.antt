@@ -2,7 +2,7 @@
 use Rattle.std.proofs.Common.{◌≡◌, ◌∙◌, sym, ap, subst, refl, ℕ, ◌+◌, ◌<◌, ◌≤◌, ◌^◌, Bool, true, false, if◌then◌else◌, List, [], ◌∷◌, ◌++◌, length, Option, Some, None, arith}
 use Rattle.std.specs.Option.{option_map}
 use Rattle.zquery.specs.Trees.{RpnQuery}
-use Rattle.zoom_questions.specs.Askable.{AreAskable, IsAskable, HasArcs}
+use Rattle.zoom_questions.specs.Askable.{AreAskable, IsAskable, HasFewArcs}
 use Rattle.zmeta_world.specs.Finding.{questions_of}
 use Rattle.zmeta_world.specs.InMemoryRuns.{IsFit}
 use Rattle.zmeta_world.specs.WorldLines.{token_texts}
@@ -40,7 +40,7 @@ askable_more : (qs : List AskedQuestion) (i : AskedQuestion) → AreAskable (que
 askable_more [] i h q = (q, tt)
 askable_more (j ∷ qs) i h q = (h.0, askable_more qs i h.1 q)
 
-wanted_askable : (line : AskLine) (query : RpnQuery) → Fits 1 1000000 line.wanted → HasArcs line.syntax → IsAskable (question line query)
+wanted_askable : (line : AskLine) (query : RpnQuery) → Fits 1 1000000 line.wanted → HasFewArcs line.syntax → IsAskable (question line query)
 wanted_askable line query f a = record {
   wanted = record { apart = f.apart; bounded = f.bounded };
   some = f.some;

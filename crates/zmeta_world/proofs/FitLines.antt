@@ -1,8 +1,8 @@
 -- The contents of each line are within their bounds.
 use Rattle.std.proofs.Common.{◌≡◌, subst, ℕ, ◌≤◌, ◌-◌, ◌^◌, pos, List, [], ◌∷◌, Bool, true, false, if◌then◌else◌, Option, Some, None}
 use Rattle.std.specs.Option.{option_map}
-use Rattle.zquery.specs.Notation.Sets.{oid_of}
-use Rattle.zoom_questions.specs.Askable.{HasArcs}
+use Rattle.zquery.specs.Notation.Sets.{oid_of_text}
+use Rattle.zoom_questions.specs.Askable.{HasFewArcs}
 use Rattle.zmeta_world.specs.WorldLines.{keyword_of, line_by, line_of, step_line, window_line, target_line, host_line, database_line, record_line, field_line, ask_line, carry_line, are_flags, settings, syntax_of}
 use Rattle.zmeta_world.specs.WorldWants.{number_in, wanted_of}
 use Rattle.zmeta_world.specs.declared.world.line.Content.TheVariants as contents
@@ -18,7 +18,7 @@ use Rattle.zmeta_world.proofs.FitWants.{Fits, mapped, chained, number_within, wa
 abbrev pub IsWithin : Line → Type 0
 IsWithin (lines.Step n) = (1 ≤ n) × (n ≤ 1000)
 IsWithin (lines.Window n) = (1 ≤ n) × (n ≤ 64)
-IsWithin (lines.Ask line) = Fits 1 1000000 line.wanted × HasArcs line.syntax
+IsWithin (lines.Ask line) = Fits 1 1000000 line.wanted × HasFewArcs line.syntax
 IsWithin _ = Unit {0}
 
 step_within : (ws : List (List ℕ)) (line : Line) → step_line ws ≡ Some line → IsWithin line
@@ -55,7 +55,7 @@ database_within _ line e = absurd (none_some e)
 
 record_within : (ws : List (List ℕ)) (line : Line) → record_line ws ≡ Some line → IsWithin line
 record_within (syntax ∷ octets ∷ []) line e =
-    let m = mapped (λ oid. lines.Content (contents.Record oid octets)) (oid_of syntax) line e in
+    let m = mapped (λ oid. lines.Content (contents.Record oid octets)) (oid_of_text syntax) line e in
     subst IsWithin m.gives tt
 record_within _ line e = absurd (none_some e)
 

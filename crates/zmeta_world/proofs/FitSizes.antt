@@ -2,7 +2,7 @@
 use Rattle.std.proofs.Common.{◌≡◌, ◌∙◌, sym, ap, subst, ℕ, suc, ◌+◌, ◌<◌, ◌≤◌, Bool, true, false, cond, List, [], ◌∷◌, ◌++◌, length, Option, Some, arith, length-append}
 use Rattle.std.specs.List.{slice_split, onto_first}
 use Rattle.zquery.specs.declared.notation.token.Token.{Token}
-use Rattle.zquery.specs.Notation.Tokens.{AreTokens, IsWritten, IsNext}
+use Rattle.zquery.specs.Notation.Tokens.{AreTokens, IsTokenText, IsNextToken}
 use Rattle.zmeta_world.specs.Worlds.{in_last}
 use Rattle.zmeta_world.proofs.WorldParsing.{none_some}
 use Rattle.zmeta_world.proofs.FitWants.{mapped}
@@ -58,13 +58,13 @@ cut_held p (x ∷ xs) =
     ]
 
 -- a text with a token has an octet
-written_some : (quoted : Bool) (text lead after : List ℕ) → IsWritten quoted text lead after → 0 < length lead
+written_some : (quoted : Bool) (text lead after : List ℕ) → IsTokenText quoted text lead after → 0 < length lead
 written_some true text lead after w = rw w.whole (omega arith)
 written_some false [] lead after w = absurd w.1
 written_some false (b ∷ bs) lead after w = rw w.0 (omega arith)
 
 pub some_octet : (t : Token) (ts : List Token) (text : List ℕ) → AreTokens (t ∷ ts) text → 0 < length text
 some_octet t ts text h =
-    let next : IsNext t 0 text h.0 h.1.0 h.1.1.0 = h.1.1.1 in
+    let next : IsNextToken t 0 text h.0 h.1.0 h.1.1.0 = h.1.1.1 in
     let some : 0 < length h.1.0 = written_some t.quoted t.text h.1.0 h.1.1.0 next.written in
     rw next.whole (simp length-append (omega (arith, some)))

@@ -6,13 +6,13 @@ use Rattle.std.specs.Str.Parse.{digits_value}
 use Rattle.std.proofs.lemmas.Bool.{and_parts, leb-true}
 use Rattle.std.proofs.lemmas.Bool.Decides.{nat_tests}
 use Rattle.std.proofs.lemmas.List.FromFn.{length-range_with_len}
-use Rattle.zquery.specs.Notation.Numbers.{number_of, is_numeral}
+use Rattle.zquery.specs.Notation.Numbers.{number_of_text, is_numeral}
 use Rattle.std.specs.Str.{bytes_eq}
 use Rattle.std.specs.Prelude.{codes}
-use Rattle.zquery.specs.Notation.Sets.{oid_of}
+use Rattle.zquery.specs.Notation.Sets.{oid_of_text}
 use Rattle.zplan.specs.Ranges.{IsApart, IsBounded, span_of, positions, positions_of}
 use Rattle.zplan.specs.declared.range.Range.{Range}
-use Rattle.zoom_questions.specs.Askable.{HasArcs}
+use Rattle.zoom_questions.specs.Askable.{HasFewArcs}
 use Rattle.zmeta_world.specs.WorldLines.{syntax_of, short}
 use Rattle.zmeta_world.specs.WorldWants.{number_in, ends_of, ends_in, count, range, ranges_in, firsts, wanted_of, highest, most_wanted, two, is_hyphen, is_comma}
 use Rattle.zmeta_world.proofs.WorldParsing.{none_some, some_same}
@@ -44,8 +44,8 @@ tested false x y e = absurd (none_some e)
 
 -- ---- numbers
 
-most_number : (most n : ℕ) (text : List ℕ) → number_of most text ≡ Some n → n ≤ most
-unfolding number_of
+most_number : (most n : ℕ) (text : List ℕ) → number_of_text most text ≡ Some n → n ≤ most
+unfolding number_of_text
 most_number most n text e =
     let t = tested (is_numeral text && nat_le (digits_value 10 text) most) (digits_value 10 text) n e in
     let p = and_parts (is_numeral text) (nat_le (digits_value 10 text) most) t.0 in
@@ -54,7 +54,7 @@ most_number most n text e =
 
 pub number_within : (least most n : ℕ) (text : List ℕ) → number_in least most text ≡ Some n → (least ≤ n) × (n ≤ most)
 number_within least most n text e =
-    let c = chained (λ n. if nat_le least n then Some n else None) (number_of most text) n e in
+    let c = chained (λ n. if nat_le least n then Some n else None) (number_of_text most text) n e in
     let t = tested (nat_le least c.from) c.from n c.gives in
     let l : least ≤ c.from = leb-true least c.from t.0 in
     let m : c.from ≤ most = most_number most c.from text c.is in
@@ -146,13 +146,13 @@ branched : {A : Type 0} (b : Bool) (x y : Option A) (z : A) → (if b then x els
 branched true x y z e = inl e
 branched false x y z e = inr e
 
-pub syntax_fits : (text : List ℕ) (syntax : Option (List ℕ)) → syntax_of text ≡ Some syntax → HasArcs syntax
+pub syntax_fits : (text : List ℕ) (syntax : Option (List ℕ)) → syntax_of text ≡ Some syntax → HasFewArcs syntax
 unfolding syntax_of
 syntax_fits text syntax e =
-    elim (branched (bytes_eq text (codes "-")) (Some None) (option_and_then short (oid_of text)) syntax e) [
-      | inl n ↦ subst HasArcs (some_same None syntax n) tt
-      | inr o ↦ (let c = chained short (oid_of text) syntax o in
+    elim (branched (bytes_eq text (codes "-")) (Some None) (option_and_then short (oid_of_text text)) syntax e) [
+      | inl n ↦ subst HasFewArcs (some_same None syntax n) tt
+      | inr o ↦ (let c = chained short (oid_of_text text) syntax o in
           let t = tested (nat_le (length c.from) 1000) (Some c.from) syntax c.gives in
           let l : length c.from ≤ 1000 = leb-true (length c.from) 1000 t.0 in
-          subst HasArcs t.1 l)
+          subst HasFewArcs t.1 l)
     ]

@@ -13,3 +13,4 @@ pub mod Finding
 pub mod InMemoryTargets
 pub mod NetworkRuns
 pub mod FitLaw
+pub mod Searching

@@ -4,8 +4,8 @@ use Rattle.zquery.specs.declared.notation.token.Token.{Token}
 use Rattle.zquery.specs.declared.notation.error.PqfError.{PqfError}
 use Rattle.zquery.specs.declared.notation.error.PqfErrorKind.TheVariants as kind
 use Rattle.zquery.specs.Notation.Faults.{memory}
-use Rattle.zquery.specs.Notation.Laws.{OneLexing, OneAnswer}
-use Rattle.zquery.specs.Notation.Texts.{IsFault}
+use Rattle.zquery.specs.Notation.Laws.{OneLexing, OneQueryOrFault}
+use Rattle.zquery.specs.Notation.Texts.{IsTextFault}
 use Rattle.zquery.specs.Notation.Tokens.{AreTokens, IsOpenAt}
 use Rattle.zmeta_world.specs.World.{LineResult}
 use Rattle.zmeta_world.specs.WorldLines.{line_of, token_texts}
@@ -56,14 +56,14 @@ pub unparsed : (text : List ℕ) (e : PqfError) → OneLexing → (e ≡ memory)
 unparsed text e law h = not_lexed text e (fault_of e.kind) refl law h
 
 -- a text at fault is no query
-no_query : (text : List ℕ) (e : PqfError) (f : LineFault) → fault_of e.kind ≡ f → OneAnswer → (e ≡ memory) ⊎ IsFault text e → HasQuery text (Err f)
+no_query : (text : List ℕ) (e : PqfError) (f : LineFault) → fault_of e.kind ≡ f → OneQueryOrFault → (e ≡ memory) ⊎ IsTextFault text e → HasQuery text (Err f)
 no_query text e faults.Memory q law h = tt
 no_query text e faults.Refused q law h = elim h [
   | inl m ↦ absurd (memory_is e m q)
   | inr g ↦ λ query is. law.either text query e is.0 is.1 g
 ]
 
-pub unasked : (text : List ℕ) (e : PqfError) → OneAnswer → (e ≡ memory) ⊎ IsFault text e → HasQuery text (Err (fault_of e.kind))
+pub unasked : (text : List ℕ) (e : PqfError) → OneQueryOrFault → (e ≡ memory) ⊎ IsTextFault text e → HasQuery text (Err (fault_of e.kind))
 unasked text e law h = no_query text e (fault_of e.kind) refl law h
 
 -- the line of a text makes the world that the reader has

@@ -7,3 +7,4 @@ pub mod WorldReading
 pub mod Finding
 pub mod InMemoryRuns
 pub mod NetworkRuns
+pub mod Search

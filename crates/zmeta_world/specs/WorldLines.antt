@@ -4,7 +4,7 @@ use Rattle.std.specs.List.{slice_split, list_all, list_any}
 use Rattle.std.specs.Option.{option_map, option_and_then}
 use Rattle.std.specs.Str.{bytes_eq}
 use Rattle.zquery.specs.declared.notation.token.Token.{Token}
-use Rattle.zquery.specs.Notation.Sets.{oid_of}
+use Rattle.zquery.specs.Notation.Sets.{oid_of_text}
 use Rattle.ztarget.specs.declared.settings.TargetSettings.{TargetSettings}
 use Rattle.zmeta_world.specs.WorldWants.{number_in, wanted_of}
 use Rattle.zmeta_world.specs.declared.world.keyword.Keyword.{Keyword}
@@ -98,7 +98,7 @@ database_line _ = None
 
 -- rec OID OCTETS
 abbrev pub record_line : List (List ℕ) → Option Line
-record_line (syntax ∷ octets ∷ []) = option_map (λ oid. lines.Content (contents.Record oid octets)) (oid_of syntax)
+record_line (syntax ∷ octets ∷ []) = option_map (λ oid. lines.Content (contents.Record oid octets)) (oid_of_text syntax)
 record_line _ = None
 
 -- field USE TEXT
@@ -115,7 +115,7 @@ short oid = if nat_le (length oid) 1000 then Some (Some oid) else None
 
 -- a record syntax, or - for none
 unfoldable pub syntax_of : List ℕ → Option (Option (List ℕ))
-syntax_of text = if bytes_eq text (codes "-") then Some None else option_and_then short (oid_of text)
+syntax_of text = if bytes_eq text (codes "-") then Some None else option_and_then short (oid_of_text text)
 
 -- ask NAME DB SYNTAX WANT QUERY
 abbrev pub ask_line : List (List ℕ) → Option Line

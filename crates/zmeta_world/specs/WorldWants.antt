@@ -2,12 +2,12 @@
 use Rattle.std.specs.Prelude.{ℕ, ◌+◌, ◌-◌, pos, Bool, ◌==◌, nat_le, if◌then◌else◌, List, [], ◌∷◌, Option, Some, None}
 use Rattle.std.specs.List.{slice_split}
 use Rattle.std.specs.Option.{option_map, option_and_then, option_or}
-use Rattle.zquery.specs.Notation.Numbers.{number_of}
+use Rattle.zquery.specs.Notation.Numbers.{number_of_text}
 use Rattle.zplan.specs.declared.range.Range.{Range}
 
 -- the number that decimal digits write, if it is within these bounds
 abbrev pub number_in : ℕ → ℕ → List ℕ → Option ℕ
-number_in least most text = option_and_then (λ n. if nat_le least n then Some n else None) (number_of most text)
+number_in least most text = option_and_then (λ n. if nat_le least n then Some n else None) (number_of_text most text)
 
 -- ---- a list of ranges, as 1-3,10-12
 

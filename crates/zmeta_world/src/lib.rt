@@ -4,4 +4,5 @@
 pub mod in_memory;
 pub mod network;
 mod parts;
+pub mod search;
 pub mod world;

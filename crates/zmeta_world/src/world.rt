@@ -7,15 +7,15 @@ ghost use Rattle.zmeta_world.specs.Worlds.{IsWorld};
 ghost use Rattle.zmeta_world.specs.InMemoryRuns.{IsFit};
 
 mod cut;
-mod fault;
+pub(crate) mod fault;
 mod keyword;
-mod line;
+pub(crate) mod line;
 mod names;
 mod number;
 mod parsing;
 mod reader;
 mod targets;
-mod wanted;
+pub(crate) mod wanted;
 
 use crate::world::cut::first_piece;
 use crate::world::fault::LineFault;

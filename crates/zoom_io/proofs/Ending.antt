@@ -49,13 +49,13 @@ kept c n stage a b l l2 l3 k k2 one still q s h x =
 pub fed_on : (c : ℕ) (old new : MetaLinks) (piece : List ℕ) (l l2 : DeviceState) → MetaRecorded c (Fed piece) old new
     → Consumes l.octets l2.octets piece → l2.failures ≡ l.failures → 0 < length piece → length piece ≤ 4096
     → (held : DeviceState) → TalkStep c Waiting Due suc old new l l2 held held
-fed_on c old new piece l l2 befell consumed sound some few held = record {
+fed_on c old new piece l l2 recorded consumed sound some few held = record {
   on = λ q s h n source sink t. record {
     more = (c, Fed piece) ∷ t.more;
     read = t.read ++ piece;
     written = t.written;
     trace = piece_read piece t.trace some few;
-    after = befell q s (t.more ++ h) t.after;
+    after = recorded q s (t.more ++ h) t.after;
     stands = tt;
     consumed = Consumes-trans source.octets l.octets l2.octets t.read piece t.consumed consumed;
     appended = t.appended;
@@ -106,16 +106,16 @@ stopped_by : (c n : ℕ) (stage : Stage) (reason : Reason) (a b d : MetaLinks) (
     → MetaRecorded c (Stopped reason) b d
     → (q : List Question) (s : MetaSettings) (h : History) → MetaAfter q s h a
     → StoppedTalk q s c h n stage reason d l l2 k k2
-stopped_by c n stage reason a b d l l2 k k2 talk befell q s h x =
+stopped_by c n stage reason a b d l l2 k k2 talk recorded q s h x =
     let t = talk q s h x in
-    record { meta = b; talk = t; after = befell q s (t.more ++ h) t.after }
+    record { meta = b; talk = t; after = recorded q s (t.more ++ h) t.after }
 
 -- As many reads gave octets as the limit allows.
 pub ends_at_limit : (c n : ℕ) (a b d : MetaLinks) (l l2 k k2 : DeviceState) → Begun c n Waiting a b l l2 k k2
     → MetaRecorded c (Stopped reasons.Turns) b d → stop_at d.pool c ≡ Some (states.Failed reasons.Turns)
     → AfterTalk c n (Err errors.Turns) a d l l2 k k2
-ends_at_limit c n a b d l l2 k k2 one befell is = record {
-  on = λ q s h x. stopped_by c n Waiting reasons.Turns a b d l l2 k k2 (λ q s h x. one.on q s h x) befell q s h x;
+ends_at_limit c n a b d l l2 k k2 one recorded is = record {
+  on = λ q s h x. stopped_by c n Waiting reasons.Turns a b d l l2 k k2 (λ q s h x. one.on q s h x) recorded q s h x;
   blamed = (one.reader, one.writer);
   stopped = is;
 }
@@ -242,9 +242,9 @@ ends_starved c turns a b d l l2 k k2 t same_known stay same_drivers = record {
 -- What was left of the input was taken.
 pub goes_ended : UpToLaw → OneInput → (c : ℕ) (old mid new : MetaLinks) → MetaRecorded c InputEnded old mid
     → MetaTakeStep c mid new → TalkStepAlone c Waiting Ended old new
-goes_ended law meeting c old mid new befell took left held = record {
+goes_ended law meeting c old mid new recorded took left held = record {
   on = λ q s h n source sink t.
-      let a : MetaAfter q s ((c, InputEnded) ∷ (t.more ++ h)) mid = befell q s (t.more ++ h) t.after in
+      let a : MetaAfter q s ((c, InputEnded) ∷ (t.more ++ h)) mid = recorded q s (t.more ++ h) t.after in
       record {
         more = (c, Took) ∷ (c, InputEnded) ∷ t.more;
         read = t.read;

@@ -332,14 +332,14 @@ module _ (c n turns : ℕ) (lt : n < turns) (old new : MetaLinks) (before : View
     pub polled_failure : MetaRecorded c (Stopped reasons.Read) old new → Keeps before.source.octets left.octets
         → HasFailed before.source.failures left.failures
         → StepAmong c n (n + 1) turns old new before (with_source before left polls phases.Over)
-    polled_failure befell still failed = record {
+    polled_failure recorded still failed = record {
       on = λ q s h now first a among.
           let g : OngoingTalkAmong q s c h now n Waiting first before =
           as_phase phases.Waiting q s c h now n turns first before is among in
           let less : g.reads ≤ n = g.few in
           record {
             later = (c, Stopped reasons.Read) ∷ now;
-            after = befell q s now a;
+            after = recorded q s now a;
             among = record {
               reads = g.reads;
               polls = n + 1;
@@ -466,7 +466,7 @@ module _ (c n turns : ℕ) (lt : n < turns) (old new : MetaLinks) (before : View
 pub stopped_at_limit : (c n : ℕ) (old new : MetaLinks) (before : View) → before.phase ≡ phases.Waiting
     → MetaRecorded c (Stopped reasons.Turns) old new
     → StepAmong c n n n old new before (at_phase before phases.Over)
-stopped_at_limit c n old new before is befell = record {
+stopped_at_limit c n old new before is recorded = record {
   on = λ q s h now first a among.
       let g : OngoingTalkAmong q s c h now n Waiting first before =
       as_phase phases.Waiting q s c h now n n first before is among in
@@ -474,7 +474,7 @@ stopped_at_limit c n old new before is befell = record {
       let quiet : Keeps before.source.octets before.source.octets = Keeps-refl before.source.octets in
       record {
         later = (c, Stopped reasons.Turns) ∷ now;
-        after = befell q s now a;
+        after = recorded q s now a;
         among = record {
           reads = g.reads;
           polls = n;

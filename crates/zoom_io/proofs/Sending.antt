@@ -56,7 +56,7 @@ module _ (hearing : OneTranscript) (E : Type 0) (c n : ℕ) (old mid new : MetaL
     pub sent_on : (sink held : DeviceState) → MetaRecorded c (HandedOut octets) mid new
         → Appends sink.octets held.octets octets → held.failures ≡ sink.failures
         → (left : DeviceState) → TalkStep c Due Listening same old new left left sink held
-    sent_on sink held befell appended sound left = record {
+    sent_on sink held recorded appended sound left = record {
       on = λ q s h reads source first t.
           let d : CompleteDrive q s c (t.more ++ h) n mid = drove q s (t.more ++ h) t.after in
           let calls = d.progress.calls in
@@ -68,7 +68,7 @@ module _ (hearing : OneTranscript) (E : Type 0) (c n : ℕ) (old mid new : MetaL
             trace = due_sent calls octets t.trace
                 (λ question p asks transcript. (d.rests question p asks transcript, d.tried p transcript)) all;
             after = spoken q s h t.more calls octets
-                (befell q s (call_events c calls ++ (t.more ++ h)) d.progress.after);
+                (recorded q s (call_events c calls ++ (t.more ++ h)) d.progress.after);
             stands = tt;
             consumed = t.consumed;
             appended = Appends-trans first.octets sink.octets held.octets t.written octets t.appended appended;
@@ -125,11 +125,11 @@ halts_keeps law c from old new keeps held q s h n source left sink t = record {
 -- A take after the end of the input was not completed.
 pub halts_ended : UpToLaw → (c : ℕ) (from : Stage) (old mid new : MetaLinks) → MetaRecorded c InputEnded old mid
     → MetaIncompleteTake c mid new → HaltStepAlone c from old new
-halts_ended law c from old mid new befell keeps held q s h n source left sink t = record {
+halts_ended law c from old mid new recorded keeps held q s h n source left sink t = record {
   more = (c, InputEnded) ∷ t.more;
   others = λ i far. only_other c i InputEnded t.more far ∙ others_follow i t.trace far;
   after = keeps q s ((c, InputEnded) ∷ (t.more ++ h))
-      (up_to_meta law q s c ((c, InputEnded) ∷ (t.more ++ h)) mid (befell q s (t.more ++ h) t.after));
+      (up_to_meta law q s c ((c, InputEnded) ∷ (t.more ++ h)) mid (recorded q s (t.more ++ h) t.after));
 }
 
 -- Calls were made.

@@ -16,13 +16,13 @@ use Rattle.zoom_pool.specs.declared.answer.TakeError.{TakeError}
 use Rattle.zoom_pool.specs.declared.answer.TakeError.TheVariants as errors
 use Rattle.zoom_pool.specs.States.{is_stopped, is_closing}
 use Rattle.zoom_pool.specs.Inputs.{Input, AlreadyStopped, Message, Foreign, Fault, Rest, Nothing}
-use Rattle.zoom_pool.specs.Transcripts.{Transcript, IsTranscript, Took, InputEnded, NextInput, answer_to, answer_to_reply, after_take, after_reply, after_stop, end_by, truncated, state_at, past_of, is_message, IsDone}
+use Rattle.zoom_pool.specs.Transcripts.{Transcript, IsTranscript, Took, InputEnded, NextInput, take_result, take_result_of_verdict, after_take, after_reply, after_stop, end_by, truncated, state_at, past_of, is_message, IsDone}
 use Rattle.zoom_pool.specs.History.{History, events_on, AfterUpTo}
 use Rattle.zoom_pool.specs.PoolSteps.{IsTakeResult}
 use Rattle.zoom_pool.specs.Laws.{OneInput, OneTranscript, UpToLaw}
 use Rattle.zoom_pool.specs.Metas.{MetaLinks, MetaAfter, MetaTakeStep, settings_of}
 use Rattle.zoom_pool.proofs.Pools.{only_same}
-use Rattle.zoom_pool.proofs.Metas.{heard_at, up_to_meta}
+use Rattle.zoom_pool.proofs.Metas.{transcript_at, up_to_meta}
 use Rattle.zoom_io.specs.declared.talk_steps.Receipt.TheVariants as receipts
 use Rattle.zoom_io.specs.TalkTraces.{Stage, Due, Listening, Waiting, Over, IsAtStage, IsNextStep, IsStoppedAt, TalkTrace, beginning, due_sent, message_taken, none_taken, stop_taken, piece_read, input_end}
 use Rattle.zoom_io.specs.TalkSteps.{AfterTakeMessage, TalkStepAlone, receipt_of}
@@ -35,7 +35,7 @@ IsLast (Ok steps.Stopped) = Unit {0}
 IsLast (Ok _) = ⊥
 IsLast (Err e) = Unit {0}
 
-process_last : (p : Transcript) (r : Result Taken Refused) → IsLast (answer_to_reply r) → is_stopped (state_at (after_reply p r)) ≡ true
+process_last : (p : Transcript) (r : Result Taken Refused) → IsLast (take_result_of_verdict r) → is_stopped (state_at (after_reply p r)) ≡ true
 process_last p (Ok (taken.Opened a)) l = absurd l
 process_last p (Ok (taken.Rejected a)) l = absurd l
 process_last p (Ok (taken.Answered a)) l = absurd l
@@ -57,7 +57,7 @@ none_last : (p : Transcript) (b : Bool) → IsLast (Ok (cond b steps.Ended steps
 none_last p true l = end_last p
 none_last p false l = absurd l
 
-take_last : (p : Transcript) (input : Input) → NextInput p input → IsLast (answer_to p input) → is_stopped (state_at (after_take p input)) ≡ true
+take_last : (p : Transcript) (input : Input) → NextInput p input → IsLast (take_result p input) → is_stopped (state_at (after_take p input)) ≡ true
 take_last p AlreadyStopped m l = m
 take_last p (Message v) m l =
     process_last (record p { taken = suc p.taken; log = Got v ∷ p.log }) (verdict (standing (past_of p)) v) l
@@ -73,7 +73,7 @@ IsNothing (Ok steps.Nothing) = Unit {0}
 IsNothing (Ok _) = ⊥
 IsNothing (Err e) = ⊥
 
-outcome_some : (r : Result Taken Refused) → IsNothing (answer_to_reply r) → ⊥
+outcome_some : (r : Result Taken Refused) → IsNothing (take_result_of_verdict r) → ⊥
 outcome_some (Ok (taken.Opened a)) l = l
 outcome_some (Ok (taken.Rejected a)) l = l
 outcome_some (Ok (taken.Answered a)) l = l
@@ -91,7 +91,7 @@ none_kept p true l = absurd l
 none_kept p false l = refl
 
 -- A take that returned `Nothing` changed nothing.
-take_none : (p : Transcript) (input : Input) → IsNothing (answer_to p input) → after_take p input ≡ p
+take_none : (p : Transcript) (input : Input) → IsNothing (take_result p input) → after_take p input ≡ p
 take_none p AlreadyStopped l = absurd l
 take_none p (Message v) l = absurd (outcome_some (verdict (standing (past_of p)) v) l)
 take_none p (Foreign error) l = absurd l
@@ -103,12 +103,12 @@ abbrev ended_at : Transcript → Transcript
 ended_at p = record p { ended = true }
 
 -- The next take stops the connection, if the input has ended since.
-dry_last : OneInput → (p : Transcript) (m n : Input) → NextInput p m → IsNothing (answer_to p m) → NextInput (ended_at p) n
+dry_last : OneInput → (p : Transcript) (m n : Input) → NextInput p m → IsNothing (take_result p m) → NextInput (ended_at p) n
     → is_stopped (state_at (after_take (ended_at p) n)) ≡ true
 dry_last meeting p m AlreadyStopped at l then = then
 dry_last meeting p m (Message v) at l then =
     absurd (outcome_some (verdict (standing (past_of p)) v)
-    (subst (λ z. IsNothing (answer_to p z)) (meeting p m (Message v) at then) l))
+    (subst (λ z. IsNothing (take_result p z)) (meeting p m (Message v) at then) l))
 dry_last meeting p m (Foreign error) at l then = refl
 dry_last meeting p m (Fault kind at_octet) at l then = refl
 dry_last meeting p m (Rest n) at l then = refl
@@ -130,8 +130,8 @@ dry_stopped meeting s c h next p transcript =
         let took = first.2 in
         let then = last.2 in
         let t = next was first.1 in
-        let nothing : IsNothing (answer_to was took.0) =
-        subst (λ z. IsNothing (answer_to was z)) (meeting was t.0 took.0 t.1 took.1) (subst IsNothing (sym t.2) tt) in
+        let nothing : IsNothing (take_result was took.0) =
+        subst (λ z. IsNothing (take_result was z)) (meeting was t.0 took.0 t.1 took.1) (subst IsNothing (sym t.2) tt) in
         let same : last.0 ≡ ended_at was = ended.2 ∙ ap ended_at (took.2 ∙ take_none was took.0 nothing) in
         subst (λ z. is_stopped (state_at z) ≡ true) (sym (then.2 ∙ ap (λ z. after_take z then.0) same))
         (dry_last meeting was took.0 then.0 took.1 nothing (subst (λ z. NextInput z then.0) same then.1))
@@ -155,12 +155,12 @@ module _ (law : UpToLaw) (hearing : OneTranscript) (meeting : OneInput) (c : ℕ
     (is_answer : IsTakeResult c old.pool answer) (took : MetaTakeStep c old new)
   where
     answered : (q : List Question) (s : MetaSettings) (h : History) → MetaAfter q s h old
-        → (p : Transcript) → IsTranscript (settings_of s) (events_on c h) p → (input : Input) × NextInput p input × (answer ≡ answer_to p input)
+        → (p : Transcript) → IsTranscript (settings_of s) (events_on c h) p → (input : Input) × NextInput p input × (answer ≡ take_result p input)
     answered q s h a p transcript =
         let up : AfterUpTo (settings_of s) c h old.pool = law (settings_of s) c h old.pool a.pool in
-        let now = heard_at (settings_of s) h up.transcript old.pool.connections c up.stands lt in
+        let now = transcript_at (settings_of s) h up.transcript old.pool.connections c up.stands lt in
         let is : up.transcript c ≡ p = hearing (settings_of s) (events_on c h) (up.transcript c) p now transcript in
-        subst (λ z. (input : Input) × NextInput z input × (answer ≡ answer_to z input)) is (is_answer (settings_of s) c h up done)
+        subst (λ z. (input : Input) × NextInput z input × (answer ≡ take_result z input)) is (is_answer (settings_of s) c h up done)
 
     stopped_after : IsLast answer → (q : List Question) (s : MetaSettings) (h : History) → MetaAfter q s h old
         → IsStoppedAt s c ((c, Took) ∷ h)

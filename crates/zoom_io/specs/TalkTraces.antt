@@ -12,7 +12,7 @@ use Rattle.zoom_pool.specs.declared.answer.Step.{Step}
 use Rattle.zoom_pool.specs.declared.answer.Step.TheVariants as steps
 use Rattle.zoom_pool.specs.States.{is_stopped}
 use Rattle.zoom_pool.specs.Inputs.{Input}
-use Rattle.zoom_pool.specs.Transcripts.{Transcript, IsTranscript, Fed, Took, InputEnded, HandedOut, Stopped, NextInput, answer_to, state_at, past_of, given, is_lost, is_message, sent}
+use Rattle.zoom_pool.specs.Transcripts.{Transcript, IsTranscript, Fed, Took, InputEnded, HandedOut, Stopped, NextInput, take_result, state_at, past_of, given, is_lost, is_message, sent}
 use Rattle.zoom_pool.specs.History.{History, events_on}
 use Rattle.zoom_pool.specs.Links.{stop_at, SameOthers}
 use Rattle.zoom_pool.specs.Steering.{errand_of}
@@ -48,7 +48,7 @@ IsAllHandedOut s c h =
 abbrev pub IsNextStep : MetaSettings → ℕ → History → Step → Type 0
 IsNextStep s c h step =
     (p : Transcript) → IsTranscript (settings_of s) (events_on c h) p → (input : Input) × NextInput p input
-    × (answer_to p input ≡ Ok step)
+    × (take_result p input ≡ Ok step)
 
 -- The events of the connection leave it Closed or Failed.
 abbrev pub IsStoppedAt : MetaSettings → ℕ → History → Type 0
@@ -237,16 +237,16 @@ TalkResult questions s c h turns (Err errors.Memory) new source left sink held =
 
 -- What each result, except `Memory`, says of the devices. If one is blamed, one call of it failed and none of the
 -- other; if none is blamed, no call failed. After `Ended`, the source has no octets left.
-abbrev pub IsBlamed : Result (Unit {0}) TalkError → DeviceState → DeviceState → DeviceState → DeviceState → Type 0
-IsBlamed (Ok _) source left sink held = HasNoFailure source left × HasNoFailure sink held
-IsBlamed (Err errors.Read) source left sink held =
+abbrev pub IsErrorOf : Result (Unit {0}) TalkError → DeviceState → DeviceState → DeviceState → DeviceState → Type 0
+IsErrorOf (Ok _) source left sink held = HasNoFailure source left × HasNoFailure sink held
+IsErrorOf (Err errors.Read) source left sink held =
     HasFailed source.failures left.failures × HasNoFailure sink held
-IsBlamed (Err errors.Write) source left sink held =
+IsErrorOf (Err errors.Write) source left sink held =
     HasFailed sink.failures held.failures × HasNoFailure source left
-IsBlamed (Err errors.Ended) source left sink held =
+IsErrorOf (Err errors.Ended) source left sink held =
     IsAtEnd left.octets × HasNoFailure source left × HasNoFailure sink held
-IsBlamed (Err errors.Turns) source left sink held = HasNoFailure source left × HasNoFailure sink held
-IsBlamed (Err errors.Memory) source left sink held = Unit {0}
+IsErrorOf (Err errors.Turns) source left sink held = HasNoFailure source left × HasNoFailure sink held
+IsErrorOf (Err errors.Memory) source left sink held = Unit {0}
 
 -- The reason that a refusal leaves the connection failed for.
 abbrev pub reason_of : TalkError → Reason
@@ -268,5 +268,5 @@ pub record AfterTalk
     : Type 0 where
   pub on : (questions : List Question) (s : MetaSettings) (h : History) → MetaAfter questions s h old
       → TalkResult questions s c h turns answer new source left sink held
-  pub blamed : IsBlamed answer source left sink held
+  pub blamed : IsErrorOf answer source left sink held
   pub stopped : IsStoppedFor c answer new

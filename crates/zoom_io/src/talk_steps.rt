@@ -35,8 +35,8 @@ fn receipt_of(step: Step) -> Receipt
 /// Takes a message of a connection.
 fn take_message(meta: &mut Meta, c: u32) -> Result<Receipt, AllocError>
     requires { c < length meta.old.pool.connections }
-    ensures hears { IfOk result (λ receipt. AfterTakeMessage c receipt meta.old meta.new) }
-    ensures halts { OnErr result (HaltStepAlone c Listening meta.old meta.new) }
+    ensures after { IfOk result (λ receipt. AfterTakeMessage c receipt meta.old meta.new) }
+    ensures err { OnErr result (HaltStepAlone c Listening meta.old meta.new) }
     ensures size { length meta.new.pool.connections ≡ length meta.old.pool.connections }
 {
     up_to();
@@ -54,7 +54,7 @@ fn take_message(meta: &mut Meta, c: u32) -> Result<Receipt, AllocError>
 /// Makes the calls of a connection that are due, and writes what waits.
 fn send_due<W: Sink>(alloc: Global, meta: &mut Meta, c: u32, sink: &mut W) -> Result<(), PushError>
     requires { c < length meta.old.pool.connections }
-    ensures speaks { AfterSendDue c result meta.old meta.new (W.state sink.old) (W.state sink.new) }
+    ensures after { AfterSendDue c result meta.old meta.new (W.state sink.old) (W.state sink.new) }
     ensures stopped { IsBroken c result meta.new }
     ensures size { length meta.new.pool.connections ≡ length meta.old.pool.connections }
 {

@@ -11,13 +11,13 @@ use Rattle.zorigin.specs.declared.answer.Taken.{Taken}
 use Rattle.zorigin.specs.declared.answer.Taken.TheVariants as taken
 use Rattle.zorigin.specs.References.{reference_id}
 use Rattle.zorigin.specs.Standings as calls
-use Rattle.zorigin.specs.Fitting.{Fits}
+use Rattle.zorigin.specs.Fitting.{IsFitReply}
 use Rattle.zorigin.specs.Replies.{verdict, taken_as}
 use Rattle.zorigin.specs.Accepts.{id_of}
 use Rattle.zorigin.specs.Log.{Log, past, asked, standing}
 use Rattle.ztarget.specs.declared.database.Database.{Database}
 use Rattle.ztarget.specs.declared.settings.TargetSettings.{TargetSettings}
-use Rattle.ztarget.specs.Replies.{Answer, owed, replies}
+use Rattle.ztarget.specs.Replies.{OwedReply, owed, replies}
 
 -- the requests that the calls of the log sent, the newest first
 abbrev pub requests : Settings → Log → List Apdu
@@ -27,7 +27,7 @@ requests settings log = reverse (past settings log).sent
 abbrev pub AreTaken : List Database → TargetSettings → List Apdu → Type 0
 AreTaken databases target [] = Unit {0}
 AreTaken databases target (v ∷ received) =
-    ((a : Answer) × (owed databases target received v ≡ Ok a)) × AreTaken databases target received
+    ((a : OwedReply) × (owed databases target received v ≡ Ok a)) × AreTaken databases target received
 
 -- the replies that the target owes to the requests that were sent, in their order
 abbrev pub replies_due : List Database → TargetSettings → Settings → Log → List Apdu
@@ -109,7 +109,7 @@ OwedCloseLaw =
 abbrev pub FittingLaw : Type 0
 FittingLaw =
     (databases : List Database) (target : TargetSettings) (settings : Settings) (log : Log) (q : Asked) (reply : Apdu)
-    → Contains (replies_due databases target settings log) reply → IsReplyTo settings log reply q → Fits q.what reply
+    → Contains (replies_due databases target settings log) reply → IsReplyTo settings log reply q → IsFitReply q.what reply
 
 -- the laws of a conversation
 pub record AccordLaws : Type 0 where

@@ -12,7 +12,7 @@ use Rattle.zplan.specs.Ranges.{positions, natural}
 use Rattle.zorigin.specs.Sending.{search_request, is_unsendable}
 use Rattle.ztarget.specs.declared.database.Database.{Database}
 use Rattle.ztarget.specs.declared.settings.TargetSettings.{TargetSettings}
-use Rattle.ztarget.specs.Faults.{Reason, match_fault}
+use Rattle.ztarget.specs.Faults.{Bib1Fault, match_fault}
 use Rattle.ztarget.specs.Searching.{Found, result_set}
 use Rattle.ztarget.specs.Showing.{diagnostic, in_syntax, size_of}
 use Rattle.ztarget.specs.Positions.{at_positions}
@@ -46,11 +46,11 @@ found_facts target q found =
     Count target 1 (pos (length found)) ∷ flat_map (shown_at target q found) (positions_due q found)
 
 -- the search failed, and a diagnostic says why
-abbrev pub fault_facts : ℕ → Reason → List Fact
+abbrev pub fault_facts : ℕ → Bib1Fault → List Fact
 fault_facts target reason = Failed target 1 ∷ Diag target 1 (pos 0) (Default (diagnostic reason)) ∷ []
 
 -- what the question finds, or the reason why its search fails
-abbrev pub facts_for_question : ℕ → Question → List Found → Option Reason → List Fact
+abbrev pub facts_for_question : ℕ → Question → List Found → Option Bib1Fault → List Fact
 facts_for_question target q found None = found_facts target q found
 facts_for_question target q found (Some reason) = fault_facts target reason
 

@@ -1,6 +1,6 @@
 -- Complete connections: what is known of their targets does not depend on the schedule (Z39.50-2003, 3.2).
 use Rattle.std.specs.Prelude.{◌≡◌, ℕ, ◌<◌, true, List, length, slice_get, Some, Contains}
-use Rattle.zplan.specs.Plan.{Operation, Replies, IsAsked, replies_in}
+use Rattle.zplan.specs.Plan.{Operation, Replies, IsPlanned, replies_in}
 use Rattle.zorigin.specs.declared.answer.Answer.{Answer}
 use Rattle.zplan.specs.Ranges.{positions}
 use Rattle.zoom_questions.specs.declared.question.Question.{Question}
@@ -23,8 +23,8 @@ replies_of q p = replies_in (events_of (ask_of q) p.settings p.log)
 -- exactly the operations that are asked for the connection's replies were answered
 pub record HasExactAnswers (q : Question) (step : ℕ) (p : Transcript) : Type 0 where
   pub no_others : (x : Answer) → Contains (accepted p) x
-      → IsAsked (positions q.wanted) step (replies_of q p) (operation_for x.asked.what)
-  pub all : (a : Operation) → IsAsked (positions q.wanted) step (replies_of q p) a
+      → IsPlanned (positions q.wanted) step (replies_of q p) (operation_for x.asked.what)
+  pub all : (a : Operation) → IsPlanned (positions q.wanted) step (replies_of q p) a
       → (x : Answer) × Contains (accepted p) x × (operation_for x.asked.what ≡ a)
 
 -- on each complete connection, exactly the operations that are asked were answered

@@ -12,10 +12,10 @@ use Rattle.zorigin.specs.declared.settings.Settings.{Settings}
 use Rattle.zorigin.specs.declared.refusal.CallRefused.{CallRefused}
 use Rattle.zorigin.specs.declared.refusal.CallRefused.TheVariants as calls
 use Rattle.zorigin.specs.Standings.{Call, Standing}
-use Rattle.zorigin.specs.Calls.{refusal, call_answer, answer_by}
+use Rattle.zorigin.specs.Calls.{refusal, call_result, call_result_by}
 use Rattle.zorigin.specs.Sending.{request_of, sent_of}
-use Rattle.zorigin.specs.Laws.{IsSent}
-use Rattle.zorigin.specs.Log.{Log, Made, Past, past, standing, state_of, admit_unless, IsCalled}
+use Rattle.zorigin.specs.Laws.{HasRequest}
+use Rattle.zorigin.specs.Log.{Log, Made, Past, past, standing, state_of, admit_unless, IsMadeCall}
 use Rattle.zoom_questions.specs.declared.question.Question.{Question}
 use Rattle.zoom_questions.specs.declared.question.MetaSettings.{MetaSettings}
 use Rattle.zoom_pool.specs.declared.state.State.{State}
@@ -35,7 +35,7 @@ use Rattle.zoom_pool.specs.Metas.{IsTranscriptValue, IsTranscriptValueUpTo, is_s
 use Rattle.zoom_pool.specs.declared.meta.Advance.{Advance}
 use Rattle.zoom_pool.specs.declared.meta.Advance.TheVariants as stages
 use Rattle.zoom_pool.proofs.Pools.{only_same, after_up_to, got, get_same}
-use Rattle.zoom_pool.proofs.Metas.{goes, driven_more, heard_at, get_other, slice_some}
+use Rattle.zoom_pool.proofs.Metas.{goes, driven_more, transcript_at, get_other, slice_some}
 
 -- ---- calls as events
 
@@ -47,10 +47,10 @@ made_more : (c : ℕ) (ds cs : List Call) (h : History) → call_events c (ds ++
 made_more c [] cs h = refl
 made_more c (d ∷ ds) cs h = ap (λ l. (c, Called d) ∷ l) (made_more c ds cs h)
 
-heard_before : (settings : Settings) (xs ys : List Event) (q : Transcript) → IsTranscript settings (xs ++ ys) q
+transcript_before : (settings : Settings) (xs ys : List Event) (q : Transcript) → IsTranscript settings (xs ++ ys) q
     → (r : Transcript) × IsTranscript settings ys r
-heard_before settings [] ys q e = (q, e)
-heard_before settings (x ∷ xs) ys q e = heard_before settings xs ys e.0 e.1
+transcript_before settings [] ys q e = (q, e)
+transcript_before settings (x ∷ xs) ys q e = transcript_before settings xs ys e.0 e.1
 
 -- ---- progress
 
@@ -75,8 +75,8 @@ admitted_more : (p : Past) (call : Call) (r : Option CallRefused)
 admitted_more p call None = length-append p.admitted (call ∷ [])
 admitted_more p call (Some reason) = let e : length p.admitted ≡ length p.admitted + 0 = omega arith in e
 
-pub heard_call : (p : Transcript) (call : Call) → p.stop ≡ None → after_call p call ≡ record p { log = Made call ∷ p.log }
-heard_call p call none = ap (λ o. cond (is_some o) p (record p { log = Made call ∷ p.log })) none
+pub transcript_of_call : (p : Transcript) (call : Call) → p.stop ≡ None → after_call p call ≡ record p { log = Made call ∷ p.log }
+transcript_of_call p call none = ap (λ o. cond (is_some o) p (record p { log = Made call ∷ p.log })) none
 
 pub progress_one : OneTranscript → (questions : List Question) (s : MetaSettings) (c : ℕ) (h : History) (new : MetaLinks)
     (call : Call) (r : Option CallRefused) → MetaAfter questions s ((c, Called call) ∷ h) new
@@ -90,7 +90,7 @@ progress_one hearing questions s c h new call r a so = record {
       let z = subst (λ l. IsTranscript (settings_of s) l q) (only_same c (Called call) h) y in
       let is : z.0 ≡ p = hearing (settings_of s) (events_on c h) z.0 p z.1 x in
       let q_is : q ≡ record p { log = Made call ∷ p.log } = z.2 ∙ ap (λ t. after_call t call) is
-      ∙ heard_call p call (so p x).0 in
+      ∙ transcript_of_call p call (so p x).0 in
       ap (λ (t : Transcript). length (past_of t).admitted) q_is
       ∙ ap (λ o. length (admit_unless (past_of p) call o).admitted) (so p x).1
       ∙ admitted_more (past_of p) call r;
@@ -104,7 +104,7 @@ progress_join questions s c h n m mid new x y = record {
   after = subst (λ l. MetaAfter questions s l new) (sym (made_more c y.calls x.calls h)) y.after;
   count = λ p q a b.
       let b' = subst (λ l. IsTranscript (settings_of s) (events_on c l) q) (made_more c y.calls x.calls h) b in
-      let mid = heard_before (settings_of s) (map (λ call. Called call) y.calls) (events_on c (call_events c x.calls ++ h)) q
+      let mid = transcript_before (settings_of s) (map (λ call. Called call) y.calls) (events_on c (call_events c x.calls ++ h)) q
       (subst (λ l. IsTranscript (settings_of s) l q) (only_made c y.calls (call_events c x.calls ++ h)) b') in
       let first = x.count p mid.0 a mid.1 in
       let second = y.count mid.0 q mid.1 b' in
@@ -127,27 +127,27 @@ drives_join questions s c h n m mid new x y = record {
 
 ok_call : (p : Transcript) (call : Call) → p.stop ≡ None → Ok tt ≡ connection_call_result p call → refusal (standing (past_of p)) call ≡ None
 ok_call p call none e = by (refusal (standing (past_of p)) call) (request_of (standing (past_of p)) call)
-    (e ∙ ap (λ o. cond (is_some o) (Err calls.WrongState) (dropped (call_answer (standing (past_of p)) call))) none)
+    (e ∙ ap (λ o. cond (is_some o) (Err calls.WrongState) (dropped (call_result (standing (past_of p)) call))) none)
   where
-    by : (r : Option CallRefused) (o : Option Apdu) → Ok tt ≡ dropped (answer_by r o) → r ≡ None
+    by : (r : Option CallRefused) (o : Option Apdu) → Ok tt ≡ dropped (call_result_by r o) → r ≡ None
     by None o f = refl
     by (Some reason) o f = absurd (cc)
 
-err_call : ((s : Standing) (call : Call) → refusal s call ≡ None → IsSent s call) → (p : Transcript) (call : Call)
+err_call : ((s : Standing) (call : Call) → refusal s call ≡ None → HasRequest s call) → (p : Transcript) (call : Call)
     (reason : CallRefused) → p.stop ≡ None → Err reason ≡ connection_call_result p call
     → refusal (standing (past_of p)) call ≡ Some reason
 err_call law p call reason none e = by (refusal (standing (past_of p)) call) refl
-    (e ∙ ap (λ o. cond (is_some o) (Err calls.WrongState) (dropped (call_answer (standing (past_of p)) call))) none)
+    (e ∙ ap (λ o. cond (is_some o) (Err calls.WrongState) (dropped (call_result (standing (past_of p)) call))) none)
   where
     by : (r : Option CallRefused) → refusal (standing (past_of p)) call ≡ r
-        → Err reason ≡ dropped (call_answer (standing (past_of p)) call) → refusal (standing (past_of p)) call ≡ Some reason
+        → Err reason ≡ dropped (call_result (standing (past_of p)) call) → refusal (standing (past_of p)) call ≡ Some reason
     by None is f =
         let g : Err reason ≡ dropped (Ok (sent_of (law (standing (past_of p)) call is).request)) =
         f ∙ ap dropped (law (standing (past_of p)) call is).answer in
         absurd (cc)
     by (Some other) is f =
-        let g : Err reason ≡ dropped (answer_by (Some other) (request_of (standing (past_of p)) call)) =
-        f ∙ ap (λ z. dropped (answer_by z (request_of (standing (past_of p)) call))) is in
+        let g : Err reason ≡ dropped (call_result_by (Some other) (request_of (standing (past_of p)) call)) =
+        f ∙ ap (λ z. dropped (call_result_by z (request_of (standing (past_of p)) call))) is in
         let same : reason ≡ other = cc in
         is ∙ ap (λ z. Some z) (sym same)
 
@@ -167,15 +167,15 @@ pub call_after : (questions : List Question) (s : MetaSettings) (h : History) (o
     → refusal (standing (past settings log)) call ≡ r → IsDriver e settings (Made call ∷ log) x)
     → new.drivers ≡ slice_set old.drivers c x → length new.pool.connections ≡ length old.pool.connections
     → MetaAfter questions s ((c, Called call) ∷ h) new
-call_after questions s h old new c call r was x a gave so befell at knows ds size = record {
+call_after questions s h old new c call r was x a gave so recorded at knows ds size = record {
   fit = a.fit;
   askable = a.askable;
-  pool = befell (settings_of s) h a.pool;
+  pool = recorded (settings_of s) h a.pool;
   driven = subst (AreDriven questions s ((c, Called call) ∷ h)) (sym ds)
       (driven_more questions s h old.drivers (slice_set old.drivers c x) c (Called call) a.driven
       (length-set old.drivers c x) (λ i f. get_other old.drivers c i x f) (λ q d p t asked drives transcript is_step.
       let g = gave q was p asked at transcript in
-      let is : record p { log = Made call ∷ p.log } ≡ t = sym (heard_call p call g.0) ∙ sym is_step in
+      let is : record p { log = Made call ∷ p.log } ≡ t = sym (transcript_of_call p call g.0) ∙ sym is_step in
       subst (λ z. IsDriver (errand_of s q) t.settings t.log z) (set_is old.drivers c was x d at drives)
       (subst (λ (z : Transcript). IsDriver (errand_of s q) z.settings z.log x) is
       (knows (errand_of s q) p.settings p.log g.1 (so p transcript g.0)))));
@@ -202,15 +202,15 @@ question_at : (questions : List Question) (s : MetaSettings) (h : History) (meta
 question_at questions s h meta c a lt = let n = a.size in
     slice_some questions c (let le : c < length questions = omega (arith, lt, n) in le)
 
-heard_now : (questions : List Question) (s : MetaSettings) (h : History) (meta : MetaLinks) (c : ℕ)
+transcript_now : (questions : List Question) (s : MetaSettings) (h : History) (meta : MetaLinks) (c : ℕ)
     → (a : MetaAfter questions s h meta) → c < length meta.pool.connections
     → IsTranscript (settings_of s) (events_on c h) (a.pool.transcript c)
-heard_now questions s h meta c a lt = heard_at (settings_of s) h a.pool.transcript meta.pool.connections c a.pool.stands lt
+transcript_now questions s h meta c a lt = transcript_at (settings_of s) h a.pool.transcript meta.pool.connections c a.pool.stands lt
 
 -- the result of a call, if only facts of accepted replies are known
 answered_call : (settings : Settings) (h : History) (pool : Links) (c : ℕ) (call : Call)
     (answer : Result (Unit {0}) CallRefused) (a : After settings h pool) → IsCallResult c call pool answer
-    → IsCalled answer → answer ≡ connection_call_result (a.transcript c) call
+    → IsMadeCall answer → answer ≡ connection_call_result (a.transcript c) call
 unfolding after_up_to
 answered_call settings h pool c call answer a is done = is settings c h (after_up_to settings c h pool a) done
 
@@ -219,9 +219,9 @@ pub admitted_to : (E : Type 0) → OneTranscript → (c : ℕ) (call : Call) (ol
     → IsCallResult c call old.pool (Ok tt) → slice_get old.drivers c ≡ Some was → NoteSentStep call was x
     → new.drivers ≡ slice_set old.drivers c x → length new.pool.connections ≡ length old.pool.connections
     → IssueResult {E = E} c call (Ok stages.Admitted) old new
-admitted_to E hearing c call old new was x lt befell answer at knows ds size questions s h a gave = (
+admitted_to E hearing c call old new was x lt recorded answer at knows ds size questions s h a gave = (
   progress_one hearing questions s c h new call None
-      (call_after questions s h old new c call None was x a gave none befell at
+      (call_after questions s h old new c call None was x a gave none recorded at
       (λ e settings log o n. (knows e settings log o n).0) ds size) (λ p transcript. (stop p transcript, none p transcript (stop p transcript))),
   left_then old.drivers new.drivers c was x at ds less,
 )
@@ -230,7 +230,7 @@ admitted_to E hearing c call old new was x lt befell answer at knows ds size que
     question = question_at questions s h old c a lt
 
     now : IsTranscript (settings_of s) (events_on c h) (a.pool.transcript c)
-    now = heard_now questions s h old c a lt
+    now = transcript_now questions s h old c a lt
 
     stop : (p : Transcript) → IsTranscript (settings_of s) (events_on c h) p → p.stop ≡ None
     stop p transcript = (gave question.0 was p question.1 at transcript).0
@@ -245,16 +245,16 @@ admitted_to E hearing c call old new was x lt befell answer at knows ds size que
         (knows (errand_of s question.0) p.settings p.log (gave question.0 was p question.1 at now).1
         (none p now (stop p now))).1
 
-pub refused_to : (E : Type 0) → OneTranscript → ((s : Standing) (call : Call) → refusal s call ≡ None → IsSent s call)
+pub refused_to : (E : Type 0) → OneTranscript → ((s : Standing) (call : Call) → refusal s call ≡ None → HasRequest s call)
     → (c : ℕ) (call : Call) (reason : CallRefused) (old new : MetaLinks) (was x : DriverState)
     → reason ≢ calls.Memory
     → c < length old.pool.connections → Recorded c (Called call) old.pool new.pool
     → IsCallResult c call old.pool (Err reason) → slice_get old.drivers c ≡ Some was → NoteRefusedStep was x
     → new.drivers ≡ slice_set old.drivers c x → length new.pool.connections ≡ length old.pool.connections
     → IssueResult {E = E} c call (Ok stages.Skipped) old new
-refused_to E hearing law c call reason old new was x other lt befell answer at knows ds size questions s h a gave = (
+refused_to E hearing law c call reason old new was x other lt recorded answer at knows ds size questions s h a gave = (
   progress_one hearing questions s c h new call (Some reason)
-      (call_after questions s h old new c call (Some reason) was x a gave none befell at
+      (call_after questions s h old new c call (Some reason) was x a gave none recorded at
       (λ e settings log o n. (knows e settings log call reason o n).0) ds size)
       (λ p transcript. (stop p transcript, none p transcript (stop p transcript))),
   left_then old.drivers new.drivers c was x at ds (let p = a.pool.transcript c in
@@ -266,7 +266,7 @@ refused_to E hearing law c call reason old new was x other lt befell answer at k
     question = question_at questions s h old c a lt
 
     now : IsTranscript (settings_of s) (events_on c h) (a.pool.transcript c)
-    now = heard_now questions s h old c a lt
+    now = transcript_now questions s h old c a lt
 
     stop : (p : Transcript) → IsTranscript (settings_of s) (events_on c h) p → p.stop ≡ None
     stop p transcript = (gave question.0 was p question.1 at transcript).0
@@ -327,7 +327,7 @@ pub state_is : OneTranscript → (questions : List Question) (s : MetaSettings) 
 unfolding after_up_to
 state_is hearing questions s h meta c state a lt is p transcript =
     is (settings_of s) c h (after_up_to (settings_of s) c h meta.pool a.pool)
-    ∙ ap state_at (hearing (settings_of s) (events_on c h) (a.pool.transcript c) p (heard_now questions s h meta c a lt) transcript)
+    ∙ ap state_at (hearing (settings_of s) (events_on c h) (a.pool.transcript c) p (transcript_now questions s h meta c a lt) transcript)
 
 origin_state : (settings : Settings) (events : List Event) (p : Transcript) → IsTranscript settings events p
     → is_stopped (state_at p) ≡ false → state_at p ≡ state_as (state_of (past_of p))
@@ -452,7 +452,7 @@ drove_all E c n k old new d lt many questions s h a =
     let q = question_at questions s h old c a lt in
     let p = a.pool.transcript c in
     let few = few_in (errand_of s q.0) p.settings p.log (slice_get old.drivers c)
-    (λ t is. a.driven.each c q.0 t p q.1 is (heard_now questions s h old c a lt)) in
+    (λ t is. a.driven.each c q.0 t p q.1 is (transcript_now questions s h old c a lt)) in
     let wide = a.fit.widest in
     absurd (omega (arith, x.1, few, wide, many))
 
@@ -463,7 +463,7 @@ pub finished_meta : OneTranscript → (meta : MetaLinks) (answer : Bool) → IsP
 finished_meta hearing meta answer fin questions s d h a =
     let f = fin (settings_of s) d h a.pool in
     let now : (c : ℕ) → c < length meta.pool.connections → IsTranscript (settings_of s) (events_on c h) (a.pool.transcript c) =
-    λ c lt. heard_at (settings_of s) h a.pool.transcript meta.pool.connections c a.pool.stands lt in (
+    λ c lt. transcript_at (settings_of s) h a.pool.transcript meta.pool.connections c a.pool.stands lt in (
       λ t c p lt transcript.
           let in_pool : c < length meta.pool.connections = subst (λ n. c < n) (sym a.size) lt in
           subst (λ z. is_stopped (state_at z) ≡ true)

@@ -9,7 +9,7 @@ use Rattle.zorigin.specs.declared.settings.Settings.{Settings}
 use Rattle.zorigin.specs.declared.answer.Sent.{Sent}
 use Rattle.zorigin.specs.declared.refusal.CallRefused.{CallRefused}
 use Rattle.zorigin.specs.Standings.{Call}
-use Rattle.zorigin.specs.Calls.{call_answer, answer_by, refusal}
+use Rattle.zorigin.specs.Calls.{call_result, call_result_by, refusal}
 use Rattle.zorigin.specs.Sending.{encoding_of, request_of, sent_of, IsReadBack}
 use Rattle.zorigin.specs.Log.{Made, Past, standing, request_list, admit_unless, After as OriginAfter}
 use Rattle.zoom_pool.specs.Links.{Link}
@@ -19,7 +19,7 @@ use Rattle.zoom_pool.specs.Connections.{AreConsistent, WaitingAfter, AreReadBack
 no_err : {A E : Type 0} {x : A} {e : E} → Ok x ≡ Err e → ⊥
 no_err q = cc
 
-requested : (ss : List Apdu) (x : Sent) (o : Option Apdu) → Ok x ≡ answer_by None o
+requested : (ss : List Apdu) (x : Sent) (o : Option Apdu) → Ok x ≡ call_result_by None o
     → flat_map encoding_of (ss ++ request_list o) ≡ flat_map encoding_of ss ++ x.octets
 requested ss x None q = absurd (no_err q)
 requested ss x (Some apdu) q =
@@ -28,7 +28,7 @@ requested ss x (Some apdu) q =
     ∙ ap (λ (z : Sent). z.octets) (sym same))
 
 grown : (p : Past) (call : Call) (x : Sent) (r : Option CallRefused)
-    → Ok x ≡ answer_by r (request_of (standing p) call) → flat_map encoding_of (admit_unless p call r).sent
+    → Ok x ≡ call_result_by r (request_of (standing p) call) → flat_map encoding_of (admit_unless p call r).sent
     ≡ flat_map encoding_of p.sent ++ x.octets
 grown p call x (Some reason) q = absurd (no_err q)
 grown p call x None q = requested p.sent x (request_of (standing p) call) q
@@ -41,21 +41,21 @@ read_append [] ws a b = b
 read_append (v ∷ vs) ws a b = (a.0, read_append vs ws a.1 b)
 
 requested_read : (ss : List Apdu) (x : Sent) (o : Option Apdu) → AreReadBack ss → IsReadBack x
-    → Ok x ≡ answer_by None o → AreReadBack (ss ++ request_list o)
+    → Ok x ≡ call_result_by None o → AreReadBack (ss ++ request_list o)
 requested_read ss x None a b q = absurd (no_err q)
 requested_read ss x (Some apdu) a b q =
     let same : x ≡ sent_of apdu = cc in
     read_append ss (apdu ∷ []) a (subst IsReadBack same b, tt)
 
 grown_read : (p : Past) (call : Call) (x : Sent) (r : Option CallRefused) → AreReadBack p.sent → IsReadBack x
-    → Ok x ≡ answer_by r (request_of (standing p) call) → AreReadBack (admit_unless p call r).sent
+    → Ok x ≡ call_result_by r (request_of (standing p) call) → AreReadBack (admit_unless p call r).sent
 grown_read p call x (Some reason) a b q = absurd (no_err q)
 grown_read p call x None a b q = requested_read p.sent x (request_of (standing p) call) a b q
 
 -- the origin admitted the call
 pub called : (settings : Settings) (events : List Event) (p : Transcript) (c d : Link) (call : Call) (x : Sent)
     → ConnectionAfter settings events p c → is_some c.stop ≡ false → IsReadBack x
-    → Ok x ≡ call_answer (standing (past_of p)) call
+    → Ok x ≡ call_result (standing (past_of p)) call
     → OriginAfter p.settings (Made call ∷ p.log) d.origin
     → d.framer ≡ c.framer → d.held ≡ c.held → d.ended ≡ c.ended → d.stop ≡ c.stop → d.waiting ≡ c.waiting ++ x.octets
     → ConnectionAfter settings (Called call ∷ events) (after_call p call) d

@@ -5,7 +5,7 @@ use Rattle.std.specs.Prelude.{◌||◌}
 use Rattle.std.specs.List.{list_any}
 use Rattle.zapdu.specs.declared.apdu.Apdu.{Apdu}
 use Rattle.zapdu.specs.declared.apdu.Apdu.TheVariants as apdus
-use Rattle.zplan.specs.Plan.{Event, Sends, Receives, Closes}
+use Rattle.zplan.specs.Plan.{PlanEvent, RequestSent, ReplyAccepted, CloseSent}
 use Rattle.zorigin.specs.declared.settings.Settings.{Settings}
 use Rattle.zorigin.specs.declared.settings.Ask.{Ask}
 use Rattle.zorigin.specs.declared.answer.Answer.{Answer}
@@ -28,11 +28,11 @@ use Rattle.zoom_pool.proofs.Phases.{any_last}
 
 -- ---- Close
 
-abbrev pub closes_in : List Event → Bool
+abbrev pub closes_in : List PlanEvent → Bool
 closes_in [] = false
-closes_in (Sends a ∷ events) = closes_in events
-closes_in (Receives a r ∷ events) = closes_in events
-closes_in (Closes ∷ events) = true
+closes_in (RequestSent a ∷ events) = closes_in events
+closes_in (ReplyAccepted a r ∷ events) = closes_in events
+closes_in (CloseSent ∷ events) = true
 
 or_false : (b : Bool) → (b || false) ≡ b
 or_false true = refl

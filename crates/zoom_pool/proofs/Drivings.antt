@@ -5,7 +5,7 @@ use Rattle.std.proofs.lemmas.Grind.{flat_map-append}
 use Rattle.std.proofs.lemmas.Map.Keys.{IsDistinct-head, IsDistinct-tail}
 use Rattle.std.specs.Prelude.{nat_eq}
 use Rattle.std.specs.List.{AllByRecursion, IsDistinct}
-use Rattle.zplan.specs.Plan.{Operation, Event, Reply, same, number, asked_in, replies_in, count_in, IsDriven}
+use Rattle.zplan.specs.Plan.{Operation, PlanEvent, Reply, same, number, asked_in, replies_in, count_in, IsDriven}
 use Rattle.zplan.specs.Positions.{IsIn, IsWanted, up_to}
 use Rattle.zplan.specs.Laws.{BoundLaws}
 use Rattle.zplan.proofs.Cuts.{in_either}
@@ -42,7 +42,7 @@ in_front x y (z ∷ xs) (inr i) = inr (in_front x y xs i)
 pub asked_more : (p : Past) (call : Call) → asked (admit_unless p call None) ≡ asked p ++ operation_of call
 asked_more p call = flat_map-append operation_of p.admitted (call ∷ []) ∙ ap (λ l. asked p ++ l) (append-nil (operation_of call))
 
-pub asked_call : (q : Asked) (call : Call) (events : List Event) → IsIn q (operation_of call) → IsIn (operation_for q.what) (asked_in (plan_of call ∷ events))
+pub asked_call : (q : Asked) (call : Call) (events : List PlanEvent) → IsIn q (operation_of call) → IsIn (operation_for q.what) (asked_in (plan_of call ∷ events))
 asked_call q Init events (inl e) = inl (ap (λ z. operation_for z.what) e)
 asked_call q Init events (inr i) = absurd i
 asked_call q (Search op set ask) events (inl e) = inl (ap (λ z. operation_for z.what) e)
@@ -51,7 +51,7 @@ asked_call q (Present op set ranges) events (inl e) = inl (ap (λ z. operation_f
 asked_call q (Present op set ranges) events (inr i) = absurd i
 asked_call q Close events i = absurd i
 
-pub asked_still : (a : Operation) (call : Call) (events : List Event) → IsIn a (asked_in events) → IsIn a (asked_in (plan_of call ∷ events))
+pub asked_still : (a : Operation) (call : Call) (events : List PlanEvent) → IsIn a (asked_in events) → IsIn a (asked_in (plan_of call ∷ events))
 asked_still a Init events i = inr i
 asked_still a (Search op set ask) events i = inr i
 asked_still a (Present op set ranges) events i = inr i
@@ -66,13 +66,13 @@ numbered_call q (Present op set ranges) n (inl e) = ap (λ z. z.op) e ∙ n ∙ 
 numbered_call q (Present op set ranges) n (inr i) = absurd i
 numbered_call q Close n i = absurd i
 
-pub replies_call : (a : Operation) (call : Call) (events : List Event) → replies_in (plan_of call ∷ events) a ≡ replies_in events a
+pub replies_call : (a : Operation) (call : Call) (events : List PlanEvent) → replies_in (plan_of call ∷ events) a ≡ replies_in events a
 replies_call a Init events = refl
 replies_call a (Search op set ask) events = refl
 replies_call a (Present op set ranges) events = refl
 replies_call a Close events = refl
 
-count_call : (call : Call) (events : List Event) → length (asked_in (plan_of call ∷ events)) ≡ length (asked_in events) + length (operation_of call)
+count_call : (call : Call) (events : List PlanEvent) → length (asked_in (plan_of call ∷ events)) ≡ length (asked_in events) + length (operation_of call)
 count_call Init events = let e : suc (length (asked_in events)) ≡ length (asked_in events) + 1 = omega arith in e
 count_call (Search op set ask) events = let e : suc (length (asked_in events)) ≡ length (asked_in events) + 1 = omega arith in e
 count_call (Present op set ranges) events = let e : suc (length (asked_in events)) ≡ length (asked_in events) + 1 = omega arith in e
@@ -87,7 +87,7 @@ same_asked p (Ok (taken.Answered a)) = refl
 same_asked p (Ok taken.Closed) = refl
 same_asked p (Err r) = elim (is_open (state_of p)) as (λ b. asked (cond b (record p { fault = Some r }) p) ≡ asked p) [ true ↦ refl | false ↦ refl ]
 
-pub same_events : (ask : Ask) (p : Past) (v : Result Taken Refused) (events : List Event) → asked_in (got_event ask p v events) ≡ asked_in events
+pub same_events : (ask : Ask) (p : Past) (v : Result Taken Refused) (events : List PlanEvent) → asked_in (got_event ask p v events) ≡ asked_in events
 same_events ask p (Ok (taken.Opened a)) events = refl
 same_events ask p (Ok (taken.Rejected a)) events = refl
 same_events ask p (Ok (taken.Answered a)) events = refl
@@ -101,7 +101,7 @@ IsBy accepted a = (x : Answer) × IsIn x accepted × (operation_for x.asked.what
 pub by_more : (accepted : List Answer) (x : Answer) (a : Operation) → IsBy accepted a → IsBy (accepted ++ x ∷ []) a
 by_more accepted x a b = (b.0, in_front b.0 x accepted b.1, b.2)
 
-by_last : (ask : Ask) (q p : Past) (x : Answer) (events : List Event) (a : Operation) (r : Reply) → (replies_in events a ≡ Some r → IsBy p.accepted a)
+by_last : (ask : Ask) (q p : Past) (x : Answer) (events : List PlanEvent) (a : Operation) (r : Reply) → (replies_in events a ≡ Some r → IsBy p.accepted a)
     → replies_in (answer_event ask q (Some x) events) a ≡ Some r → IsBy (p.accepted ++ x ∷ []) a
 by_last ask q p x events a r old e =
     elim (same (operation_for x.asked.what) a) as (λ t. same (operation_for x.asked.what) a ≡ t → cond t (Some (reply_for ask q x.reply)) (replies_in events a) ≡ Some r → IsBy (p.accepted ++ x ∷ []) a) [
@@ -109,7 +109,7 @@ by_last ask q p x events a r old e =
       | false ↦ λ t f. by_more p.accepted x a (old f)
     ] refl e
 
-by_verdict : (ask : Ask) (q p : Past) (v : Result Taken Refused) (events : List Event) (a : Operation) (r : Reply) → (replies_in events a ≡ Some r → IsBy p.accepted a)
+by_verdict : (ask : Ask) (q p : Past) (v : Result Taken Refused) (events : List PlanEvent) (a : Operation) (r : Reply) → (replies_in events a ≡ Some r → IsBy p.accepted a)
     → replies_in (got_event ask q v events) a ≡ Some r → IsBy (after_verdict p v).accepted a
 by_verdict ask q p (Ok (taken.Opened x)) events a r old e = by_last ask q p x events a r old e
 by_verdict ask q p (Ok (taken.Rejected x)) events a r old e = by_last ask q p x events a r old e
@@ -220,7 +220,7 @@ module _ (ask : Ask) (settings : Settings) where
         numbered log d x.asked (among x.asked (asked (past settings log))
         (o.known x (contained x ((past settings log).accepted ++ x ∷ []) (in_last x (past settings log).accepted))))
 
-    due_driven : (call : Call) (events : List Event) → IsDueEvent ask wanted step events (plan_of call) → IsDriven wanted step events → IsDriven wanted step (plan_of call ∷ events)
+    due_driven : (call : Call) (events : List PlanEvent) → IsDueEvent ask wanted step events (plan_of call) → IsDriven wanted step events → IsDriven wanted step (plan_of call ∷ events)
     due_driven Init events h d = (h, d)
     due_driven (Search op set a) events h d = (h, d)
     due_driven (Present op set ranges) events h d = (h, d)

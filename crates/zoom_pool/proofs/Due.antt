@@ -4,7 +4,7 @@ use Rattle.std.proofs.lemmas.Bool.Decides.{nat_tests}
 use Rattle.std.specs.Prelude.{ℤ, pos, ◌||◌, ◌&&◌, ◌==◌, nat_eq, nat_le, int_lt, is_none, is_some, slice_get, ◌-◌}
 use Rattle.std.specs.List.{list_any}
 use Rattle.zplan.specs.Plan as plan
-use Rattle.zplan.specs.Plan.{Event, Replies, Reply, Finds, Opens, IsAsked, first, search, cut, rest, IsDue, IsDriven, asked_in, replies_in, outstanding_in, count_in, number}
+use Rattle.zplan.specs.Plan.{PlanEvent, Replies, Reply, SearchReply, InitReply, IsPlanned, first, search, cut, rest, IsDue, IsDriven, asked_in, replies_in, outstanding_in, count_in, number}
 use Rattle.zplan.specs.Positions.{IsIn}
 use Rattle.zplan.specs.Laws.{BoundLaws, NumberLaw}
 use Rattle.zplan.proofs.Order.{sent_asked}
@@ -26,14 +26,14 @@ use Rattle.zorigin.specs.Fitting.{is_empty}
 use Rattle.zorigin.specs.Changes.{unanswered}
 use Rattle.zorigin.specs.Sending.{is_unsendable, init_request}
 use Rattle.zorigin.specs.Sendable.{SendableLaws}
-use Rattle.zorigin.specs.Calls.{refusal, early_refusal, search_beyond, is_unready, is_set, past_count}
+use Rattle.zorigin.specs.Calls.{refusal, early_refusal, bad_search_bounds, is_unready, is_latest_set, past_count}
 use Rattle.zorigin.specs.Replies.{verdict}
 use Rattle.zorigin.specs.Laws.{IsOrderly}
-use Rattle.zorigin.specs.Log.{Log, Made, Got, Past, past, standing, state_of, opening, force_after, asked, answers, is_answered, outstanding, op_of, searches_in, with_outcome, outcome_by, filed, numbered, admit_unless, after_verdict}
+use Rattle.zorigin.specs.Log.{Log, Made, Got, Past, past, standing, state_of, opening, force_after, asked, is_answer_to, is_answered, outstanding, op_of, searches_in, with_outcome, outcome_by, by_set, by_operation, admit_unless, after_verdict}
 use Rattle.zoom_pool.specs.declared.phase.Phase.{Phase}
 use Rattle.zoom_pool.specs.declared.phase.Phase.TheVariants as phases
 use Rattle.zoom_pool.specs.Driving.{operation_for, DrivenLaws}
-use Rattle.zoom_questions.specs.Askable.{HasArcs}
+use Rattle.zoom_questions.specs.Askable.{HasFewArcs}
 use Rattle.zoom_pool.specs.Steering.{Errand, IsNextCall, is_skip, may_call, room_in}
 use Rattle.zoom_pool.specs.Drivers.{DriverState, IsDriver, IsAtPhase, AtOpened, HasOpening, HasFound, AllAnswered, events_at, found_events, opened_events}
 use Rattle.zoom_pool.specs.Due.{CanAskFor, CanBeCalled, DueLaws}
@@ -74,13 +74,13 @@ past_settings settings (Got reply ∷ log) =
 
 -- a list is asked for once the search was answered with a count
 count_of : (wanted : List ℕ) (step : ℕ) (replies : Replies) (l : List ℕ)
-    → IsAsked wanted step replies (plan.Present l) → (count : ℕ) × (replies plan.Search ≡ Some (Finds (Some count)))
+    → IsPlanned wanted step replies (plan.Present l) → (count : ℕ) × (replies plan.Search ≡ Some (SearchReply (Some count)))
 count_of wanted step replies l (cut three count i m a o h lt x) = (count, h)
 count_of wanted step replies l (rest m k a h lo hi) = count_of wanted step replies m a
 
 -- a search is asked for once the association was accepted
-pub opened_of : (wanted : List ℕ) (step : ℕ) (replies : Replies) → IsAsked wanted step replies plan.Search
-    → (three : Bool) × (replies plan.Init ≡ Some (Opens true three))
+pub opened_of : (wanted : List ℕ) (step : ℕ) (replies : Replies) → IsPlanned wanted step replies plan.Search
+    → (three : Bool) × (replies plan.Init ≡ Some (InitReply true three))
 opened_of wanted step replies (search three a e) = (three, e)
 
 -- once the association was accepted, calls are made in the state Ready
@@ -92,14 +92,14 @@ abbrev found_search : Ask → ℤ → Searched
 found_search ask n = record (unanswered 1 1 ask) { outcome = Some (outcomes.Found n) }
 
 filed_search : (ask : Ask) (p : Past) (three : Bool) (count : ℕ) (h : HasFound ask p three count)
-    → map filed (searches_in p) ≡ (1, found_search ask h.found) ∷ []
+    → map by_set (searches_in p) ≡ (1, found_search ask h.found) ∷ []
 filed_search ask p three count h =
-    ap (λ l. map filed (map (with_outcome p.accepted) l)) h.asked
+    ap (λ l. map by_set (map (with_outcome p.accepted) l)) h.asked
     ∙ ap (λ o. let x : Searched = record (unanswered 1 1 ask) { outcome = outcome_by o } in (1, x) ∷ []) h.answered
     ∙ ap (λ o. let x : Searched = record (unanswered 1 1 ask) { outcome = o } in (1, x) ∷ []) h.outcome
 
-arcs_of : (syntax : Option (List ℕ)) → HasArcs syntax → (arcs : List ℕ) → syntax ≡ Some arcs → length arcs ≤ 1000
-arcs_of syntax h arcs e = subst HasArcs e h
+arcs_of : (syntax : Option (List ℕ)) → HasFewArcs syntax → (arcs : List ℕ) → syntax ≡ Some arcs → length arcs ≤ 1000
+arcs_of syntax h arcs e = subst HasFewArcs e h
 
 module _ (orderly : (s : Settings) (l : Log) → IsOrderly (past s l)) (laws : DrivenLaws) (numbers : NumberLaw)
     (bounds : BoundLaws) (sends : SendableLaws)
@@ -107,7 +107,7 @@ module _ (orderly : (s : Settings) (l : Log) → IsOrderly (past s l)) (laws : D
   abbrev p : Past
   p = past settings log
 
-  abbrev events : List Event
+  abbrev events : List PlanEvent
   events = events_at e settings log
 
   driven : IsDriven e.wanted e.step events
@@ -132,7 +132,7 @@ module _ (orderly : (s : Settings) (l : Log) → IsOrderly (past s l)) (laws : D
           let x = b.0 in
           let there = among x.asked (asked p) ((orderly settings log).known x (contained x p.accepted b.1)) in
           let same : x.asked.op ≡ q.op = number_of x.asked there ∙ ap number b.2 ∙ sym (number_of q i) in
-          any_in (answers q.op) p.accepted x b.1
+          any_in (is_answer_to q.op) p.accepted x b.1
           (let t : (x.asked.op == q.op) ≡ true = grind (arith, nat_tests, same) in t)
 
   -- ---- Init
@@ -207,7 +207,7 @@ module _ (orderly : (s : Settings) (l : Log) → IsOrderly (past s l)) (laws : D
         by b (inl i) x = no_some (sym (ap (replies_in (opened_events a.search three)) i) ∙ x)
         by b (inr i) x = i
 
-    within_bounds : search_beyond 1 e.ask ≡ false
+    within_bounds : bad_search_bounds 1 e.ask ≡ false
     within_bounds = λ i.
         1 == 0 || int_lt (k.fit.small i) (pos 0) || int_lt (k.fit.large i) (pos 0) || int_lt (k.fit.medium i) (pos 0)
         || not (int_lt (k.fit.small i) (k.fit.large i))
@@ -219,12 +219,12 @@ module _ (orderly : (s : Settings) (l : Log) → IsOrderly (past s l)) (laws : D
         let s = standing p in
         let others : Bool = not s.force.concurrent || (not s.force.named && not (is_empty s.searches)) in
         search_rows (is_ready (state_of p)) s.force.search (list_any (nat_eq 1) s.used)
-        (is_some (search_of s.searches 1)) (search_beyond 1 e.ask) (not (is_empty s.outstanding) && others)
+        (is_some (search_of s.searches 1)) (bad_search_bounds 1 e.ask) (not (is_empty s.outstanding) && others)
         ready one_unused
-        (ap (λ l. is_some (search_of (map filed (map (with_outcome p.accepted) l)) 1))
+        (ap (λ l. is_some (search_of (map by_set (map (with_outcome p.accepted) l)) 1))
         (unsearched e.ask settings log unsent))
         within_bounds
-        (ap (λ l. not (is_empty (map numbered l)) && others) (answered all_answered))
+        (ap (λ l. not (is_empty (map by_operation l)) && others) (answered all_answered))
 
     search_skips : (reason : CallRefused) → is_ready (state_of p) ≡ true
         → refusal (standing p) (Search 1 1 e.ask) ≡ Some reason → is_skip (Some reason) (Search 1 1 e.ask) ≡ true
@@ -232,7 +232,7 @@ module _ (orderly : (s : Settings) (l : Log) → IsOrderly (past s l)) (laws : D
 
   -- the search is next once the association was accepted, but only if the origin admits it
   module _ (op set : ℕ) (ask : Ask) (n : IsNextCall e settings log (Search op set ask)) where
-    accepted : (three : Bool) × (replies_in events plan.Init ≡ Some (Opens true three))
+    accepted : (three : Bool) × (replies_in events plan.Init ≡ Some (InitReply true three))
     accepted = opened_of e.wanted e.step (replies_in events) n.next.0.0
 
     search_here : (ph : Phase) → IsAtPhase e settings log ph → refusal (standing p) (Search 1 1 e.ask) ≡ None
@@ -241,7 +241,7 @@ module _ (orderly : (s : Settings) (l : Log) → IsOrderly (past s l)) (laws : D
     search_here phases.Opening a =
         absurd (no_some (sym accepted.1 ∙ ap (λ ev. replies_in ev plan.Init) a.events))
     search_here (phases.Opened present three) a =
-        let q : Some (Opens a.search three) ≡ Some (Opens true accepted.0) =
+        let q : Some (InitReply a.search three) ≡ Some (InitReply true accepted.0) =
         sym (ap (λ ev. replies_in ev plan.Init) a.events) ∙ accepted.1 in
         let t : a.search ≡ true = cc in
         admitted (refusal (standing p) (Search 1 1 e.ask)) (a.can (ready_at p a.opening n.stands) ∙ t)
@@ -271,7 +271,7 @@ module _ (orderly : (s : Settings) (l : Log) → IsOrderly (past s l)) (laws : D
     three : Bool
     count : ℕ
     set : HasFound e.ask p three count
-    found : replies_in events plan.Search ≡ Some (Finds (Some count))
+    found : replies_in events plan.Search ≡ Some (SearchReply (Some count))
     opened : HasOpening p
     all : outstanding_in events ≡ 0 → AllAnswered events
 
@@ -279,7 +279,7 @@ module _ (orderly : (s : Settings) (l : Log) → IsOrderly (past s l)) (laws : D
       → (ph : Phase) → IsAtPhase e settings log ph → HasSet
   set_here op set ranges n = here
     where
-      counted : (count : ℕ) × (replies_in events plan.Search ≡ Some (Finds (Some count)))
+      counted : (count : ℕ) × (replies_in events plan.Search ≡ Some (SearchReply (Some count)))
       counted = count_of e.wanted e.step (replies_in events) (positions ranges) n.next.0.0
 
       all_found : (three : Bool) (count : ℕ) → AllAnswered (found_events three count)
@@ -360,20 +360,20 @@ module _ (orderly : (s : Settings) (l : Log) → IsOrderly (past s l)) (laws : D
         let room : room_in e.window p ≡ 1 = ap (λ b. cond b e.window 1) q in
         let lt = n.next.1 in
         let none : outstanding p ≡ [] = answered (h.all (omega (arith, room, lt))) in
-        ap (λ l. not (is_empty (map numbered l)) && not (force_after (opening p)).concurrent) none
+        ap (λ l. not (is_empty (map by_operation l)) && not (force_after (opening p)).concurrent) none
 
     present_early : early_refusal (standing p) (Present op 1 ranges) ≡ None
     present_early =
         let s = standing p in
         present_rows (is_ready (state_of p)) (unoffered s.force.present s.force.v3) (list_any (nat_eq op) s.used)
         (is_none (search_of s.searches 1)) (is_unready (search_of s.searches 1))
-        (not s.force.named && not (is_set 1 (slice_get s.searches (length s.searches - 1))))
+        (not s.force.named && not (is_latest_set 1 (slice_get s.searches (length s.searches - 1))))
         (not (are_ranges ranges) || past_count (positions ranges) (search_of s.searches 1))
         (busy_with s.force.concurrent)
         (ready_at p h.opened n.stands) offered op_unused
         (ap (λ l. is_none (search_of l 1)) searches)
         (ap (λ l. is_unready (search_of l 1)) searches)
-        (ap (λ l. not s.force.named && not (is_set 1 (slice_get l (length l - 1)))) searches
+        (ap (λ l. not s.force.named && not (is_latest_set 1 (slice_get l (length l - 1)))) searches
         ∙ and_false (not s.force.named))
         (ap (λ b. not b || past_count (positions ranges) (search_of s.searches 1)) c.ascend ∙ positions_found)
         (idle s.force.concurrent refl)

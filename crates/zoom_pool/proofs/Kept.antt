@@ -5,9 +5,9 @@ use Rattle.std.specs.List.{list_any, find, flat_map}
 use Rattle.std.proofs.lemmas.Grind.{flat_map-append}
 use Rattle.zapdu.specs.declared.apdu.Apdu.{Apdu}
 use Rattle.zplan.specs.Plan as plan
-use Rattle.zplan.specs.Plan.{Operation, Event, Sends, Closes, IsDue, IsDriven, asked_in, replies_in, outstanding_in, start_of}
-use Rattle.zplan.specs.Positions.{IsIn, IsFrom, Ascends, IsWanted, first_of, up_to}
-use Rattle.zplan.specs.Agenda.{Agenda, IsAgenda, IsSent, SameAgenda, whole_agenda}
+use Rattle.zplan.specs.Plan.{Operation, PlanEvent, RequestSent, CloseSent, IsDue, IsDriven, asked_in, replies_in, outstanding_in, start_of}
+use Rattle.zplan.specs.Positions.{IsIn, IsFrom, AreAscending, IsWanted, first_of, up_to}
+use Rattle.zplan.specs.Agenda.{Agenda, IsAgenda, AfterNoteSent, SameAgenda, whole_agenda}
 use Rattle.zplan.specs.Laws.{AgendaLaws, NumberLaw}
 use Rattle.zplan.proofs.Order.{sent_asked}
 use Rattle.zorigin.specs.declared.settings.Settings.{Settings}
@@ -26,7 +26,7 @@ use Rattle.zorigin.specs.Standings as origin
 use Rattle.zplan.specs.Ranges.{positions}
 use Rattle.zorigin.specs.Calls.{refusal, early_refusal, or_unsendable}
 use Rattle.zorigin.specs.Replies.{verdict}
-use Rattle.zorigin.specs.Log.{Log, Made, Got, Past, past, standing, state_of, state_from, opening, force_after, is_close_call, is_init_call, admit, admit_unless, after_verdict, opens, answers, operation_of, search_in}
+use Rattle.zorigin.specs.Log.{Log, Made, Got, Past, past, standing, state_of, state_from, opening, force_after, is_close_call, is_init_call, admit, admit_unless, after_verdict, is_opening, is_answer_to, operation_of, search_in}
 use Rattle.zoom_pool.specs.declared.phase.Phase.{Phase}
 use Rattle.zoom_pool.specs.declared.phase.Phase.TheVariants as phases
 use Rattle.zoom_pool.specs.Driving.{plan_of, operation_for, events_of, made_event, got_event, can_search, can_present, IsDueEvent, IsDueCall, DrivenLaws}
@@ -164,7 +164,7 @@ record Moved (e : Errand) (settings : Settings) (log more : Log) : Type 0 where
   skipped : skipped_in settings log ≡ true → skipped_in settings more ≡ true
 
 same_opening : (p q : Past) → q.accepted ≡ p.accepted → opening q ≡ opening p
-same_opening p q h = ap (find opens) h
+same_opening p q h = ap (find is_opening) h
 
 still : (e : Errand) (settings : Settings) (log more : Log) → Moved e settings log more → HasOpening (past settings log) → HasOpening (past settings more)
 still e settings log more m o = (o.0, same_opening (past settings log) (past settings more) m.accepted ∙ o.1)
@@ -180,7 +180,7 @@ same_sending ask p q o h = subst (λ a. is_unsendable (search_request (force_aft
 
 -- what the search found is unchanged while no other search is admitted
 pub same_found : (ask : Ask) (p q : Past) (three : Bool) (count : ℕ) → flat_map search_in q.admitted ≡ flat_map search_in p.admitted
-    → (x : Answer) → find (answers 1) q.accepted ≡ Some x → (h : HasFound ask p three count) → x ≡ h.answer
+    → (x : Answer) → find (is_answer_to 1) q.accepted ≡ Some x → (h : HasFound ask p three count) → x ≡ h.answer
     → opening q ≡ opening p → HasFound ask q three count
 same_found ask p q three count asked x answered h is o = record {
   asked = asked ∙ h.asked;
@@ -198,7 +198,7 @@ same_found ask p q three count asked x answered h is o = record {
 pub kept_found : (ask : Ask) (p q : Past) (three : Bool) (count : ℕ) → flat_map search_in q.admitted ≡ flat_map search_in p.admitted
     → q.accepted ≡ p.accepted → HasFound ask p three count → HasFound ask q three count
 kept_found ask p q three count asked accepted h =
-    same_found ask p q three count asked h.answer (ap (find (answers 1)) accepted ∙ h.answered) h refl (same_opening p q accepted)
+    same_found ask p q three count asked h.answer (ap (find (is_answer_to 1)) accepted ∙ h.answered) h refl (same_opening p q accepted)
 
 moved_found : (e : Errand) (settings : Settings) (log more : Log) → Moved e settings log more → (three : Bool) (count : ℕ)
     → HasFound e.ask (past settings log) three count → HasFound e.ask (past settings more) three count
@@ -584,10 +584,10 @@ unsearched ask settings log unsent = none (past settings log).admitted (λ q i. 
     none (origin.Close ∷ calls) h = none calls h
 
 -- the first list of the agenda is next
-first_is : (e : Errand) (events : List Event) (a b : Agenda) (l : List ℕ) → IsAgenda e.wanted e.step events a → (s : IsSent a b)
+first_is : (e : Errand) (events : List PlanEvent) (a b : Agenda) (l : List ℕ) → IsAgenda e.wanted e.step events a → (s : AfterNoteSent a b)
     → IsDue e.wanted e.step events (plan.Present l)
     → ((o : Operation) → IsDue e.wanted e.step events o → first_of l ≤ start_of o) → l ≡ s.list
-first_is e events a b l k s due least = by (subst (IsIn l) s.due (k.all l due)) (subst (λ ls. Ascends (map first_of ls)) s.due k.ascends)
+first_is e events a b l k s due least = by (subst (IsIn l) s.due (k.all l due)) (subst (λ ls. AreAscending (map first_of ls)) s.due k.ascends)
     (least (plan.Present s.list) (k.only s.list (subst (IsIn s.list) (sym s.due) (inl refl))))
   where
     later : (low : ℕ) (ls : List (List ℕ)) → IsFrom low (map first_of ls) → (m : List ℕ) → IsIn m ls → low ≤ first_of m
@@ -595,18 +595,18 @@ first_is e events a b l k s due least = by (subst (IsIn l) s.due (k.all l due)) 
     later low (x ∷ ls) h m (inl q) = subst (λ z. low ≤ first_of z) (sym q) h.0
     later low (x ∷ ls) h m (inr i) = later low ls h.1 m i
 
-    by : IsIn l (s.list ∷ b.due) → Ascends (map first_of (s.list ∷ b.due)) → first_of l ≤ first_of s.list → l ≡ s.list
+    by : IsIn l (s.list ∷ b.due) → AreAscending (map first_of (s.list ∷ b.due)) → first_of l ≤ first_of s.list → l ≡ s.list
     by (inl q) h le = q
     by (inr i) h le = let lt = later (first_of s.list + 1) b.due h.0 l i in absurd (omega (arith, lt, le))
 
 sent_asking : AgendaLaws → NumberLaw → (e : Errand) (settings : Settings) (log : Log) (a b : Agenda) (op set : ℕ) (ranges : List Range) → IsWanted e.wanted → 0 < e.step
     → IsDriven e.wanted e.step (events_at e settings log) → refusal (standing (past settings log)) (origin.Present op set ranges) ≡ None
-    → IsNextCall e settings log (origin.Present op set ranges) → IsSent a b → AtAsking e settings log a
+    → IsNextCall e settings log (origin.Present op set ranges) → AfterNoteSent a b → AtAsking e settings log a
     → AtAsking e settings (Made (origin.Present op set ranges) ∷ log) b
 sent_asking laws number e settings log a b op set ranges w lo driven q n s k =
     let is : positions ranges ≡ s.list = first_is e (events_at e settings log) a b (positions ranges) k.agenda s n.next.0 n.next.2 in
-    let ev : events_at e settings (Made (origin.Present op set ranges) ∷ log) ≡ Sends (plan.Present s.list) ∷ events_at e settings log =
-    sent_events e settings log (origin.Present op set ranges) q ∙ ap (λ l. Sends (plan.Present l) ∷ events_at e settings log) is in
+    let ev : events_at e settings (Made (origin.Present op set ranges) ∷ log) ≡ RequestSent (plan.Present s.list) ∷ events_at e settings log =
+    sent_events e settings log (origin.Present op set ranges) q ∙ ap (λ l. RequestSent (plan.Present l) ∷ events_at e settings log) is in
     let due : IsDue e.wanted e.step (events_at e settings log) (plan.Present s.list) = k.agenda.only s.list (subst (IsIn s.list) (sym s.due) (inl refl)) in
     let apart : IsFreeStart (first_of s.list) a.waiting = λ m i f.
     let was = k.agenda.asked m i in
@@ -661,8 +661,8 @@ sent_closed e settings log q o all tried =
     last false = refl
 
 -- each operation that was asked for has a reply
-answered_whole : (e : Errand) (events : List Event) → ((b : Operation) → IsDue e.wanted e.step events b → ⊥) → AllAnswered events
-    → IsDueEvent e.ask e.wanted e.step events Closes
+answered_whole : (e : Errand) (events : List PlanEvent) → ((b : Operation) → IsDue e.wanted e.step events b → ⊥) → AllAnswered events
+    → IsDueEvent e.ask e.wanted e.step events CloseSent
 answered_whole e events none all a asked = by (replies_in events a) refl
   where
     by : (r : Option plan.Reply) → replies_in events a ≡ r → (s : plan.Reply) × (replies_in events a ≡ Some s)
@@ -702,7 +702,7 @@ knows_sent laws driven number origin.Init old new s er sk co l = λ e settings l
     let a : AtFresh e settings log = subst (IsAtPhase e settings log) o.offered.0 k.at in
     sent_driver e settings log origin.Init old new o q o.offered.1 o.offered.1.next.0 er sk co left (omega (arith, was, is))
     (subst (IsAtPhase e settings (Made origin.Init ∷ log)) (sym s) (record {
-      events = sent_events e settings log origin.Init q ∙ ap (λ z. Sends plan.Init ∷ z) a.events;
+      events = sent_events e settings log origin.Init q ∙ ap (λ z. RequestSent plan.Init ∷ z) a.events;
       opening = sent_opening settings log origin.Init q ∙ a.opening;
     }))
 knows_sent laws driven number (origin.Search op set ask) old new s er sk co l = λ e settings log o q.
@@ -717,7 +717,7 @@ knows_sent laws driven number (origin.Search op set ask) old new s er sk co l = 
     let can : a.search ≡ true = sym (a.can f.3) ∙ ap is_none (ap (refusal (standing (past settings log))) (sym c) ∙ q) in
     sent_driver e settings log (origin.Search op set ask) old new o q n n.next.0 er sk co left (omega (arith, was, is))
     (subst (IsAtPhase e settings (Made (origin.Search op set ask) ∷ log)) (sym to) (record {
-      events = sent_events e settings log (origin.Search op set ask) q ∙ ap (λ z. Sends plan.Search ∷ z) (a.events ∙ ap (λ b. opened_events b f.1) can);
+      events = sent_events e settings log (origin.Search op set ask) q ∙ ap (λ z. RequestSent plan.Search ∷ z) (a.events ∙ ap (λ b. opened_events b f.1) can);
       opening = (a.opening.0, sent_opening settings log (origin.Search op set ask) q ∙ a.opening.1);
       shows = same_present (past settings log) (past settings (Made (origin.Search op set ask) ∷ log)) f.0
           (sent_opening settings log (origin.Search op set ask) q) a.shows;

@@ -51,9 +51,9 @@ stops_piece : (p : Transcript) (piece : List ℕ) → IsStop p.stop → IsStop (
 stops_piece p piece s = elim (is_stopped (state_at p) || p.ended) as
     (λ b. IsStop (cond b p (record p { stream = p.stream ++ piece })).stop) [ true ↦ s | false ↦ s ]
 
-stops_heed : (p : Transcript) (v : Result Taken Refused) → IsStop p.stop → IsStop (after_reply p v).stop
-stops_heed p (Ok x) s = s
-stops_heed p (Err reason) s = refl
+stops_process : (p : Transcript) (v : Result Taken Refused) → IsStop p.stop → IsStop (after_reply p v).stop
+stops_process p (Ok x) s = s
+stops_process p (Err reason) s = refl
 
 ended_state : (b : Bool) (reason : Reason) → is_stopped (cond b states.Closed (states.Failed reason)) ≡ true
 ended_state true reason = refl
@@ -61,7 +61,7 @@ ended_state false reason = refl
 
 stops_take : (p : Transcript) (input : Input) → IsStop p.stop → IsStop (after_take p input).stop
 stops_take p AlreadyStopped s = s
-stops_take p (Message v) s = stops_heed (record p { taken = suc p.taken; log = Got v ∷ p.log })
+stops_take p (Message v) s = stops_process (record p { taken = suc p.taken; log = Got v ∷ p.log })
     (verdict (standing (past_of p)) v) s
 stops_take p (Foreign error) s = refl
 stops_take p (Fault kind at) s = refl
@@ -237,9 +237,9 @@ slice_some [] c lt = absurd (omega arith)
 slice_some (x ∷ xs) zero lt = (x, refl)
 slice_some (x ∷ xs) (suc c) lt = slice_some xs c (omega arith)
 
-pub heard_at : (settings : Settings) (h : History) (transcript : ℕ → Transcript) (cs : List Link) (c : ℕ)
+pub transcript_at : (settings : Settings) (h : History) (transcript : ℕ → Transcript) (cs : List Link) (c : ℕ)
     → AreTranscripts settings h transcript cs → c < length cs → IsTranscript settings (events_on c h) (transcript c)
-heard_at settings h transcript cs c s lt = let k = slice_some cs c lt in (s.each c k.0 k.1).transcript
+transcript_at settings h transcript cs c s lt = let k = slice_some cs c lt in (s.each c k.0 k.1).transcript
 
 -- what a history can have left, it can have left up to the next Take of the connection
 pub up_to_meta : UpToLaw → (q : List Question) (s : MetaSettings) (c : ℕ) (h : History) (meta : MetaLinks)
@@ -258,7 +258,7 @@ pub state_tells : UpToLaw → OneTranscript → (value : State → Bool) (c : �
     → IsTranscriptValue c meta (λ p. value (state_at p)) (value state)
 state_tells law hearing value c meta state lt is q s h p a transcript =
     let up : AfterUpTo (settings_of s) c h meta.pool = law (settings_of s) c h meta.pool a.pool in
-    let now = heard_at (settings_of s) h up.transcript meta.pool.connections c up.stands lt in
+    let now = transcript_at (settings_of s) h up.transcript meta.pool.connections c up.stands lt in
     let same : up.transcript c ≡ p = hearing (settings_of s) (events_on c h) (up.transcript c) p now transcript in
     ap value (is (settings_of s) c h up ∙ ap state_at same)
 
@@ -282,7 +282,7 @@ pub taken_more : OneInput → OneTranscript → (questions : List Question) (s :
     → AreDriven questions s ((c, Took) ∷ h) drivers
 taken_more meeting hearing questions s h old drivers c answer a outcome done lt size same knows =
     driven_more questions s h old.drivers drivers c Took a.driven size same (λ q d p r asked drives transcript is_step.
-    let now = heard_at (settings_of s) h a.pool.transcript old.pool.connections c a.pool.stands lt in
+    let now = transcript_at (settings_of s) h a.pool.transcript old.pool.connections c a.pool.stands lt in
     let is : a.pool.transcript c ≡ p = hearing (settings_of s) (events_on c h) (a.pool.transcript c) p now transcript in
     let t = outcome (settings_of s) c h a.pool done in
     let input : t.0 ≡ is_step.0 = meeting p t.0 is_step.0 (subst (λ z. NextInput z t.0) is t.1) is_step.1 in

@@ -3,7 +3,7 @@ use Rattle.std.proofs.Common.{◌≡◌, inl, inr, ℕ, ◌+◌, ◌<◌, ◌≤
 use Rattle.std.specs.Prelude.{◌||◌, is_none}
 use Rattle.std.specs.List.{list_any, flat_map}
 use Rattle.zplan.specs.Plan as plan
-use Rattle.zplan.specs.Plan.{Operation, Sends, Closes, first, search, IsDue, IsDriven, IsNext, asked_in, replies_in, outstanding_in, start_of}
+use Rattle.zplan.specs.Plan.{Operation, RequestSent, CloseSent, first, search, IsDue, IsDriven, IsNextEvent, asked_in, replies_in, outstanding_in, start_of}
 use Rattle.zplan.specs.Positions.{IsIn, IsWanted, first_of}
 use Rattle.zplan.specs.Agenda.{Agenda}
 use Rattle.zplan.specs.Laws.{NextLaws, BoundLaws}
@@ -96,7 +96,7 @@ init_next e settings log lo a t =
       stands = ap (λ b. b || is_ready (state_of (past settings log))) t;
       of = tt;
       numbered = tt;
-      next = subst (λ ev. IsNext e.wanted e.step (room_in e.window (past settings log)) ev (Sends plan.Init)) (sym a.events)
+      next = subst (λ ev. IsNextEvent e.wanted e.step (room_in e.window (past settings log)) ev (RequestSent plan.Init)) (sym a.events)
           ((first, λ i. i), room_some e.window (past settings log) lo, least);
     }
 
@@ -109,7 +109,7 @@ search_next e settings log present three lo a t rd =
       stands = call_ready (state_of (past settings log)) rd;
       of = (refl, refl);
       numbered = refl;
-      next = subst (λ ev. IsNext e.wanted e.step (room_in e.window (past settings log)) ev (Sends plan.Search))
+      next = subst (λ ev. IsNextEvent e.wanted e.step (room_in e.window (past settings log)) ev (RequestSent plan.Search))
           (sym (a.events ∙ ap (λ b. opened_events b three) t))
           ((search three first refl, unasked), room_some e.window (past settings log) lo, least);
     }
@@ -135,20 +135,20 @@ unsent_next e settings log none some call n =
     none_next e.wanted e.step (room_in e.window (past settings log)) (events_at e settings log) none some (plan_of call) n.next
 
 close_next : (e : Errand) (settings : Settings) (log : Log) → is_ready (state_of (past settings log)) ≡ true
-    → IsNext e.wanted e.step (room_in e.window (past settings log)) (events_at e settings log) Closes → IsNextCall e settings log origin.Close
+    → IsNextEvent e.wanted e.step (room_in e.window (past settings log)) (events_at e settings log) CloseSent → IsNextCall e settings log origin.Close
 close_next e settings log rd n = record { stands = call_ready (state_of (past settings log)) rd; of = tt; numbered = tt; next = n }
 
 opening_none : (e : Errand) (settings : Settings) (log : Log) → AtOpening e settings log → (call : origin.Call) → IsNextCall e settings log call → ⊥
 opening_none e settings log a = unsent_next e settings log
     (subst (λ ev. (b : Operation) → IsDue e.wanted e.step ev b → ⊥) (sym a.events)
-    (none_due e.wanted e.step (Sends plan.Init ∷ []) (inl refl) (λ t q. absurd (cc)) (λ c q. absurd (cc)) (λ l m q. absurd (cc))))
+    (none_due e.wanted e.step (RequestSent plan.Init ∷ []) (inl refl) (λ t q. absurd (cc)) (λ c q. absurd (cc)) (λ l m q. absurd (cc))))
     (λ z. let o : 1 ≡ 0 = sym (ap outstanding_in a.events) ∙ z in absurd (omega (arith, o)))
 
 searching_none : (e : Errand) (settings : Settings) (log : Log) (present three : Bool) → AtSearching e settings log present three
     → (call : origin.Call) → IsNextCall e settings log call → ⊥
 searching_none e settings log present three a = unsent_next e settings log
     (subst (λ ev. (b : Operation) → IsDue e.wanted e.step ev b → ⊥) (sym a.events)
-    (none_due e.wanted e.step (Sends plan.Search ∷ opened_events true three) (inr (inl refl)) (λ t q. inl refl) (λ c q. absurd (cc)) (λ l m q. absurd (cc))))
+    (none_due e.wanted e.step (RequestSent plan.Search ∷ opened_events true three) (inr (inl refl)) (λ t q. inl refl) (λ c q. absurd (cc)) (λ l m q. absurd (cc))))
     (λ z. let o : 1 ≡ 0 = sym (ap outstanding_in a.events) ∙ z in absurd (omega (arith, o)))
 
 -- ---- while Presents are asked for

@@ -5,7 +5,7 @@ use Rattle.std.specs.List.{list_any}
 use Rattle.zapdu.specs.declared.apdu.Apdu.{Apdu}
 use Rattle.zapdu.specs.declared.apdu.Apdu.TheVariants as apdus
 use Rattle.zplan.specs.Plan as plan
-use Rattle.zplan.specs.Plan.{Operation, Event, Sends, Receives, Closes, Opens, Finds, Shows, IsAsked, first, search, cut, rest, IsDue, IsNext, asked_in, replies_in, outstanding_in}
+use Rattle.zplan.specs.Plan.{Operation, PlanEvent, RequestSent, ReplyAccepted, CloseSent, InitReply, SearchReply, PresentReply, IsPlanned, first, search, cut, rest, IsDue, IsNextEvent, asked_in, replies_in, outstanding_in}
 use Rattle.zplan.specs.Positions.{IsIn, first_of}
 use Rattle.zplan.specs.Agenda.{put_list}
 use Rattle.zplan.proofs.Agendas.{in_put}
@@ -122,32 +122,32 @@ any_last (x ∷ calls) call =
 
 -- ---- what is due
 
-pub none_due : (wanted : List ℕ) (step : ℕ) (events : List Event) → IsIn plan.Init (asked_in events)
-    → ((three : Bool) → replies_in events plan.Init ≡ Some (Opens true three) → IsIn plan.Search (asked_in events))
-    → ((count : ℕ) → replies_in events plan.Search ≡ Some (Finds (Some count)) → ⊥)
-    → ((l : List ℕ) (k : ℕ) → replies_in events (plan.Present l) ≡ Some (Shows k) → ⊥)
+pub none_due : (wanted : List ℕ) (step : ℕ) (events : List PlanEvent) → IsIn plan.Init (asked_in events)
+    → ((three : Bool) → replies_in events plan.Init ≡ Some (InitReply true three) → IsIn plan.Search (asked_in events))
+    → ((count : ℕ) → replies_in events plan.Search ≡ Some (SearchReply (Some count)) → ⊥)
+    → ((l : List ℕ) (k : ℕ) → replies_in events (plan.Present l) ≡ Some (PresentReply k) → ⊥)
     → (b : Operation) → IsDue wanted step events b → ⊥
 none_due wanted step events i s c n b h = by b h.0 h.1
   where
-    by : (b : Operation) → IsAsked wanted step (replies_in events) b → (IsIn b (asked_in events) → ⊥) → ⊥
+    by : (b : Operation) → IsPlanned wanted step (replies_in events) b → (IsIn b (asked_in events) → ⊥) → ⊥
     by plan.Init first not = not i
     by plan.Search (search three a e) not = not (s three e)
     by (plan.Present l) (cut three count i m a o e lt x) not = c count e
     by (plan.Present l) (rest m k a e lo hi) not = n m k e
 
 -- if nothing is due and an operation is outstanding, nothing is next
-pub none_next : (wanted : List ℕ) (step window : ℕ) (events : List Event) → ((b : Operation) → IsDue wanted step events b → ⊥)
-    → (outstanding_in events ≡ 0 → ⊥) → (event : Event) → IsNext wanted step window events event → ⊥
-none_next wanted step window events none some (Sends a) n = none a n.0
-none_next wanted step window events none some (Receives a r) n = n
-none_next wanted step window events none some Closes n = some n.1
+pub none_next : (wanted : List ℕ) (step window : ℕ) (events : List PlanEvent) → ((b : Operation) → IsDue wanted step events b → ⊥)
+    → (outstanding_in events ≡ 0 → ⊥) → (event : PlanEvent) → IsNextEvent wanted step window events event → ⊥
+none_next wanted step window events none some (RequestSent a) n = none a n.0
+none_next wanted step window events none some (ReplyAccepted a r) n = n
+none_next wanted step window events none some CloseSent n = some n.1
 
 -- if there is no room, nothing is next
-pub full_next : (wanted : List ℕ) (step window : ℕ) (events : List Event) → 0 < window → window ≤ outstanding_in events
-    → (event : Event) → IsNext wanted step window events event → ⊥
-full_next wanted step window events lo full (Sends a) n = let lt = n.1 in absurd (omega (arith, lt, full))
-full_next wanted step window events lo full (Receives a r) n = n
-full_next wanted step window events lo full Closes n = let z = n.1 in absurd (omega (arith, z, full, lo))
+pub full_next : (wanted : List ℕ) (step window : ℕ) (events : List PlanEvent) → 0 < window → window ≤ outstanding_in events
+    → (event : PlanEvent) → IsNextEvent wanted step window events event → ⊥
+full_next wanted step window events lo full (RequestSent a) n = let lt = n.1 in absurd (omega (arith, lt, full))
+full_next wanted step window events lo full (ReplyAccepted a r) n = n
+full_next wanted step window events lo full CloseSent n = let z = n.1 in absurd (omega (arith, z, full, lo))
 
 -- ---- lists that wait for their replies
 

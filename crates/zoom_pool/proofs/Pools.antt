@@ -228,15 +228,15 @@ verdict_facts c p (Err r) = elim (is_open (state_of p)) as (λ b. flat_map (fact
           sym (append-nil (flat_map (facts_of c) p.accepted))
     ]
 
-heed_past : (p : Transcript) (v : Result Taken Refused) → past_of (after_reply p v) ≡ past_of p
-heed_past p (Ok x) = refl
-heed_past p (Err r) = refl
+process_past : (p : Transcript) (v : Result Taken Refused) → past_of (after_reply p v) ≡ past_of p
+process_past p (Ok x) = refl
+process_past p (Err r) = refl
 
 -- a Take adds its facts to those of its connection
 take_facts : (c : ℕ) (p : Transcript) (m : Input) → facts_at c (after_take p m) ≡ facts_at c p ++ news_at c p m
 take_facts c p AlreadyStopped = sym (append-nil (facts_at c p))
 take_facts c p (Message v) =
-    ap (λ (z : Past). flat_map (facts_of c) z.accepted) (heed_past
+    ap (λ (z : Past). flat_map (facts_of c) z.accepted) (process_past
     (record p { taken = suc p.taken; log = Got v ∷ p.log }) (verdict (standing (past_of p)) v))
     ∙ verdict_facts c (past_of p) (verdict (standing (past_of p)) v)
 take_facts c p (Foreign e) = sym (append-nil (facts_at c p))
@@ -257,7 +257,7 @@ same_verdict p (Err r) = elim (is_open (state_of p)) as (λ b. (cond b (record p
 -- a Take sends nothing
 take_sent : (p : Transcript) (m : Input) → (past_of (after_take p m)).sent ≡ (past_of p).sent
 take_sent p AlreadyStopped = refl
-take_sent p (Message v) = ap (λ (z : Past). z.sent) (heed_past (record p { taken = suc p.taken; log = Got v ∷ p.log })
+take_sent p (Message v) = ap (λ (z : Past). z.sent) (process_past (record p { taken = suc p.taken; log = Got v ∷ p.log })
     (verdict (standing (past_of p)) v)) ∙ same_verdict (past_of p) (verdict (standing (past_of p)) v)
 take_sent p (Foreign e) = refl
 take_sent p (Fault k at) = refl

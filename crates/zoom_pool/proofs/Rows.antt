@@ -10,14 +10,14 @@ use Rattle.zapdu.specs.declared.productions.diagnostic.DiagRec.{DiagRec}
 use Rattle.zknow.specs.Tables.DistinctLaws.{none_in_nil, in_cons}
 use Rattle.zknow.specs.declared.fact.Fact.{Fact}
 use Rattle.zknow.specs.declared.fact.Fact.TheVariants.{Failed, Seen}
-use Rattle.zknow.specs.Facts.{target_of}
+use Rattle.zknow.specs.Facts.{fact_target}
 use Rattle.zknow.specs.List.ListLaws.{PlaceLaws, ListLaws}
 use Rattle.zorigin.specs.declared.answer.What.{What}
 use Rattle.zorigin.specs.declared.answer.What.TheVariants as what
 use Rattle.zorigin.specs.Fitting.{records_in, diagnostics_in}
 use Rattle.zplan.specs.Positions.{first_of}
 use Rattle.zplan.specs.Ranges.{positions}
-use Rattle.zorigin.specs.Facts.{seen_at, told_at, count_or_failed, facts_by, facts_of}
+use Rattle.zorigin.specs.Facts.{seen_at, diagnostic_facts, count_or_failed, facts_by, facts_of}
 use Rattle.zoom_pool.specs.Transcripts.{Transcript}
 use Rattle.zoom_pool.specs.History.{accepted, IsKnown}
 use Rattle.zoom_pool.specs.Conflicts.{IsShownBy, DifferingRecords, ConflictLaw}
@@ -25,13 +25,13 @@ use Rattle.zoom_pool.proofs.Orders.{from_answer, of_answer}
 
 -- all these facts are of the target
 abbrev AreOf : ℕ → List Fact → Type 0
-AreOf c facts = (q : Fact) → Contains facts q → target_of q ≡ c
+AreOf c facts = (q : Fact) → Contains facts q → fact_target q ≡ c
 
 none_of : (c : ℕ) → AreOf c []
 none_of c q h = absurd (none_in_nil q h)
 
-one_of : (c : ℕ) (f : Fact) (fs : List Fact) → target_of f ≡ c → AreOf c fs → AreOf c (f ∷ fs)
-one_of c f fs e rest q h = ⊎_elim (λ same. ap target_of (sym same) ∙ e) (rest q) (in_cons f fs q h)
+one_of : (c : ℕ) (f : Fact) (fs : List Fact) → fact_target f ≡ c → AreOf c fs → AreOf c (f ∷ fs)
+one_of c f fs e rest q h = ⊎_elim (λ same. ap fact_target (sym same) ∙ e) (rest q) (in_cons f fs q h)
 
 both_of : (c : ℕ) (xs ys : List Fact) → AreOf c xs → AreOf c ys → AreOf c (xs ++ ys)
 both_of c xs ys x y q h = ⊎_elim (x q) (y q) (Contains-append_cases xs ys q h)
@@ -46,11 +46,11 @@ there_of c set [] records = none_of c
 there_of c set (p ∷ ps) [] = none_of c
 there_of c set (p ∷ ps) (r ∷ records) = one_of c _ _ refl (there_of c set ps records)
 
-answer_to_reply : (c set : ℕ) (place : ℤ) (diags : List DiagRec) → AreOf c (told_at c set place diags)
-answer_to_reply c set place [] = none_of c
-answer_to_reply c set place (d ∷ diags) = one_of c _ _ refl (answer_to_reply c set place diags)
+take_result_of_verdict : (c set : ℕ) (place : ℤ) (diags : List DiagRec) → AreOf c (diagnostic_facts c set place diags)
+take_result_of_verdict c set place [] = none_of c
+take_result_of_verdict c set place (d ∷ diags) = one_of c _ _ refl (take_result_of_verdict c set place diags)
 
-counted_of : (c set : ℕ) (status : Bool) (count : ℤ) → target_of (count_or_failed c set status count) ≡ c
+counted_of : (c set : ℕ) (status : Bool) (count : ℤ) → fact_target (count_or_failed c set status count) ≡ c
 counted_of c set true count = refl
 counted_of c set false count = refl
 
@@ -71,7 +71,7 @@ by_of c set what.Search (apdus.InitResponse v) = none_of c
 by_of c set what.Search (apdus.SearchRequest v) = none_of c
 by_of c set what.Search (apdus.SearchResponse v) =
     one_of c _ _ (counted_of c set v.search_status v.result_count)
-    (both_of c _ _ (seen_of c set (pos 1) 0 (records_in v.records)) (answer_to_reply c set (pos 0) (diagnostics_in v.records)))
+    (both_of c _ _ (seen_of c set (pos 1) 0 (records_in v.records)) (take_result_of_verdict c set (pos 0) (diagnostics_in v.records)))
 by_of c set what.Search (apdus.PresentRequest v) = none_of c
 by_of c set what.Search (apdus.PresentResponse v) = none_of c
 by_of c set what.Search (apdus.Close v) = none_of c
@@ -81,7 +81,7 @@ by_of c set (what.Present ranges) (apdus.SearchRequest v) = none_of c
 by_of c set (what.Present ranges) (apdus.SearchResponse v) = none_of c
 by_of c set (what.Present ranges) (apdus.PresentRequest v) = none_of c
 by_of c set (what.Present ranges) (apdus.PresentResponse v) =
-    both_of c _ _ (there_of c set (positions ranges) (records_in v.records)) (answer_to_reply c set (pos (first_of (positions ranges))) (diagnostics_in v.records))
+    both_of c _ _ (there_of c set (positions ranges) (records_in v.records)) (take_result_of_verdict c set (pos (first_of (positions ranges))) (diagnostics_in v.records))
 by_of c set (what.Present ranges) (apdus.Close v) = none_of c
 
 -- a record that is known is shown by an accepted reply of its connection

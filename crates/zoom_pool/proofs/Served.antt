@@ -10,12 +10,12 @@ use Rattle.zapdu.specs.declared.apdu.Apdu.{Apdu}
 use Rattle.zorigin.specs.Sending.{encoding_of, sent_of, IsReadBack}
 use Rattle.ztarget.specs.declared.database.Database.{Database}
 use Rattle.ztarget.specs.declared.settings.TargetSettings.{TargetSettings}
-use Rattle.ztarget.specs.Receiving.{TargetState, new_target, is_close, without, Releases, After as TargetAfter}
+use Rattle.ztarget.specs.Receiving.{TargetState, new_target, is_close, without_reply, TargetReleaseStep, After as TargetAfter}
 use Rattle.ztarget.proofs.Histories.{at_first}
 use Rattle.zber.specs.declared.framer.TheConstants.{MESSAGE_LIMIT}
 use Rattle.zoom_pool.specs.Hosts.{HostState, Holdings, holdings_of, HostEvent, HostFed, HostFedPart, Released, Lost, HostTranscript, empty_host_transcript, nothing, IsHostRest, IsReleasable, IsShort, IsFramerAt, IsHostWaiting, HostAfter, HostRecorded, ReleaseResult, handed_out}
 use Rattle.zoom_pool.specs.Transcripts.{joined}
-use Rattle.zoom_pool.specs.HostSteps.{Receipt, ReceiptStep, IsFollowingPiece, IsReceiptEnd, AnyRest, SameOutput, PutReplyResult, is_unput}
+use Rattle.zoom_pool.specs.HostSteps.{Receipt, ReceiptStep, IsFollowingPiece, IsReceiptEnd, AnyRest, SameOutput, PutReplyResult, is_not_put}
 use Rattle.zoom_pool.proofs.Hosts.{messages_longer}
 
 -- a target that has received nothing
@@ -118,11 +118,11 @@ module _ (holdings : Holdings) (events : List HostEvent) (old new : HostState) (
   due_served : (k : ℕ) (reply : Apdu) → IsReleasable old.target.pending k reply → IsReleasable a.served.pending k reply
   due_served k reply d = subst (λ z. IsReleasable z k reply) a.pending d
 
-  left_served : (k : ℕ) → new.target ≡ without old.target k → new.target.pending ≡ remove a.served.pending k
+  left_served : (k : ℕ) → new.target ≡ without_reply old.target k → new.target.pending ≡ remove a.served.pending k
   left_served k is = ap (λ t. t.pending) is ∙ ap (λ z. remove z k) a.pending
 
   -- a reply was put
-  pub reply_put : (k : ℕ) (reply : Apdu) → old.stopped ≡ false → IsReleasable old.target.pending k reply → IsShort reply → IsReadBack (sent_of reply) → new.target ≡ without old.target k
+  pub reply_put : (k : ℕ) (reply : Apdu) → old.stopped ≡ false → IsReleasable old.target.pending k reply → IsShort reply → IsReadBack (sent_of reply) → new.target ≡ without_reply old.target k
       → ((databases : List Database) (settings : TargetSettings) (received released : List Apdu) → TargetAfter databases settings received released old.target → TargetAfter databases settings received (released ++ reply ∷ []) new.target)
       → new.waiting ≡ old.waiting ++ encoding_of reply → new.framer ≡ old.framer → new.stopped ≡ false
       → new.closed ≡ (old.closed || is_close reply)
@@ -146,7 +146,7 @@ module _ (holdings : Holdings) (events : List HostEvent) (old new : HostState) (
       }
 
   -- a reply was lost
-  pub reply_lost : (k : ℕ) (reply : Apdu) → old.stopped ≡ false → IsReleasable old.target.pending k reply → new.target ≡ without old.target k
+  pub reply_lost : (k : ℕ) (reply : Apdu) → old.stopped ≡ false → IsReleasable old.target.pending k reply → new.target ≡ without_reply old.target k
       → ((databases : List Database) (settings : TargetSettings) (received released : List Apdu) → TargetAfter databases settings received released old.target → TargetAfter databases settings received (released ++ reply ∷ []) new.target)
       → new.waiting ≡ old.waiting → new.stopped ≡ true → new.closed ≡ old.closed
       → HostAfter holdings (Lost k ∷ events) new
@@ -166,9 +166,9 @@ module _ (holdings : Holdings) (events : List HostEvent) (old new : HostState) (
 
 -- a reply was released
 pub released_as : {E : Type 0} (k : ℕ) (reply : Apdu) (answer : Result Bool E) (old new : HostState) (ws now : List (List ℕ)) → old.stopped ≡ false → old.waiting ≡ joined ws → new.waiting ≡ joined now
-    → new.framer ≡ old.framer → new.stopped ≡ is_unput answer
-    → new.closed ≡ (old.closed || (not (is_unput answer) && is_close reply))
-    → Releases old.target k (Some reply) new.target
+    → new.framer ≡ old.framer → new.stopped ≡ is_not_put answer
+    → new.closed ≡ (old.closed || (not (is_not_put answer) && is_close reply))
+    → TargetReleaseStep old.target k (Some reply) new.target
     → ((databases : List Database) (settings : TargetSettings) (received released : List Apdu) → TargetAfter databases settings received released old.target → TargetAfter databases settings received (released ++ reply ∷ []) new.target)
     → PutReplyResult reply answer ws now → ReleaseResult k answer old new
 released_as k reply (Ok true) old new ws now going waited waits framer stopped closed r t p = (

@@ -5,7 +5,7 @@ use Rattle.zplan.specs.Ranges.{AreWanted, positions}
 use Rattle.zorigin.specs.declared.settings.Settings.{Settings}
 use Rattle.zoom_questions.specs.declared.question.Question.{Question}
 use Rattle.zoom_pool.specs.declared.phase.Phase.TheVariants as phases
-use Rattle.zoom_questions.specs.Askable.{HasArcs}
+use Rattle.zoom_questions.specs.Askable.{HasFewArcs}
 use Rattle.zoom_pool.specs.Steering.{Errand, ask_of, errand_with}
 use Rattle.zoom_pool.specs.Drivers.{DriverState, IsDriver}
 use Rattle.zoom_pool.proofs.Wants.{wanted_of}
@@ -19,7 +19,7 @@ fresh_driver q step window = record {
   complete = false;
 }
 
-pub started : (q : Question) (step window : ℕ) (settings : Settings) → AreWanted q.wanted → HasArcs q.syntax
+pub started : (q : Question) (step window : ℕ) (settings : Settings) → AreWanted q.wanted → HasFewArcs q.syntax
     → 0 < step → step ≤ 1000 → 0 < window → length settings.name ≤ 2000000
     → IsDriver (errand_with q step window) settings [] (fresh_driver q step window)
 started q step window settings a arcs lo most wide name = record {

@@ -1,7 +1,7 @@
 -- When a Take returns Nothing, and when it returns Stopped.
 use Rattle.std.proofs.Common.{◌≡◌, ◌⊎◌, inl, inr, ℕ, ◌<◌, Bool, true, false, cond, List, [], ◌∷◌, length, Result, Ok, Err, refl, ap, subst, arith}
 use Rattle.zber.specs.declared.fault.FaultKind.TheVariants as kinds
-use Rattle.zber.specs.Spelling.{Begins}
+use Rattle.zber.specs.Spelling.{HasFirstMessage}
 use Rattle.zber.specs.Unfinished.{IsUnfinished}
 use Rattle.zorigin.specs.declared.answer.Taken.{Taken}
 use Rattle.zorigin.specs.declared.answer.Taken.TheVariants as taken
@@ -15,25 +15,25 @@ use Rattle.zoom_pool.specs.declared.answer.TakeError.TheVariants as errors
 use Rattle.zoom_pool.specs.States.{is_stopped}
 use Rattle.zoom_pool.specs.Inputs.{Input, AlreadyStopped, Message, Foreign, Fault, Rest, Nothing, IsBehind}
 use Rattle.zber.specs.declared.framer.TheConstants.{MESSAGE_LIMIT}
-use Rattle.zoom_pool.specs.Transcripts.{Transcript, NextInput, state_at, past_of, answer_to_reply, answer_to}
+use Rattle.zoom_pool.specs.Transcripts.{Transcript, NextInput, state_at, past_of, take_result_of_verdict, take_result}
 use Rattle.zoom_pool.specs.Laws.{OneInput, IsWaiting, TakeLaws}
 use Rattle.zoom_pool.proofs.Uniqueness.{none_begins}
 
-told_step : (v : Result Taken Refused) (s : Step) → (s ≡ steps.Nothing) ⊎ (s ≡ steps.Stopped) → answer_to_reply v ≡ Ok s → ⊥
-told_step (Ok (taken.Opened a)) s (inl q) e = absurd (cc)
-told_step (Ok (taken.Rejected a)) s (inl q) e = absurd (cc)
-told_step (Ok (taken.Answered a)) s (inl q) e = absurd (cc)
-told_step (Ok taken.Closed) s (inl q) e = absurd (cc)
-told_step (Err r) s (inl q) e = absurd (cc)
-told_step (Ok (taken.Opened a)) s (inr q) e = absurd (cc)
-told_step (Ok (taken.Rejected a)) s (inr q) e = absurd (cc)
-told_step (Ok (taken.Answered a)) s (inr q) e = absurd (cc)
-told_step (Ok taken.Closed) s (inr q) e = absurd (cc)
-told_step (Err r) s (inr q) e = absurd (cc)
+outcome_step : (v : Result Taken Refused) (s : Step) → (s ≡ steps.Nothing) ⊎ (s ≡ steps.Stopped) → take_result_of_verdict v ≡ Ok s → ⊥
+outcome_step (Ok (taken.Opened a)) s (inl q) e = absurd (cc)
+outcome_step (Ok (taken.Rejected a)) s (inl q) e = absurd (cc)
+outcome_step (Ok (taken.Answered a)) s (inl q) e = absurd (cc)
+outcome_step (Ok taken.Closed) s (inl q) e = absurd (cc)
+outcome_step (Err r) s (inl q) e = absurd (cc)
+outcome_step (Ok (taken.Opened a)) s (inr q) e = absurd (cc)
+outcome_step (Ok (taken.Rejected a)) s (inr q) e = absurd (cc)
+outcome_step (Ok (taken.Answered a)) s (inr q) e = absurd (cc)
+outcome_step (Ok taken.Closed) s (inr q) e = absurd (cc)
+outcome_step (Err r) s (inr q) e = absurd (cc)
 
 empty_unfinished : (rest : List ℕ) → rest ≡ [] → IsUnfinished MESSAGE_LIMIT rest
 empty_unfinished rest q = record {
-  no_message = λ e more b. none_begins e more (subst (λ z. Begins MESSAGE_LIMIT z e more) q b);
+  no_message = λ e more b. none_begins e more (subst (λ z. HasFirstMessage MESSAGE_LIMIT z e more) q b);
   no_fault = λ k at f. absurd (omega (arith, f.some, ap length q));
 }
 
@@ -47,9 +47,9 @@ end_answer : (b : Bool) → ◌≡◌ {A = Result Step TakeError} (Ok (cond b st
 end_answer true e = absurd (cc)
 end_answer false e = refl
 
-waits : (p : Transcript) (input : Input) → NextInput p input → answer_to p input ≡ Ok steps.Nothing → IsWaiting p
+waits : (p : Transcript) (input : Input) → NextInput p input → take_result p input ≡ Ok steps.Nothing → IsWaiting p
 waits p AlreadyStopped m e = absurd (cc)
-waits p (Message v) m e = absurd (told_step (verdict (standing (past_of p)) v) steps.Nothing (inl refl) e)
+waits p (Message v) m e = absurd (outcome_step (verdict (standing (past_of p)) v) steps.Nothing (inl refl) e)
 waits p (Foreign error) m e = absurd (cc)
 waits p (Fault k at) m e = absurd (cc)
 waits p (Rest n) m e = record {
@@ -69,11 +69,11 @@ waits p Nothing m e = record {
       empty_unfinished m.1 m.3;
 }
 
-met_waiting : (p : Transcript) (rest : List ℕ) → is_stopped (state_at p) ≡ false → p.ended ≡ false
+input_waiting : (p : Transcript) (rest : List ℕ) → is_stopped (state_at p) ≡ false → p.ended ≡ false
     → IsBehind p.stream p.taken rest → IsUnfinished MESSAGE_LIMIT rest
-    → (input : Input) × NextInput p input × (answer_to p input ≡ Ok steps.Nothing)
-met_waiting p [] s e b u = (Nothing, (s, [], b, refl), rw e refl)
-met_waiting p (x ∷ xs) s e b u = (
+    → (input : Input) × NextInput p input × (take_result p input ≡ Ok steps.Nothing)
+input_waiting p [] s e b u = (Nothing, (s, [], b, refl), rw e refl)
+input_waiting p (x ∷ xs) s e b u = (
   Rest (length (x ∷ xs)),
   (
     s,
@@ -84,9 +84,9 @@ met_waiting p (x ∷ xs) s e b u = (
   rw e refl,
 )
 
-stopped_so : (p : Transcript) (input : Input) → NextInput p input → answer_to p input ≡ Ok steps.Stopped → is_stopped (state_at p) ≡ true
+stopped_so : (p : Transcript) (input : Input) → NextInput p input → take_result p input ≡ Ok steps.Stopped → is_stopped (state_at p) ≡ true
 stopped_so p AlreadyStopped m e = m
-stopped_so p (Message v) m e = absurd (told_step (verdict (standing (past_of p)) v) steps.Stopped (inr refl) e)
+stopped_so p (Message v) m e = absurd (outcome_step (verdict (standing (past_of p)) v) steps.Stopped (inr refl) e)
 stopped_so p (Foreign error) m e = absurd (cc)
 stopped_so p (Fault k at) m e = absurd (cc)
 stopped_so p (Rest n) m e = absurd (by p.ended e)
@@ -105,12 +105,12 @@ take_laws meeting = record {
   nothing = λ p input m. (
     waits p input m,
     λ w. (
-        let other = met_waiting p w.rest w.is_going w.more w.behind w.unfinished in
-        subst (λ z. answer_to p z ≡ Ok steps.Nothing) (meeting p other.0 input other.1 m) other.2),
+        let other = input_waiting p w.rest w.is_going w.more w.behind w.unfinished in
+        subst (λ z. take_result p z ≡ Ok steps.Nothing) (meeting p other.0 input other.1 m) other.2),
   );
   stopped = λ p input m. (
     stopped_so p input m,
     λ s. (let is : AlreadyStopped ≡ input = meeting p AlreadyStopped input s m in
-        subst (λ z. answer_to p z ≡ Ok steps.Stopped) is refl),
+        subst (λ z. take_result p z ≡ Ok steps.Stopped) is refl),
   );
 }

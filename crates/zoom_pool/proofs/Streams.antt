@@ -1,7 +1,7 @@
 -- The stream, and the part of it that was taken.
 use Rattle.std.proofs.Common.{◌≡◌, ℕ, Bool, true, false, not, List, ◌∷◌, ◌++◌, Option, None, Some, refl, sym, ap, subst, ◌∙◌, append_assoc}
 use Rattle.zber.specs.Elements.{Element}
-use Rattle.zber.specs.Spelling.{Begins}
+use Rattle.zber.specs.Spelling.{HasFirstMessage}
 use Rattle.zber.specs.Stream.{Stream}
 use Rattle.zber.specs.Laws.{StreamLaws}
 use Rattle.zorigin.specs.declared.settings.Settings.{Settings}
@@ -16,8 +16,8 @@ pub going : (other : State) (stop : Option State) → is_stopped (or_else other 
 going other None h = refl
 going other (Some s) h = ap not h
 
-pub begins_longer : (xs rest piece : List ℕ) (e : Element) → Begins MESSAGE_LIMIT xs e rest
-    → Begins MESSAGE_LIMIT (xs ++ piece) e (rest ++ piece)
+pub begins_longer : (xs rest piece : List ℕ) (e : Element) → HasFirstMessage MESSAGE_LIMIT xs e rest
+    → HasFirstMessage MESSAGE_LIMIT (xs ++ piece) e (rest ++ piece)
 begins_longer xs rest piece e b = record {
   message = b.message;
   is = b.is;
@@ -47,9 +47,9 @@ frames_longer laws p held s t piece b f e = record {
   sound = λ g. ap (λ z. z.fault) e ∙ f.sound g;
 }
 
-pub heard_piece : (p : Transcript) (piece : List ℕ) → is_stopped (state_at p) ≡ false → p.ended ≡ false
+pub transcript_of_piece : (p : Transcript) (piece : List ℕ) → is_stopped (state_at p) ≡ false → p.ended ≡ false
     → after_feed p piece ≡ record p { stream = p.stream ++ piece }
-heard_piece p piece s e = rw (s, e) refl
+transcript_of_piece p piece s e = rw (s, e) refl
 
 -- a piece was fed to a connection that is not stopped
 pub fed : (laws : StreamLaws) (settings : Settings) (events : List Event) (p : Transcript) (c : Link) (t : Stream)
@@ -59,7 +59,7 @@ pub fed : (laws : StreamLaws) (settings : Settings) (events : List Event) (p : T
     → ConnectionAfter settings (Fed piece ∷ events) (after_feed p piece) (record c { framer = t })
 fed laws settings events p c t piece b l s e w =
     let m = l.matches in
-    let is = heard_piece p piece s (sym m.ended ∙ e) in
+    let is = transcript_of_piece p piece s (sym m.ended ∙ e) in
     let sound : c.framer.fault ≡ None = m.frames.sound (going _ p.stop s) in
     let matches : AreConsistent (record p { stream = p.stream ++ piece }) (record c { framer = t }) =
     record {

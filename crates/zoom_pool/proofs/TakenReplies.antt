@@ -10,9 +10,9 @@ use Rattle.zapdu.specs.declared.productions.init_response.InitResponse.{InitResp
 use Rattle.zapdu.specs.declared.productions.search_response.SearchResponse.{SearchResponse}
 use Rattle.zapdu.specs.declared.productions.present_response.PresentResponse.{PresentResponse}
 use Rattle.zplan.specs.Plan as plan
-use Rattle.zplan.specs.Plan.{Operation, Event, Sends, Receives, Reply, Opens, Finds, Shows, IsDue, IsDriven, asked_in, replies_in, outstanding_in, number}
+use Rattle.zplan.specs.Plan.{Operation, PlanEvent, RequestSent, ReplyAccepted, Reply, InitReply, SearchReply, PresentReply, IsDue, IsDriven, asked_in, replies_in, outstanding_in, number}
 use Rattle.zplan.specs.Positions.{IsIn, IsWanted, first_of}
-use Rattle.zplan.specs.Agenda.{Agenda, IsAgenda, IsAnswered, HasWaiting, without}
+use Rattle.zplan.specs.Agenda.{Agenda, IsAgenda, AfterNoteAnswered, HasWaiting, without_start}
 use Rattle.zplan.specs.Laws.{AgendaLaws, NumberLaw}
 use Rattle.zplan.proofs.Order.{sent_asked}
 use Rattle.zorigin.specs.declared.settings.Settings.{Settings}
@@ -30,10 +30,10 @@ use Rattle.zorigin.specs.declared.state.State.TheVariants as origins
 use Rattle.zorigin.specs.declared.state.Outcome.TheVariants as outcomes
 use Rattle.zplan.specs.Ranges.{natural, positions}
 use Rattle.zorigin.specs.Fitting.{fault_of, search_fault, present_fault, records_in}
-use Rattle.zorigin.specs.Replies.{verdict, answered, against, judged, named, taken_by}
+use Rattle.zorigin.specs.Replies.{verdict, open_verdict, against, judged, named, taken_by}
 use Rattle.zorigin.specs.Changes.{force_in, outcome_in}
 use Rattle.zorigin.specs.Laws.{IsOrderly, answered_op}
-use Rattle.zorigin.specs.Log.{Log, Got, Past, past, standing, state_from, opening, opens, is_init, force_after, force_by, closing_state, state_by, accept, after_verdict, is_close_call, is_init_call, answers, search_in}
+use Rattle.zorigin.specs.Log.{Log, Got, Past, past, standing, state_from, opening, is_opening, is_init, force_after, force_by, closing_state, state_by, accept, after_verdict, is_close_call, is_init_call, is_answer_to, search_in}
 use Rattle.zoom_pool.specs.declared.phase.Phase.{Phase}
 use Rattle.zoom_pool.specs.declared.phase.Phase.TheVariants as phases
 use Rattle.zoom_pool.specs.Driving.{operation_for, reply_for, got_event, can_search, can_present, counted, DrivenLaws}
@@ -114,7 +114,7 @@ against_present : (o : Option Asked) (v : PresentResponse) (x : Taken) → again
 against_present None v x e = absurd (no_err e)
 against_present (Some asked) v x e = judged_present (record { asked = asked; reply = apdus.PresentResponse v }) v x asked.what refl refl e
 
-answered_taken : (s : Standing) (reply : Apdu) (x : Taken) → answered s reply ≡ Ok x → IsTakenOf x reply
+answered_taken : (s : Standing) (reply : Apdu) (x : Taken) → open_verdict s reply ≡ Ok x → IsTakenOf x reply
 answered_taken s (apdus.InitResponse v) x e = against_init (named s v.reference_id) v x e
 answered_taken s (apdus.SearchResponse v) x e = against_search (named s v.reference_id) v x e
 answered_taken s (apdus.PresentResponse v) x e = against_present (named s v.reference_id) v x e
@@ -125,26 +125,26 @@ answered_taken s (apdus.PresentRequest v) x e = absurd (no_err e)
 
 taken_of : (s : Standing) (reply : Apdu) (x : Taken) → verdict s reply ≡ Ok x → IsTakenOf x reply
 unfolding verdict
-taken_of s reply x e = elim (is_open s.state) as (λ b. cond b (answered s reply) (Err refused.WrongState) ≡ okay x → IsTakenOf x reply) [
+taken_of s reply x e = elim (is_open s.state) as (λ b. cond b (open_verdict s reply) (Err refused.WrongState) ≡ okay x → IsTakenOf x reply) [
   | true ↦ answered_taken s reply x
   | false ↦ λ f. absurd (no_err f)
 ] e
 
 -- ---- the reply to Init
 
-find_last : (xs : List Answer) (a : Answer) → find opens xs ≡ None → opens a ≡ true → find opens (xs ++ a ∷ []) ≡ Some a
+find_last : (xs : List Answer) (a : Answer) → find is_opening xs ≡ None → is_opening a ≡ true → find is_opening (xs ++ a ∷ []) ≡ Some a
 find_last [] a n t = ap (λ b. cond b (Some a) None) t
 find_last (x ∷ xs) a n t =
-    elim (opens x) as (λ b. cond b (Some x) (find opens xs) ≡ None → cond b (Some x) (find opens (xs ++ a ∷ [])) ≡ Some a) [
+    elim (is_opening x) as (λ b. cond b (Some x) (find is_opening xs) ≡ None → cond b (Some x) (find is_opening (xs ++ a ∷ [])) ≡ Some a) [
       | true ↦ λ q. absurd (no_some q)
       | false ↦ λ q. find_last xs a q t
     ] n
 
-find_other : (xs : List Answer) (a : Answer) → opens a ≡ false → find opens (xs ++ a ∷ []) ≡ find opens xs
+find_other : (xs : List Answer) (a : Answer) → is_opening a ≡ false → find is_opening (xs ++ a ∷ []) ≡ find is_opening xs
 find_other [] a f = ap (λ b. cond b (Some a) None) f
 find_other (x ∷ xs) a f =
     let later = find_other xs a f in
-    elim (opens x) as (λ b. cond b (Some x) (find opens (xs ++ a ∷ [])) ≡ cond b (Some x) (find opens xs)) [ true ↦ refl | false ↦ later ]
+    elim (is_opening x) as (λ b. cond b (Some x) (find is_opening (xs ++ a ∷ [])) ≡ cond b (Some x) (find is_opening xs)) [ true ↦ refl | false ↦ later ]
 
 find_kept : (f : Answer → Bool) (xs ys : List Answer) (y : Answer) → find f xs ≡ Some y → find f (xs ++ ys) ≡ Some y
 find_kept f [] ys y e = absurd (no_some (sym e))
@@ -156,13 +156,13 @@ find_kept f (x ∷ xs) ys y e =
 
 -- the first answer to an operation, if it is new
 find_new : (xs : List Answer) (a : Answer) (op : ℕ) → a.asked.op ≡ op → IsDistinct nat_eq (map answered_op (xs ++ a ∷ []))
-    → find (answers op) (xs ++ a ∷ []) ≡ Some a
+    → find (is_answer_to op) (xs ++ a ∷ []) ≡ Some a
 find_new [] a op is d =
     let t : (a.asked.op == op) ≡ true = grind (arith, nat_tests, is) in ap (λ b. cond b (Some a) None) t
 find_new (x ∷ xs) a op is d =
     let other : nat_eq (answered_op x) (answered_op a) ≡ false = differ (x ∷ xs) a x d (inl refl) in
     let f : (x.asked.op == op) ≡ false = grind (arith, nat_tests, is, other) in
-    ap (λ b. cond b (Some x) (find (answers op) (xs ++ a ∷ []))) f
+    ap (λ b. cond b (Some x) (find (is_answer_to op) (xs ++ a ∷ []))) f
     ∙ find_new xs a op is (IsDistinct-tail nat_eq (answered_op x) (map answered_op (xs ++ a ∷ [])) d)
 
 counted_some : (status present : Bool) (n : ℤ) (count : ℕ) → counted (status && present) n ≡ Some count
@@ -219,44 +219,44 @@ present_phase e settings log l phases.Closed a i q = absurd (a.all (plan.Present
 
 -- ---- lists that no longer wait
 
-none_without : (p : ℕ) (ls : List (List ℕ)) → IsFreeStart p ls → without p ls ≡ ls
+none_without : (p : ℕ) (ls : List (List ℕ)) → IsFreeStart p ls → without_start p ls ≡ ls
 none_without p [] n = refl
 none_without p (l ∷ ls) n =
     let later = none_without p ls (λ m i. n m (inr i)) in
-    elim (first_of l == p) as (λ b. (first_of l == p) ≡ b → cond (not b) (l ∷ without p ls) (without p ls) ≡ l ∷ ls) [
+    elim (first_of l == p) as (λ b. (first_of l == p) ≡ b → cond (not b) (l ∷ without_start p ls) (without_start p ls) ≡ l ∷ ls) [
       | true ↦ λ t. absurd (n l (inl refl) (let z : first_of l ≡ p = grind (arith, nat_tests) in z))
       | false ↦ λ t. ap (λ z. l ∷ z) later
     ] refl
 
-length_without : (p : ℕ) (l : List ℕ) (ls : List (List ℕ)) → HaveApartStarts ls → IsIn l ls → first_of l ≡ p → length (without p ls) + 1 ≡ length ls
+length_without : (p : ℕ) (l : List ℕ) (ls : List (List ℕ)) → HaveApartStarts ls → IsIn l ls → first_of l ≡ p → length (without_start p ls) + 1 ≡ length ls
 length_without p l [] a i f = absurd i
 length_without p l (m ∷ ls) a i f =
     let later = length_without p l ls a.1 in
-    elim (first_of m == p) as (λ b. (first_of m == p) ≡ b → length (cond (not b) (m ∷ without p ls) (without p ls)) + 1 ≡ suc (length ls)) [
+    elim (first_of m == p) as (λ b. (first_of m == p) ≡ b → length (cond (not b) (m ∷ without_start p ls) (without_start p ls)) + 1 ≡ suc (length ls)) [
       | true ↦ λ t.
           let z : first_of m ≡ p = grind (arith, nat_tests) in
-          let n : without p ls ≡ ls = none_without p ls (subst (λ k. IsFreeStart k ls) z a.0) in
-          let c : length (without p ls) ≡ length ls = ap length n in omega (arith, c)
+          let n : without_start p ls ≡ ls = none_without p ls (subst (λ k. IsFreeStart k ls) z a.0) in
+          let c : length (without_start p ls) ≡ length ls = ap length n in omega (arith, c)
       | false ↦ λ t.
           let apart : first_of m ≡ p → ⊥ = λ z. let r : (first_of m == p) ≡ true = grind (arith, nat_tests, z) in true≢false (sym r ∙ t) in
           let j : IsIn l ls = elim i [ inl q ↦ absurd (apart (ap first_of (sym q) ∙ f)) | inr j ↦ j ] in
           let c = later j f in omega (arith, c)
     ] refl
 
-without_in : (p : ℕ) (m : List ℕ) (ls : List (List ℕ)) → IsIn m (without p ls) → IsIn m ls
+without_in : (p : ℕ) (m : List ℕ) (ls : List (List ℕ)) → IsIn m (without_start p ls) → IsIn m ls
 without_in p m [] i = absurd i
 without_in p m (l ∷ ls) i =
     let later = without_in p m ls in
-    elim (first_of l == p) as (λ b. IsIn m (cond (not b) (l ∷ without p ls) (without p ls)) → IsIn m (l ∷ ls)) [
+    elim (first_of l == p) as (λ b. IsIn m (cond (not b) (l ∷ without_start p ls) (without_start p ls)) → IsIn m (l ∷ ls)) [
       | true ↦ λ j. inr (later j)
       | false ↦ λ j. elim j [ inl q ↦ inl q | inr k ↦ inr (later k) ]
     ] i
 
-apart_without : (p : ℕ) (ls : List (List ℕ)) → HaveApartStarts ls → HaveApartStarts (without p ls)
+apart_without : (p : ℕ) (ls : List (List ℕ)) → HaveApartStarts ls → HaveApartStarts (without_start p ls)
 apart_without p [] a = tt
 apart_without p (l ∷ ls) a =
     let later = apart_without p ls a.1 in
-    elim (first_of l == p) as (λ b. HaveApartStarts (cond (not b) (l ∷ without p ls) (without p ls))) [
+    elim (first_of l == p) as (λ b. HaveApartStarts (cond (not b) (l ∷ without_start p ls) (without_start p ls))) [
       | true ↦ later
       | false ↦ ((λ m i. a.0 m (without_in p m ls i)), later)
     ]
@@ -271,34 +271,34 @@ module _ (laws : AgendaLaws) (driven : DrivenLaws) (numbers : NumberLaw) (orderl
   abbrev new_past : Past
   new_past = past settings (Got reply ∷ log)
 
-  abbrev old_events : List Event
+  abbrev old_events : List PlanEvent
   old_events = events_at e settings log
 
-  abbrev new_events : List Event
+  abbrev new_events : List PlanEvent
   new_events = events_at e settings (Got reply ∷ log)
 
   -- an answer was accepted
   record Accepted (a : Answer) : Type 0 where
     past : new_past ≡ accept old_past a
-    events : new_events ≡ Receives (operation_for a.asked.what) (reply_for e.ask new_past a.reply) ∷ old_events
+    events : new_events ≡ ReplyAccepted (operation_for a.asked.what) (reply_for e.ask new_past a.reply) ∷ old_events
     asked : IsIn (operation_for a.asked.what) (asked_in old_events)
     unanswered : replies_in old_events (operation_for a.asked.what) ≡ None
     before : IsDriven e.wanted e.step old_events
 
   accepted_by : (d : DriverState) → IsDriver e settings log d → (a : Answer) (v : Result Taken Refused) → verdict (standing old_past) reply ≡ v
-      → got_event e.ask new_past v old_events ≡ Receives (operation_for a.asked.what) (reply_for e.ask new_past a.reply) ∷ old_events
+      → got_event e.ask new_past v old_events ≡ ReplyAccepted (operation_for a.asked.what) (reply_for e.ask new_past a.reply) ∷ old_events
       → after_verdict old_past v ≡ accept old_past a → Accepted a
   accepted_by d k a v q ev pa =
-      let here : new_events ≡ Receives (operation_for a.asked.what) (reply_for e.ask new_past a.reply) ∷ old_events =
+      let here : new_events ≡ ReplyAccepted (operation_for a.asked.what) (reply_for e.ask new_past a.reply) ∷ old_events =
       ap (λ z. got_event e.ask new_past z old_events) q ∙ ev in
-      let is : IsDriven e.wanted e.step (Receives (operation_for a.asked.what) (reply_for e.ask new_past a.reply) ∷ old_events) =
+      let is : IsDriven e.wanted e.step (ReplyAccepted (operation_for a.asked.what) (reply_for e.ask new_past a.reply) ∷ old_events) =
       subst (IsDriven e.wanted e.step) here (driven.driven e.ask e.wanted e.step settings (Got reply ∷ log) k.driven) in
       record { past = ap (after_verdict old_past) q ∙ pa; events = here; asked = is.0; unanswered = is.1; before = is.2 }
 
-  told_driver : (old new : DriverState) → IsDriver e settings log old → new.errand ≡ old.errand → new.skipped ≡ old.skipped
+  outcome_driver : (old new : DriverState) → IsDriver e settings log old → new.errand ≡ old.errand → new.skipped ≡ old.skipped
       → new.complete ≡ complete_in new_past → new.left ≡ left_in new.errand.window new.phase → left_in e.window new.phase ≤ 3 + e.window
       → IsAtPhase e settings (Got reply ∷ log) new.phase → IsDriver e settings (Got reply ∷ log) new
-  told_driver old new k er sk co l few at =
+  outcome_driver old new k er sk co l few at =
       let left : new.left ≡ left_in e.window new.phase = l ∙ ap (λ z. left_in z.window new.phase) (er ∙ k.errand) in
       record {
         steered = k.steered;
@@ -323,10 +323,10 @@ module _ (laws : AgendaLaws) (driven : DrivenLaws) (numbers : NumberLaw) (orderl
       record {
         search = can_search e.ask new_past;
         events = acc.events
-            ∙ ap (λ x. Receives (operation_for x) (reply_for e.ask new_past a.reply) ∷ old_events) w
-            ∙ ap (λ x. Receives plan.Init (reply_for e.ask new_past x) ∷ old_events) r
-            ∙ ap (λ b. Receives plan.Init (Opens (b && can_search e.ask new_past) (force_in v).v3) ∷ old_events) t
-            ∙ ap (λ z. Receives plan.Init (Opens (can_search e.ask new_past) (force_in v).v3) ∷ z) k.events;
+            ∙ ap (λ x. ReplyAccepted (operation_for x) (reply_for e.ask new_past a.reply) ∷ old_events) w
+            ∙ ap (λ x. ReplyAccepted plan.Init (reply_for e.ask new_past x) ∷ old_events) r
+            ∙ ap (λ b. ReplyAccepted plan.Init (InitReply (b && can_search e.ask new_past) (force_in v).v3) ∷ old_events) t
+            ∙ ap (λ z. ReplyAccepted plan.Init (InitReply (can_search e.ask new_past) (force_in v).v3) ∷ z) k.events;
         can = λ rd. refl;
         opening = (a, op);
         shows = ap (λ o. (force_after o).present) op ∙ ap (λ x. (force_by x).present) r
@@ -341,8 +341,8 @@ module _ (laws : AgendaLaws) (driven : DrivenLaws) (numbers : NumberLaw) (orderl
   rejected_at a v acc r f w k =
       let op : opening new_past ≡ Some a = ap opening acc.past ∙ find_last old_past.accepted a k.opening (ap is_init w) in
       let shape : Reply = reply_for e.ask new_past a.reply in
-      let ev : new_events ≡ Receives plan.Init shape ∷ Sends plan.Init ∷ [] =
-      acc.events ∙ ap (λ x. Receives (operation_for x) shape ∷ old_events) w ∙ ap (λ z. Receives plan.Init shape ∷ z) k.events in
+      let ev : new_events ≡ ReplyAccepted plan.Init shape ∷ RequestSent plan.Init ∷ [] =
+      acc.events ∙ ap (λ x. ReplyAccepted (operation_for x) shape ∷ old_events) w ∙ ap (λ z. ReplyAccepted plan.Init shape ∷ z) k.events in
       record {
         all = subst AllAnswered (sym ev) (replied shape);
         closed = subst (λ o. may_call (state_from new_past.fault new_past.closed (list_any is_close_call new_past.admitted) (list_any is_init_call new_past.admitted) o) ≡ false)
@@ -351,8 +351,8 @@ module _ (laws : AgendaLaws) (driven : DrivenLaws) (numbers : NumberLaw) (orderl
         tried = λ t. absurd (true≢false (sym (ap is_rejected op ∙ ap is_rejection r ∙ ap not f) ∙ t));
       }
     where
-      replied : (r : Reply) → AllAnswered (Receives plan.Init r ∷ Sends plan.Init ∷ [])
-      replied r b (inl i) x = no_some (sym (ap (replies_in (Receives plan.Init r ∷ Sends plan.Init ∷ [])) i) ∙ x)
+      replied : (r : Reply) → AllAnswered (ReplyAccepted plan.Init r ∷ RequestSent plan.Init ∷ [])
+      replied r b (inl i) x = no_some (sym (ap (replies_in (ReplyAccepted plan.Init r ∷ RequestSent plan.Init ∷ [])) i) ∙ x)
       replied r b (inr i) x = i
 
       shut : (closing : Bool) → may_call (closing_state closing (state_by a.reply)) ≡ false
@@ -371,12 +371,12 @@ module _ (laws : AgendaLaws) (driven : DrivenLaws) (numbers : NumberLaw) (orderl
   found_at a v present three acc r w one k o c =
       let op : opening new_past ≡ opening old_past = ap opening acc.past ∙ find_other old_past.accepted a (ap is_init w) in
       let can : can_present new_past ≡ present = ap (λ x. (force_after x).present) op ∙ k.shows in
-      let ev : new_events ≡ Receives plan.Search (Finds o) ∷ searched_events three =
-      acc.events ∙ ap (λ x. Receives (operation_for x) (reply_for e.ask new_past a.reply) ∷ old_events) w
-      ∙ ap (λ x. Receives plan.Search (reply_for e.ask new_past x) ∷ old_events) r
-      ∙ ap (λ b. Receives plan.Search (Finds (counted (v.search_status && b) v.result_count)) ∷ old_events) can
-      ∙ ap (λ x. Receives plan.Search (Finds x) ∷ old_events) c
-      ∙ ap (λ z. Receives plan.Search (Finds o) ∷ z) k.events in
+      let ev : new_events ≡ ReplyAccepted plan.Search (SearchReply o) ∷ searched_events three =
+      acc.events ∙ ap (λ x. ReplyAccepted (operation_for x) (reply_for e.ask new_past a.reply) ∷ old_events) w
+      ∙ ap (λ x. ReplyAccepted plan.Search (reply_for e.ask new_past x) ∷ old_events) r
+      ∙ ap (λ b. ReplyAccepted plan.Search (SearchReply (counted (v.search_status && b) v.result_count)) ∷ old_events) can
+      ∙ ap (λ x. ReplyAccepted plan.Search (SearchReply x) ∷ old_events) c
+      ∙ ap (λ z. ReplyAccepted plan.Search (SearchReply o) ∷ z) k.events in
       by o ev (k.opening.0, op ∙ k.opening.1) (set op can o c)
     where
       once : IsOrderly (accept old_past a)
@@ -392,7 +392,7 @@ module _ (laws : AgendaLaws) (driven : DrivenLaws) (numbers : NumberLaw) (orderl
           record {
             asked = ap (λ (p : Past). flat_map search_in p.admitted) acc.past ∙ k.search;
             answer = a;
-            answered = ap (λ (p : Past). find (answers 1) p.accepted) acc.past ∙ find_new old_past.accepted a 1 one once.once;
+            answered = ap (λ (p : Past). find (is_answer_to 1) p.accepted) acc.past ∙ find_new old_past.accepted a 1 one once.once;
             found = v.result_count;
             outcome = ap outcome_in r ∙ ap (λ b. cond b (Some (outcomes.Found v.result_count)) (Some outcomes.Failed)) n.0;
             counts = n.2;
@@ -401,17 +401,17 @@ module _ (laws : AgendaLaws) (driven : DrivenLaws) (numbers : NumberLaw) (orderl
             sendable = same_sending e.ask old_past new_past op k.sendable;
           }
 
-      replied : AllAnswered (Receives plan.Search (Finds None) ∷ searched_events three)
-      replied b (inl i) x = no_some (sym (ap (replies_in (Receives plan.Search (Finds None) ∷ searched_events three)) i) ∙ x)
-      replied b (inr (inl i)) x = no_some (sym (ap (replies_in (Receives plan.Search (Finds None) ∷ searched_events three)) i) ∙ x)
+      replied : AllAnswered (ReplyAccepted plan.Search (SearchReply None) ∷ searched_events three)
+      replied b (inl i) x = no_some (sym (ap (replies_in (ReplyAccepted plan.Search (SearchReply None) ∷ searched_events three)) i) ∙ x)
+      replied b (inr (inl i)) x = no_some (sym (ap (replies_in (ReplyAccepted plan.Search (SearchReply None) ∷ searched_events three)) i) ∙ x)
       replied b (inr (inr i)) x = i
 
-      by : (o : Option ℕ) → new_events ≡ Receives plan.Search (Finds o) ∷ searched_events three → HasOpening new_past
+      by : (o : Option ℕ) → new_events ≡ ReplyAccepted plan.Search (SearchReply o) ∷ searched_events three → HasOpening new_past
           → IsFoundSet o → IsAtPhase e settings (Got reply ∷ log) (counted_phase three o)
       by (Some count) ev op set = record { events = ev; opening = op; set = set count refl }
       by None ev op set = record {
         none = subst (λ z. (b : Operation) → IsDue e.wanted e.step z b → ⊥) (sym ev)
-            (none_due e.wanted e.step (Receives plan.Search (Finds None) ∷ searched_events three) (inr (inl refl)) (λ t x. inl refl)
+            (none_due e.wanted e.step (ReplyAccepted plan.Search (SearchReply None) ∷ searched_events three) (inr (inl refl)) (λ t x. inl refl)
             (λ c x. absurd (cc)) (λ l m x. absurd (cc)));
         all = subst AllAnswered (sym ev) replied;
         outstanding = ap outstanding_in ev;
@@ -423,7 +423,7 @@ module _ (laws : AgendaLaws) (driven : DrivenLaws) (numbers : NumberLaw) (orderl
   -- a Present was answered
   shown_at : (a : Answer) (v : PresentResponse) (ranges : List Range) (was is : Agenda) → IsWanted e.wanted → 0 < e.step → Accepted a
       → a.reply ≡ apdus.PresentResponse v → a.asked.what ≡ what.Present ranges → a.asked.op ≡ first_of (positions ranges) + 1
-      → (HasWaiting (a.asked.op - 1) was → IsAnswered (a.asked.op - 1) (length (records_in v.records)) was is)
+      → (HasWaiting (a.asked.op - 1) was → AfterNoteAnswered (a.asked.op - 1) (length (records_in v.records)) was is)
       → AtAsking e settings log was → AtAsking e settings (Got reply ∷ log) is
   shown_at a v ranges was is w lo acc r asks op step k =
       let l = positions ranges in
@@ -436,14 +436,14 @@ module _ (laws : AgendaLaws) (driven : DrivenLaws) (numbers : NumberLaw) (orderl
       let same : plan.Present s.list ≡ plan.Present l = numbers e.wanted e.step (replies_in old_events) w lo (plan.Present s.list) (plan.Present l)
       (sent_asked e.wanted e.step old_events acc.before (plan.Present s.list) (k.agenda.asked s.list s.waited))
       (sent_asked e.wanted e.step old_events acc.before (plan.Present l) here) (ap (λ z. z + 1) (s.begins ∙ sym first)) in
-      let ev : new_events ≡ Receives (plan.Present s.list) (Shows n) ∷ old_events =
-      acc.events ∙ ap (λ x. Receives (operation_for x) (reply_for e.ask new_past a.reply) ∷ old_events) asks
-      ∙ ap (λ x. Receives (plan.Present l) (reply_for e.ask new_past x) ∷ old_events) r
-      ∙ ap (λ o. Receives o (Shows n) ∷ old_events) (sym same) in
+      let ev : new_events ≡ ReplyAccepted (plan.Present s.list) (PresentReply n) ∷ old_events =
+      acc.events ∙ ap (λ x. ReplyAccepted (operation_for x) (reply_for e.ask new_past a.reply) ∷ old_events) asks
+      ∙ ap (λ x. ReplyAccepted (plan.Present l) (reply_for e.ask new_past x) ∷ old_events) r
+      ∙ ap (λ o. ReplyAccepted o (PresentReply n) ∷ old_events) (sym same) in
       let opn : opening new_past ≡ opening old_past = ap opening acc.past ∙ find_other old_past.accepted a (ap is_init asks) in
-      let fewer : length (without (a.asked.op - 1) was.waiting) + 1 ≡ length was.waiting =
+      let fewer : length (without_start (a.asked.op - 1) was.waiting) + 1 ≡ length was.waiting =
       length_without (a.asked.op - 1) l was.waiting k.apart waits first in
-      let less : length is.waiting ≡ length (without (a.asked.op - 1) was.waiting) = ap length s.waiting in
+      let less : length is.waiting ≡ length (without_start (a.asked.op - 1) was.waiting) = ap length s.waiting in
       let out = k.outstanding in
       record {
         agenda = subst (λ z. IsAgenda e.wanted e.step z is) (sym ev)
@@ -455,7 +455,7 @@ module _ (laws : AgendaLaws) (driven : DrivenLaws) (numbers : NumberLaw) (orderl
         found = ap (λ z. replies_in z plan.Search) ev ∙ k.found;
         set = subst (λ t. HasFound e.ask new_past t k.count) (sym s.three)
             (same_found e.ask old_past new_past was.three k.count (ap (λ (p : Past). flat_map search_in p.admitted) acc.past) k.set.answer
-            (ap (λ (p : Past). find (answers 1) p.accepted) acc.past ∙ find_kept (answers 1) old_past.accepted (a ∷ []) k.set.answer k.set.answered)
+            (ap (λ (p : Past). find (is_answer_to 1) p.accepted) acc.past ∙ find_kept (is_answer_to 1) old_past.accepted (a ∷ []) k.set.answer k.set.answered)
             k.set refl opn);
         outstanding = ap outstanding_in ev ∙ (let z : outstanding_in old_events - 1 ≡ length is.waiting = omega (arith, out, less, fewer) in z);
         apart = subst HaveApartStarts (sym s.waiting) (apart_without (a.asked.op - 1) was.waiting k.apart);
@@ -475,19 +475,19 @@ few_left window phases.Done = omega arith
 few_left window phases.Closed = omega arith
 
 -- an answer to another request than Init completes nothing
-other_complete : (p q : Past) (a : Answer) → q ≡ accept p a → opens a ≡ false → complete_in q ≡ complete_in p
+other_complete : (p q : Past) (a : Answer) → q ≡ accept p a → is_opening a ≡ false → complete_in q ≡ complete_in p
 other_complete p q a s f = ap complete_in s ∙ ap (λ o. is_rejected o || list_any is_close_call p.admitted) (find_other p.accepted a f)
 
-first_complete : (p q : Past) (a : Answer) → q ≡ accept p a → opening p ≡ None → opens a ≡ true
+first_complete : (p q : Past) (a : Answer) → q ≡ accept p a → opening p ≡ None → is_opening a ≡ true
     → complete_in q ≡ (is_rejected (Some a) || complete_in p)
 first_complete p q a s n t =
     ap complete_in s ∙ ap (λ o. is_rejected o || list_any is_close_call p.admitted) (find_last p.accepted a n t)
     ∙ ap (λ b. is_rejected (Some a) || b) (sym (ap (λ o. is_rejected o || list_any is_close_call p.admitted) n))
 
-pub knows_told : AgendaLaws → DrivenLaws → NumberLaw → ((s : Settings) (l : Log) → IsOrderly (past s l)) → (x : Taken) (old new : DriverState)
+pub knows_outcome : AgendaLaws → DrivenLaws → NumberLaw → ((s : Settings) (l : Log) → IsOrderly (past s l)) → (x : Taken) (old new : DriverState)
     → TakenStep x old.phase new.phase → new.errand ≡ old.errand → new.skipped ≡ old.skipped → new.complete ≡ (is_rejection_of x || old.complete)
     → new.left ≡ left_in new.errand.window new.phase → NoteReplyStep x old new
-knows_told laws driven numbers orderly (taken.Opened a) old new s er sk co l = λ e settings log reply k q.
+knows_outcome laws driven numbers orderly (taken.Opened a) old new s er sk co l = λ e settings log reply k q.
     let f = taken_of (standing (past settings log)) reply (taken.Opened a) q in
     let acc = accepted_by laws driven numbers orderly e settings log reply old k a (Ok (taken.Opened a)) q refl refl in
     let ph : old.phase ≡ phases.Opening = init_phase e settings log old.phase k.at
@@ -498,9 +498,9 @@ knows_told laws driven numbers orderly (taken.Opened a) old new s er sk co l = �
     let c : complete_in (past settings (Got reply ∷ log)) ≡ complete_in (past settings log) =
     first_complete (past settings log) (past settings (Got reply ∷ log)) a acc.past o.opening (ap is_init f.3)
     ∙ ap (λ b. b || complete_in (past settings log)) (ap (λ z. is_rejection z) f.1 ∙ ap not f.2) in
-    told_driver laws driven numbers orderly e settings log reply old new k er sk (co ∙ k.complete ∙ sym c) l (few_left e.window new.phase)
+    outcome_driver laws driven numbers orderly e settings log reply old new k er sk (co ∙ k.complete ∙ sym c) l (few_left e.window new.phase)
     (subst (IsAtPhase e settings (Got reply ∷ log)) (sym to) (opened_at laws driven numbers orderly e settings log reply a f.0 acc f.1 f.2 f.3 o))
-knows_told laws driven numbers orderly (taken.Rejected a) old new s er sk co l = λ e settings log reply k q.
+knows_outcome laws driven numbers orderly (taken.Rejected a) old new s er sk co l = λ e settings log reply k q.
     let f = taken_of (standing (past settings log)) reply (taken.Rejected a) q in
     let acc = accepted_by laws driven numbers orderly e settings log reply old k a (Ok (taken.Rejected a)) q refl refl in
     let ph : old.phase ≡ phases.Opening = init_phase e settings log old.phase k.at
@@ -510,9 +510,9 @@ knows_told laws driven numbers orderly (taken.Rejected a) old new s er sk co l =
     let c : complete_in (past settings (Got reply ∷ log)) ≡ true =
     first_complete (past settings log) (past settings (Got reply ∷ log)) a acc.past o.opening (ap is_init f.3)
     ∙ ap (λ b. b || complete_in (past settings log)) (ap (λ z. is_rejection z) f.1 ∙ ap not f.2) in
-    told_driver laws driven numbers orderly e settings log reply old new k er sk (co ∙ sym c) l (few_left e.window new.phase)
+    outcome_driver laws driven numbers orderly e settings log reply old new k er sk (co ∙ sym c) l (few_left e.window new.phase)
     (subst (IsAtPhase e settings (Got reply ∷ log)) (sym s) (rejected_at laws driven numbers orderly e settings log reply a f.0 acc f.1 f.2 f.3 o))
-knows_told laws driven numbers orderly (taken.Answered a) old new s er sk co l = λ e settings log reply k q.
+knows_outcome laws driven numbers orderly (taken.Answered a) old new s er sk co l = λ e settings log reply k q.
     let acc = accepted_by laws driven numbers orderly e settings log reply old k a (Ok (taken.Answered a)) q refl refl in
     elim (taken_of (standing (past settings log)) reply (taken.Answered a) q) [
       | inl f ↦
@@ -526,7 +526,7 @@ knows_told laws driven numbers orderly (taken.Answered a) old new s er sk co l =
           let one : a.asked.op ≡ 1 =
           answered_number e.ask settings e.wanted e.step log orderly k.driven a (subst IsOrderly acc.past (orderly settings (Got reply ∷ log)))
           ∙ ap (λ w. number (operation_for w)) f.2 in
-          told_driver laws driven numbers orderly e settings log reply old new k er sk (co ∙ k.complete ∙ sym c) l (few_left e.window new.phase)
+          outcome_driver laws driven numbers orderly e settings log reply old new k er sk (co ∙ k.complete ∙ sym c) l (few_left e.window new.phase)
           (subst (IsAtPhase e settings (Got reply ∷ log)) (sym to)
           (found_at laws driven numbers orderly e settings log reply a f.0 ph.0 ph.1 acc f.1 f.2 one was
           (counted (f.0.search_status && ph.0) f.0.result_count) refl))
@@ -541,7 +541,7 @@ knows_told laws driven numbers orderly (taken.Answered a) old new s er sk co l =
           let op : a.asked.op ≡ first_of (positions f.1) + 1 =
           answered_number e.ask settings e.wanted e.step log orderly k.driven a (subst IsOrderly acc.past (orderly settings (Got reply ∷ log)))
           ∙ ap (λ w. number (operation_for w)) f.3 in
-          told_driver laws driven numbers orderly e settings log reply old new k er sk (co ∙ k.complete ∙ sym c) l (few_left e.window new.phase)
+          outcome_driver laws driven numbers orderly e settings log reply old new k er sk (co ∙ k.complete ∙ sym c) l (few_left e.window new.phase)
           (shown e settings log reply k acc f.0 f.1 f.2 f.3 op ph.0 was new.phase to)
     ]
   where
@@ -558,7 +558,7 @@ knows_told laws driven numbers orderly (taken.Answered a) old new s er sk co l =
     shown e settings log reply k acc v ranges r w op was at (phases.Counted three count) to = absurd to
     shown e settings log reply k acc v ranges r w op was at phases.Done to = absurd to
     shown e settings log reply k acc v ranges r w op was at phases.Closed to = absurd to
-knows_told laws driven numbers orderly taken.Closed old new s er sk co l = λ e settings log reply k q.
+knows_outcome laws driven numbers orderly taken.Closed old new s er sk co l = λ e settings log reply k q.
     let r = closed_reply e settings log old reply k q in
     let left : new.left ≡ left_in e.window new.phase = l ∙ ap (λ z. left_in z.window new.phase) (er ∙ k.errand) in
     record {

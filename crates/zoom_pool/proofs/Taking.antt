@@ -5,14 +5,14 @@ use Rattle.zber.specs.declared.fault.FaultKind.{FaultKind}
 use Rattle.zber.specs.declared.fault.FaultKind.TheVariants as kinds
 use Rattle.zber.specs.declared.fault.FrameError.TheVariants as frames
 use Rattle.zber.specs.Elements.{Element}
-use Rattle.zber.specs.Shown.{Shows}
+use Rattle.zber.specs.Shown.{HasFault}
 use Rattle.zber.specs.Stream.{Stream, finished}
 use Rattle.zber.specs.Unfinished.{IsUnfinished}
-use Rattle.zber.specs.Laws.{Gave, StreamLaws}
+use Rattle.zber.specs.Laws.{AreMessages, StreamLaws}
 use Rattle.zapdu.specs.declared.apdu.Apdu.{Apdu}
 use Rattle.zapdu.specs.declared.apdu.ApduError.{ApduError}
 use Rattle.zapdu.specs.declared.apdu.ApduError.TheVariants as decode
-use Rattle.zapdu.specs.Writes.{Decodes}
+use Rattle.zapdu.specs.Writes.{IsDecodeResult}
 use Rattle.zknow.specs.declared.fact.Fact.{Fact}
 use Rattle.zknow.specs.Tables.DistinctLaws.{none_in_nil}
 use Rattle.zknow.specs.Tables.Join.{IsUnion, IsPartOfUnion}
@@ -20,7 +20,7 @@ use Rattle.zorigin.specs.declared.answer.Taken.{Taken}
 use Rattle.zorigin.specs.declared.refusal.Refused.{Refused}
 use Rattle.zorigin.specs.Standings.{Standing}
 use Rattle.zorigin.specs.Replies.{verdict}
-use Rattle.zorigin.specs.Log.{Got, standing, IsTaken, Tells, After as OriginAfter}
+use Rattle.zorigin.specs.Log.{Got, standing, IsTakenReply, IsGivenVerdict, After as OriginAfter}
 use Rattle.zoom_pool.specs.Links.{Link}
 use Rattle.zoom_pool.specs.declared.state.State.TheVariants as states
 use Rattle.zoom_pool.specs.declared.state.Reason.{Reason}
@@ -40,20 +40,20 @@ use Rattle.zoom_pool.proofs.Streams.{going}
 
 -- ---- a message that the origin took
 
-pub heeded : (target : ℕ) (p : Transcript) (v : Apdu) (peeked : Result Taken Refused) (answer : Result Outcome TakeError)
+pub processed_input : (target : ℕ) (p : Transcript) (v : Apdu) (peeked : Result Taken Refused) (answer : Result Outcome TakeError)
     (o : Standing) (old new : List Fact)
-    → Tells (verdict (standing (past_of p)) v) peeked → IsTaken peeked
+    → IsGivenVerdict (verdict (standing (past_of p)) v) peeked → IsTakenReply peeked
     → answer ≡ outcome_of_reply (verdict (standing (past_of p)) v) → OriginAfter p.settings (Got v ∷ p.log) o
     → IsUnion (Contains old) (Contains (facts_of_verdict target peeked)) (Contains new)
     → InputStep target p (Message v) answer o old new
-heeded target p v peeked answer o old new value taken t after u = record {
+processed_input target p v peeked answer o old new value taken t after u = record {
   answers = t;
   stands = after;
   union = subst (λ r. IsUnion (Contains old) (Contains (facts_of_verdict target r)) (Contains new)) (value taken) u;
 }
 
 pub news_part : (target : ℕ) (p : Transcript) (v : Apdu) (peeked : Result Taken Refused) (old new : List Fact)
-    → Tells (verdict (standing (past_of p)) v) peeked
+    → IsGivenVerdict (verdict (standing (past_of p)) v) peeked
     → IsPartOfUnion (Contains old) (Contains (facts_of_verdict target peeked)) (Contains new)
     → IsPartOfUnion (Contains old) (Contains (news_at target p (Message v))) (Contains new)
 news_part target p v (Ok x) old new value part = subst (λ r. IsPartOfUnion (Contains old)
@@ -61,22 +61,22 @@ news_part target p v (Ok x) old new value part = subst (λ r. IsPartOfUnion (Con
 news_part target p v (Err e) old new value part = part_wider old new (Contains [])
     (Contains (news_at target p (Message v))) (λ x h. absurd (none_in_nil x h)) part
 
-pub told_part : (target : ℕ) (p : Transcript) (e : Element) (input : Input) (old new : List Fact) → IsReadAs e input
+pub outcome_part : (target : ℕ) (p : Transcript) (e : Element) (input : Input) (old new : List Fact) → IsReadAs e input
     → IsPartOfUnion (Contains old) (Contains (news_at target p input)) (Contains new)
     → IsPartOfUnion (Contains old) (IsNewsIn target p e) (Contains new)
-told_part target p e input old new r part = part_wider old new (Contains (news_at target p input)) (IsNewsIn target p e)
+outcome_part target p e input old new r part = part_wider old new (Contains (news_at target p input)) (IsNewsIn target p e)
     (λ x h. (input, r, h)) part
 
-pub foreign : (e : Element) (error : ApduError) → error ≢ decode.Memory → Decodes e (Err error) → IsForeign e error
+pub foreign : (e : Element) (error : ApduError) → error ≢ decode.Memory → IsDecodeResult e (Err error) → IsForeign e error
 foreign e decode.NotApdu other d = d
 foreign e (decode.Malformed kind at) other d = d
 foreign e decode.Memory other d = absurd (other refl)
 
 -- a message that is no APDU, or is malformed
-pub heeds_foreign : (target : ℕ) (p : Transcript) (e : Element) (error : ApduError) (o : Standing) (ks : List Fact)
-    → error ≢ decode.Memory → Decodes e (Err error) → OriginAfter p.settings p.log o
+pub process_foreign : (target : ℕ) (p : Transcript) (e : Element) (error : ApduError) (o : Standing) (ks : List Fact)
+    → error ≢ decode.Memory → IsDecodeResult e (Err error) → OriginAfter p.settings p.log o
     → MessageStep target p e (Err (errors.Decode error)) o ks ks
-heeds_foreign target p e error o ks other d after = record {
+process_foreign target p e error o ks other d after = record {
   input = Foreign error;
   read = foreign e error other d;
   input_step = record { answers = refl; stands = after; union = union_none ks };
@@ -114,10 +114,10 @@ kept_back p e answer old c memory o f ended held stop = record {
   stop = stop ∙ ap (stop_after p.stop) memory;
 }
 
-heed_matches : (q : Transcript) (r : Result Taken Refused) (c : Link) → OriginAfter q.settings q.log c.origin
+process_matches : (q : Transcript) (r : Result Taken Refused) (c : Link) → OriginAfter q.settings q.log c.origin
     → FramerAfter q c.held c.framer → c.ended ≡ q.ended → c.stop ≡ stop_after q.stop (outcome_of_reply r) → AreConsistent (after_reply q r) c
-heed_matches q (Ok x) c o f e s = record { origin = o; frames = f; ended = e; stop = s }
-heed_matches q (Err reason) c o f e s = record {
+process_matches q (Ok x) c o f e s = record { origin = o; frames = f; ended = e; stop = s }
+process_matches q (Err reason) c o f e s = record {
   origin = o;
   frames =
       frames_stopped q (reasons.Refused reason) c.held c.framer f;
@@ -132,7 +132,7 @@ taken_more laws p q e t s same more f = record {
   rest = t.octets;
   behind = record {
     messages = f.behind.messages ++ e ∷ [];
-    gave = subst (λ z. Gave MESSAGE_LIMIT z (f.behind.messages ++ e ∷ []) t.octets) (sym same)
+    gave = subst (λ z. AreMessages MESSAGE_LIMIT z (f.behind.messages ++ e ∷ []) t.octets) (sym same)
         (laws.give MESSAGE_LIMIT p.stream f.rest t.octets f.behind.messages e f.behind.gave f.kept);
     count = length-append f.behind.messages (e ∷ []) ∙ (let n : length f.behind.messages + 1 ≡ suc p.taken =
         omega (arith, f.behind.count) in n) ∙ sym more;
@@ -142,9 +142,9 @@ taken_more laws p q e t s same more f = record {
   sound = λ g. f.sound (going _ p.stop s);
 }
 
-met_message : (p : Transcript) (e : Element) (t : Stream) (input : Input) → is_stopped (state_at p) ≡ false
+input_message : (p : Transcript) (e : Element) (t : Stream) (input : Input) → is_stopped (state_at p) ≡ false
     → FramerAfter p (Some e) t → IsReadAs e input → NextInput p input
-met_message p e t (Message v) s f r = (
+input_message p e t (Message v) s f r = (
   s,
   f.rest,
   f.behind,
@@ -155,16 +155,16 @@ met_message p e t (Message v) s f r = (
     read = r;
   },
 )
-met_message p e t (Foreign error) s f r = (
+input_message p e t (Foreign error) s f r = (
   s,
   f.rest,
   f.behind,
   record { element = e; rest = t.octets; begins = f.kept; read = r },
 )
-met_message p e t AlreadyStopped s f r = absurd r
-met_message p e t (Fault kind at) s f r = absurd r
-met_message p e t (Rest n) s f r = absurd r
-met_message p e t Nothing s f r = absurd r
+input_message p e t AlreadyStopped s f r = absurd r
+input_message p e t (Fault kind at) s f r = absurd r
+input_message p e t (Rest n) s f r = absurd r
+input_message p e t Nothing s f r = absurd r
 
 matched : (laws : StreamLaws) (target : ℕ) (p : Transcript) (e : Element) (input : Input) (answer : Result Outcome TakeError)
     (c : Link) (old new : List Fact) → is_stopped (state_at p) ≡ false → FramerAfter p (Some e) c.framer
@@ -172,7 +172,7 @@ matched : (laws : StreamLaws) (target : ℕ) (p : Transcript) (e : Element) (inp
     → c.stop ≡ stop_after p.stop answer → AreConsistent (after_take p input) c
 matched laws target p e (Message v) answer c old new s f none r h ended stop =
     let q : Transcript = record p { taken = suc p.taken; log = Got v ∷ p.log } in
-    heed_matches q (verdict (standing (past_of p)) v) c h.stands
+    process_matches q (verdict (standing (past_of p)) v) c h.stands
     (subst (λ z. FramerAfter q z c.framer) (sym none) (taken_more laws p q e c.framer s refl refl f)) ended (stop
     ∙ ap (stop_after p.stop) h.answers)
 matched laws target p e (Foreign error) answer c old new s f none r h ended stop =
@@ -195,31 +195,31 @@ pub took : (laws : StreamLaws) (target : ℕ) (p : Transcript) (e : Element) (an
     → TakeResult target p answer c old new
 took laws target p e answer c old new s f none h ended stop = record {
   input = h.input;
-  is_next = met_message p e c.framer h.input s f h.read;
+  is_next = input_message p e c.framer h.input s f h.read;
   answers = h.input_step.answers;
   matches = matched laws target p e h.input answer c old new s f none h.read h.input_step ended stop;
   union = h.input_step.union;
 }
 
 -- a part of the message's facts is a part of the Take's facts
-pub news_told : (target : ℕ) (p : Transcript) (e : Element) (t : Stream) (old new : List Fact)
+pub news_of_outcome : (target : ℕ) (p : Transcript) (e : Element) (t : Stream) (old new : List Fact)
     → is_stopped (state_at p) ≡ false → FramerAfter p (Some e) t → IsPartOfUnion (Contains old) (IsNewsIn target p e)
     (Contains new) → IsPartOfUnion (Contains old) (IsNews target p) (Contains new)
-news_told target p e t old new s f part = part_wider old new (IsNewsIn target p e) (IsNews target p)
-    (λ x h. (h.0, met_message p e t h.0 s f h.1, h.2)) part
+news_of_outcome target p e t old new s f part = part_wider old new (IsNewsIn target p e) (IsNews target p)
+    (λ x h. (h.0, input_message p e t h.0 s f h.1, h.2)) part
 
 -- ---- no message
 
 pub faulty : (target : ℕ) (p : Transcript) (kind : FaultKind) (at : ℕ) (c : Link) (ks : List Fact)
     → is_stopped (state_at p) ≡ false → OriginAfter p.settings p.log c.origin → c.ended ≡ p.ended
-    → FramerAfter (after_stop p (reasons.Frame kind at)) c.held c.framer → c.held ≡ None → Shows MESSAGE_LIMIT c.framer.octets kind at
+    → FramerAfter (after_stop p (reasons.Frame kind at)) c.held c.framer → c.held ≡ None → HasFault MESSAGE_LIMIT c.framer.octets kind at
     → c.stop ≡ Some (states.Failed (reasons.Frame kind at))
     → TakeResult target p (Err (errors.Frame kind at)) c ks ks
 faulty target p kind at c ks s o ended f none shows stop =
     let same : f.rest ≡ c.framer.octets = subst (λ z. IsKept f.rest z c.framer.octets) none f.kept in
     record {
       input = Fault kind at;
-      is_next = (s, f.rest, f.behind, subst (λ z. Shows MESSAGE_LIMIT z kind at) (sym same) shows);
+      is_next = (s, f.rest, f.behind, subst (λ z. HasFault MESSAGE_LIMIT z kind at) (sym same) shows);
       answers = refl;
       matches = record { origin = o; frames = f; ended = ended; stop = stop };
       union = union_none ks;

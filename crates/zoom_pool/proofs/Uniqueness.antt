@@ -2,10 +2,10 @@
 use Rattle.std.proofs.Common.{◌≡◌, ◌⊎◌, inl, inr, length-append, ℕ, ◌<◌, true, false, List, [], ◌∷◌, length, refl, sym, ap, subst, ◌∙◌, true≢false, arith}
 use Rattle.zber.specs.declared.fault.FaultKind.{FaultKind}
 use Rattle.zber.specs.Elements.{Element}
-use Rattle.zber.specs.Spelling.{Begins}
-use Rattle.zber.specs.Shown.{Shows}
+use Rattle.zber.specs.Spelling.{HasFirstMessage}
+use Rattle.zber.specs.Shown.{HasFault}
 use Rattle.zber.specs.Unfinished.{IsUnfinished}
-use Rattle.zber.specs.Laws.{OneAnswer, Gave, nothing, one}
+use Rattle.zber.specs.Laws.{OneResult, AreMessages, nothing, one}
 use Rattle.zber.proofs.ScanSteps.{spells_some}
 use Rattle.zapdu.specs.declared.apdu.Apdu.{Apdu}
 use Rattle.zapdu.specs.declared.apdu.ApduError.{ApduError}
@@ -20,18 +20,18 @@ use Rattle.zoom_pool.specs.Laws.{OneInput}
 
 -- the statements of the laws below
 pub record Laws : Type 0 where
-  pub answer : OneAnswer
+  pub answer : OneResult
   pub value : (v w : Apdu) (e : Element) → Writes v e → Writes w e → v ≡ w
   pub refusal : OneRefusal
 
-gave_once : (l : Laws) {xs r : List ℕ} {ds : List Element} (s : List ℕ) (es : List Element) → Gave MESSAGE_LIMIT xs ds r
-    → Gave MESSAGE_LIMIT xs es s → length ds ≡ length es → r ≡ s
+gave_once : (l : Laws) {xs r : List ℕ} {ds : List Element} (s : List ℕ) (es : List Element) → AreMessages MESSAGE_LIMIT xs ds r
+    → AreMessages MESSAGE_LIMIT xs es s → length ds ≡ length es → r ≡ s
 gave_once l s es nothing nothing q = refl
 gave_once l s es nothing (one b g) q = absurd (omega (arith, q))
 gave_once l s es (one b g) nothing q = absurd (omega (arith, q))
 gave_once l s es (one {xs = xs} {rest = rest} {e = d} b g) (one {rest = other} {e = e} {es = more} c h) q =
     let same = l.answer.one_message MESSAGE_LIMIT xs d e rest other b c in
-    gave_once l s more g (subst (λ z. Gave MESSAGE_LIMIT z more s) (sym same.1) h) (let n : length _ ≡ length more =
+    gave_once l s more g (subst (λ z. AreMessages MESSAGE_LIMIT z more s) (sym same.1) h) (let n : length _ ≡ length more =
     omega (arith, q) in n)
 
 behind_once : (l : Laws) (stream r s : List ℕ) (k : ℕ) → IsBehind stream k r → IsBehind stream k s → r ≡ s
@@ -72,7 +72,7 @@ read_once l e (Foreign a) Nothing x y = absurd y
 
 -- the octets begin with no message
 data Halts (xs : List ℕ) : Input → Type 0 where
-  at_fault : {k : FaultKind} {at : ℕ} → Shows MESSAGE_LIMIT xs k at → Halts xs (Fault k at)
+  at_fault : {k : FaultKind} {at : ℕ} → HasFault MESSAGE_LIMIT xs k at → Halts xs (Fault k at)
   inside : {n : ℕ} → 0 < length xs → n ≡ length xs → IsUnfinished MESSAGE_LIMIT xs → Halts xs (Rest n)
   at_end : xs ≡ [] → Halts xs Nothing
 
@@ -102,12 +102,12 @@ halts_once l xs m n (at_end q) (at_end r) = refl
 
 -- if `Halts` holds, the octets begin with no message, because a message has octets
 never : (l : Laws) (xs : List ℕ) (m : Input) (e : Element) (rest : List ℕ)
-    → ((d : Element) (other : List ℕ) → Begins MESSAGE_LIMIT [] d other → ⊥) → Begins MESSAGE_LIMIT xs e rest → Halts xs m → ⊥
+    → ((d : Element) (other : List ℕ) → HasFirstMessage MESSAGE_LIMIT [] d other → ⊥) → HasFirstMessage MESSAGE_LIMIT xs e rest → Halts xs m → ⊥
 never l xs m e rest none b (at_fault {k = k} {at = at} f) = l.answer.either MESSAGE_LIMIT xs e rest k at b f
 never l xs m e rest none b (inside some is u) = u.no_message e rest b
-never l xs m e rest none b (at_end q) = none e rest (subst (λ z. Begins MESSAGE_LIMIT z e rest) q b)
+never l xs m e rest none b (at_end q) = none e rest (subst (λ z. HasFirstMessage MESSAGE_LIMIT z e rest) q b)
 
-shape_once : (l : Laws) (xs : List ℕ) (m n : Input) → ((d : Element) (other : List ℕ) → Begins MESSAGE_LIMIT [] d other → ⊥)
+shape_once : (l : Laws) (xs : List ℕ) (m n : Input) → ((d : Element) (other : List ℕ) → HasFirstMessage MESSAGE_LIMIT [] d other → ⊥)
     → Shape xs m → Shape xs n → m ≡ n
 shape_once l xs m n none (begun a) (begun b) =
     let same = l.answer.one_message MESSAGE_LIMIT xs a.element b.element a.rest b.rest a.begins b.begins in
@@ -118,22 +118,22 @@ shape_once l xs m n none (halted a) (halted b) = halts_once l xs m n a b
 
 -- ---- a Take
 
-pub none_begins : (e : Element) (rest : List ℕ) → Begins MESSAGE_LIMIT [] e rest → ⊥
+pub none_begins : (e : Element) (rest : List ℕ) → HasFirstMessage MESSAGE_LIMIT [] e rest → ⊥
 none_begins e rest b = absurd (omega (arith, spells_some b.is.spelled, ap length b.cut, length-append b.message rest))
 
 abbrev Going : Transcript → Input → Type 0
 Going p m = (is_stopped (state_at p) ≡ false) × (rest : List ℕ) × IsBehind p.stream p.taken rest × AreInput rest m
 
-meets_so : (p : Transcript) (m : Input) → NextInput p m → ((m ≡ AlreadyStopped) × (is_stopped (state_at p) ≡ true)) ⊎ Going p m
-meets_so p AlreadyStopped s = inl (refl, s)
-meets_so p (Message v) x = inr x
-meets_so p (Foreign e) x = inr x
-meets_so p (Fault k at) x = inr x
-meets_so p (Rest n) x = inr x
-meets_so p Nothing x = inr x
+next_input_so : (p : Transcript) (m : Input) → NextInput p m → ((m ≡ AlreadyStopped) × (is_stopped (state_at p) ≡ true)) ⊎ Going p m
+next_input_so p AlreadyStopped s = inl (refl, s)
+next_input_so p (Message v) x = inr x
+next_input_so p (Foreign e) x = inr x
+next_input_so p (Fault k at) x = inr x
+next_input_so p (Rest n) x = inr x
+next_input_so p Nothing x = inr x
 
-pub one_met : (l : Laws) (p : Transcript) (m n : Input) → NextInput p m → NextInput p n → m ≡ n
-one_met l p m n a b = by (meets_so p m a) (meets_so p n b)
+pub one_input_of : (l : Laws) (p : Transcript) (m n : Input) → NextInput p m → NextInput p n → m ≡ n
+one_input_of l p m n a b = by (next_input_so p m a) (next_input_so p n b)
   where
     by : ((m ≡ AlreadyStopped) × (is_stopped (state_at p) ≡ true)) ⊎ Going p m
         → ((n ≡ AlreadyStopped) × (is_stopped (state_at p) ≡ true)) ⊎ Going p n → m ≡ n
@@ -146,18 +146,18 @@ one_met l p m n a b = by (meets_so p m a) (meets_so p n b)
 
 -- ---- events
 
-hears_once : (meeting : OneInput) (event : Event) (p q r s : Transcript) → p ≡ q → EventStep event p r → EventStep event q s → r ≡ s
-hears_once meeting (Called call) p q r s e a b = a ∙ ap (λ z. after_call z call) e ∙ sym b
-hears_once meeting (Fed piece) p q r s e a b = a ∙ ap (λ z. after_feed z piece) e ∙ sym b
-hears_once meeting Took p q r s e a b =
+once_transcript : (meeting : OneInput) (event : Event) (p q r s : Transcript) → p ≡ q → EventStep event p r → EventStep event q s → r ≡ s
+once_transcript meeting (Called call) p q r s e a b = a ∙ ap (λ z. after_call z call) e ∙ sym b
+once_transcript meeting (Fed piece) p q r s e a b = a ∙ ap (λ z. after_feed z piece) e ∙ sym b
+once_transcript meeting Took p q r s e a b =
     let input = meeting q a.0 b.0 (subst (λ z. NextInput z a.0) e a.1) b.1 in
     a.2 ∙ ap (λ z. after_take z a.0) e ∙ ap (after_take q) input ∙ sym b.2
-hears_once meeting InputEnded p q r s e a b = a ∙ ap (λ (z : Transcript). record z { ended = true }) e ∙ sym b
-hears_once meeting (HandedOut octets) p q r s e a b = a ∙ e ∙ sym b
-hears_once meeting (Stopped reason) p q r s e a b = a ∙ ap (λ z. after_stop z reason) e ∙ sym b
+once_transcript meeting InputEnded p q r s e a b = a ∙ ap (λ (z : Transcript). record z { ended = true }) e ∙ sym b
+once_transcript meeting (HandedOut octets) p q r s e a b = a ∙ e ∙ sym b
+once_transcript meeting (Stopped reason) p q r s e a b = a ∙ ap (λ z. after_stop z reason) e ∙ sym b
 
-pub one_heard : (meeting : OneInput) (settings : Settings) (events : List Event) (p q : Transcript)
+pub one_transcript_of : (meeting : OneInput) (settings : Settings) (events : List Event) (p q : Transcript)
     → IsTranscript settings events p → IsTranscript settings events q → p ≡ q
-one_heard meeting settings [] p q a b = a ∙ sym b
-one_heard meeting settings (event ∷ events) p q a b = hears_once meeting event a.0 b.0 p q
-    (one_heard meeting settings events a.0 b.0 a.1 b.1) a.2 b.2
+one_transcript_of meeting settings [] p q a b = a ∙ sym b
+one_transcript_of meeting settings (event ∷ events) p q a b = once_transcript meeting event a.0 b.0 p q
+    (one_transcript_of meeting settings events a.0 b.0 a.1 b.1) a.2 b.2

@@ -6,10 +6,10 @@ use Rattle.std.proofs.lemmas.Int.{ints}
 use Rattle.std.specs.Prelude.{ℤ, pos, negsuc, ◌-ℤ◌, int_lt, true, ◌&&◌, length, slice_index_or, ◌^◌}
 use Rattle.std.specs.List.{range_with_len, AllByRecursion}
 use Rattle.zplan.specs.Positions.{IsWanted, first_of}
-use Rattle.zplan.specs.Ranges.{AreWanted, CanBeAsked, InOrder, IsBounded, span_of, places}
+use Rattle.zplan.specs.Ranges.{AreWanted, ArePresentRanges, InOrder, IsBounded, span_of, places}
 use Rattle.zplan.proofs.Cuts.{places_ascend}
 use Rattle.zplan.specs.declared.range.Range.{Range}
-use Rattle.zorigin.specs.Ranges.{last_of, is_range, follow, are_ranges}
+use Rattle.zorigin.specs.Ranges.{last_of, is_range, are_ranges_after, are_ranges}
 use Rattle.zplan.specs.Ranges.{natural, positions, positions_of}
 use Rattle.zorigin.proofs.Ranges.{IsGood, good_each, follows, natural_low}
 
@@ -30,7 +30,7 @@ first_at r rs lo = by (natural r.n) lo
     by zero h = absurd (omega arith)
     by (suc n) h = refl
 
-pub first_is : (list : List Range) (d : Range) → CanBeAsked list
+pub first_is : (list : List Range) (d : Range) → ArePresentRanges list
     → (natural (slice_index_or list 0 d).start ≡ first_of (positions list)) × (natural (slice_index_or list 0 d).start ≤ 2 ^ 31)
 first_is [] d a = absurd (a.some refl)
 first_is (r ∷ rs) d a = (sym (first_at r rs a.order.1), let b = a.bounded.0 in omega (arith, b))
@@ -63,7 +63,7 @@ range_follows low r le one some = by r.start r.n le some
     by (negsuc s) n le some = absurd (omega arith)
 
 follow_back : (low : ℕ) (rs : List Range) → 1 ≤ low → InOrder low rs → IsBounded (map span_of rs)
-    → follow (pos low -ℤ pos 1) rs ≡ true
+    → are_ranges_after (pos low -ℤ pos 1) rs ≡ true
 follow_back low [] one order bounded = refl
 follow_back low (r ∷ rs) one order bounded =
     let lo = order.0 in
@@ -71,12 +71,12 @@ follow_back low (r ∷ rs) one order bounded =
     let f = range_follows low r order.0 one order.1 in
     let later = follow_back (natural r.start + natural r.n) rs (omega (arith, lo, one)) order.2 bounded.1 in
     ap (λ b. b && int_lt (pos low -ℤ pos 1) r.start
-    && follow (last_of r) rs) good
-    ∙ ap (λ b. b && follow (last_of r) rs) f.0
-    ∙ ap (λ z. follow z rs) f.1 ∙ later
+    && are_ranges_after (last_of r) rs) good
+    ∙ ap (λ b. b && are_ranges_after (last_of r) rs) f.0
+    ∙ ap (λ z. are_ranges_after z rs) f.1 ∙ later
 
 -- the origin accepts the ranges that an agenda gives
-pub asked_ranges : (rs : List Range) → CanBeAsked rs → are_ranges rs ≡ true
+pub asked_ranges : (rs : List Range) → ArePresentRanges rs → are_ranges rs ≡ true
 asked_ranges [] a = absurd (a.some refl)
 asked_ranges (r ∷ rs) a = follow_back 1 (r ∷ rs) (omega arith) a.order a.bounded
 

@@ -5,7 +5,7 @@ use Rattle.zknow.specs.declared.fact.Fact.TheVariants.{Seen}
 use Rattle.zber.specs.declared.text.Mode.{Mode}
 use Rattle.zknow.specs.Known.{records_at}
 use Rattle.zknow.specs.List.Listing.{is_hex, listing}
-use Rattle.zknow.specs.List.ListLaws.{StandsIn, conflict_text}
+use Rattle.zknow.specs.List.ListLaws.{IsSubstring, conflict_text}
 use Rattle.zorigin.specs.declared.settings.Settings.{Settings}
 use Rattle.zorigin.specs.declared.answer.Answer.{Answer}
 use Rattle.zorigin.specs.Facts.{facts_of}
@@ -31,7 +31,7 @@ pub record DifferingRecords (transcript : ℕ → Transcript) (c set : ℕ) (pos
 abbrev pub IsPrinted : Links → ℕ → ℕ → ℤ → Type 0
 IsPrinted pool c set position =
     (names : List (List ℕ)) (mode : Mode)
-    → StandsIn
+    → IsSubstring
     (conflict_text names (is_hex mode) (record { position = position; target = c; set = set })
     (records_at c set position pool.knowledge))
     (listing names mode pool.knowledge)

@@ -1,7 +1,7 @@
 -- The events that can have left a connection as it is.
 use Rattle.std.specs.Prelude.{◌≡◌, true, false, ℕ, List, [], ◌∷◌, ◌++◌, Option, None, Some}
 use Rattle.zber.specs.Elements.{Element}
-use Rattle.zber.specs.Spelling.{Begins}
+use Rattle.zber.specs.Spelling.{HasFirstMessage}
 use Rattle.zber.specs.Stream.{Stream}
 use Rattle.zapdu.specs.declared.apdu.Apdu.{Apdu}
 use Rattle.zorigin.specs.declared.settings.Settings.{Settings}
@@ -16,7 +16,7 @@ use Rattle.zoom_pool.specs.Links.{Link}
 -- the octets not yet taken begin with the message kept, if there is one; the framer has those that follow
 abbrev pub IsKept : List ℕ → Option Element → List ℕ → Type 0
 IsKept rest None octets = rest ≡ octets
-IsKept rest (Some e) octets = Begins MESSAGE_LIMIT rest e octets
+IsKept rest (Some e) octets = HasFirstMessage MESSAGE_LIMIT rest e octets
 
 -- The framer has the octets that follow the messages taken and the message kept. It has no fault if the connection
 -- was not stopped.

@@ -4,9 +4,9 @@ use Rattle.std.specs.List.{find, flat_map}
 use Rattle.zapdu.specs.declared.apdu.Apdu.{Apdu}
 use Rattle.zapdu.specs.declared.apdu.Apdu.TheVariants as apdus
 use Rattle.zplan.specs.Plan as plan
-use Rattle.zplan.specs.Plan.{Operation, Event, Sends, Receives, Opens, Finds, asked_in, replies_in, outstanding_in, IsDue}
+use Rattle.zplan.specs.Plan.{Operation, PlanEvent, RequestSent, ReplyAccepted, InitReply, SearchReply, asked_in, replies_in, outstanding_in, IsDue}
 use Rattle.zplan.specs.Positions.{IsIn, IsWanted, first_of, up_to}
-use Rattle.zplan.specs.Agenda.{Agenda, IsAgenda, IsSent, IsAnswered, SameAgenda, HasWaiting, whole_agenda}
+use Rattle.zplan.specs.Agenda.{Agenda, IsAgenda, AfterNoteSent, AfterNoteAnswered, SameAgenda, HasWaiting, whole_agenda}
 use Rattle.zorigin.specs.declared.settings.Settings.{Settings}
 use Rattle.zorigin.specs.declared.settings.Ask.{Ask}
 use Rattle.zplan.specs.declared.range.Range.{Range}
@@ -25,7 +25,7 @@ use Rattle.zorigin.specs.Changes.{force_in, outcome_in, unanswered}
 use Rattle.zorigin.specs.Sending.{is_unsendable, search_request}
 use Rattle.zorigin.specs.Calls.{refusal}
 use Rattle.zorigin.specs.Replies.{verdict}
-use Rattle.zorigin.specs.Log.{Log, Made, Got, Past, past, standing, state_of, opening, force_after, answers, search_in}
+use Rattle.zorigin.specs.Log.{Log, Made, Got, Past, past, standing, state_of, opening, force_after, is_answer_to, search_in}
 use Rattle.zoom_pool.specs.declared.call.Call.{Call}
 use Rattle.zoom_pool.specs.declared.state.State.{State}
 use Rattle.zoom_pool.specs.declared.state.State.TheVariants as states
@@ -59,16 +59,16 @@ left_in window phases.Closed = 0
 -- ---- what the log says at each phase
 
 -- the events once Init was answered
-abbrev pub opened_events : Bool → Bool → List Event
-opened_events search three = Receives plan.Init (Opens search three) ∷ Sends plan.Init ∷ []
+abbrev pub opened_events : Bool → Bool → List PlanEvent
+opened_events search three = ReplyAccepted plan.Init (InitReply search three) ∷ RequestSent plan.Init ∷ []
 
 -- the events once the search was sent
-abbrev pub searched_events : Bool → List Event
-searched_events three = Sends plan.Search ∷ opened_events true three
+abbrev pub searched_events : Bool → List PlanEvent
+searched_events three = RequestSent plan.Search ∷ opened_events true three
 
 -- the events once the search was answered with this count
-abbrev pub found_events : Bool → ℕ → List Event
-found_events three count = Receives plan.Search (Finds (Some count)) ∷ searched_events three
+abbrev pub found_events : Bool → ℕ → List PlanEvent
+found_events three count = ReplyAccepted plan.Search (SearchReply (Some count)) ∷ searched_events three
 
 -- there is an answer to Init
 abbrev pub HasOpening : Past → Type 0
@@ -84,7 +84,7 @@ HaveApartStarts [] = Unit {0}
 HaveApartStarts (l ∷ ls) = IsFreeStart (first_of l) ls × HaveApartStarts ls
 
 -- each operation that was sent has a reply
-abbrev pub AllAnswered : List Event → Type 0
+abbrev pub AllAnswered : List PlanEvent → Type 0
 AllAnswered events = (a : Operation) → IsIn a (asked_in events) → replies_in events a ≡ None → ⊥
 
 -- the request for the search can be sent
@@ -99,7 +99,7 @@ HasVersion p three = (force_after (opening p)).v3 ≡ three
 pub record HasFound (ask : Ask) (p : Past) (three : Bool) (count : ℕ) : Type 0 where
   pub asked : flat_map search_in p.admitted ≡ unanswered 1 1 ask ∷ []
   pub answer : Answer
-  pub answered : find (answers 1) p.accepted ≡ Some answer
+  pub answered : find (is_answer_to 1) p.accepted ≡ Some answer
   pub found : ℤ
   pub outcome : outcome_in answer.reply ≡ Some (outcomes.Found found)
   pub counts : natural found ≡ count
@@ -109,7 +109,7 @@ pub record HasFound (ask : Ask) (p : Past) (three : Bool) (count : ℕ) : Type 0
 
 module _ (e : Errand) (settings : Settings) (log : Log) where
   -- the log as events of the plan
-  abbrev pub events_at : List Event
+  abbrev pub events_at : List PlanEvent
   events_at = events_of e.ask settings log
 
   -- nothing was sent, and Init has no answer
@@ -119,7 +119,7 @@ module _ (e : Errand) (settings : Settings) (log : Log) where
 
   -- Init was sent, and has no answer
   pub record AtOpening : Type 0 where
-    pub events : events_at ≡ Sends plan.Init ∷ []
+    pub events : events_at ≡ RequestSent plan.Init ∷ []
     pub opening : opening (past settings log) ≡ None
 
   -- Init was answered, and the search was not sent
@@ -153,7 +153,7 @@ module _ (e : Errand) (settings : Settings) (log : Log) where
     pub search : IsIn plan.Search (asked_in events_at)
     pub opened : replies_in events_at plan.Init ≡ None → ⊥
     pub count : ℕ
-    pub found : replies_in events_at plan.Search ≡ Some (Finds (Some count))
+    pub found : replies_in events_at plan.Search ≡ Some (SearchReply (Some count))
     pub set : HasFound e.ask (past settings log) a.three count
     pub outstanding : outstanding_in events_at ≡ length a.waiting
     pub apart : HaveApartStarts a.waiting
@@ -282,9 +282,9 @@ IsRangesCall list call =
     (call ≡ origin.Present (first_of (positions list) + 1) 1 list) × (are_ranges list ≡ true)
 
 -- the phase is not Counted, so no schedule has to be made
-abbrev pub IsScheduled : Phase → Type 0
-IsScheduled (phases.Counted three count) = ⊥
-IsScheduled _ = Unit {0}
+abbrev pub IsNotCounted : Phase → Type 0
+IsNotCounted (phases.Counted three count) = ⊥
+IsNotCounted _ = Unit {0}
 
 -- how many Presents may be outstanding; none if no call can be made
 abbrev pub room_for : ℕ → State → Option ℕ
@@ -370,7 +370,7 @@ pub record PrepareStep (old new : DriverState) : Type 0 where
 
 -- the Present that was ready was sent
 abbrev pub IsSentAgenda : Bool → Agenda → Phase → Type 0
-IsSentAgenda true a (phases.Asking b) = IsSent a b
+IsSentAgenda true a (phases.Asking b) = AfterNoteSent a b
 IsSentAgenda true a _ = ⊥
 IsSentAgenda false a new = Unit {0}
 
@@ -396,7 +396,7 @@ counted_phase three (Some count) = phases.Counted three count
 
 -- if a list that begins at `first` is awaited, it was answered with so many records
 abbrev pub IsAnsweredAgenda : ℕ → ℕ → Agenda → Phase → Type 0
-IsAnsweredAgenda first records a (phases.Asking b) = HasWaiting first a → IsAnswered first records a b
+IsAnsweredAgenda first records a (phases.Asking b) = HasWaiting first a → AfterNoteAnswered first records a b
 IsAnsweredAgenda first records a _ = ⊥
 
 -- the phase after a response; the number of a Present's operation is its first position plus 1

@@ -3,7 +3,7 @@ use Rattle.std.specs.Prelude.{◌≡◌, ℕ, ℤ, ◌<◌, ◌≤◌, ◌+◌, 
 use Rattle.zapdu.specs.declared.apdu.Apdu.{Apdu}
 use Rattle.zapdu.specs.declared.apdu.Apdu.TheVariants as apdus
 use Rattle.zplan.specs.Plan as plan
-use Rattle.zplan.specs.Plan.{Operation, Event, Sends, Receives, Closes, Reply, Opens, Finds, Shows, IsDue, IsAnsweredWhole, number, replies_in, count_in}
+use Rattle.zplan.specs.Plan.{Operation, PlanEvent, RequestSent, ReplyAccepted, CloseSent, Reply, InitReply, SearchReply, PresentReply, IsDue, IsPlanAnswered, number, replies_in, count_in}
 use Rattle.zplan.specs.Positions.{IsWanted, up_to}
 use Rattle.zorigin.specs.declared.settings.Settings.{Settings}
 use Rattle.zorigin.specs.declared.settings.Ask.{Ask}
@@ -25,11 +25,11 @@ use Rattle.zoom_pool.specs.Transcripts.{answer_in}
 -- ---- the log as events of the plan
 
 -- a call as an event of the plan
-abbrev pub plan_of : Call → Event
-plan_of Init = Sends plan.Init
-plan_of (Search op set ask) = Sends plan.Search
-plan_of (Present op set ranges) = Sends (plan.Present (positions ranges))
-plan_of Close = Closes
+abbrev pub plan_of : Call → PlanEvent
+plan_of Init = RequestSent plan.Init
+plan_of (Search op set ask) = RequestSent plan.Search
+plan_of (Present op set ranges) = RequestSent (plan.Present (positions ranges))
+plan_of Close = CloseSent
 
 -- the operation of the plan that a request is for
 abbrev pub operation_for : What → Operation
@@ -52,29 +52,29 @@ counted true n = Some (natural n)
 
 -- an accepted reply, reduced to what decides the next request
 abbrev pub reply_for : Ask → Past → Apdu → Reply
-reply_for ask p (apdus.InitResponse v) = Opens (v.result && can_search ask p) (force_in v).v3
-reply_for ask p (apdus.SearchResponse v) = Finds (counted (v.search_status && can_present p) v.result_count)
-reply_for ask p (apdus.PresentResponse v) = Shows (length (records_in v.records))
-reply_for ask p _ = Shows 0
+reply_for ask p (apdus.InitResponse v) = InitReply (v.result && can_search ask p) (force_in v).v3
+reply_for ask p (apdus.SearchResponse v) = SearchReply (counted (v.search_status && can_present p) v.result_count)
+reply_for ask p (apdus.PresentResponse v) = PresentReply (length (records_in v.records))
+reply_for ask p _ = PresentReply 0
 
 -- an admitted call is an event, a refused call is none
-abbrev pub made_event : Option CallRefused → Call → List Event → List Event
+abbrev pub made_event : Option CallRefused → Call → List PlanEvent → List PlanEvent
 made_event None call events = plan_of call ∷ events
 made_event (Some reason) call events = events
 
 -- an answer is an event
-abbrev pub answer_event : Ask → Past → Option Answer → List Event → List Event
+abbrev pub answer_event : Ask → Past → Option Answer → List PlanEvent → List PlanEvent
 answer_event ask p None events = events
 answer_event ask p (Some answer) events =
-    Receives (operation_for answer.asked.what) (reply_for ask p answer.reply) ∷ events
+    ReplyAccepted (operation_for answer.asked.what) (reply_for ask p answer.reply) ∷ events
 
 -- an accepted reply with an answer is an event, a refused reply is none
-abbrev pub got_event : Ask → Past → Result Taken Refused → List Event → List Event
+abbrev pub got_event : Ask → Past → Result Taken Refused → List PlanEvent → List PlanEvent
 got_event ask p (Ok taken) events = answer_event ask p (answer_in taken) events
 got_event ask p (Err reason) events = events
 
 -- the events of the plan in this log, newest first
-abbrev pub events_of : Ask → Settings → Log → List Event
+abbrev pub events_of : Ask → Settings → Log → List PlanEvent
 events_of ask settings [] = []
 events_of ask settings (Made call ∷ log) =
     made_event (refusal (standing (past settings log)) call) call (events_of ask settings log)
@@ -92,13 +92,13 @@ IsNumbered _ = Unit {0}
 
 module _ (ask : Ask) (wanted : List ℕ) (step : ℕ) where
   -- a request is due by the plan; Close is due once all that the plan asks for was answered
-  abbrev pub IsDueEvent : List Event → Event → Type 0
-  IsDueEvent events (Sends a) = IsDue wanted step events a
-  IsDueEvent events (Receives a r) = ⊥
-  IsDueEvent events Closes = IsAnsweredWhole wanted step events
+  abbrev pub IsDueEvent : List PlanEvent → PlanEvent → Type 0
+  IsDueEvent events (RequestSent a) = IsDue wanted step events a
+  IsDueEvent events (ReplyAccepted a r) = ⊥
+  IsDueEvent events CloseSent = IsPlanAnswered wanted step events
 
   -- an admitted call is numbered and due; a refused call sends nothing
-  abbrev pub IsDueCall : List Event → Option CallRefused → Call → Type 0
+  abbrev pub IsDueCall : List PlanEvent → Option CallRefused → Call → Type 0
   IsDueCall events None call = IsNumbered call × IsDueEvent events (plan_of call)
   IsDueCall events (Some reason) call = Unit {0}
 

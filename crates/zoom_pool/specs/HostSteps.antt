@@ -9,7 +9,7 @@ use Rattle.zorigin.specs.Sending.{encoding_of, sent_of, IsReadBack}
 use Rattle.ztarget.specs.declared.database.Database.{Database}
 use Rattle.ztarget.specs.declared.settings.TargetSettings.{TargetSettings}
 use Rattle.ztarget.specs.declared.error.TargetError.{TargetError}
-use Rattle.ztarget.specs.Receiving.{TargetState, IsAnswered, After as TargetAfter}
+use Rattle.ztarget.specs.Receiving.{TargetState, IsOwedReplyLast, After as TargetAfter}
 use Rattle.zapdu.specs.Writes.{Writes}
 use Rattle.zoom_pool.specs.Inputs.{Input, IsReadAs}
 use Rattle.zoom_pool.specs.Transcripts.{joined}
@@ -82,7 +82,7 @@ ApduReceipt v old new =
     (databases : List Database) (settings : TargetSettings) (received released : List Apdu)
     → TargetAfter databases settings received released old
     → TargetAfter databases settings (v ∷ received) released new
-    × IsAnswered databases settings received v old.pending new.pending
+    × IsOwedReplyLast databases settings received v old.pending new.pending
 
 -- what receiving an APDU does: the target takes it; or the target refuses it for a reason other than memory; or no
 -- memory was found. The target is unchanged unless it takes the APDU.
@@ -143,6 +143,6 @@ ReceivePieceResult piece (Err e) old new =
     SameOutput old new × ReceiptStep (IsFollowingPiece old.framer piece) AnyRest old.target new.target
 
 -- the reply was not put
-abbrev pub is_unput : {E : Type 0} → Result Bool E → Bool
-is_unput (Ok put) = not put
-is_unput (Err e) = true
+abbrev pub is_not_put : {E : Type 0} → Result Bool E → Bool
+is_not_put (Ok put) = not put
+is_not_put (Err e) = true

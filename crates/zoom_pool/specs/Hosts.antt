@@ -3,7 +3,7 @@
 use Rattle.std.specs.Prelude.{◌≡◌, ◌⊎◌, ℕ, ◌<◌, Bool, true, false, List, [], ◌∷◌, ◌++◌, length, remove, slice_get, None, Some, Result, Ok, Err}
 use Rattle.std.specs.List.{flat_map, list_any}
 use Rattle.zber.specs.Elements.{Element}
-use Rattle.zber.specs.Spelling.{Begins}
+use Rattle.zber.specs.Spelling.{HasFirstMessage}
 use Rattle.zber.specs.Stream.{Stream}
 use Rattle.zber.specs.Unfinished.{IsUnfinished}
 use Rattle.zapdu.specs.declared.apdu.Apdu.{Apdu}
@@ -12,7 +12,7 @@ use Rattle.zorigin.specs.Sending.{encoding_of, sent_of, IsReadBack}
 use Rattle.ztarget.specs.declared.database.Database.{Database}
 use Rattle.ztarget.specs.declared.settings.TargetSettings.{TargetSettings}
 use Rattle.ztarget.specs.declared.error.TargetError.{TargetError}
-use Rattle.ztarget.specs.Replies.{Answer, owed, replies}
+use Rattle.ztarget.specs.Replies.{OwedReply, owed, replies}
 use Rattle.ztarget.specs.Receiving.{TargetState, is_close, may_release, After as TargetAfter}
 use Rattle.zoom_pool.specs.Inputs.{Input, Message, Foreign, Fault, AreInput}
 use Rattle.zber.specs.declared.framer.TheConstants.{MESSAGE_LIMIT}
@@ -36,7 +36,7 @@ abbrev pub holdings_of : TargetState → Holdings
 holdings_of t = record { databases = t.databases; settings = t.settings }
 
 -- the reply that a target owes to an APDU after it received these, newest first; or why it does not take the APDU
-abbrev pub owed_by : Holdings → List Apdu → Apdu → Result Answer TargetError
+abbrev pub owed_by : Holdings → List Apdu → Apdu → Result OwedReply TargetError
 owed_by holdings received v = owed holdings.databases holdings.settings received v
 
 -- ---- what is received
@@ -45,8 +45,8 @@ owed_by holdings received v = owed holdings.databases holdings.settings received
 -- each APDU after those before it.
 pub data AreReceived (holdings : Holdings) (stream : List ℕ) : List Apdu → List ℕ → Type 0 where
   nothing : AreReceived holdings stream [] stream
-  message : {received : List Apdu} {rest last : List ℕ} {e : Element} {by : Answer} {v : Apdu}
-      → AreReceived holdings stream received rest → Begins MESSAGE_LIMIT rest e last → Writes v e
+  message : {received : List Apdu} {rest last : List ℕ} {e : Element} {by : OwedReply} {v : Apdu}
+      → AreReceived holdings stream received rest → HasFirstMessage MESSAGE_LIMIT rest e last → Writes v e
       → owed_by holdings received v ≡ Ok by → AreReceived holdings stream (v ∷ received) last
 
 -- what stops a serving end that received these: a fault of the framing, a message that is no APDU, an APDU that

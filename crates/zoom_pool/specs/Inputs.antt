@@ -3,10 +3,10 @@ use Rattle.std.specs.Prelude.{◌≡◌, ℕ, ◌<◌, List, [], length}
 use Rattle.zber.specs.declared.fault.FaultKind.{FaultKind}
 use Rattle.zber.specs.declared.framer.TheConstants.{MESSAGE_LIMIT}
 use Rattle.zber.specs.Elements.{Element}
-use Rattle.zber.specs.Spelling.{Begins}
-use Rattle.zber.specs.Shown.{Shows}
+use Rattle.zber.specs.Spelling.{HasFirstMessage}
+use Rattle.zber.specs.Shown.{HasFault}
 use Rattle.zber.specs.Unfinished.{IsUnfinished}
-use Rattle.zber.specs.Laws.{Gave}
+use Rattle.zber.specs.Laws.{AreMessages}
 use Rattle.zapdu.specs.declared.apdu.Apdu.{Apdu}
 use Rattle.zapdu.specs.declared.apdu.ApduError.{ApduError}
 use Rattle.zapdu.specs.declared.apdu.ApduError.TheVariants as errors
@@ -38,7 +38,7 @@ IsReadAs e _ = ⊥
 pub record HasMessage (xs : List ℕ) (input : Input) : Type 0 where
   pub element : Element
   pub rest : List ℕ
-  pub begins : Begins MESSAGE_LIMIT xs element rest
+  pub begins : HasFirstMessage MESSAGE_LIMIT xs element rest
   pub read : IsReadAs element input
 
 -- the octets are this input to a connection that was not stopped
@@ -46,12 +46,12 @@ abbrev pub AreInput : List ℕ → Input → Type 0
 AreInput xs AlreadyStopped = ⊥
 AreInput xs (Message v) = HasMessage xs (Message v)
 AreInput xs (Foreign error) = HasMessage xs (Foreign error)
-AreInput xs (Fault kind at) = Shows MESSAGE_LIMIT xs kind at
+AreInput xs (Fault kind at) = HasFault MESSAGE_LIMIT xs kind at
 AreInput xs (Rest n) = (0 < length xs) × (n ≡ length xs) × IsUnfinished MESSAGE_LIMIT xs
 AreInput xs Nothing = xs ≡ []
 
 -- these octets follow the first `k` messages of the stream
 pub record IsBehind (stream : List ℕ) (k : ℕ) (rest : List ℕ) : Type 0 where
   pub messages : List Element
-  pub gave : Gave MESSAGE_LIMIT stream messages rest
+  pub gave : AreMessages MESSAGE_LIMIT stream messages rest
   pub count : length messages ≡ k

@@ -12,7 +12,7 @@ use Rattle.zoom_pool.specs.declared.answer.Step.TheVariants as steps
 use Rattle.zoom_pool.specs.States.{is_stopped}
 use Rattle.zoom_pool.specs.Inputs.{Input, IsBehind}
 use Rattle.zber.specs.declared.framer.TheConstants.{MESSAGE_LIMIT}
-use Rattle.zoom_pool.specs.Transcripts.{Event, Transcript, IsTranscript, NextInput, state_at, answer_to}
+use Rattle.zoom_pool.specs.Transcripts.{Event, Transcript, IsTranscript, NextInput, state_at, take_result}
 use Rattle.zoom_pool.specs.Links.{Links}
 use Rattle.zoom_pool.specs.History.{History, accepted, After, AfterUpTo}
 
@@ -36,10 +36,10 @@ pub record IsWaiting (p : Transcript) : Type 0 where
 
 -- when a Take returns Nothing, and when it returns Stopped
 pub record TakeLaws : Type 0 where
-  pub nothing : (p : Transcript) (input : Input) → NextInput p input → (answer_to p input ≡ Ok steps.Nothing)
+  pub nothing : (p : Transcript) (input : Input) → NextInput p input → (take_result p input ≡ Ok steps.Nothing)
       ↔ IsWaiting p
   pub stopped : (p : Transcript) (input : Input)
-      → NextInput p input → (answer_to p input ≡ Ok steps.Stopped) ↔ (is_stopped (state_at p) ≡ true)
+      → NextInput p input → (take_result p input ≡ Ok steps.Stopped) ↔ (is_stopped (state_at p) ≡ true)
 
 -- if a history can have left a pool, it can have left it up to the next Take of any connection
 abbrev pub UpToLaw : Type 0

@@ -7,20 +7,20 @@ use Rattle.zknow.specs.declared.fact.Fact.{Fact}
 use Rattle.zknow.specs.Tables.Join.{IsUnion, IsPartOfUnion}
 use Rattle.zorigin.specs.declared.answer.Answer.{Answer}
 use Rattle.zorigin.specs.declared.answer.Taken.{Taken}
-use Rattle.zorigin.specs.Facts.{IsShowable, HasShowable}
+use Rattle.zorigin.specs.Facts.{IsFitAnswer, HasFitAnswer}
 
 -- the reply was read from an element, and its facts can be shown
 pub record IsLearnable (answer : Answer) : Type 0 where
   pub element : Element
   pub written : Writes answer.reply element
-  pub showable : IsShowable answer
+  pub showable : IsFitAnswer answer
 
 -- what the origin took was read from an element, and its facts can be shown
 pub record HasLearnable (taken : Taken) : Type 0 where
   pub element : Element
   pub reply : Apdu
   pub written : Writes reply element
-  pub showable : HasShowable reply taken
+  pub showable : HasFitAnswer reply taken
 
 -- the reply was read from an element
 abbrev pub IsRead : Apdu → Type 0

@@ -3,14 +3,14 @@ use Rattle.std.specs.Prelude.{◌≡◌, ◌↔◌, ℕ, ◌<◌, Bool, true, fa
 use Rattle.zorigin.specs.declared.settings.Settings.{Settings}
 use Rattle.zorigin.specs.declared.refusal.CallRefused.{CallRefused}
 use Rattle.zorigin.specs.Standings.{Call}
-use Rattle.zorigin.specs.Log.{IsCalled}
+use Rattle.zorigin.specs.Log.{IsMadeCall}
 use Rattle.zoom_pool.specs.declared.state.State.{State}
 use Rattle.zoom_pool.specs.declared.answer.Step.{Step}
 use Rattle.zoom_pool.specs.declared.answer.Outcome.{Outcome}
 use Rattle.zoom_pool.specs.declared.answer.TakeError.{TakeError}
 use Rattle.zoom_pool.specs.States.{is_stopped}
 use Rattle.zoom_pool.specs.Inputs.{Input}
-use Rattle.zoom_pool.specs.Transcripts.{Event, Took, NextInput, connection_call_result, answer_to, outcome_of, state_at, past_of, given, is_lost, sent, IsDone}
+use Rattle.zoom_pool.specs.Transcripts.{Event, Took, NextInput, connection_call_result, take_result, outcome_of, state_at, past_of, given, is_lost, sent, IsDone}
 use Rattle.zoom_pool.specs.Links.{Links}
 use Rattle.zoom_pool.specs.History.{History, events_on, After, AfterUpTo}
 
@@ -27,14 +27,14 @@ IsStateAt c pool state =
 -- the result of a call, unless no memory is found; also after a Take of `d` that found none
 abbrev pub IsCallResult : ℕ → Call → Links → Result (Unit {0}) CallRefused → Type 0
 IsCallResult c call pool answer =
-    (settings : Settings) (d : ℕ) (h : History) (a : AfterUpTo settings d h pool) → IsCalled answer
+    (settings : Settings) (d : ℕ) (h : History) (a : AfterUpTo settings d h pool) → IsMadeCall answer
     → answer ≡ connection_call_result (a.transcript c) call
 
 -- the result of a Take by its input, unless no memory is found; also after a Take of `d` that found none
 abbrev pub IsTakeResult : ℕ → Links → Result Step TakeError → Type 0
 IsTakeResult c pool answer =
     (settings : Settings) (d : ℕ) (h : History) (a : AfterUpTo settings d h pool) → IsDone answer
-    → (input : Input) × NextInput (a.transcript c) input × (answer ≡ answer_to (a.transcript c) input)
+    → (input : Input) × NextInput (a.transcript c) input × (answer ≡ take_result (a.transcript c) input)
 
 -- the same, with what the origin took
 abbrev pub IsTakeOutcome : ℕ → Links → Result Outcome TakeError → Type 0

@@ -4,7 +4,7 @@ use Rattle.std.specs.Prelude.{◌≡◌, ◌≢◌, ◌⊎◌, ℕ, pos, ◌≤�
 use Rattle.std.specs.List.{list_any, flat_map}
 use Rattle.zapdu.specs.declared.apdu.Apdu.{Apdu}
 use Rattle.zapdu.specs.declared.apdu.Apdu.TheVariants as apdus
-use Rattle.zplan.specs.Plan.{IsNext}
+use Rattle.zplan.specs.Plan.{IsNextEvent}
 use Rattle.zorigin.specs.declared.settings.Settings.{Settings}
 use Rattle.zorigin.specs.declared.settings.Ask.{Ask}
 use Rattle.zorigin.specs.declared.answer.Answer.{Answer}
@@ -17,7 +17,7 @@ use Rattle.zorigin.specs.Calls.{refusal}
 use Rattle.zorigin.specs.Log.{Log, Made, Got, Past, past, standing, state_of, opening, force_after, is_close_call, search_in}
 use Rattle.zoom_questions.specs.declared.question.Question.{Question}
 use Rattle.zoom_questions.specs.declared.question.MetaSettings.{MetaSettings}
-use Rattle.zoom_questions.specs.Askable.{HasArcs}
+use Rattle.zoom_questions.specs.Askable.{HasFewArcs}
 use Rattle.zoom_pool.specs.Driving.{plan_of, events_of, IsNumbered}
 
 -- The errand of a connection: its search; the wanted positions; how many of them one Present asks for; how many
@@ -55,7 +55,7 @@ errand_of s q = errand_with q s.step s.window
 pub record IsFitErrand (e : Errand) (settings : Settings) : Type 0 where
   pub name : length settings.name ≤ 2000000
   pub most : e.step ≤ 1000
-  pub syntax : HasArcs e.ask.syntax
+  pub syntax : HasFewArcs e.ask.syntax
   pub small : e.ask.small ≡ pos 0
   pub large : e.ask.large ≡ pos 1
   pub medium : e.ask.medium ≡ pos 0
@@ -82,7 +82,7 @@ pub record IsNextCall (e : Errand) (settings : Settings) (log : Log) (call : Cal
   pub stands : may_call (state_of (past settings log)) ≡ true
   pub of : IsCallOf e call
   pub numbered : IsNumbered call
-  pub next : IsNext e.wanted e.step (room_in e.window (past settings log)) (events_of e.ask settings log) (plan_of call)
+  pub next : IsNextEvent e.wanted e.step (room_in e.window (past settings log)) (events_of e.ask settings log) (plan_of call)
 
 -- the search is refused because the target does not offer it or it cannot be sent
 abbrev pub is_skip : Option CallRefused → Call → Bool

@@ -3,7 +3,7 @@ use Rattle.std.specs.Prelude.{◌≡◌, ℕ, true, List, [], ◌∷◌, Option,
 use Rattle.zber.specs.declared.fault.FrameError.{FrameError}
 use Rattle.zber.specs.declared.fault.FrameError.TheVariants.{Fault, Memory}
 use Rattle.zber.specs.Elements.{Element}
-use Rattle.zber.specs.Shown.{Shows}
+use Rattle.zber.specs.Shown.{HasFault}
 use Rattle.zber.specs.Stream.{Stream}
 use Rattle.zber.specs.Unfinished.{IsUnfinished}
 use Rattle.zknow.specs.declared.fact.Fact.{Fact}
@@ -11,7 +11,7 @@ use Rattle.zknow.specs.Tables.Join.{IsUnion, IsPartOfUnion}
 use Rattle.zorigin.specs.declared.settings.Settings.{Settings}
 use Rattle.zorigin.specs.declared.refusal.CallRefused.{CallRefused}
 use Rattle.zorigin.specs.Standings.{Standing, Call}
-use Rattle.zorigin.specs.Log.{Log, Got, IsCalled, After as OriginAfter}
+use Rattle.zorigin.specs.Log.{Log, Got, IsMadeCall, After as OriginAfter}
 use Rattle.zoom_pool.specs.declared.state.Reason.{Reason}
 use Rattle.zoom_pool.specs.declared.state.State.{State}
 use Rattle.zoom_pool.specs.declared.state.State.TheVariants as states
@@ -76,7 +76,7 @@ NextMessage p (Ok None) held framer =
     × (framer.fault ≡ None)
 NextMessage p (Err (Fault kind at)) held framer =
     (held ≡ None) × ((reason : Reason) → FramerAfter (after_stop p reason) None framer)
-    × Shows MESSAGE_LIMIT framer.octets kind at
+    × HasFault MESSAGE_LIMIT framer.octets kind at
 NextMessage p (Err Memory) held framer = (held ≡ None) × FramerAfter p None framer
 
 -- what stops a connection: the reason, if there is one; otherwise what stopped it before
@@ -137,4 +137,4 @@ LinkRecorded event change old new =
 -- the result of a call, unless no memory is found
 abbrev pub IsLinkCallResult : Call → Result (Unit {0}) CallRefused → Link → Type 0
 IsLinkCallResult call answer old =
-    (p : Transcript) → AreConsistent p old → IsCalled answer → answer ≡ connection_call_result p call
+    (p : Transcript) → AreConsistent p old → IsMadeCall answer → answer ≡ connection_call_result p call

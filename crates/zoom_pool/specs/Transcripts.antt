@@ -12,7 +12,7 @@ use Rattle.zorigin.specs.declared.refusal.CallRefused.{CallRefused}
 use Rattle.zorigin.specs.declared.refusal.CallRefused.TheVariants as calls
 use Rattle.zorigin.specs.declared.refusal.Refused.{Refused}
 use Rattle.zorigin.specs.Standings.{Call}
-use Rattle.zorigin.specs.Calls.{call_answer}
+use Rattle.zorigin.specs.Calls.{call_result}
 use Rattle.zorigin.specs.Replies.{verdict}
 use Rattle.zorigin.specs.Sending.{encoding_of}
 use Rattle.zorigin.specs.Facts.{facts_of}
@@ -66,7 +66,7 @@ dropped (Err reason) = Err reason
 -- the result of a call; a connection that was stopped refuses the call with `WrongState`, without its origin
 abbrev pub connection_call_result : Transcript → Call → Result (Unit {0}) CallRefused
 connection_call_result p call =
-    if is_some p.stop then Err calls.WrongState else dropped (call_answer (standing (past_of p)) call)
+    if is_some p.stop then Err calls.WrongState else dropped (call_result (standing (past_of p)) call)
 
 -- ---- takes
 
@@ -107,18 +107,18 @@ step_of_taken (taken.Answered answer) = steps.Answered
 step_of_taken taken.Closed = steps.Closed
 
 -- the result of a Take by the origin's verdict on the reply
-abbrev pub answer_to_reply : Result Taken Refused → Result Step TakeError
-answer_to_reply (Ok taken) = Ok (step_of_taken taken)
-answer_to_reply (Err reason) = Err (errors.Refused reason)
+abbrev pub take_result_of_verdict : Result Taken Refused → Result Step TakeError
+take_result_of_verdict (Ok taken) = Ok (step_of_taken taken)
+take_result_of_verdict (Err reason) = Err (errors.Refused reason)
 
 -- the result of a Take with this input
-abbrev pub answer_to : Transcript → Input → Result Step TakeError
-answer_to p AlreadyStopped = Ok steps.Stopped
-answer_to p (Message v) = answer_to_reply (verdict (standing (past_of p)) v)
-answer_to p (Foreign error) = Err (errors.Decode error)
-answer_to p (Fault kind at) = Err (errors.Frame kind at)
-answer_to p (Rest n) = if p.ended then Err (errors.Frame kinds.Truncated n) else Ok steps.Nothing
-answer_to p Nothing = Ok (if p.ended then steps.Ended else steps.Nothing)
+abbrev pub take_result : Transcript → Input → Result Step TakeError
+take_result p AlreadyStopped = Ok steps.Stopped
+take_result p (Message v) = take_result_of_verdict (verdict (standing (past_of p)) v)
+take_result p (Foreign error) = Err (errors.Decode error)
+take_result p (Fault kind at) = Err (errors.Frame kind at)
+take_result p (Rest n) = if p.ended then Err (errors.Frame kinds.Truncated n) else Ok steps.Nothing
+take_result p Nothing = Ok (if p.ended then steps.Ended else steps.Nothing)
 
 -- the outcome by the origin's verdict: the result, with what the origin took
 abbrev pub outcome_of_reply : Result Taken Refused → Result Outcome TakeError
@@ -150,9 +150,9 @@ step_of outcome.Ended = steps.Ended
 step_of outcome.Stopped = steps.Stopped
 
 -- the result that a caller sees of an outcome
-abbrev pub answer_of_outcome : Result Outcome TakeError → Result Step TakeError
-answer_of_outcome (Ok outcome) = Ok (step_of outcome)
-answer_of_outcome (Err error) = Err error
+abbrev pub take_result_of_outcome : Result Outcome TakeError → Result Step TakeError
+take_result_of_outcome (Ok outcome) = Ok (step_of outcome)
+take_result_of_outcome (Err error) = Err error
 
 -- the answer in what the origin took; a Close has none
 abbrev pub answer_in : Taken → Option Answer

@@ -83,13 +83,13 @@ pub enum TakeError {
 impl TakeError {
     /// Returns the name of the fault, of the decoding error or of the origin's reason, or `Memory`, in ASCII
     /// letters. It takes no memory.
-    pub fn word(&self) -> &'static str
+    pub fn name(&self) -> &'static str
         ensures { result.now ≡ error_name self.now }
     {
         match self {
-            TakeError::Frame { kind, .. } => kind.word(),
-            TakeError::Decode(error) => error.word(),
-            TakeError::Refused(reason) => reason.word(),
+            TakeError::Frame { kind, .. } => kind.name(),
+            TakeError::Decode(error) => error.name(),
+            TakeError::Refused(reason) => reason.name(),
             TakeError::Memory => "Memory",
         }
     }

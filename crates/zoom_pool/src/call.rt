@@ -1,6 +1,6 @@
 //! Calls on a connection.
 ghost use Rattle.std.specs.Prelude.{◌≡◌, IfOk, OnErr};
-ghost use Rattle.zorigin.specs.Log.{AnswersCall, LeavesCall};
+ghost use Rattle.zorigin.specs.Log.{IsResultOfCall, OriginAfterCall};
 ghost use Rattle.zorigin.specs.Sending.{IsReadBack};
 ghost use Rattle.zoom_pool.specs.CallsOf.{call_of};
 
@@ -48,8 +48,8 @@ pub enum Call {
 
 /// Makes the call on the origin, and returns what it sends. A refused call leaves the origin unchanged.
 pub(crate) fn sent_for(origin: &mut Origin, call: &Call) -> Result<Sent, CallRefused>
-    ensures answer { AnswersCall origin.old (call_of call.now) result }
-    ensures after { LeavesCall origin.old (call_of call.now) result origin.new }
+    ensures answer { IsResultOfCall origin.old (call_of call.now) result }
+    ensures after { OriginAfterCall origin.old (call_of call.now) result origin.new }
     ensures framed { IfOk result IsReadBack }
     ensures err { OnErr result (origin.new ≡ origin.old) }
 {

@@ -1,6 +1,6 @@
 //! One connection.
 ghost use Rattle.std.specs.Prelude.{◌≡◌, true, [], ◌++◌, Some, OnOk, OnErr};
-ghost use Rattle.zorigin.specs.Log.{IsCalled};
+ghost use Rattle.zorigin.specs.Log.{IsMadeCall};
 ghost use Rattle.zoom_pool.specs.declared.state.State.TheVariants as states;
 ghost use Rattle.zoom_pool.specs.CallsOf.{call_of};
 ghost use Rattle.zoom_pool.specs.Transcripts.{Transcript, Called, Fed, InputEnded, HandedOut, Stopped, empty_transcript, after_call, after_feed, after_stop, state_at};
@@ -83,7 +83,7 @@ impl Connection {
     /// that a call is never refused once the origin has admitted it. A refused call changes nothing.
     pub(crate) fn call(&mut self, call: &Call) -> Result<(), CallRefused>
         ensures answer { IsLinkCallResult (call_of call.now) result self.old }
-        ensures after { IsCalled result
+        ensures after { IsMadeCall result
             → LinkRecorded (Called (call_of call.now)) (λ p. after_call p (call_of call.now)) self.old self.new }
         ensures err { OnErr result (self.new ≡ self.old) }
     {

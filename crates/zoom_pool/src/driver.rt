@@ -4,7 +4,7 @@ ghost use Rattle.zplan.specs.Ranges.{AreWanted};
 ghost use Rattle.zorigin.specs.declared.settings.Settings.{Settings};
 ghost use Rattle.zorigin.specs.Log.{is_close_call};
 ghost use Rattle.zoom_pool.specs.CallsOf.{call_of};
-ghost use Rattle.zoom_questions.specs.Askable.{HasArcs};
+ghost use Rattle.zoom_questions.specs.Askable.{HasFewArcs};
 ghost use Rattle.zoom_pool.specs.Steering.{errand_with};
 ghost use Rattle.zoom_pool.specs.Drivers.{IsDriver, SameDriver, NextCallResult, NoteSentStep, NoteRefusedStep, NoteReplyStep, PrepareStep, RefusedLaw, is_rejection_of};
 
@@ -73,7 +73,7 @@ impl Driver {
     /// Creates the driver of a connection in state Fresh.
     pub(crate) fn new(alloc: Global, question: Question, step: u32, window: u32) -> Self
         requires wanted { AreWanted question.wanted }
-        requires syntax { HasArcs question.syntax }
+        requires syntax { HasFewArcs question.syntax }
         requires step { 0 < step }
         requires most { step ≤ 1000 }
         requires window { 0 < window }

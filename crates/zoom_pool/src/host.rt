@@ -4,7 +4,7 @@ ghost use Rattle.ztarget.specs.Receiving.{is_close};
 ghost use Rattle.ztarget.specs.Levels.{HasElement};
 ghost use Rattle.zoom_questions.specs.NewTargets.{IsNew};
 ghost use Rattle.zoom_pool.specs.Hosts.{HostFed, HostFedPart, HostHandedOut, holdings_of, HostAfter, HostRecorded, ReleaseResult};
-ghost use Rattle.zoom_pool.specs.HostSteps.{EncodeReplyResult, PutReplyResult, ReceivePieceResult, is_unput};
+ghost use Rattle.zoom_pool.specs.HostSteps.{EncodeReplyResult, PutReplyResult, ReceivePieceResult, is_not_put};
 
 use crate::receiving::receive_all;
 use crate::waiting::{append_all, put};
@@ -54,8 +54,8 @@ fn put_reply(alloc: Global, waiting: &mut Vec<Bytes>, reply: &Apdu) -> Result<bo
 }
 
 /// Whether the reply was not put.
-fn is_unput(put: &Result<bool, AllocError>) -> bool
-    ensures { result ≡ is_unput put.now }
+fn is_not_put(put: &Result<bool, AllocError>) -> bool
+    ensures { result ≡ is_not_put put.now }
 {
     match put {
         Ok(put) => !*put,
@@ -202,7 +202,7 @@ impl Host {
             return Ok(false);
         };
         let put = put_reply(self.alloc, &mut self.waiting, &reply);
-        self.stopped = is_unput(&put);
+        self.stopped = is_not_put(&put);
         self.closed = has_closed(self.closed, self.stopped, &reply);
         drop(reply);
         put

@@ -3,7 +3,7 @@ ghost use Rattle.std.specs.Prelude.{IfOk, OnOk};
 ghost use Rattle.std.specs.List.{AllByRecursion};
 ghost use Rattle.zknow.specs.Facts.{IsFact};
 ghost use Rattle.zorigin.specs.Facts.{facts_of};
-ghost use Rattle.zorigin.specs.Log.{IsTaken};
+ghost use Rattle.zorigin.specs.Log.{IsTakenReply};
 ghost use Rattle.zoom_pool.specs.Learned.{IsLearnable, HasLearnable, AreAdded, ArePartlyAdded};
 ghost use Rattle.zoom_pool.specs.Transcripts.{facts_in, facts_of_verdict, answer_in};
 
@@ -68,7 +68,7 @@ pub(crate) fn learn_verdict(
     peeked: &Result<Taken, Refused>,
 ) -> Result<(), AllocError>
     requires { IfOk peeked.now HasLearnable }
-    ensures taken { OnOk result (IsTaken peeked.now) }
+    ensures taken { OnOk result (IsTakenReply peeked.now) }
     ensures ok { OnOk result (AreAdded knowledge.old (facts_of_verdict target peeked.now) knowledge.new) }
     ensures part { ArePartlyAdded knowledge.old (facts_of_verdict target peeked.now) knowledge.new }
 {

@@ -1,13 +1,13 @@
 //! How far a connection is with its question.
 ghost use Rattle.std.specs.Prelude.{◌≡◌, ◌^◌, ◌≤◌, true, length, IfOk};
 ghost use Rattle.zplan.specs.Positions.{first_of};
-ghost use Rattle.zplan.specs.Ranges.{natural, positions, CanBeAsked};
-ghost use Rattle.zplan.specs.Agenda.{SameAgenda, HasWaiting, IsSent, IsAnswered};
+ghost use Rattle.zplan.specs.Ranges.{natural, positions, ArePresentRanges};
+ghost use Rattle.zplan.specs.Agenda.{SameAgenda, HasWaiting, AfterNoteSent, AfterNoteAnswered};
 ghost use Rattle.zorigin.specs.Standings.{Search};
 ghost use Rattle.zorigin.specs.Fitting.{records_in};
 ghost use Rattle.zoom_pool.specs.CallsOf.{call_of};
 ghost use Rattle.zoom_pool.specs.Driving.{counted};
-ghost use Rattle.zoom_pool.specs.Drivers.{room_for, is_fresh_state, NextAskedResult, GiveResult, IsSamePhase, SendStep, opened_phase, counted_phase, TakenStep, AnswerStep, IsRangesCall, IsScheduled};
+ghost use Rattle.zoom_pool.specs.Drivers.{room_for, is_fresh_state, NextAskedResult, GiveResult, IsSamePhase, SendStep, opened_phase, counted_phase, TakenStep, AnswerStep, IsRangesCall, IsNotCounted};
 
 use crate::call::Call;
 use crate::state::State;
@@ -102,7 +102,7 @@ fn start_of(range: Range) -> u32
 
 /// Returns the first position of the ranges.
 fn first_position(list: &[Range]) -> u32
-    requires { CanBeAsked list.now }
+    requires { ArePresentRanges list.now }
     ensures first { result ≡ first_of (positions list.now) }
     ensures bounded { result ≤ 2 ^ 31 }
 {
@@ -111,7 +111,7 @@ fn first_position(list: &[Range]) -> u32
 
 /// Makes the Present call of the ranges.
 fn present_call(list: Vec<Range>) -> Call
-    requires { CanBeAsked list.items }
+    requires { ArePresentRanges list.items }
     ensures { IsRangesCall list.items (call_of result) }
 {
     let first = first_position(&list);
@@ -151,7 +151,7 @@ pub(crate) fn give(
     state: State,
     window: u32,
 ) -> Result<Option<Call>, AllocError>
-    requires { IsScheduled phase.old }
+    requires { IsNotCounted phase.old }
     ensures same { IsSamePhase phase.old phase.new }
     ensures ok { IfOk result (λ given. GiveResult ask.now window state phase.new given) }
 {
@@ -179,7 +179,7 @@ pub(crate) fn give(
 
 /// Notes that the Present of what is due first was sent.
 fn send_first(schedule: &mut Schedule)
-    ensures { schedule.old.ready ≡ true → IsSent schedule.old schedule.new }
+    ensures { schedule.old.ready ≡ true → AfterNoteSent schedule.old schedule.new }
 {
     if schedule.is_ready() {
         schedule.note_sent();
@@ -240,7 +240,7 @@ fn count_records(records: &Option<Records>) -> usize
 
 /// Notes the answer to the Present that waits and begins at position `first`.
 fn answer_list(schedule: &mut Schedule, first: u32, records: usize)
-    ensures { HasWaiting first schedule.old → IsAnswered first records schedule.old schedule.new }
+    ensures { HasWaiting first schedule.old → AfterNoteAnswered first records schedule.old schedule.new }
 {
     if schedule.is_waiting(first) {
         schedule.note_answered(first, records);

@@ -1,6 +1,6 @@
 //! A pool of connections, and what is known from them.
 ghost use Rattle.std.specs.Prelude.{◌≡◌, ◌<◌, [], ◌++◌, length, OnOk, OnErr, IfOk, Some, Err};
-ghost use Rattle.zorigin.specs.Log.{IsCalled};
+ghost use Rattle.zorigin.specs.Log.{IsMadeCall};
 ghost use Rattle.zoom_pool.specs.declared.state.State.TheVariants as states;
 ghost use Rattle.zoom_pool.specs.CallsOf.{call_of};
 ghost use Rattle.zoom_pool.specs.Transcripts.{Called, Fed, InputEnded, HandedOut, Stopped, IsDone};
@@ -89,7 +89,7 @@ impl Pool {
     pub fn call(&mut self, c: u32, call: &Call) -> Result<(), CallRefused>
         requires { c < length self.old.connections }
         ensures answer { IsCallResult c (call_of call.now) self.old result }
-        ensures after { IsCalled result → Recorded c (Called (call_of call.now)) self.old self.new }
+        ensures after { IsMadeCall result → Recorded c (Called (call_of call.now)) self.old self.new }
         ensures err { OnErr result (self.new ≡ self.old) }
         ensures known { self.new.knowledge ≡ self.old.knowledge }
         ensures size { length self.new.connections ≡ length self.old.connections }

@@ -1,9 +1,9 @@
 //! Result sets.
 ghost use Rattle.std.specs.Prelude.{◌≡◌, ◌<◌, length, OnErr};
-ghost use Rattle.zknow.specs.Known.{Shows, counts_at, records_at};
+ghost use Rattle.zknow.specs.Known.{IsKnownOf, counts_at, records_at};
 ghost use Rattle.zorigin.specs.Standings.{Present};
 ghost use Rattle.zorigin.specs.Ranges.{one_range};
-ghost use Rattle.zorigin.specs.Log.{IsCalled};
+ghost use Rattle.zorigin.specs.Log.{IsMadeCall};
 ghost use Rattle.zoom_pool.specs.CallsOf.{call_of};
 ghost use Rattle.zoom_pool.specs.Transcripts.{Called};
 ghost use Rattle.zoom_pool.specs.PoolSteps.{Recorded, IsCallResult};
@@ -40,7 +40,7 @@ fn ranges_call(op: u32, set: u32, ranges: Seq<Range>) -> Call
 impl ResultSet {
     /// Returns what is known of the number of its records. It takes no memory.
     pub fn size(self, pool: &Pool) -> Known<'_, i64>
-        ensures { Shows result (counts_at self.c self.set pool.now.knowledge) }
+        ensures { IsKnownOf result (counts_at self.c self.set pool.now.knowledge) }
     {
         pool.knowledge().count(self.c, self.set)
     }
@@ -48,7 +48,7 @@ impl ResultSet {
     /// Returns what is known of the record at a position, from 1 on. If accepted replies differ, there are two or
     /// more records, in the order of their canonical encodings. It takes no memory.
     pub fn row(self, pool: &Pool, position: i64) -> Known<'_, Record>
-        ensures { Shows result (records_at self.c self.set position pool.now.knowledge) }
+        ensures { IsKnownOf result (records_at self.c self.set position pool.now.knowledge) }
     {
         pool.knowledge().at(self.c, self.set, position)
     }
@@ -58,7 +58,7 @@ impl ResultSet {
     pub fn present(self, pool: &mut Pool, op: u32, start: i64, n: i64) -> Result<(), CallRefused>
         requires { self.c < length pool.old.connections }
         ensures answer { IsCallResult self.c (Present op self.set (one_range start n)) pool.old result }
-        ensures after { IsCalled result
+        ensures after { IsMadeCall result
             → Recorded self.c (Called (Present op self.set (one_range start n))) pool.old pool.new }
         ensures err { OnErr result (pool.new ≡ pool.old) }
         ensures known { pool.new.knowledge ≡ pool.old.knowledge }
@@ -80,7 +80,7 @@ impl ResultSet {
     ) -> Result<(), CallRefused>
         requires { self.c < length pool.old.connections }
         ensures answer { IsCallResult self.c (Present op self.set ranges) pool.old result }
-        ensures after { IsCalled result → Recorded self.c (Called (Present op self.set ranges)) pool.old pool.new }
+        ensures after { IsMadeCall result → Recorded self.c (Called (Present op self.set ranges)) pool.old pool.new }
         ensures err { OnErr result (pool.new ≡ pool.old) }
         ensures known { pool.new.knowledge ≡ pool.old.knowledge }
         ensures size { length pool.new.connections ≡ length pool.old.connections }

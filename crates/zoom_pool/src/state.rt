@@ -34,13 +34,13 @@ pub enum Reason {
 impl Reason {
     /// Returns the name of the fault, of the decoding error or of the origin's reason, or its own name, in ASCII
     /// letters. It takes no memory.
-    pub fn word(&self) -> &'static str
+    pub fn name(&self) -> &'static str
         ensures { result.now ≡ reason_name self.now }
     {
         match self {
-            Reason::Frame { kind, .. } => kind.word(),
-            Reason::Decode(error) => error.word(),
-            Reason::Refused(reason) => reason.word(),
+            Reason::Frame { kind, .. } => kind.name(),
+            Reason::Decode(error) => error.name(),
+            Reason::Refused(reason) => reason.name(),
             Reason::Ended => "Ended",
             Reason::Connect => "Connect",
             Reason::Read => "Read",

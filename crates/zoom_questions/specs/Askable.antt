@@ -5,16 +5,16 @@ use Rattle.zoom_questions.specs.declared.question.Question.{Question}
 use Rattle.zoom_questions.specs.declared.question.MetaSettings.{MetaSettings}
 
 -- the record syntax, if there is one, has at most 1,000 arcs
-abbrev pub HasArcs : Option (List ℕ) → Type 0
-HasArcs None = Unit {0}
-HasArcs (Some arcs) = length arcs ≤ 1000
+abbrev pub HasFewArcs : Option (List ℕ) → Type 0
+HasFewArcs None = Unit {0}
+HasFewArcs (Some arcs) = length arcs ≤ 1000
 
 -- the question is within its limits: its ranges ascend and leave gaps, its positions are 1 to 2,147,483,647 and at
 -- most 1,000,000, and its record syntax has few arcs
 pub record IsAskable (q : Question) : Type 0 where
   pub wanted : AreWanted q.wanted
   pub some : length (positions q.wanted) ≤ 1000000
-  pub syntax : HasArcs q.syntax
+  pub syntax : HasFewArcs q.syntax
 
 -- each question is within its limits
 abbrev pub AreAskable : List Question → Type 0

@@ -12,7 +12,7 @@ use Rattle.zoom_pool.specs.History.{events_on, facts_at}
 use Rattle.zoom_pool.specs.Hosts.{holdings_of}
 use Rattle.zoom_pool.specs.Laws.{OneTranscript}
 use Rattle.zoom_pool.specs.Metas.{MetaLinks, settings_of}
-use Rattle.zoom_pool.proofs.Metas.{heard_at, slice_some}
+use Rattle.zoom_pool.proofs.Metas.{transcript_at, slice_some}
 use Rattle.zoom_laws.specs.Exchange.{ConversationLaw}
 use Rattle.zoom_sim.specs.RunSound.{HasLongReplyDue}
 use Rattle.zoom_sim.specs.RunRounds.{IsCompleteExchange, IsCompleteRun}
@@ -41,7 +41,7 @@ module _ (answers : CatalogueLaw) (conversation : ConversationLaw) (uniqueness :
       let w = not_lost c t by (r.whole c t by) in
       let lt : c < length meta.pool.connections =
       subst (λ n. c < n) (sym r.after.size) (slice_get_within questions c q at) in
-      let here = heard_at (settings_of s) r.history transcript meta.pool.connections c r.after.pool.stands lt in
+      let here = transcript_at (settings_of s) r.history transcript meta.pool.connections c r.after.pool.stands lt in
       let same : w.transcript ≡ transcript c =
       uniqueness (settings_of s) (events_on c r.history) w.transcript (transcript c) w.sound.transcript here in
       let ends = can c q t at by in

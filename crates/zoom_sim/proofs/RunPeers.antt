@@ -54,8 +54,8 @@ from_of {p = p} x octets e = append_cancel_left p.stream x.from octets (x.comes 
 module _ (s : MetaSettings) (q : Question) (target : TargetState) (taken : Bool) (events : List Event) (p : Transcript)
     (host_events : List HostEvent) (peer : Peer) (f : IsSoundPeer s q target taken events p host_events peer) where
   -- all octets fed are in the stream
-  pub all_heard : OverLaw → p.stream ≡ fed events
-  all_heard over = by (is_stopped (state_at p)) refl
+  pub all_transcripts : OverLaw → p.stream ≡ fed events
+  all_transcripts over = by (is_stopped (state_at p)) refl
     where
       by : (b : Bool) → is_stopped (state_at p) ≡ b → p.stream ≡ fed events
       by false e = whole_stream (settings_of s) events p f.sound.transcript e f.sound.goes_on
@@ -157,7 +157,7 @@ pub from_steps : OverLaw → HostHandedOutLaw → FedLaw → (c : ℕ) (old new 
     → PeerStep c true (not carried) (not carried) old new was now
 from_steps over handed feeds c old new was now pipe piece k hands fills front recorded left same carried none = record {
   fine = λ questions s h q target p host_events after at f.
-      let transcript : p.stream ≡ fed (events_on c h) = all_heard s q target true (events_on c h) p host_events was f over in
+      let transcript : p.stream ≡ fed (events_on c h) = all_transcripts s q target true (events_on c h) p host_events was f over in
       let on_way : handed_out host_events ++ was.host.waiting ≡ p.stream ++ pipe =
       ap (λ z. z ++ was.host.waiting) (f.from ∙ ap (λ z. z ++ was.from) (sym transcript))
       ∙ append_assoc p.stream was.from was.host.waiting ∙ ap (λ z. p.stream ++ z) (sym fills) in

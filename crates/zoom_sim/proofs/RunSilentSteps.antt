@@ -51,19 +51,19 @@ IsSilentEvent (Fed piece) = ⊥
 IsSilentEvent (HandedOut octets) = ⊥
 IsSilentEvent _ = Unit {0}
 
-silent_deed : (event : Event) → IsSilentEvent event → IsSilent (event ∷ [])
-silent_deed (Called call) n = (refl, refl)
-silent_deed (Fed piece) n = absurd n
-silent_deed Took n = (refl, refl)
-silent_deed InputEnded n = (refl, refl)
-silent_deed (HandedOut octets) n = absurd n
-silent_deed (Stopped reason) n = (refl, refl)
+silent_event : (event : Event) → IsSilentEvent event → IsSilent (event ∷ [])
+silent_event (Called call) n = (refl, refl)
+silent_event (Fed piece) n = absurd n
+silent_event Took n = (refl, refl)
+silent_event InputEnded n = (refl, refl)
+silent_event (HandedOut octets) n = absurd n
+silent_event (Stopped reason) n = (refl, refl)
 
 pub one_silent : (c : ℕ) (event : Event) → IsSilentEvent event → AreSilent ((c, event) ∷ [])
 one_silent c event n i = by (c == i) refl
   where
     by : (b : Bool) → (c == i) ≡ b → IsSilent (events_on i ((c, event) ∷ []))
-    by true e = rw e (silent_deed event n)
+    by true e = rw e (silent_event event n)
     by false e = rw e (refl, refl)
 
 calls_silent : (c : ℕ) (calls : List Call) → AreSilent (call_events c calls)

@@ -20,7 +20,7 @@ use Rattle.zoom_pool.specs.Hosts.{HostEvent, holdings_of, replies_to}
 use Rattle.zoom_pool.specs.Laws.{OneTranscript}
 use Rattle.zoom_pool.specs.Metas.{MetaLinks, MetaAfter, settings_of}
 use Rattle.zoom_pool.proofs.Pools.{only_same, only_other, only_append}
-use Rattle.zoom_pool.proofs.Metas.{heard_at}
+use Rattle.zoom_pool.proofs.Metas.{transcript_at}
 use Rattle.zoom_laws.specs.Accord.{requests}
 use Rattle.zoom_laws.specs.Exchange.{LongerLaw}
 use Rattle.zoom_sim.specs.declared.peers.Peer.{Peer}
@@ -87,13 +87,13 @@ longer_take p Nothing = elim p.ended as (λ b. IsLonger p (cond b (end_by p) p))
   | false ↦ as_long p p refl refl
 ]
 
-longer_deed : (event : Event) (p r : Transcript) → EventStep event p r → IsLonger p r
-longer_deed (Called call) p r e = subst (IsLonger p) (sym e) (longer_call p call)
-longer_deed (Fed piece) p r e = subst (IsLonger p) (sym e) (longer_piece p piece)
-longer_deed Took p r e = subst (IsLonger p) (sym e.2) (longer_take p e.0)
-longer_deed InputEnded p r e = subst (IsLonger p) (sym e) (as_long p (record p { ended = true }) refl refl)
-longer_deed (HandedOut octets) p r e = subst (IsLonger p) (sym e) (as_long p p refl refl)
-longer_deed (Stopped reason) p r e = subst (IsLonger p) (sym e) (as_long p (after_stop p reason) refl refl)
+longer_event : (event : Event) (p r : Transcript) → EventStep event p r → IsLonger p r
+longer_event (Called call) p r e = subst (IsLonger p) (sym e) (longer_call p call)
+longer_event (Fed piece) p r e = subst (IsLonger p) (sym e) (longer_piece p piece)
+longer_event Took p r e = subst (IsLonger p) (sym e.2) (longer_take p e.0)
+longer_event InputEnded p r e = subst (IsLonger p) (sym e) (as_long p (record p { ended = true }) refl refl)
+longer_event (HandedOut octets) p r e = subst (IsLonger p) (sym e) (as_long p p refl refl)
+longer_event (Stopped reason) p r e = subst (IsLonger p) (sym e) (as_long p (after_stop p reason) refl refl)
 
 longer_then : (p q r : Transcript) → IsLonger p q → IsLonger q r → IsLonger p r
 longer_then p q r one two = record {
@@ -103,26 +103,26 @@ longer_then p q r one two = record {
 }
 
 -- the transcript of the earlier events is a front of the transcript of all
-pub heard_before : (settings : Settings) (one events : List Event) (r : Transcript) → IsTranscript settings (one ++ events) r
+pub transcript_before_run : (settings : Settings) (one events : List Event) (r : Transcript) → IsTranscript settings (one ++ events) r
     → (p : Transcript) × IsTranscript settings events p × IsLonger p r
-heard_before settings [] events r transcript = (r, transcript, as_long r r refl refl)
-heard_before settings (event ∷ one) events r transcript =
-    let before = heard_before settings one events transcript.0 transcript.1 in
-    (before.0, before.1, longer_then before.0 transcript.0 r before.2 (longer_deed event transcript.0 r transcript.2))
+transcript_before_run settings [] events r transcript = (r, transcript, as_long r r refl refl)
+transcript_before_run settings (event ∷ one) events r transcript =
+    let before = transcript_before_run settings one events transcript.0 transcript.1 in
+    (before.0, before.1, longer_then before.0 transcript.0 r before.2 (longer_event event transcript.0 r transcript.2))
 
 -- the connection of a question's number has a transcript of its events
-pub asked_heard : (questions : List Question) (s : MetaSettings) (h : History) (meta : MetaLinks) (c : ℕ) (q : Question)
+pub asked_transcript : (questions : List Question) (s : MetaSettings) (h : History) (meta : MetaLinks) (c : ℕ) (q : Question)
     → MetaAfter questions s h meta → slice_get questions c ≡ Some q
     → (p : Transcript) × IsTranscript (settings_of s) (events_on c h) p
-asked_heard questions s h meta c q after at =
+asked_transcript questions s h meta c q after at =
     let there : c < length meta.pool.connections = omega (arith, slice_get_within questions c q at, after.size) in
-    (after.pool.transcript c, heard_at (settings_of s) h after.pool.transcript meta.pool.connections c after.pool.stands there)
+    (after.pool.transcript c, transcript_at (settings_of s) h after.pool.transcript meta.pool.connections c after.pool.stands there)
 
 -- a reply that is owed and too long stays owed
 pub lost_longer : OneTranscript → LongerLaw → (s : MetaSettings) (target : TargetState) (one events : List Event) (later : Transcript)
     → IsTranscript (settings_of s) (one ++ events) later → HasLongReplyDue s target events → HasLongReplyDue s target (one ++ events)
 lost_longer uniqueness longer s target one events later transcript lost =
-    let before = heard_before (settings_of s) one events later transcript in
+    let before = transcript_before_run (settings_of s) one events later transcript in
     let same : lost.0 ≡ before.0 = uniqueness (settings_of s) events lost.0 before.0 lost.1 before.1 in
     let long = lost.2 in
     let was : Contains (replies_to (holdings_of target) (requests before.0.settings before.0.log)) long.0 =
@@ -141,7 +141,7 @@ pub lost_by : OneTranscript → LongerLaw → (questions : List Question) (s : M
     → MetaAfter questions s (more ++ h) new → slice_get questions c ≡ Some q
     → HasLongReplyDue s target (events_on c h) → HasLongReplyDue s target (events_on c (more ++ h))
 lost_by uniqueness longer questions s c h more q target new after at lost =
-    let now = asked_heard questions s (more ++ h) new c q after at in
+    let now = asked_transcript questions s (more ++ h) new c q after at in
     subst (HasLongReplyDue s target) (sym (only_append c more h))
     (lost_longer uniqueness longer s target (events_on c more) (events_on c h) now.0
     (subst (λ z. IsTranscript (settings_of s) z now.0) (only_append c more h) now.1) lost)

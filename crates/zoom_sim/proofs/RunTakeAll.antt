@@ -38,10 +38,10 @@ and_true true = refl
 and_true false = refl
 
 -- if all messages were taken, the next input is no message
-meets_none : TakeLaws → (s : MetaSettings) (q : Question) (target : TargetState) (c : ℕ) (h : History) (p : Transcript)
+next_input_none : TakeLaws → (s : MetaSettings) (q : Question) (target : TargetState) (c : ℕ) (h : History) (p : Transcript)
     (host_events : List HostEvent) (peer : Peer) (questions : List Question) (old new : MetaLinks) → TakeOneStep c true old new
     → MetaAfter questions s h old → IsSoundPeer s q target true (events_on c h) p host_events peer → ⊥
-meets_none takes s q target c h p host_events peer questions old new t a f = by (is_stopped (state_at p)) refl
+next_input_none takes s q target c h p host_events peer questions old new t a f = by (is_stopped (state_at p)) refl
   where
     by : (b : Bool) → is_stopped (state_at p) ≡ b → ⊥
     by true e =
@@ -66,7 +66,7 @@ module _ (laws : ExchangeLaws) (takes : TakeLaws) (uniqueness : OneTranscript) (
         → slice_get questions c ≡ Some q → (taken : Bool) → SoundTakeSteps questions s c h q target taken n p host_events mid peer
         → SoundTakeSteps questions s c h q target taken (n + 1) p host_events new peer
     round_more between new t d at true w =
-        absurd (meets_none takes s q target c (at_connection c w.stepped.events ++ h) w.stepped.later (w.stepped.host_more ++ host_events)
+        absurd (next_input_none takes s q target c (at_connection c w.stepped.events ++ h) w.stepped.later (w.stepped.host_more ++ host_events)
         peer questions mid between t w.stepped.after (fine_now true w))
     round_more between new t d at false w =
         let one : SoundStep questions s c h q target false false p host_events mid peer = w.stepped in

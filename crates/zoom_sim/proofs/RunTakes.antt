@@ -20,13 +20,13 @@ use Rattle.zoom_pool.specs.declared.answer.TakeError.{TakeError}
 use Rattle.zoom_pool.specs.States.{is_stopped}
 use Rattle.zoom_pool.specs.PoolSteps.{IsTakeResult}
 use Rattle.zoom_pool.specs.Inputs.{Input, AlreadyStopped, Message, Foreign, Fault, Rest, Nothing}
-use Rattle.zoom_pool.specs.Transcripts.{Event, Called, Took, Transcript, IsTranscript, NextInput, IsDone, given, fed, state_at, past_of, after_take, answer_to, answer_to_reply, step_of_taken, is_message, after_reply, after_call}
+use Rattle.zoom_pool.specs.Transcripts.{Event, Called, Took, Transcript, IsTranscript, NextInput, IsDone, given, fed, state_at, past_of, after_take, take_result, take_result_of_verdict, step_of_taken, is_message, after_reply, after_call}
 use Rattle.zoom_pool.specs.History.{History, events_on}
 use Rattle.zoom_pool.specs.Hosts.{Holdings, HostEvent, HostState, holdings_of}
 use Rattle.zoom_pool.specs.Laws.{OneTranscript, TakeLaws, UpToLaw, IsWaiting}
 use Rattle.zoom_pool.specs.Connections.{AreReadBack}
 use Rattle.zoom_pool.specs.Metas.{MetaLinks, MetaAfter, MetaTakeStep, CompleteDrive, call_events, settings_of}
-use Rattle.zoom_pool.proofs.Metas.{heard_at, slice_some, up_to_meta}
+use Rattle.zoom_pool.proofs.Metas.{transcript_at, slice_some, up_to_meta}
 use Rattle.zoom_laws.specs.Exchange.{IsSoundExchange, HasTakenAll, ExchangeLaws, CallLaw}
 use Rattle.zoom_sim.specs.declared.peers.Peer.{Peer}
 use Rattle.zoom_sim.specs.RunSound.{at_connection, DriveOneStep, TakeOneStep, is_taken, HasNoCallDue, IsSoundPeer, SoundStep, MoreEvents}
@@ -41,10 +41,10 @@ pub takes_at : UpToLaw → OneTranscript → (c : ℕ) (old new : MetaLinks) (an
     → is_taken answer ≡ taken → TakeOneStep c taken old new
 takes_at law uniqueness c old new answer taken there value_is done took is questions s h p a transcript =
     let up = up_to_meta law questions s c h old a in
-    let now = heard_at (settings_of s) h up.pool.transcript old.pool.connections c up.pool.stands there in
+    let now = transcript_at (settings_of s) h up.pool.transcript old.pool.connections c up.pool.stands there in
     let same : up.pool.transcript c ≡ p = uniqueness (settings_of s) (events_on c h) (up.pool.transcript c) p now transcript in
     let t = value_is (settings_of s) c h up.pool done in
-    let answers : answer ≡ answer_to p t.0 = subst (λ z. answer ≡ answer_to z t.0) same t.2 in
+    let answers : answer ≡ take_result p t.0 = subst (λ z. answer ≡ take_result z t.0) same t.2 in
     (took questions s h up, (t.0, subst (λ z. NextInput z t.0) same t.1, sym (ap is_taken answers) ∙ is))
 
 -- ---- the input of a take
@@ -57,14 +57,14 @@ message_step taken.Closed = refl
 
 -- if all messages were taken, the next input is no message
 pub none_taken : TakeLaws → (p : Transcript) (input : Input) → p.ended ≡ false → is_stopped (state_at p) ≡ false → HasTakenAll p
-    → NextInput p input → is_taken (answer_to p input) ≡ false
+    → NextInput p input → is_taken (take_result p input) ≡ false
 none_taken laws p input more goes t m =
     let waits : IsWaiting p = record { is_going = goes; more = more; rest = t.0; behind = t.1; unfinished = t.2 } in
     ap is_taken ((laws.nothing p input m).1 waits)
 
 -- nor is it if the connection is stopped
 pub stopped_none : (p : Transcript) (input : Input) → is_stopped (state_at p) ≡ true → NextInput p input
-    → is_taken (answer_to p input) ≡ false
+    → is_taken (take_result p input) ≡ false
 stopped_none p AlreadyStopped s m = refl
 stopped_none p (Message v) s m = absurd (true≢false (sym s ∙ m.0))
 stopped_none p (Foreign error) s m = refl
@@ -80,7 +80,7 @@ pub record IsIdleTake (p q : Transcript) : Type 0 where
 no_some : {X : Type 0} {x : X} → Some x ≡ None → ⊥
 no_some e = cc
 
-by_verdict : (p later : Transcript) (v : Result Taken Refused) → is_taken (answer_to_reply v) ≡ false → (after_reply later v).stop ≡ None
+by_verdict : (p later : Transcript) (v : Result Taken Refused) → is_taken (take_result_of_verdict v) ≡ false → (after_reply later v).stop ≡ None
     → IsIdleTake p (after_reply later v)
 by_verdict p later (Ok t) e goes = absurd (true≢false (sym (message_step t) ∙ e))
 by_verdict p later (Err reason) e goes = absurd (no_some goes)
@@ -88,7 +88,7 @@ by_verdict p later (Err reason) e goes = absurd (no_some goes)
 waits_all : (p : Transcript) → IsWaiting p → HasTakenAll p
 waits_all p w = (w.rest, w.behind, w.unfinished)
 
-pub idle_take : TakeLaws → (p : Transcript) (input : Input) → p.ended ≡ false → NextInput p input → is_taken (answer_to p input) ≡ false
+pub idle_take : TakeLaws → (p : Transcript) (input : Input) → p.ended ≡ false → NextInput p input → is_taken (take_result p input) ≡ false
     → (after_take p input).stop ≡ None → IsIdleTake p (after_take p input)
 idle_take laws p AlreadyStopped more m e goes =
     record { same = refl; took = λ on. absurd (true≢false (sym m ∙ on)) }
@@ -109,7 +109,7 @@ grown_verdict : (later : Transcript) (v : Result Taken Refused) → (after_reply
 grown_verdict later (Ok t) = refl
 grown_verdict later (Err reason) = refl
 
-pub taken_grows : (p : Transcript) (input : Input) → is_taken (answer_to p input) ≡ true → (after_take p input).taken ≡ suc p.taken
+pub taken_grows : (p : Transcript) (input : Input) → is_taken (take_result p input) ≡ true → (after_take p input).taken ≡ suc p.taken
 taken_grows p AlreadyStopped e = absurd (true≢false (sym e))
 taken_grows p (Message v) e = grown_verdict _ (verdict (standing (past_of p)) v)
 taken_grows p (Foreign error) e = absurd (true≢false (sym e))
@@ -117,13 +117,13 @@ taken_grows p (Fault kind at) e = absurd (true≢false (sym e))
 taken_grows p (Rest n) e = absurd (by p.ended refl)
   where
     by : (b : Bool) → p.ended ≡ b → ⊥
-    by true f = let g : is_taken (answer_to p (Rest n)) ≡ false = rw f refl in true≢false (sym e ∙ g)
-    by false f = let g : is_taken (answer_to p (Rest n)) ≡ false = rw f refl in true≢false (sym e ∙ g)
+    by true f = let g : is_taken (take_result p (Rest n)) ≡ false = rw f refl in true≢false (sym e ∙ g)
+    by false f = let g : is_taken (take_result p (Rest n)) ≡ false = rw f refl in true≢false (sym e ∙ g)
 taken_grows p Nothing e = absurd (by p.ended refl)
   where
     by : (b : Bool) → p.ended ≡ b → ⊥
-    by true f = let g : is_taken (answer_to p Nothing) ≡ false = rw f refl in true≢false (sym e ∙ g)
-    by false f = let g : is_taken (answer_to p Nothing) ≡ false = rw f refl in true≢false (sym e ∙ g)
+    by true f = let g : is_taken (take_result p Nothing) ≡ false = rw f refl in true≢false (sym e ∙ g)
+    by false f = let g : is_taken (take_result p Nothing) ≡ false = rw f refl in true≢false (sym e ∙ g)
 
 -- ---- calls
 
@@ -132,11 +132,11 @@ abbrev pub called : List Call → Transcript → Transcript
 called [] p = p
 called (call ∷ calls) p = after_call (called calls p) call
 
-pub called_heard : (settings : Settings) (calls : List Call) (events : List Event) (p : Transcript) → IsTranscript settings events p
+pub called_transcript : (settings : Settings) (calls : List Call) (events : List Event) (p : Transcript) → IsTranscript settings events p
     → IsTranscript settings (map Called calls ++ events) (called calls p)
-called_heard settings [] events p transcript = transcript
-called_heard settings (call ∷ calls) events p transcript =
-    (called calls p, called_heard settings calls events p transcript, refl)
+called_transcript settings [] events p transcript = transcript
+called_transcript settings (call ∷ calls) events p transcript =
+    (called calls p, called_transcript settings calls events p transcript, refl)
 
 -- a call takes nothing and feeds nothing
 pub record IsSameStream (p q : Transcript) : Type 0 where
@@ -221,7 +221,7 @@ pub drives_sound : CallLaw → OneTranscript → (questions : List Question) (s 
 drives_sound law uniqueness questions s c h n new w q holdings p host_events host at sound =
     let calls = w.progress.calls in
     let transcript : IsTranscript (settings_of s) (map Called calls ++ events_on c h) (called calls p) =
-    called_heard (settings_of s) calls (events_on c h) p sound.transcript in
+    called_transcript (settings_of s) calls (events_on c h) p sound.transcript in
     let there : IsTranscript (settings_of s) (events_on c (at_connection c (map Called calls) ++ h)) (called calls p) =
     subst (λ z. IsTranscript (settings_of s) z (called calls p)) (sym (only_more c (map Called calls) h)) transcript in
     let reads : AreReadBack (past_of (called calls p)).sent =
@@ -245,7 +245,7 @@ drive_adds c old new d questions s h a =
 pub take_adds : (c : ℕ) (taken : Bool) (old new : MetaLinks) → c < length old.pool.connections → TakeOneStep c taken old new
     → MoreEventsStep c old new
 take_adds c taken old new there t questions s h a =
-    let transcript = heard_at (settings_of s) h a.pool.transcript old.pool.connections c a.pool.stands there in
+    let transcript = transcript_at (settings_of s) h a.pool.transcript old.pool.connections c a.pool.stands there in
     record { events = Took ∷ []; after = (t questions s h (a.pool.transcript c) a transcript).0 }
 
 pub adds_same : (c : ℕ) (meta : MetaLinks) → MoreEventsStep c meta meta

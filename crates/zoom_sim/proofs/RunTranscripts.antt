@@ -43,16 +43,16 @@ module _ (lost : Bool) where
   lost_verdict p (Ok x) h = h
   lost_verdict p (Err reason) h = λ s. absurd (no_some s)
 
-  lost_met : (p : Transcript) (input : Input) → NotLost p → NotLost (after_take p input)
-  lost_met p AlreadyStopped h = h
-  lost_met p (Message v) h = lost_verdict _ (verdict (standing (past_of p)) v) h
-  lost_met p (Foreign error) h = λ s. absurd (no_some s)
-  lost_met p (Fault kind at) h = λ s. absurd (no_some s)
-  lost_met p (Rest n) h = elim p.ended as (λ b. NotLost (cond b (after_stop p (truncated n)) p)) [
+  lost_input : (p : Transcript) (input : Input) → NotLost p → NotLost (after_take p input)
+  lost_input p AlreadyStopped h = h
+  lost_input p (Message v) h = lost_verdict _ (verdict (standing (past_of p)) v) h
+  lost_input p (Foreign error) h = λ s. absurd (no_some s)
+  lost_input p (Fault kind at) h = λ s. absurd (no_some s)
+  lost_input p (Rest n) h = elim p.ended as (λ b. NotLost (cond b (after_stop p (truncated n)) p)) [
     | true ↦ λ s. absurd (no_some s)
     | false ↦ h
   ]
-  lost_met p Nothing h = elim p.ended as (λ b. NotLost (cond b (end_by p) p)) [
+  lost_input p Nothing h = elim p.ended as (λ b. NotLost (cond b (end_by p) p)) [
     | true ↦ λ s. absurd (no_some s)
     | false ↦ h
   ]
@@ -66,7 +66,7 @@ not_lost settings (Fed piece ∷ events) p h =
     subst (NotLost (is_lost events)) (sym h.2) (lost_piece (is_lost events) h.0 piece (not_lost settings events h.0 h.1))
 not_lost settings (Took ∷ events) p h =
     let x = h.2 in
-    subst (NotLost (is_lost events)) (sym x.2) (lost_met (is_lost events) h.0 x.0 (not_lost settings events h.0 h.1))
+    subst (NotLost (is_lost events)) (sym x.2) (lost_input (is_lost events) h.0 x.0 (not_lost settings events h.0 h.1))
 not_lost settings (InputEnded ∷ events) p h =
     subst (NotLost (is_lost events)) (sym h.2) (not_lost settings events h.0 h.1)
 not_lost settings (HandedOut octets ∷ events) p h =

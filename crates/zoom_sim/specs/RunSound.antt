@@ -9,7 +9,7 @@ use Rattle.zoom_pool.specs.declared.answer.Step.{Step}
 use Rattle.zoom_pool.specs.declared.answer.TakeError.{TakeError}
 use Rattle.zoom_pool.specs.States.{is_stopped}
 use Rattle.zoom_pool.specs.Inputs.{Input}
-use Rattle.zoom_pool.specs.Transcripts.{Event, Took, Transcript, IsTranscript, NextInput, given, fed, state_at, past_of, is_message, sent, answer_to}
+use Rattle.zoom_pool.specs.Transcripts.{Event, Took, Transcript, IsTranscript, NextInput, given, fed, state_at, past_of, is_message, sent, take_result}
 use Rattle.zoom_pool.specs.History.{History, events_on}
 use Rattle.zoom_pool.specs.Hosts.{Holdings, HostEvent, IsLong, holdings_of, handed_out, replies_to}
 use Rattle.zoom_pool.specs.Metas.{MetaLinks, MetaAfter, CompleteDrive, NoneIsNext, settings_of}
@@ -43,7 +43,7 @@ TakeOneStep c taken old new =
     (questions : List Question) (s : MetaSettings) (h : History) (p : Transcript)
     → MetaAfter questions s h old → IsTranscript (settings_of s) (events_on c h) p
     → MetaAfter questions s (at_connection c (Took ∷ []) ++ h) new
-    × ((input : Input) × NextInput p input × (is_taken (answer_to p input) ≡ taken))
+    × ((input : Input) × NextInput p input × (is_taken (take_result p input) ≡ taken))
 
 -- ---- a connection and its target
 

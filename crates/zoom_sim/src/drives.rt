@@ -112,7 +112,7 @@ fn is_over(meta: &Meta, c: u32) -> bool
 fn end_input(meta: &mut Meta, c: u32) -> Result<(), AllocError>
     requires { c < length meta.old.pool.connections }
     ensures on { OnOk result (SilentStep meta.old meta.new) }
-    ensures spares { OnOk result (UnfinishedOnlyStep meta.old meta.new) }
+    ensures unfinished_only { OnOk result (UnfinishedOnlyStep meta.old meta.new) }
     ensures size { length meta.new.pool.connections ≡ length meta.old.pool.connections }
 {
     if is_over(meta, c) {
@@ -126,7 +126,7 @@ fn end_input(meta: &mut Meta, c: u32) -> Result<(), AllocError>
 pub(crate) fn end_inputs(meta: &mut Meta) -> Result<(), AllocError>
     requires { length meta.old.pool.connections < 2 ^ 32 }
     ensures on { OnOk result (SilentStep meta.old meta.new) }
-    ensures spares { OnOk result (UnfinishedOnlyStep meta.old meta.new) }
+    ensures unfinished_only { OnOk result (UnfinishedOnlyStep meta.old meta.new) }
     ensures size { length meta.new.pool.connections ≡ length meta.old.pool.connections }
 {
     for c in 0..meta.connections() {
@@ -151,7 +151,7 @@ pub(crate) fn stop_for(meta: &mut Meta, c: u32, failure: Option<Reason>)
 fn stop(meta: &mut Meta, c: u32)
     requires { c < length meta.old.pool.connections }
     ensures after { StopOneStep c meta.old meta.new }
-    ensures spares { UnfinishedOnlyStep meta.old meta.new }
+    ensures unfinished_only { UnfinishedOnlyStep meta.old meta.new }
     ensures size { length meta.new.pool.connections ≡ length meta.old.pool.connections }
 {
     if is_over(meta, c) {
@@ -164,7 +164,7 @@ fn stop(meta: &mut Meta, c: u32)
 pub(crate) fn stop_all(meta: &mut Meta)
     requires { length meta.old.pool.connections < 2 ^ 32 }
     ensures after { StopAllStep (length meta.old.pool.connections) meta.old meta.new }
-    ensures spares { UnfinishedOnlyStep meta.old meta.new }
+    ensures unfinished_only { UnfinishedOnlyStep meta.old meta.new }
     ensures size { length meta.new.pool.connections ≡ length meta.old.pool.connections }
 {
     for c in 0..meta.connections() {

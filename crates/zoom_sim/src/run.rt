@@ -48,7 +48,7 @@ pub fn run_over<W: Channel>(
     requires fit { AreFit settings }
     requires new { AreNew targets.items }
     requires equal { length targets.items ≡ length questions.items }
-    ensures ran { IfOk result (λ meta. IsRun questions.items settings targets.items meta) }
+    ensures is_run { IfOk result (λ meta. IsRun questions.items settings targets.items meta) }
     ensures whole { W.sure ≡ true
         → IfOk result (λ meta. IsCompleteRun questions.items settings targets.items meta) }
     ensures size { IfOk result (λ meta. length meta.pool.connections ≡ length questions.items) }
@@ -77,7 +77,7 @@ pub fn run_world(
     requires fit { AreFit settings }
     requires new { AreNew targets.items }
     requires equal { length targets.items ≡ length questions.items }
-    ensures ran { IfOk result (λ meta. IsRun questions.items settings targets.items meta) }
+    ensures is_run { IfOk result (λ meta. IsRun questions.items settings targets.items meta) }
     ensures whole { IfOk result (λ meta. IsCompleteRun questions.items settings targets.items meta) }
     ensures size { IfOk result (λ meta. length meta.pool.connections ≡ length questions.items) }
     ensures list { IfOk result

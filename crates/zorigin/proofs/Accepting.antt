@@ -18,13 +18,13 @@ use Rattle.zorigin.specs.declared.answer.Taken.TheVariants as taken
 use Rattle.zorigin.specs.declared.refusal.CallRefused.{CallRefused}
 use Rattle.zorigin.specs.declared.refusal.Refused.{Refused}
 use Rattle.zorigin.specs.declared.refusal.Refused.TheVariants as refused
-use Rattle.zorigin.specs.References.{reference_id, number_of}
-use Rattle.zorigin.specs.Fitting.{fault_of, Fits}
+use Rattle.zorigin.specs.References.{reference_id, operation_number}
+use Rattle.zorigin.specs.Fitting.{fault_of, IsFitReply}
 use Rattle.zorigin.specs.Standings.{Call, Standing, is_open}
 use Rattle.zorigin.specs.Calls.{refusal}
-use Rattle.zorigin.specs.Replies.{only_of, numbered_as, named, taken_as, taken_by, judged, against, answered, verdict}
-use Rattle.zorigin.specs.Log.{Log, Entry, Made, Got, past, Past, state_of, asked, is_answered, outstanding, opening, force_after, numbered, standing, admit_unless, after_verdict}
-use Rattle.zorigin.specs.Accepts.{id_of, Refers, IsAccepted}
+use Rattle.zorigin.specs.Replies.{only_of, numbered_as, named, taken_as, taken_by, judged, against, open_verdict, verdict}
+use Rattle.zorigin.specs.Log.{Log, Entry, Made, Got, past, Past, state_of, asked, is_answered, outstanding, opening, force_after, by_operation, standing, admit_unless, after_verdict}
+use Rattle.zorigin.specs.Accepts.{id_of, IsReferenceTo, IsAccepted}
 use Rattle.zorigin.proofs.Members.{contained, among, in_push, any_in, in_filter, of_filter}
 use Rattle.zorigin.proofs.Operations.{has, AreDistinct, distinct_filter}
 use Rattle.zorigin.proofs.Proper.{IsProper, proper, answer_in, news}
@@ -36,54 +36,54 @@ in_any qs q i = any_in (has q.op) qs q i (grind (arith, nat_tests))
 
 -- ---- the operation that a reference id names
 
-looked_in : (op : ℕ) (qs : List Asked) (q : Asked) → lookup (nat_eq op) (map numbered qs) ≡ Some q → IsIn q qs × (q.op ≡ op)
+looked_in : (op : ℕ) (qs : List Asked) (q : Asked) → lookup (nat_eq op) (map by_operation qs) ≡ Some q → IsIn q qs × (q.op ≡ op)
 looked_in op [] q h = absurd (cc)
 looked_in op (x ∷ xs) q h =
     let more = looked_in op xs q in
-    elim (nat_eq op x.op) as (λ b. nat_eq op x.op ≡ b → cond b (Some x) (lookup (nat_eq op) (map numbered xs)) ≡ Some q → IsIn q (x ∷ xs) × (q.op ≡ op)) [
+    elim (nat_eq op x.op) as (λ b. nat_eq op x.op ≡ b → cond b (Some x) (lookup (nat_eq op) (map by_operation xs)) ≡ Some q → IsIn q (x ∷ xs) × (q.op ≡ op)) [
       | true ↦ λ e g. (let same : x ≡ q = cc in let number : x.op ≡ op = grind (arith, nat_tests) in (inl (sym same), ap (λ (y : Asked). y.op) (sym same) ∙ number))
       | false ↦ λ e g. (inr (more g).0, (more g).1)
     ] refl h
 
-pub looked_up : (qs : List Asked) (q : Asked) → AreDistinct qs → IsIn q qs → lookup (nat_eq q.op) (map numbered qs) ≡ Some q
+pub looked_up : (qs : List Asked) (q : Asked) → AreDistinct qs → IsIn q qs → lookup (nat_eq q.op) (map by_operation qs) ≡ Some q
 looked_up [] q d i = absurd i
 looked_up (x ∷ xs) q d (inl e) =
     let s : nat_eq q.op x.op ≡ true = (let o : q.op ≡ x.op = ap (λ (y : Asked). y.op) e in grind (arith, nat_tests)) in
-    ap (λ b. cond b (Some x) (lookup (nat_eq q.op) (map numbered xs))) s ∙ ap (λ y. Some y) (sym e)
+    ap (λ b. cond b (Some x) (lookup (nat_eq q.op) (map by_operation xs))) s ∙ ap (λ y. Some y) (sym e)
 looked_up (x ∷ xs) q d (inr i) =
     let more = looked_up xs q d.1 i in
     let there = in_any xs q i in
-    elim (nat_eq q.op x.op) as (λ b. nat_eq q.op x.op ≡ b → cond b (Some x) (lookup (nat_eq q.op) (map numbered xs)) ≡ Some q) [
+    elim (nat_eq q.op x.op) as (λ b. nat_eq q.op x.op ≡ b → cond b (Some x) (lookup (nat_eq q.op) (map by_operation xs)) ≡ Some q) [
       | true ↦ λ t. let o : x.op ≡ q.op = grind (arith, nat_tests) in absurd (true≢false (sym there ∙ ap (λ n. list_any (has n) xs) (sym o) ∙ d.0))
       | false ↦ λ t. more
     ] refl
 
-only_in : (qs : List Asked) (q : Asked) → only_of (map numbered qs) ≡ Some q → qs ≡ q ∷ []
+only_in : (qs : List Asked) (q : Asked) → only_of (map by_operation qs) ≡ Some q → qs ≡ q ∷ []
 only_in [] q h = absurd (cc)
 only_in (x ∷ []) q h = let same : x ≡ q = cc in ap (λ y. y ∷ []) same
 only_in (x ∷ y ∷ qs) q h = absurd (cc)
 
-named_in : (p : Past) (id : Option (List ℕ)) (q : Asked) → named (standing p) id ≡ Some q → IsIn q (outstanding p) × Refers p q id
-named_in p (Some id) q h = by (number_of id) refl h
+named_in : (p : Past) (id : Option (List ℕ)) (q : Asked) → named (standing p) id ≡ Some q → IsIn q (outstanding p) × IsReferenceTo p q id
+named_in p (Some id) q h = by (operation_number id) refl h
   where
-    by : (o : Option ℕ) → number_of id ≡ o → numbered_as (map numbered (outstanding p)) o ≡ Some q → IsIn q (outstanding p) × Refers p q (Some id)
+    by : (o : Option ℕ) → operation_number id ≡ o → numbered_as (map by_operation (outstanding p)) o ≡ Some q → IsIn q (outstanding p) × IsReferenceTo p q (Some id)
     by None e g = absurd (cc)
     by (Some op) e g =
         let found = looked_in op (outstanding p) q g in
         (found.0, number_spelled id op e ∙ ap reference_id (sym found.1))
 named_in p None q h = by (force_after (opening p)).concurrent refl h
   where
-    by : (b : Bool) → (force_after (opening p)).concurrent ≡ b → cond b None (only_of (map numbered (outstanding p))) ≡ Some q → IsIn q (outstanding p) × Refers p q None
+    by : (b : Bool) → (force_after (opening p)).concurrent ≡ b → cond b None (only_of (map by_operation (outstanding p))) ≡ Some q → IsIn q (outstanding p) × IsReferenceTo p q None
     by true e g = absurd (cc)
     by false e g =
         let only = only_in (outstanding p) q g in
         (subst (λ l. IsIn q l) (sym only) (inl refl), (e, only))
 
-in_named : (p : Past) (id : Option (List ℕ)) (q : Asked) → IsProper p → IsIn q (outstanding p) → Refers p q id → named (standing p) id ≡ Some q
+in_named : (p : Past) (id : Option (List ℕ)) (q : Asked) → IsProper p → IsIn q (outstanding p) → IsReferenceTo p q id → named (standing p) id ≡ Some q
 in_named p (Some id) q ok i r =
-    ap (numbered_as (map numbered (outstanding p))) (ap number_of r ∙ spelled_number q.op)
+    ap (numbered_as (map by_operation (outstanding p))) (ap operation_number r ∙ spelled_number q.op)
     ∙ looked_up (outstanding p) q (distinct_filter (λ (x : Asked). not (is_answered p x.op)) (asked p) ok.distinct) i
-in_named p None q ok i r = (λ j. cond (r.0 j) None (only_of (map numbered (r.1 j))))
+in_named p None q ok i r = (λ j. cond (r.0 j) None (only_of (map by_operation (r.1 j))))
 
 -- ---- an accepted reply was taken somewhere
 
@@ -99,7 +99,7 @@ newest settings log reply a h =
       taking = n.taking;
       asked = contained a.asked (asked p) (of_filter (λ (x : Asked). not (is_answered p x.op)) (asked p) a.asked found.0);
       unanswered = n.unanswered;
-      refers = subst (λ r. Refers p a.asked (id_of r)) (sym n.found.reply) found.1;
+      refers = subst (λ r. IsReferenceTo p a.asked (id_of r)) (sym n.found.reply) found.1;
       fits = fitting a.asked.what a.reply n.found.fits;
     }
 
@@ -169,28 +169,28 @@ against_answer o a e f = ap (λ x. answer_in (against x a.reply)) e ∙ ap (λ x
 
 -- only a response fits
 module _ (s : Standing) (q : Asked) where
-  answered_answer : (reply : Apdu) → named s (id_of reply) ≡ Some q → Fits q.what reply → answer_in (answered s reply) ≡ Some (record { asked = q; reply = reply })
+  answered_answer : (reply : Apdu) → named s (id_of reply) ≡ Some q → IsFitReply q.what reply → answer_in (open_verdict s reply) ≡ Some (record { asked = q; reply = reply })
   answered_answer (apdus.InitRequest v) e f = absurd (no_request q.what f)
     where
-      no_request : (w : What) → Fits w (apdus.InitRequest v) → ⊥
+      no_request : (w : What) → IsFitReply w (apdus.InitRequest v) → ⊥
       no_request what.Init h = h
       no_request what.Search h = h
       no_request (what.Present ranges) h = h
   answered_answer (apdus.SearchRequest v) e f = absurd (no_request q.what f)
     where
-      no_request : (w : What) → Fits w (apdus.SearchRequest v) → ⊥
+      no_request : (w : What) → IsFitReply w (apdus.SearchRequest v) → ⊥
       no_request what.Init h = h
       no_request what.Search h = h
       no_request (what.Present ranges) h = h
   answered_answer (apdus.PresentRequest v) e f = absurd (no_request q.what f)
     where
-      no_request : (w : What) → Fits w (apdus.PresentRequest v) → ⊥
+      no_request : (w : What) → IsFitReply w (apdus.PresentRequest v) → ⊥
       no_request what.Init h = h
       no_request what.Search h = h
       no_request (what.Present ranges) h = h
   answered_answer (apdus.Close v) e f = absurd (no_close q.what f)
     where
-      no_close : (w : What) → Fits w (apdus.Close v) → ⊥
+      no_close : (w : What) → IsFitReply w (apdus.Close v) → ⊥
       no_close what.Init h = h
       no_close what.Search h = h
       no_close (what.Present ranges) h = h
@@ -198,9 +198,9 @@ module _ (s : Standing) (q : Asked) where
   answered_answer (apdus.SearchResponse v) e f = against_answer (named s v.reference_id) (record { asked = q; reply = apdus.SearchResponse v }) e (fits_none q.what (apdus.SearchResponse v) f)
   answered_answer (apdus.PresentResponse v) e f = against_answer (named s v.reference_id) (record { asked = q; reply = apdus.PresentResponse v }) e (fits_none q.what (apdus.PresentResponse v) f)
 
-verdict_answer : (s : Standing) (a : Answer) → is_open s.state ≡ true → named s (id_of a.reply) ≡ Some a.asked → Fits a.asked.what a.reply → answer_in (verdict s a.reply) ≡ Some a
+verdict_answer : (s : Standing) (a : Answer) → is_open s.state ≡ true → named s (id_of a.reply) ≡ Some a.asked → IsFitReply a.asked.what a.reply → answer_in (verdict s a.reply) ≡ Some a
 unfolding verdict
-verdict_answer s a t e f = ap (λ b. answer_in (cond b (answered s a.reply) (Err refused.WrongState))) t ∙ answered_answer s a.asked a.reply e f
+verdict_answer s a t e f = ap (λ b. answer_in (cond b (open_verdict s a.reply) (Err refused.WrongState))) t ∙ answered_answer s a.asked a.reply e f
 
 pub so_accepted : (settings : Settings) (log : Log) (a : Answer) → IsAccepted settings log a → Contains (past settings log).accepted a
 so_accepted settings log a i =

@@ -19,9 +19,9 @@ use Rattle.zorigin.specs.declared.refusal.Refused.{Refused}
 use Rattle.zorigin.specs.declared.state.State.{State}
 use Rattle.zorigin.specs.declared.state.State.TheVariants as states
 use Rattle.zorigin.specs.Standings.{Call, Init, Search, Present, Close, Standing, is_fresh, is_ready, search_of}
-use Rattle.zorigin.specs.Calls.{refusal, call_answer}
+use Rattle.zorigin.specs.Calls.{refusal, call_result}
 use Rattle.zorigin.specs.Changes.{admitted_at, admitted_unless, called_at, unanswered, force_in}
-use Rattle.zorigin.specs.Log.{Made, Log, Past, past, operation_of, asked, answers, is_answered, outstanding, opening, is_init_call, is_close_call, state_by, opened_state, closing_state, state_from, state_of, force_after, outcome_by, search_in, with_outcome, searches_in, numbered, filed, op_of, standing, admit, admit_unless, After}
+use Rattle.zorigin.specs.Log.{Made, Log, Past, past, operation_of, asked, is_answer_to, is_answered, outstanding, opening, is_init_call, is_close_call, state_by, opened_state, closing_state, state_from, state_of, force_after, outcome_by, search_in, with_outcome, searches_in, by_operation, by_set, op_of, standing, admit, admit_unless, After}
 use Rattle.zorigin.proofs.Operations.{has, or_none, or_last, any_ops, any_filter, insert_absent, find_none}
 use Rattle.zorigin.proofs.Searches.{file_absent}
 use Rattle.zorigin.proofs.Proper.{IsProper, asked_more, IsFree, free, fresh_op, ready_if, proper}
@@ -44,13 +44,13 @@ used_more p c q e fresh =
     ∙ sym (ap (map op_of) (asked_more p c ∙ ap (λ l. asked p ++ l) e) ∙ map-append op_of (asked p) (q ∷ []))
 
 outstanding_more : (p : Past) (c : Call) (q : Asked) → IsProper p → operation_of c ≡ q ∷ [] → list_any (has q.op) (asked p) ≡ false
-    → insert_entry nat_eq (map numbered (outstanding p)) q.op q ≡ map numbered (outstanding (admit p c))
+    → insert_entry nat_eq (map by_operation (outstanding p)) q.op q ≡ map by_operation (outstanding (admit p c))
 outstanding_more p c q ok e fresh =
     let still = λ (x : Asked). not (is_answered p x.op) in
     let waiting : is_answered p q.op ≡ false = ok.known q.op fresh in
     let last : filter still (q ∷ []) ≡ q ∷ [] = ap (λ b. cond (not b) (q ∷ []) []) waiting in
     insert_absent q (outstanding p) (any_filter (has q.op) still (asked p) fresh)
-    ∙ ap (map numbered) (sym (ap (filter still) (asked_more p c ∙ ap (λ l. asked p ++ l) e) ∙ filter-append still (asked p) (q ∷ []) ∙ ap (λ l. outstanding p ++ l) last))
+    ∙ ap (map by_operation) (sym (ap (filter still) (asked_more p c ∙ ap (λ l. asked p ++ l) e) ∙ filter-append still (asked p) (q ∷ []) ∙ ap (λ l. outstanding p ++ l) last))
 
 searches_more : (p : Past) (c : Call) → searches_in (admit p c) ≡ searches_in p ++ map (with_outcome p.accepted) (search_in c)
 searches_more p c =
@@ -61,9 +61,9 @@ no_search : (p : Past) (c : Call) → search_in c ≡ [] → searches_in p ≡ s
 no_search p c e = sym (searches_more p c ∙ ap (λ l. searches_in p ++ map (with_outcome p.accepted) l) e ∙ append-nil (searches_in p))
 
 one_search : (p : Past) (op set : ℕ) (ask : Ask) → is_answered p op ≡ false → is_some (search_of (standing p).searches set) ≡ false
-    → insert_entry nat_eq (map filed (searches_in p)) set (unanswered op set ask) ≡ map filed (searches_in (admit p (Search op set ask)))
+    → insert_entry nat_eq (map by_set (searches_in p)) set (unanswered op set ask) ≡ map by_set (searches_in (admit p (Search op set ask)))
 one_search p op set ask h absent =
-    file_absent (unanswered op set ask) (searches_in p) absent ∙ ap (map filed) (sym (searches_more p (Search op set ask) ∙ ap (λ l. searches_in p ++ l) (λ i. record (unanswered op set ask) { outcome = outcome_by (find_none (answers op) p.accepted h i) } ∷ [])))
+    file_absent (unanswered op set ask) (searches_in p) absent ∙ ap (map by_set) (sym (searches_more p (Search op set ask) ∙ ap (λ l. searches_in p ++ l) (λ i. record (unanswered op set ask) { outcome = outcome_by (find_none (is_answer_to op) p.accepted h i) } ∷ [])))
 
 -- ---- the calls
 
@@ -110,7 +110,7 @@ admitted-standing p Init ok f =
       state = began i;
       force = force_after (opening p);
       used = used_more p Init _ refl fresh i;
-      searches = map filed (no_search p Init refl i);
+      searches = map by_set (no_search p Init refl i);
       outstanding = outstanding_more p Init _ ok refl fresh i;
     }
 admitted-standing p (Search op set ask) ok f =
@@ -130,7 +130,7 @@ admitted-standing p (Present op set ranges) ok f =
       state = same_state p (Present op set ranges) refl refl i;
       force = force_after (opening p);
       used = used_more p (Present op set ranges) _ refl fresh i;
-      searches = map filed (no_search p (Present op set ranges) refl i);
+      searches = map by_set (no_search p (Present op set ranges) refl i);
       outstanding = outstanding_more p (Present op set ranges) _ ok refl fresh i;
     }
 admitted-standing p Close ok f =
@@ -142,8 +142,8 @@ admitted-standing p Close ok f =
       state = closed i;
       force = force_after (opening p);
       used = map op_of (same i);
-      searches = map filed (no_search p Close refl i);
-      outstanding = map numbered (filter (λ (x : Asked). not (is_answered p x.op)) (same i));
+      searches = map by_set (no_search p Close refl i);
+      outstanding = map by_operation (filter (λ (x : Asked). not (is_answered p x.op)) (same i));
     }
 
 called : (p : Past) (c : Call) (r : Option CallRefused) → IsProper p → refusal (standing p) c ≡ r → admitted_unless (standing p) c r ≡ standing (admit_unless p c r)
@@ -155,5 +155,5 @@ called_after {s} {t} settings log c h e = record {
   is = e ∙ ap (λ x. called_at x c) h.is ∙ called (past settings log) c (refusal (standing (past settings log)) c) (proper settings log) refl;
 }
 
-pub call_answered : {s : Standing} {r : Result Sent CallRefused} (settings : Settings) (log : Log) (c : Call) → After settings log s → r ≡ call_answer s c → r ≡ call_answer (standing (past settings log)) c
-call_answered settings log c h e = e ∙ ap (λ x. call_answer x c) h.is
+pub call_answered : {s : Standing} {r : Result Sent CallRefused} (settings : Settings) (log : Log) (c : Call) → After settings log s → r ≡ call_result s c → r ≡ call_result (standing (past settings log)) c
+call_answered settings log c h e = e ∙ ap (λ x. call_result x c) h.is

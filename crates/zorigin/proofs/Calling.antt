@@ -11,17 +11,17 @@ use Rattle.zorigin.specs.declared.refusal.CallRefused.{CallRefused}
 use Rattle.zorigin.specs.declared.refusal.CallRefused.TheVariants as refused
 use Rattle.zorigin.specs.declared.state.Searched.{Searched}
 use Rattle.zorigin.specs.Standings.{Call, Init, Search, Present, Close, Standing, is_ready, search_of}
-use Rattle.zorigin.specs.Sending.{is_unsendable, init_request, search_request, present_request, close_request, request_of, Sends}
-use Rattle.zorigin.specs.Calls.{wrong_state, not_offered, op_used, set_unknown, set_not_ready, set_replaced, unsendable, early_refusal, refusal, or_unsendable, answer_by, call_answer, is_unsendable_request, SendsFor}
+use Rattle.zorigin.specs.Sending.{is_unsendable, init_request, search_request, present_request, close_request, request_of, IsSendResult}
+use Rattle.zorigin.specs.Calls.{wrong_state, not_offered, op_used, set_unknown, set_not_ready, set_replaced, unsendable, early_refusal, refusal, or_unsendable, call_result_by, call_result, is_unsendable_request, IsSendResultFor}
 use Rattle.zorigin.specs.Changes.{admitted_at, called_at, admitted_unless}
 
 -- what a call answers and leaves
 pub record Comes (s : Standing) (c : Call) (r : Result Sent CallRefused) (t : Standing) : Type 0 where
-  pub answer : r ≡ call_answer s c
+  pub answer : r ≡ call_result s c
   pub new : t ≡ called_at s c
 
-comes : (s : Standing) (c : Call) (r : Option CallRefused) → refusal s c ≡ r → Comes s c (answer_by r (request_of s c)) (admitted_unless s c r)
-comes s c r e = record { answer = ap (λ x. answer_by x (request_of s c)) (sym e); new = ap (λ x. admitted_unless s c x) (sym e) }
+comes : (s : Standing) (c : Call) (r : Option CallRefused) → refusal s c ≡ r → Comes s c (call_result_by r (request_of s c)) (admitted_unless s c r)
+comes s c r e = record { answer = ap (λ x. call_result_by x (request_of s c)) (sym e); new = ap (λ x. admitted_unless s c x) (sym e) }
 
 pub refused_early : (s : Standing) (c : Call) (reason : CallRefused) → early_refusal s c ≡ Some reason → Comes s c (Err reason) s
 unfolding refusal
@@ -37,23 +37,23 @@ pub record IsReady (s : Standing) (c : Call) (apdu : Apdu) : Type 0 where
   pub request : request_of s c ≡ Some apdu
   pub sendable : unsendable s c ≡ is_unsendable apdu
 
-sends : (s : Standing) (c : Call) (apdu : Apdu) (r : Result Sent CallRefused) → IsReady s c apdu → SendsFor s c r → Sends apdu r
+sends : (s : Standing) (c : Call) (apdu : Apdu) (r : Result Sent CallRefused) → IsReady s c apdu → IsSendResultFor s c r → IsSendResult apdu r
 sends s c apdu r ready h = rw ready.request at h
 
-not_sent : (s : Standing) (c : Call) (apdu : Apdu) (reason : CallRefused) → IsReady s c apdu → Sends apdu (Err reason) → reason ≢ refused.Memory → Comes s c (Err reason) s
+not_sent : (s : Standing) (c : Call) (apdu : Apdu) (reason : CallRefused) → IsReady s c apdu → IsSendResult apdu (Err reason) → reason ≢ refused.Memory → Comes s c (Err reason) s
 not_sent s c apdu refused.Unsendable ready h m = comes s c (Some refused.Unsendable) (refused_late s c true ready.early (ready.sendable ∙ h))
 not_sent s c apdu refused.Memory ready h m = absurd (m refl)
 not_sent s c apdu _ ready h m = absurd h
 
-pub unsent : (s : Standing) (c : Call) (apdu : Apdu) (reason : CallRefused) → IsReady s c apdu → SendsFor s c (Err reason) → reason ≢ refused.Memory → Comes s c (Err reason) s
+pub unsent : (s : Standing) (c : Call) (apdu : Apdu) (reason : CallRefused) → IsReady s c apdu → IsSendResultFor s c (Err reason) → reason ≢ refused.Memory → Comes s c (Err reason) s
 unsent s c apdu reason ready h m = not_sent s c apdu reason ready (sends s c apdu (Err reason) ready h) m
 
-pub sent_so : (s : Standing) (c : Call) (apdu : Apdu) (sent : Sent) → IsReady s c apdu → SendsFor s c (Ok sent) → Comes s c (Ok sent) (admitted_at s c)
+pub sent_so : (s : Standing) (c : Call) (apdu : Apdu) (sent : Sent) → IsReady s c apdu → IsSendResultFor s c (Ok sent) → Comes s c (Ok sent) (admitted_at s c)
 sent_so s c apdu sent ready h =
     let given = sends s c apdu (Ok sent) ready h in
     let free : refusal s c ≡ None = refused_late s c false ready.early (ready.sendable ∙ given.0) in
     record {
-      answer = ap (λ x. Ok x) given.1 ∙ sym (ap (λ x. answer_by x (request_of s c)) free ∙ ap (answer_by None) ready.request);
+      answer = ap (λ x. Ok x) given.1 ∙ sym (ap (λ x. call_result_by x (request_of s c)) free ∙ ap (call_result_by None) ready.request);
       new = ap (λ x. admitted_unless s c x) (sym free);
     }
 

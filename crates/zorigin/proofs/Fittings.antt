@@ -11,7 +11,7 @@ use Rattle.zorigin.specs.declared.answer.What.{What}
 use Rattle.zorigin.specs.declared.answer.What.TheVariants as what
 use Rattle.zorigin.specs.declared.refusal.Refused.TheVariants as refused
 use Rattle.zplan.specs.Ranges.{positions}
-use Rattle.zorigin.specs.Fitting.{records_in, diagnostics_in, is_empty, has_fragment, IsCounted, FitsSearch, FitsPresent, Fits, is_number, exceeds, count_mismatch, bad_number, bad_search, bad_present, search_fault, present_fault, fault_of}
+use Rattle.zorigin.specs.Fitting.{records_in, diagnostics_in, is_empty, has_fragment, IsRecordCount, IsFitSearchReply, IsFitPresentReply, IsFitReply, is_number, is_more_than, count_mismatch, bad_number, bad_search, bad_present, search_fault, present_fault, fault_of}
 
 -- ---- the rows
 
@@ -36,11 +36,11 @@ so_number n k e = ap (λ m. is_number m k) e ∙ same k
     same : (m : ℕ) → (m == m) ≡ true
     same m = grind (arith, nat_tests)
 
-within_so : (k : ℕ) (n : ℤ) → exceeds k n ≡ false → pos k ≤ℤ n
+within_so : (k : ℕ) (n : ℤ) → is_more_than k n ≡ false → pos k ≤ℤ n
 within_so k (pos n) h = let e : k ≤ n = grind (arith, nat_tests) in omega (arith, ints)
 within_so k (negsuc n) h = absurd (true≢false h)
 
-so_within : (k : ℕ) (n : ℤ) → pos k ≤ℤ n → exceeds k n ≡ false
+so_within : (k : ℕ) (n : ℤ) → pos k ≤ℤ n → is_more_than k n ≡ false
 so_within k (pos n) h = let e : k ≤ n = omega (arith, ints) in grind (arith, nat_tests)
 so_within k (negsuc n) h = absurd (omega (arith, ints))
 
@@ -52,15 +52,15 @@ so_positive : (n : ℤ) → pos 0 ≤ℤ n → int_lt n (pos 0) ≡ false
 so_positive (pos n) h = let e : ltb n 0 ≡ false = grind (arith, nat_tests) in e
 so_positive (negsuc n) h = absurd (omega (arith, ints))
 
-counted_so : (records : Option Records) (n : ℤ) → count_mismatch records n ≡ false → IsCounted records n
+counted_so : (records : Option Records) (n : ℤ) → count_mismatch records n ≡ false → IsRecordCount records n
 counted_so records n h = by (is_empty (diagnostics_in records)) (is_number n (length (records_in records))) refl refl h
   where
-    by : (e m : Bool) → is_empty (diagnostics_in records) ≡ e → is_number n (length (records_in records)) ≡ m → (e && not m) ≡ false → IsCounted records n
+    by : (e m : Bool) → is_empty (diagnostics_in records) ≡ e → is_number n (length (records_in records)) ≡ m → (e && not m) ≡ false → IsRecordCount records n
     by false m d k g = inl (some_so (diagnostics_in records) d)
     by true true d k g = inr (number_so n (length (records_in records)) k)
     by true false d k g = absurd (true≢false g)
 
-so_counted : (records : Option Records) (n : ℤ) → IsCounted records n → count_mismatch records n ≡ false
+so_counted : (records : Option Records) (n : ℤ) → IsRecordCount records n → count_mismatch records n ≡ false
 so_counted records n (inl d) = ap (λ b. b && not (is_number n (length (records_in records)))) (so_some (diagnostics_in records) d)
 so_counted records n (inr e) = ap (λ b. is_empty (diagnostics_in records) && not b) (so_number n (length (records_in records)) e) ∙ and_false (is_empty (diagnostics_in records))
   where
@@ -79,12 +79,12 @@ both_false a b h k = ap (λ x. x || b) h ∙ k
 -- ---- replies
 
 search_so : (v : SearchResponse) (a b c : Bool) → count_mismatch v.records v.number_of_records_returned ≡ a → bad_number v ≡ b → bad_search v ≡ c
-    → cond a (Some refused.CountMismatch) (cond b (Some refused.BadNumber) (cond c (Some refused.BadShape) None)) ≡ None → FitsSearch v
+    → cond a (Some refused.CountMismatch) (cond b (Some refused.BadNumber) (cond c (Some refused.BadShape) None)) ≡ None → IsFitSearchReply v
 search_so v true b c ea eb ec h = absurd (cc)
 search_so v false true c ea eb ec h = absurd (cc)
 search_so v false false true ea eb ec h = absurd (cc)
 search_so v false false false ea eb ec h =
-    let shape = neither (exceeds (length (records_in v.records)) v.result_count) (has_fragment v.records) ec in
+    let shape = neither (is_more_than (length (records_in v.records)) v.result_count) (has_fragment v.records) ec in
     record {
       counted = counted_so v.records v.number_of_records_returned ea;
       positive = positive_so v.result_count eb;
@@ -92,11 +92,11 @@ search_so v false false false ea eb ec h =
       entire = shape.1;
     }
 
-so_search : (v : SearchResponse) → FitsSearch v → search_fault v ≡ None
+so_search : (v : SearchResponse) → IsFitSearchReply v → search_fault v ≡ None
 so_search v f =
     let a : count_mismatch v.records v.number_of_records_returned ≡ false = so_counted v.records v.number_of_records_returned f.counted in
     let b : bad_number v ≡ false = so_positive v.result_count f.positive in
-    let c : bad_search v ≡ false = both_false (exceeds (length (records_in v.records)) v.result_count) (has_fragment v.records) (so_within (length (records_in v.records)) v.result_count f.within) f.entire in
+    let c : bad_search v ≡ false = both_false (is_more_than (length (records_in v.records)) v.result_count) (has_fragment v.records) (so_within (length (records_in v.records)) v.result_count f.within) f.entire in
     λ i. cond (a i) (Some refused.CountMismatch) (cond (b i) (Some refused.BadNumber) (cond (c i) (Some refused.BadShape) None))
 
 some_shown : (v : PresentResponse) → (is_empty (records_in v.records) && is_empty (diagnostics_in v.records)) ≡ false → (records_in v.records ≢ []) ⊎ (diagnostics_in v.records ≢ [])
@@ -122,7 +122,7 @@ no_more : (k n : ℕ) → k ≤ n → ltb n k ≡ false
 no_more k n h = grind (arith, nat_tests)
 
 present_so : (asked : List ℕ) (v : PresentResponse) (a b : Bool) → count_mismatch v.records v.number_of_records_returned ≡ a → bad_present asked v ≡ b
-    → cond a (Some refused.CountMismatch) (cond b (Some refused.BadShape) None) ≡ None → FitsPresent asked v
+    → cond a (Some refused.CountMismatch) (cond b (Some refused.BadShape) None) ≡ None → IsFitPresentReply asked v
 present_so asked v true b ea eb h = absurd (cc)
 present_so asked v false true ea eb h = absurd (cc)
 present_so asked v false false ea eb h =
@@ -137,7 +137,7 @@ present_so asked v false false ea eb h =
       some = some_shown v last.1;
     }
 
-so_present : (asked : List ℕ) (v : PresentResponse) → FitsPresent asked v → present_fault asked v ≡ None
+so_present : (asked : List ℕ) (v : PresentResponse) → IsFitPresentReply asked v → present_fault asked v ≡ None
 so_present asked v f =
     let many = ltb (length asked) (length (records_in v.records)) in
     let a : count_mismatch v.records v.number_of_records_returned ≡ false = so_counted v.records v.number_of_records_returned f.counted in
@@ -145,7 +145,7 @@ so_present asked v f =
     (both_false many (has_fragment v.records) (no_more (length (records_in v.records)) (length asked) f.within) f.entire) (shown_some v f.some) in
     λ i. cond (a i) (Some refused.CountMismatch) (cond (b i) (Some refused.BadShape) None)
 
-pub fitting : (w : What) (reply : Apdu) → fault_of w reply ≡ None → Fits w reply
+pub fitting : (w : What) (reply : Apdu) → fault_of w reply ≡ None → IsFitReply w reply
 fitting what.Init (apdus.InitRequest v) h = absurd (cc)
 fitting what.Init (apdus.InitResponse v) h = tt
 fitting what.Init (apdus.SearchRequest v) h = absurd (cc)
@@ -168,7 +168,7 @@ fitting (what.Present ranges) (apdus.PresentRequest v) h = absurd (cc)
 fitting (what.Present ranges) (apdus.PresentResponse v) h = present_so (positions ranges) v (count_mismatch v.records v.number_of_records_returned) (bad_present (positions ranges) v) refl refl h
 fitting (what.Present ranges) (apdus.Close v) h = absurd (cc)
 
-pub fits_none : (w : What) (reply : Apdu) → Fits w reply → fault_of w reply ≡ None
+pub fits_none : (w : What) (reply : Apdu) → IsFitReply w reply → fault_of w reply ≡ None
 fits_none what.Init (apdus.InitRequest v) h = absurd h
 fits_none what.Init (apdus.InitResponse v) h = refl
 fits_none what.Init (apdus.SearchRequest v) h = absurd h

@@ -1,7 +1,7 @@
 -- A reference id and the number that it spells.
 use Rattle.std.proofs.Common.{◌≡◌, ℕ, ◌+◌, ◌*◌, ◌/◌, ◌%◌, ◌<◌, Bool, true, false, cond, ltb, ◌&&◌, List, [], ◌∷◌, None, Some, refl, ap, ◌∙◌, arith}
 use Rattle.std.proofs.lemmas.Bool.Decides.{nat_tests}
-use Rattle.zorigin.specs.References.{reference_id, number_of}
+use Rattle.zorigin.specs.References.{reference_id, operation_number}
 
 abbrev number : ℕ → ℕ → ℕ → ℕ → ℕ
 number a b c d = 16777216 * a + 65536 * b + 256 * c + d
@@ -19,7 +19,7 @@ in_octets op =
 places : (op : ℕ) → number (op / 16777216) (op / 65536 % 256) (op / 256 % 256) (op % 256) ≡ op
 places op = omega arith
 
-pub spelled_number : (op : ℕ) → number_of (reference_id op) ≡ Some op
+pub spelled_number : (op : ℕ) → operation_number (reference_id op) ≡ Some op
 spelled_number op = ap (λ b. cond b (Some (number (op / 16777216) (op / 65536 % 256) (op / 256 % 256) (op % 256))) None) (in_octets op) ∙ ap (λ n. Some n) (places op)
 
 same_places : (a b c d : ℕ) → b < 256 → c < 256 → d < 256 → a ∷ b ∷ c ∷ d ∷ [] ≡ reference_id (number a b c d)
@@ -31,7 +31,7 @@ same_places a b c d hb hc hd =
     let ed : d ≡ n % 256 = omega arith in
     λ i. ea i ∷ eb i ∷ ec i ∷ ed i ∷ []
 
-pub number_spelled : (id : List ℕ) (op : ℕ) → number_of id ≡ Some op → id ≡ reference_id op
+pub number_spelled : (id : List ℕ) (op : ℕ) → operation_number id ≡ Some op → id ≡ reference_id op
 number_spelled [] op h = absurd (cc)
 number_spelled (a ∷ []) op h = absurd (cc)
 number_spelled (a ∷ b ∷ []) op h = absurd (cc)

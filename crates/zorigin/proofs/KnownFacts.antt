@@ -14,10 +14,10 @@ use Rattle.zknow.specs.Facts.{IsFact}
 use Rattle.zorigin.specs.declared.answer.What.{What}
 use Rattle.zorigin.specs.declared.answer.What.TheVariants as what
 use Rattle.zorigin.specs.declared.answer.Answer.{Answer}
-use Rattle.zorigin.specs.Fitting.{Fits, records_in, diagnostics_in}
+use Rattle.zorigin.specs.Fitting.{IsFitReply, records_in, diagnostics_in}
 use Rattle.zplan.specs.Positions.{first_of}
 use Rattle.zplan.specs.Ranges.{positions}
-use Rattle.zorigin.specs.Facts.{seen_from, seen_at, told_at, count_or_failed, facts_by, facts_of, records_of, asks_positions, IsShowable}
+use Rattle.zorigin.specs.Facts.{seen_from, seen_at, diagnostic_facts, count_or_failed, facts_by, facts_of, records_of, has_valid_ranges, IsFitAnswer}
 use Rattle.zorigin.proofs.Ranges.{IsLow, follows, low_positions}
 
 abbrev AreFacts : List Fact → Type 0
@@ -34,9 +34,9 @@ seen target set first i (r ∷ rs) low h =
     let at : pos 1 ≤ℤ (first +ℤ pos i) = omega (arith, ints) in
     ((at, h.0), seen target set first (i + 1) rs low h.1)
 
-told : (target set : ℕ) (place : ℤ) (diags : List DiagRec) → pos 0 ≤ℤ place → AreFacts (told_at target set place diags)
-told target set place [] low = tt
-told target set place (d ∷ ds) low = (low, told target set place ds low)
+diagnostics_known : (target set : ℕ) (place : ℤ) (diags : List DiagRec) → pos 0 ≤ℤ place → AreFacts (diagnostic_facts target set place diags)
+diagnostics_known target set place [] low = tt
+diagnostics_known target set place (d ∷ ds) low = (low, diagnostics_known target set place ds low)
 
 counted : (target set : ℕ) (status : Bool) (count : ℤ) → pos 0 ≤ℤ count → IsFact (count_or_failed target set status count)
 counted target set true count low = low
@@ -50,19 +50,19 @@ there target set (p ∷ ps) (r ∷ rs) low h =
     let at : pos 1 ≤ℤ pos p = omega (arith, ints, low.0) in
     ((at, h.0), there target set ps rs low.1 h.1)
 
-facts : (target set : ℕ) (w : What) (reply : Apdu) → Fits w reply → asks_positions w ≡ true → AllByRecursion (λ r. IsSpellable whole_record r) (records_of reply) → AreFacts (facts_by target set w reply)
+facts : (target set : ℕ) (w : What) (reply : Apdu) → IsFitReply w reply → has_valid_ranges w ≡ true → AllByRecursion (λ r. IsSpellable whole_record r) (records_of reply) → AreFacts (facts_by target set w reply)
 facts target set what.Init (apdus.InitResponse v) f p h = elim v.result as (λ b. AreFacts (if b then [] else Failed target 0 ∷ [])) [ true ↦ tt | false ↦ (tt, tt) ]
 facts target set what.Search (apdus.SearchResponse v) f p h =
     let count : AreFacts (count_or_failed target set v.search_status v.result_count ∷ []) = (counted target set v.search_status v.result_count f.positive, tt) in
     let first = count_or_failed target set v.search_status v.result_count ∷ [] in
     let rows = seen_from target set (pos 1) (records_in v.records) in
-    both (first ++ rows) (told_at target set (pos 0) (diagnostics_in v.records)) (both first rows count (seen target set (pos 1) 0 (records_in v.records) (omega (arith, ints)) h))
-    (told target set (pos 0) (diagnostics_in v.records) (omega (arith, ints)))
+    both (first ++ rows) (diagnostic_facts target set (pos 0) (diagnostics_in v.records)) (both first rows count (seen target set (pos 1) 0 (records_in v.records) (omega (arith, ints)) h))
+    (diagnostics_known target set (pos 0) (diagnostics_in v.records) (omega (arith, ints)))
 facts target set (what.Present ranges) (apdus.PresentResponse v) f p h =
     let asked = positions ranges in
     let place = pos (first_of asked) in
-    both (seen_at target set asked (records_in v.records)) (told_at target set place (diagnostics_in v.records))
-    (there target set asked (records_in v.records) (low_positions (pos 0) ranges (follows ranges p)) h) (told target set place (diagnostics_in v.records) (omega (arith, ints)))
+    both (seen_at target set asked (records_in v.records)) (diagnostic_facts target set place (diagnostics_in v.records))
+    (there target set asked (records_in v.records) (low_positions (pos 0) ranges (follows ranges p)) h) (diagnostics_known target set place (diagnostics_in v.records) (omega (arith, ints)))
 facts target set what.Init (apdus.InitRequest v) f p h = absurd f
 facts target set what.Init (apdus.SearchRequest v) f p h = absurd f
 facts target set what.Init (apdus.SearchResponse v) f p h = absurd f
@@ -82,5 +82,5 @@ facts target set (what.Present ranges) (apdus.SearchResponse v) f p h = absurd f
 facts target set (what.Present ranges) (apdus.PresentRequest v) f p h = absurd f
 facts target set (what.Present ranges) (apdus.Close v) f p h = absurd f
 
-pub known_facts : (target : ℕ) (answer : Answer) → IsShowable answer → AllByRecursion (λ r. IsSpellable whole_record r) (records_of answer.reply) → AllByRecursion IsFact (facts_of target answer)
+pub known_facts : (target : ℕ) (answer : Answer) → IsFitAnswer answer → AllByRecursion (λ r. IsSpellable whole_record r) (records_of answer.reply) → AllByRecursion IsFact (facts_of target answer)
 known_facts target answer s h = facts target answer.asked.set answer.asked.what answer.reply s.fits s.positions h

@@ -7,7 +7,7 @@ use Rattle.std.proofs.lemmas.List.Folds.{list_any-append}
 use Rattle.std.proofs.lemmas.Bool.Decides.{nat_tests}
 use Rattle.zorigin.specs.declared.answer.Asked.{Asked}
 use Rattle.zorigin.specs.declared.answer.Answer.{Answer}
-use Rattle.zorigin.specs.Log.{answers, numbered, op_of}
+use Rattle.zorigin.specs.Log.{is_answer_to, by_operation, op_of}
 use Rattle.zorigin.specs.Replies.{only_of}
 
 abbrev pub has : ℕ → Asked → Bool
@@ -90,13 +90,13 @@ module _ {X : Type 0} where
       let more = any_none P t xs w h.1 in
       elim (t x) as (λ b. t x ≡ b → (b || list_any t xs) ≡ false) [ true ↦ λ e. absurd (w x h.0 e) | false ↦ λ e. more ] refl
 
-pub all_looked : (P : Asked → Type 0) (op : ℕ) (qs : List Asked) (q : Asked) → AllByRecursion P qs → lookup (nat_eq op) (map numbered qs) ≡ Some q → P q
+pub all_looked : (P : Asked → Type 0) (op : ℕ) (qs : List Asked) (q : Asked) → AllByRecursion P qs → lookup (nat_eq op) (map by_operation qs) ≡ Some q → P q
 all_looked P op [] q h e = absurd (cc)
 all_looked P op (x ∷ xs) q h e =
     let more = all_looked P op xs q h.1 in
-    elim (nat_eq op x.op) as (λ b. cond b (Some x) (lookup (nat_eq op) (map numbered xs)) ≡ Some q → P q) [ true ↦ λ e. (let same : x ≡ q = cc in subst P same h.0) | false ↦ more ] e
+    elim (nat_eq op x.op) as (λ b. cond b (Some x) (lookup (nat_eq op) (map by_operation xs)) ≡ Some q → P q) [ true ↦ λ e. (let same : x ≡ q = cc in subst P same h.0) | false ↦ more ] e
 
-pub all_only : (P : Asked → Type 0) (qs : List Asked) (q : Asked) → AllByRecursion P qs → only_of (map numbered qs) ≡ Some q → P q
+pub all_only : (P : Asked → Type 0) (qs : List Asked) (q : Asked) → AllByRecursion P qs → only_of (map by_operation qs) ≡ Some q → P q
 all_only P [] q h e = absurd (cc)
 all_only P (x ∷ []) q h e = let same : x ≡ q = cc in subst P same h.0
 all_only P (x ∷ y ∷ xs) q h e = absurd (cc)
@@ -129,7 +129,7 @@ distinct_filter u (q ∷ qs) d =
     let more = distinct_filter u qs d.1 in
     elim (u q) as (λ b. AreDistinct (cond b (q ∷ filter u qs) (filter u qs))) [ true ↦ (any_filter (has q.op) u qs d.0, more) | false ↦ more ]
 
-pub insert_absent : (a : Asked) (qs : List Asked) → list_any (has a.op) qs ≡ false → insert_entry nat_eq (map numbered qs) a.op a ≡ map numbered (qs ++ a ∷ [])
+pub insert_absent : (a : Asked) (qs : List Asked) → list_any (has a.op) qs ≡ false → insert_entry nat_eq (map by_operation qs) a.op a ≡ map by_operation (qs ++ a ∷ [])
 insert_absent a [] h = refl
 insert_absent a (q ∷ qs) h = let more = insert_absent a qs in grind (arith, nat_tests)
 
@@ -140,23 +140,23 @@ others_pass op (q ∷ qs) h =
     let rest : list_any (has op) qs ≡ false = grind arith in
     rw e (ap (λ l. q ∷ l) (others_pass op qs rest))
 
-pub removed : (op : ℕ) (qs : List Asked) → AreDistinct qs → shift_remove_entry (nat_eq op) (map numbered qs) ≡ map numbered (filter (λ (q : Asked). not (q.op == op)) qs)
+pub removed : (op : ℕ) (qs : List Asked) → AreDistinct qs → shift_remove_entry (nat_eq op) (map by_operation qs) ≡ map by_operation (filter (λ (q : Asked). not (q.op == op)) qs)
 removed op [] d = refl
 removed op (q ∷ qs) d =
     let more = removed op qs d.1 in
     let symmetric : (q.op == op) ≡ nat_eq op q.op = grind (arith, nat_tests) in
-    elim (nat_eq op q.op) as (λ b. nat_eq op q.op ≡ b → cond b (map numbered qs) (numbered q ∷ shift_remove_entry (nat_eq op) (map numbered qs)) ≡ map numbered (cond (not b) (q ∷ filter (λ (x : Asked). not (x.op == op)) qs) (filter (λ (x : Asked). not (x.op == op)) qs))) [
-      | true ↦ λ e. let same : q.op ≡ op = grind (arith, nat_tests) in ap (map numbered) (sym (others_pass op qs (ap (λ n. list_any (has n) qs) (sym same) ∙ d.0)))
-      | false ↦ λ e. ap (λ l. numbered q ∷ l) more
-    ] refl ∙ ap (λ b. map numbered (cond (not b) (q ∷ filter (λ (x : Asked). not (x.op == op)) qs) (filter (λ (x : Asked). not (x.op == op)) qs))) (sym symmetric)
+    elim (nat_eq op q.op) as (λ b. nat_eq op q.op ≡ b → cond b (map by_operation qs) (by_operation q ∷ shift_remove_entry (nat_eq op) (map by_operation qs)) ≡ map by_operation (cond (not b) (q ∷ filter (λ (x : Asked). not (x.op == op)) qs) (filter (λ (x : Asked). not (x.op == op)) qs))) [
+      | true ↦ λ e. let same : q.op ≡ op = grind (arith, nat_tests) in ap (map by_operation) (sym (others_pass op qs (ap (λ n. list_any (has n) qs) (sym same) ∙ d.0)))
+      | false ↦ λ e. ap (λ l. by_operation q ∷ l) more
+    ] refl ∙ ap (λ b. map by_operation (cond (not b) (q ∷ filter (λ (x : Asked). not (x.op == op)) qs) (filter (λ (x : Asked). not (x.op == op)) qs))) (sym symmetric)
 
 -- what is still unanswered after one answer more
 pub still_open : (acc : List Answer) (a : Answer) (qs : List Asked)
-    → filter (λ (q : Asked). not (list_any (answers q.op) (acc ++ a ∷ []))) qs
-    ≡ filter (λ (q : Asked). not (q.op == a.asked.op)) (filter (λ (q : Asked). not (list_any (answers q.op) acc)) qs)
+    → filter (λ (q : Asked). not (list_any (is_answer_to q.op) (acc ++ a ∷ []))) qs
+    ≡ filter (λ (q : Asked). not (q.op == a.asked.op)) (filter (λ (q : Asked). not (list_any (is_answer_to q.op) acc)) qs)
 still_open acc a [] = refl
 still_open acc a (q ∷ qs) =
     let more = still_open acc a qs in
-    let e = list_any-append (answers q.op) acc (a ∷ []) in
+    let e = list_any-append (is_answer_to q.op) acc (a ∷ []) in
     let symmetric : (q.op == a.asked.op) ≡ (a.asked.op == q.op) = grind (arith, nat_tests) in
     grind arith

@@ -18,14 +18,14 @@ use Rattle.zorigin.specs.declared.refusal.CallRefused.{CallRefused}
 use Rattle.zorigin.specs.declared.refusal.Refused.{Refused}
 use Rattle.zorigin.specs.declared.state.State.TheVariants as states
 use Rattle.zorigin.specs.declared.state.Searched.{Searched}
-use Rattle.zorigin.specs.Facts.{asks_positions}
+use Rattle.zorigin.specs.Facts.{has_valid_ranges}
 use Rattle.zorigin.specs.Standings.{Call, Init, Search, Present, Close, Standing, is_open, is_ready}
 use Rattle.zorigin.specs.Sending.{init_request, search_request, close_request, request_of}
-use Rattle.zorigin.specs.Calls.{refusal, early_refusal, or_unsendable, unsendable, answer_by}
+use Rattle.zorigin.specs.Calls.{refusal, early_refusal, or_unsendable, unsendable, call_result_by}
 use Rattle.zorigin.specs.Changes.{force_in}
 use Rattle.zorigin.specs.Replies.{verdict}
-use Rattle.zorigin.specs.Log.{Made, Got, Log, Past, past, operation_of, asked, answers, is_init, opens, opening, is_init_call, is_close_call, state_by, closing_state, state_from, state_of, searches_in, op_of, standing, admit, admit_unless, after_verdict}
-use Rattle.zorigin.specs.Laws.{set_of, answered_op, Accepts, IsOpened, IsOrderly, IsSent}
+use Rattle.zorigin.specs.Log.{Made, Got, Log, Past, past, operation_of, asked, is_answer_to, is_init, is_opening, opening, is_init_call, is_close_call, state_by, closing_state, state_from, state_of, searches_in, op_of, standing, admit, admit_unless, after_verdict}
+use Rattle.zorigin.specs.Laws.{searched_set, answered_op, IsAcceptance, HasAssociation, IsOrderly, HasRequest}
 use Rattle.zorigin.proofs.Operations.{has, AreDistinct}
 use Rattle.zorigin.proofs.Searches.{of_set, AreSetsDistinct, sets_with}
 use Rattle.zorigin.proofs.Proper.{made, asked_more, proper, IsNews, news, answer_in, free, ready_if}
@@ -51,11 +51,11 @@ unfolding IsDistinct
 distinct_ops [] d = tt
 distinct_ops (q ∷ qs) d = (apart_ops q.op qs d.0, distinct_ops qs d.1)
 
-apart_sets : (set : ℕ) (ss : List Searched) → list_any (of_set set) ss ≡ false → AllByRecursion (λ m. nat_eq set m ≡ false) (map set_of ss)
+apart_sets : (set : ℕ) (ss : List Searched) → list_any (of_set set) ss ≡ false → AllByRecursion (λ m. nat_eq set m ≡ false) (map searched_set ss)
 apart_sets set [] h = tt
 apart_sets set (s ∷ ss) h = let n = neither (nat_eq set s.set) (list_any (of_set set) ss) h in (n.0, apart_sets set ss n.1)
 
-distinct_sets : (ss : List Searched) → AreSetsDistinct ss → IsDistinct nat_eq (map set_of ss)
+distinct_sets : (ss : List Searched) → AreSetsDistinct ss → IsDistinct nat_eq (map searched_set ss)
 unfolding IsDistinct
 distinct_sets [] d = tt
 distinct_sets (s ∷ ss) d = (apart_sets s.set ss d.0, distinct_sets ss d.1)
@@ -64,11 +64,11 @@ all_answers : (P : ℕ → Type 0) (xs : List Answer) (a : Answer) → AllByRecu
 all_answers P [] a h x = (x, tt)
 all_answers P (y ∷ ys) a h x = (h.0, all_answers P ys a h.1 x)
 
-answer_more : (xs : List Answer) (a : Answer) → list_any (answers a.asked.op) xs ≡ false → IsDistinct nat_eq (map answered_op xs) → IsDistinct nat_eq (map answered_op (xs ++ a ∷ []))
+answer_more : (xs : List Answer) (a : Answer) → list_any (is_answer_to a.asked.op) xs ≡ false → IsDistinct nat_eq (map answered_op xs) → IsDistinct nat_eq (map answered_op (xs ++ a ∷ []))
 unfolding IsDistinct
 answer_more [] a h d = (tt, tt)
 answer_more (x ∷ xs) a h d =
-    let n = neither (x.asked.op == a.asked.op) (list_any (answers a.asked.op) xs) h in
+    let n = neither (x.asked.op == a.asked.op) (list_any (is_answer_to a.asked.op) xs) h in
     (all_answers (λ m. nat_eq x.asked.op m ≡ false) xs a d.0 n.0, answer_more xs a n.1 d.1)
 
 abbrev AreOnce : List Answer → Type 0
@@ -128,7 +128,7 @@ init_what what.Search h = absurd (true≢false (sym h))
 init_what (what.Present ranges) h = absurd (true≢false (sym h))
 
 -- Ready is said only by a response that accepts
-ready_accepts : (closing : Bool) (reply : Apdu) → is_ready (closing_state closing (state_by reply)) ≡ true → Accepts reply
+ready_accepts : (closing : Bool) (reply : Apdu) → is_ready (closing_state closing (state_by reply)) ≡ true → IsAcceptance reply
 ready_accepts closing (apdus.InitResponse v) h = by v.result closing (force_in v).v3 (force_in v).concurrent (force_in v).named h
   where
     by : (b c v3 concurrent named : Bool) → is_ready (closing_state c (cond b (states.Ready v3 concurrent named) states.Closed)) ≡ true → b ≡ true
@@ -141,32 +141,32 @@ ready_accepts closing (apdus.PresentRequest v) h = absurd (true≢false (sym h))
 ready_accepts closing (apdus.PresentResponse v) h = absurd (true≢false (sym h))
 ready_accepts closing (apdus.Close v) h = absurd (true≢false (sym h))
 
-answer_ready : (f : Option Refused) (closed closing begun : Bool) (o : Option Answer) → is_ready (state_from f closed closing begun o) ≡ true → (a : Answer) × (o ≡ Some a) × Accepts a.reply
+answer_ready : (f : Option Refused) (closed closing begun : Bool) (o : Option Answer) → is_ready (state_from f closed closing begun o) ≡ true → (a : Answer) × (o ≡ Some a) × IsAcceptance a.reply
 answer_ready (Some r) closed closing begun o h = absurd (true≢false (sym h))
 answer_ready None true closing begun o h = absurd (true≢false (sym h))
 answer_ready None false closing true None h = absurd (true≢false (sym h))
 answer_ready None false closing false None h = absurd (true≢false (sym h))
 answer_ready None false closing begun (Some a) h = (a, refl, ready_accepts closing a.reply h)
 
-ready_opened : (p : Past) → is_ready (state_of p) ≡ true → IsOpened p
+ready_opened : (p : Past) → is_ready (state_of p) ≡ true → HasAssociation p
 ready_opened p h =
     let answer = answer_ready p.fault p.closed (list_any is_close_call p.admitted) (list_any is_init_call p.admitted) (opening p) h in
-    let found = find_in opens p.accepted answer.0 answer.1 in
+    let found = find_in is_opening p.accepted answer.0 answer.1 in
     record { answer = answer.0; accepted = contained answer.0 p.accepted found.0; init = init_what answer.0.asked.what found.1; accepts = answer.2 }
 
-opened_more : (p q : Past) → ((a : Answer) → IsIn a p.accepted → IsIn a q.accepted) → IsOpened p → IsOpened q
+opened_more : (p q : Past) → ((a : Answer) → IsIn a p.accepted → IsIn a q.accepted) → HasAssociation p → HasAssociation q
 opened_more p q kept o = record { answer = o.answer; accepted = contained o.answer q.accepted (kept o.answer (among o.answer p.accepted o.accepted)); init = o.init; accepts = o.accepts }
 
-closing_call : (p : Past) (c : Call) (r : Option CallRefused) → refusal (standing p) c ≡ r → (IsIn Close p.admitted → IsOpened p) → IsIn Close (admit_unless p c r).admitted → IsOpened (admit_unless p c r)
+closing_call : (p : Past) (c : Call) (r : Option CallRefused) → refusal (standing p) c ≡ r → (IsIn Close p.admitted → HasAssociation p) → IsIn Close (admit_unless p c r).admitted → HasAssociation (admit_unless p c r)
 closing_call p c (Some r) e before i = before i
 closing_call p c None e before i = opened_more p (admit p c) (λ a j. j) (elim (in_push Close c p.admitted i) [ inl j ↦ before j | inr same ↦ now same ])
   where
-    now : Close ≡ c → IsOpened p
+    now : Close ≡ c → HasAssociation p
     now same =
         let free_close = free (standing p) Close (subst (λ x. refusal (standing p) x ≡ None) (sym same) e) in
         ready_opened p (ready_if (is_ready (state_of p)) free_close.state)
 
-closing : (settings : Settings) (log : Log) → IsIn Close (past settings log).admitted → IsOpened (past settings log)
+closing : (settings : Settings) (log : Log) → IsIn Close (past settings log).admitted → HasAssociation (past settings log)
 closing settings [] i = absurd i
 closing settings (Made c ∷ log) i = let p = past settings log in closing_call p c (refusal (standing p) c) refl (closing settings log) i
 closing settings (Got reply ∷ log) i =
@@ -185,7 +185,7 @@ orderly settings log =
       sets = distinct_sets (searches_in p) (sets_with p.accepted (made p) ok.sets);
       known = known settings log;
       once = once settings log;
-      positions = λ q h. of_all (λ (x : Asked). asks_positions x.what ≡ true) (asked p) q ok.positions (among q (asked p) h);
+      positions = λ q h. of_all (λ (x : Asked). has_valid_ranges x.what ≡ true) (asked p) q ok.positions (among q (asked p) h);
       closing = λ h. closing settings log (among Close p.admitted h);
     }
 
@@ -199,10 +199,10 @@ early s c h = none (unsendable s c) (early_refusal s c) h
     none b None e = refl
     none b (Some r) e = absurd (cc)
 
-answered : (s : Standing) (c : Call) (apdu : Apdu) → refusal s c ≡ None → request_of s c ≡ Some apdu → IsSent s c
-answered s c apdu h e = record { request = apdu; made = e; answer = ap (λ r. answer_by r (request_of s c)) h ∙ ap (answer_by None) e }
+answered : (s : Standing) (c : Call) (apdu : Apdu) → refusal s c ≡ None → request_of s c ≡ Some apdu → HasRequest s c
+answered s c apdu h e = record { request = apdu; made = e; answer = ap (λ r. call_result_by r (request_of s c)) h ∙ ap (call_result_by None) e }
 
-pub sent_request : (s : Standing) (c : Call) → refusal s c ≡ None → IsSent s c
+pub sent_request : (s : Standing) (c : Call) → refusal s c ≡ None → HasRequest s c
 sent_request s Init h = answered s Init (init_request s.settings) h refl
 sent_request s (Search op set ask) h = answered s (Search op set ask) (search_request s.force.named op set ask) h refl
 sent_request s (Present op set ranges) h =

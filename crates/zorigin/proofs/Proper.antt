@@ -16,16 +16,16 @@ use Rattle.zorigin.specs.declared.refusal.CallRefused.{CallRefused}
 use Rattle.zorigin.specs.declared.refusal.Refused.{Refused}
 use Rattle.zorigin.specs.declared.refusal.Refused.TheVariants as refused
 use Rattle.zorigin.specs.declared.state.Searched.{Searched}
-use Rattle.zorigin.specs.References.{number_of}
+use Rattle.zorigin.specs.References.{operation_number}
 use Rattle.zorigin.specs.Fitting.{first_row, fault_of}
 use Rattle.zorigin.specs.Ranges.{are_ranges}
-use Rattle.zorigin.specs.Facts.{asks_positions}
+use Rattle.zorigin.specs.Facts.{has_valid_ranges}
 use Rattle.zorigin.specs.Standings.{Call, Init, Search, Present, Close, Standing, is_open, is_ready}
 use Rattle.zorigin.specs.Calls.{refusal, or_unsendable, unsendable, early_rows, early_refusal, wrong_state, op_used, set_used, out_of_range}
-use Rattle.zorigin.specs.Replies.{only_of, numbered_as, named, against, judged, answered, verdict, taken_as, taken_by}
+use Rattle.zorigin.specs.Replies.{only_of, numbered_as, named, against, judged, open_verdict, verdict, taken_as, taken_by}
 use Rattle.zorigin.specs.Changes.{init_asked, search_asked, unanswered}
 use Rattle.zorigin.specs.Accepts.{id_of}
-use Rattle.zorigin.specs.Log.{Made, Got, Log, Past, past, operation_of, asked, answers, is_answered, outstanding, is_init, opens, opening, is_init_call, is_close_call, state_from, state_of, search_in, standing, admit, admit_unless, accept, after_verdict}
+use Rattle.zorigin.specs.Log.{Made, Got, Log, Past, past, operation_of, asked, is_answer_to, is_answered, outstanding, is_init, is_opening, opening, is_init_call, is_close_call, state_from, state_of, search_in, standing, admit, admit_unless, accept, after_verdict}
 use Rattle.zorigin.proofs.Operations.{has, AreDistinct, same_op, or_none, any_ops, find_some, all_filter, all_passed, all_push, all_looked, all_only, all_has, distinct_push}
 use Rattle.zorigin.proofs.Searches.{of_set, AreSetsDistinct, Agrees, AreAgreed, sets_push, agreed_more, agreed_new, none_filed}
 
@@ -46,17 +46,17 @@ made_same p c e = made_more p c ∙ ap (λ l. made p ++ l) e ∙ append-nil (mad
 
 pub record IsProper (p : Past) : Type 0 where
   -- a reply was accepted only to an operation that was asked
-  pub known : (op : ℕ) → list_any (has op) (asked p) ≡ false → list_any (answers op) p.accepted ≡ false
+  pub known : (op : ℕ) → list_any (has op) (asked p) ≡ false → list_any (is_answer_to op) p.accepted ≡ false
   -- Init has number 0, and asked positions are some
   pub zero : AllByRecursion (λ (q : Asked). is_init q.what ≡ true → q.op ≡ 0) (asked p)
-  pub positions : AllByRecursion (λ (q : Asked). asks_positions q.what ≡ true) (asked p)
-  pub opened_zero : AllByRecursion (λ (a : Answer). opens a ≡ true → a.asked.op ≡ 0) p.accepted
+  pub positions : AllByRecursion (λ (q : Asked). has_valid_ranges q.what ≡ true) (asked p)
+  pub opened_zero : AllByRecursion (λ (a : Answer). is_opening a ≡ true → a.asked.op ≡ 0) p.accepted
   pub distinct : AreDistinct (asked p)
   -- no two searches have one set, and one with an operation's number has its set
   pub sets : AreSetsDistinct (made p)
   pub agreed : AreAgreed (made p) (asked p)
   -- Close comes once Init was answered
-  pub closing : list_any is_close_call p.admitted ≡ true → list_any opens p.accepted ≡ true
+  pub closing : list_any is_close_call p.admitted ≡ true → list_any is_opening p.accepted ≡ true
 
 -- ---- a verdict
 
@@ -103,7 +103,7 @@ against_found s (Some q) reply a n h =
     let f = judged_found q reply a (fault_of q.what reply) refl h in
     record { reply = f.0; named = n ∙ ap (λ x. Some x) f.1; fits = f.2 }
 
-answered_found : (s : Standing) (reply : Apdu) (a : Answer) → answer_in (answered s reply) ≡ Some a → IsFound s reply a
+answered_found : (s : Standing) (reply : Apdu) (a : Answer) → answer_in (open_verdict s reply) ≡ Some a → IsFound s reply a
 answered_found s (apdus.InitResponse v) a h = against_found s (named s v.reference_id) (apdus.InitResponse v) a refl h
 answered_found s (apdus.SearchResponse v) a h = against_found s (named s v.reference_id) (apdus.SearchResponse v) a refl h
 answered_found s (apdus.PresentResponse v) a h = against_found s (named s v.reference_id) (apdus.PresentResponse v) a refl h
@@ -114,7 +114,7 @@ answered_found s (apdus.Close v) a h = absurd (cc)
 
 pub verdict_found : (s : Standing) (reply : Apdu) (a : Answer) → answer_in (verdict s reply) ≡ Some a → (is_open s.state ≡ true) × IsFound s reply a
 unfolding verdict
-verdict_found s reply a h = elim (is_open s.state) as (λ b. answer_in (cond b (answered s reply) (Err refused.WrongState)) ≡ Some a → (b ≡ true) × IsFound s reply a) [
+verdict_found s reply a h = elim (is_open s.state) as (λ b. answer_in (cond b (open_verdict s reply) (Err refused.WrongState)) ≡ Some a → (b ≡ true) × IsFound s reply a) [
   | true ↦ λ e. (refl, answered_found s reply a e)
   | false ↦ λ e. absurd (cc)
 ] h
@@ -126,7 +126,7 @@ named_all P p h None q e = by (standing p).force.concurrent e
     by : (b : Bool) → cond b None (only_of (standing p).outstanding) ≡ Some q → P q
     by true e = absurd (cc)
     by false e = all_only P (outstanding p) q h e
-named_all P p h (Some id) q e = by (number_of id) e
+named_all P p h (Some id) q e = by (operation_number id) e
   where
     by : (o : Option ℕ) → numbered_as (standing p).outstanding o ≡ Some q → P q
     by None e = absurd (cc)
@@ -139,7 +139,7 @@ pub record IsNews (p : Past) (reply : Apdu) (a : Answer) : Type 0 where
   pub unanswered : is_answered p a.asked.op ≡ false
   pub asked : list_any (has a.asked.op) (asked p) ≡ true
   pub zero : is_init a.asked.what ≡ true → a.asked.op ≡ 0
-  pub positions : asks_positions a.asked.what ≡ true
+  pub positions : has_valid_ranges a.asked.what ≡ true
   pub agreed : AllByRecursion (Agrees a.asked) (made p)
 
 pub not_false : (b : Bool) → not b ≡ true → b ≡ false
@@ -157,20 +157,20 @@ news p reply a ok h =
       unanswered = not_false (is_answered p a.asked.op) (named_all (λ q. still q ≡ true) p (all_passed still (asked p)) (id_of reply) a.asked f.1.named);
       asked = each (λ (q : Asked). list_any (has q.op) (asked p) ≡ true) (all_has (asked p));
       zero = each (λ (q : Asked). is_init q.what ≡ true → q.op ≡ 0) ok.zero;
-      positions = each (λ (q : Asked). asks_positions q.what ≡ true) ok.positions;
+      positions = each (λ (q : Asked). has_valid_ranges q.what ≡ true) ok.positions;
       agreed = each (λ (q : Asked). AllByRecursion (Agrees q) (made p)) ok.agreed;
     }
 
 proper_accept : (p : Past) (reply : Apdu) (a : Answer) → IsNews p reply a → IsProper p → IsProper (accept p a)
 proper_accept p reply a n ok = record {
-  known = λ op h. list_any-append (answers op) p.accepted (a ∷ []) ∙ rw (ok.known op h, other op h) refl;
+  known = λ op h. list_any-append (is_answer_to op) p.accepted (a ∷ []) ∙ rw (ok.known op h, other op h) refl;
   zero = ok.zero;
   positions = ok.positions;
-  opened_zero = all_push (λ (x : Answer). opens x ≡ true → x.asked.op ≡ 0) p.accepted a ok.opened_zero n.zero;
+  opened_zero = all_push (λ (x : Answer). is_opening x ≡ true → x.asked.op ≡ 0) p.accepted a ok.opened_zero n.zero;
   distinct = ok.distinct;
   sets = ok.sets;
   agreed = ok.agreed;
-  closing = λ h. list_any-append opens p.accepted (a ∷ []) ∙ rw (ok.closing h) refl;
+  closing = λ h. list_any-append is_opening p.accepted (a ∷ []) ∙ rw (ok.closing h) refl;
 }
   where
     other : (op : ℕ) → list_any (has op) (asked p) ≡ false → (a.asked.op == op) ≡ false
@@ -217,7 +217,7 @@ free s c h =
     record { state = rows.0; op = rows.1.1.0; set = rows.1.1.1.0; range = rows.1.1.1.1.1.1.1.0 }
 
 -- Ready comes of an answer to Init
-pub ready_opened : (p : Past) → is_ready (state_of p) ≡ true → list_any opens p.accepted ≡ true
+pub ready_opened : (p : Past) → is_ready (state_of p) ≡ true → list_any is_opening p.accepted ≡ true
 ready_opened p h = by (opening p) refl h
   where
     nobody : (f : Option Refused) (closed closing begun : Bool) → is_ready (state_from f closed closing begun None) ≡ true → ⊥
@@ -226,19 +226,19 @@ ready_opened p h = by (opening p) refl h
     nobody None false closing true e = cc
     nobody None false closing false e = cc
 
-    by : (o : Option Answer) → opening p ≡ o → is_ready (state_from p.fault p.closed (list_any is_close_call p.admitted) (list_any is_init_call p.admitted) o) ≡ true → list_any opens p.accepted ≡ true
-    by (Some a) e g = find_some opens p.accepted a e
+    by : (o : Option Answer) → opening p ≡ o → is_ready (state_from p.fault p.closed (list_any is_close_call p.admitted) (list_any is_init_call p.admitted) o) ≡ true → list_any is_opening p.accepted ≡ true
+    by (Some a) e g = find_some is_opening p.accepted a e
     by None e g = absurd (nobody p.fault p.closed (list_any is_close_call p.admitted) (list_any is_init_call p.admitted) g)
 
 proper_operation : (p : Past) (c : Call) (q : Asked) → operation_of c ≡ q ∷ [] → is_close_call c ≡ false
-    → list_any (has q.op) (asked p) ≡ false → (is_init q.what ≡ true → q.op ≡ 0) → asks_positions q.what ≡ true
+    → list_any (has q.op) (asked p) ≡ false → (is_init q.what ≡ true → q.op ≡ 0) → has_valid_ranges q.what ≡ true
     → AreSetsDistinct (made (admit p c)) → AreAgreed (made (admit p c)) (asked p ++ q ∷ []) → IsProper p → IsProper (admit p c)
 proper_operation p c q e close fresh zero positions sets agreed ok =
     let more : asked (admit p c) ≡ asked p ++ q ∷ [] = asked_more p c ∙ ap (λ l. asked p ++ l) e in
     record {
       known = λ op h. ok.known op (earlier op (ap (list_any (has op)) (sym more) ∙ h));
       zero = subst (AllByRecursion (λ (x : Asked). is_init x.what ≡ true → x.op ≡ 0)) (sym more) (all_push (λ (x : Asked). is_init x.what ≡ true → x.op ≡ 0) (asked p) q ok.zero zero);
-      positions = subst (AllByRecursion (λ (x : Asked). asks_positions x.what ≡ true)) (sym more) (all_push (λ (x : Asked). asks_positions x.what ≡ true) (asked p) q ok.positions positions);
+      positions = subst (AllByRecursion (λ (x : Asked). has_valid_ranges x.what ≡ true)) (sym more) (all_push (λ (x : Asked). has_valid_ranges x.what ≡ true) (asked p) q ok.positions positions);
       opened_zero = ok.opened_zero;
       distinct = subst AreDistinct (sym more) (distinct_push (asked p) q ok.distinct fresh);
       sets = sets;
@@ -299,7 +299,7 @@ proper_admit p Close f ok =
     record {
       known = λ op h. ok.known op (ap (list_any (has op)) (sym more) ∙ h);
       zero = subst (AllByRecursion (λ (x : Asked). is_init x.what ≡ true → x.op ≡ 0)) (sym more) ok.zero;
-      positions = subst (AllByRecursion (λ (x : Asked). asks_positions x.what ≡ true)) (sym more) ok.positions;
+      positions = subst (AllByRecursion (λ (x : Asked). has_valid_ranges x.what ≡ true)) (sym more) ok.positions;
       opened_zero = ok.opened_zero;
       distinct = subst AreDistinct (sym more) ok.distinct;
       sets = sets_same p Close refl ok;

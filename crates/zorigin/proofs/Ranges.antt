@@ -8,7 +8,7 @@ use Rattle.std.proofs.lemmas.List.FromFn.{length-range_with_len}
 use Rattle.std.specs.List.{range_with_len, AllByRecursion}
 use Rattle.zber.proofs.Tests.{both_true}
 use Rattle.zplan.specs.declared.range.Range.{Range}
-use Rattle.zorigin.specs.Ranges.{last_of, is_range, follow, are_ranges, is_past}
+use Rattle.zorigin.specs.Ranges.{last_of, is_range, are_ranges_after, are_ranges, is_past}
 use Rattle.zplan.specs.Positions.{first_of}
 use Rattle.zplan.specs.Ranges.{natural, positions_of, positions}
 
@@ -31,18 +31,18 @@ natural_low (pos n) h = omega (arith, ints)
 natural_low (negsuc n) h = absurd (omega (arith, ints))
 
 -- the first of ranges that follow one another, and the others
-pub follow_first : (last : ℤ) (r : Range) (rs : List Range) → follow last (r ∷ rs) ≡ true → IsGood r × (last <ℤ r.start) × (follow (last_of r) rs ≡ true)
+pub follow_first : (last : ℤ) (r : Range) (rs : List Range) → are_ranges_after last (r ∷ rs) ≡ true → IsGood r × (last <ℤ r.start) × (are_ranges_after (last_of r) rs ≡ true)
 follow_first last r rs h =
-    let one = both_true (is_range r && int_lt last r.start) (follow (last_of r) rs) h in
+    let one = both_true (is_range r && int_lt last r.start) (are_ranges_after (last_of r) rs) h in
     let two = both_true (is_range r) (int_lt last r.start) one.0 in
     (good r two.0, grind (arith, ints), one.1)
 
-pub follows : (ranges : List Range) → are_ranges ranges ≡ true → follow (pos 0) ranges ≡ true
+pub follows : (ranges : List Range) → are_ranges ranges ≡ true → are_ranges_after (pos 0) ranges ≡ true
 follows [] h = refl
 follows (r ∷ rs) h = h
 
 -- each of ranges that follow one another is such
-pub good_each : (last : ℤ) (ranges : List Range) → follow last ranges ≡ true → AllByRecursion IsGood ranges
+pub good_each : (last : ℤ) (ranges : List Range) → are_ranges_after last ranges ≡ true → AllByRecursion IsGood ranges
 good_each last [] h = tt
 good_each last (r ∷ rs) h = let f = follow_first last r rs h in (f.0, good_each (last_of r) rs f.2)
 
@@ -117,7 +117,7 @@ low_run : (a n : ℕ) (rest : List ℕ) → 1 ≤ a → AllByRecursion IsLow res
 low_run a zero rest h k = k
 low_run a (suc n) rest h k = (h, low_run (a + 1) n rest (omega arith) k)
 
-pub low_positions : (last : ℤ) (ranges : List Range) → follow last ranges ≡ true → AllByRecursion IsLow (positions ranges)
+pub low_positions : (last : ℤ) (ranges : List Range) → are_ranges_after last ranges ≡ true → AllByRecursion IsLow (positions ranges)
 low_positions last [] h = tt
 low_positions last (r ∷ rs) h =
     let f = follow_first last r rs h in

@@ -11,7 +11,7 @@ use Rattle.zorigin.specs.declared.state.Outcome.{Outcome}
 use Rattle.zorigin.specs.declared.state.Searched.{Searched}
 use Rattle.zorigin.specs.Standings.{Call, Init, Search, Present, Close, search_of}
 use Rattle.zorigin.specs.Changes.{noted_if, noted_at, noted}
-use Rattle.zorigin.specs.Log.{operation_of, search_in, with_outcome, filed}
+use Rattle.zorigin.specs.Log.{operation_of, search_in, with_outcome, by_set}
 use Rattle.zorigin.proofs.Operations.{has, same_op, op_same, all_push}
 
 abbrev pub of_set : ℕ → Searched → Bool
@@ -77,20 +77,20 @@ agreed_with acc q (s ∷ ss) g = (g.0, agreed_with acc q ss g.1)
 
 -- ---- filed under their sets
 
-pub none_filed : (acc : List Answer) (set : ℕ) (ss : List Searched) → is_some (search_of (map filed (map (with_outcome acc) ss)) set) ≡ false → list_any (of_set set) ss ≡ false
+pub none_filed : (acc : List Answer) (set : ℕ) (ss : List Searched) → is_some (search_of (map by_set (map (with_outcome acc) ss)) set) ≡ false → list_any (of_set set) ss ≡ false
 none_filed acc set [] h = refl
 none_filed acc set (s ∷ ss) h =
-    elim (nat_eq set s.set) as (λ b. is_some (cond b (Some (with_outcome acc s)) (search_of (map filed (map (with_outcome acc) ss)) set)) ≡ false → (b || list_any (of_set set) ss) ≡ false) [
+    elim (nat_eq set s.set) as (λ b. is_some (cond b (Some (with_outcome acc s)) (search_of (map by_set (map (with_outcome acc) ss)) set)) ≡ false → (b || list_any (of_set set) ss) ≡ false) [
       | true ↦ λ g. absurd (true≢false g)
       | false ↦ λ g. none_filed acc set ss g
     ] h
 
-pub file_absent : (s : Searched) (ss : List Searched) → is_some (search_of (map filed ss) s.set) ≡ false → insert_entry nat_eq (map filed ss) s.set s ≡ map filed (ss ++ s ∷ [])
+pub file_absent : (s : Searched) (ss : List Searched) → is_some (search_of (map by_set ss) s.set) ≡ false → insert_entry nat_eq (map by_set ss) s.set s ≡ map by_set (ss ++ s ∷ [])
 file_absent s [] h = refl
 file_absent s (x ∷ xs) h =
-    elim (nat_eq s.set x.set) as (λ b. is_some (cond b (Some x) (search_of (map filed xs) s.set)) ≡ false → cond b ((x.set, s) ∷ map filed xs) (filed x ∷ insert_entry nat_eq (map filed xs) s.set s) ≡ map filed ((x ∷ xs) ++ s ∷ [])) [
+    elim (nat_eq s.set x.set) as (λ b. is_some (cond b (Some x) (search_of (map by_set xs) s.set)) ≡ false → cond b ((x.set, s) ∷ map by_set xs) (by_set x ∷ insert_entry nat_eq (map by_set xs) s.set s) ≡ map by_set ((x ∷ xs) ++ s ∷ [])) [
       | true ↦ λ g. absurd (true≢false g)
-      | false ↦ λ g. ap (λ l. filed x ∷ l) (file_absent s xs g)
+      | false ↦ λ g. ap (λ l. by_set x ∷ l) (file_absent s xs g)
     ] h
 
 -- ---- an outcome
@@ -120,25 +120,25 @@ kept_set true o s = refl
 kept_set false o s = refl
 
 -- that at the operation's set is that at each with its number
-pub filed_noted : (q : Asked) (o : Option Outcome) (ss : List Searched) → AreSetsDistinct ss → AllByRecursion (Agrees q) ss → noted q o (map filed ss) ≡ map filed (each_noted q.op o ss)
+pub filed_noted : (q : Asked) (o : Option Outcome) (ss : List Searched) → AreSetsDistinct ss → AllByRecursion (Agrees q) ss → noted q o (map by_set ss) ≡ map by_set (each_noted q.op o ss)
 filed_noted q o [] d g = refl
 filed_noted q o (s ∷ ss) d g = by (nat_eq q.set s.set) refl (filed_noted q o ss d.1 g.1)
   where
-    by : (b : Bool) → nat_eq q.set s.set ≡ b → noted q o (map filed ss) ≡ map filed (each_noted q.op o ss)
-        → noted q o (map filed (s ∷ ss)) ≡ map filed (each_noted q.op o (s ∷ ss))
+    by : (b : Bool) → nat_eq q.set s.set ≡ b → noted q o (map by_set ss) ≡ map by_set (each_noted q.op o ss)
+        → noted q o (map by_set (s ∷ ss)) ≡ map by_set (each_noted q.op o (s ∷ ss))
     by true e more =
         let w = noted_if (s.op == q.op) o s in
         let none : list_any (of_set q.set) ss ≡ false = ap (λ n. list_any (of_set n) ss) (same_op q.set s.set e) ∙ d.0 in
-        ap (λ b. noted_at q o (filed s ∷ map filed ss) (cond b (Some s) (search_of (map filed ss) q.set))) e
-        ∙ ap (λ b. cond b ((s.set, w) ∷ map filed ss) (filed s ∷ set_value (nat_eq q.set) (map filed ss) w)) e
-        ∙ (λ i. (kept_set (s.op == q.op) o s i, w) ∷ map filed (none_noted q o ss none g.1 i))
+        ap (λ b. noted_at q o (by_set s ∷ map by_set ss) (cond b (Some s) (search_of (map by_set ss) q.set))) e
+        ∙ ap (λ b. cond b ((s.set, w) ∷ map by_set ss) (by_set s ∷ set_value (nat_eq q.set) (map by_set ss) w)) e
+        ∙ (λ i. (kept_set (s.op == q.op) o s i, w) ∷ map by_set (none_noted q o ss none g.1 i))
     by false e more =
-        ap (λ b. noted_at q o (filed s ∷ map filed ss) (cond b (Some s) (search_of (map filed ss) q.set))) e
-        ∙ beyond (search_of (map filed ss) q.set)
-        ∙ (λ i. filed (noted_if (sym (other_op q s g.0 e) i) o s) ∷ more i)
+        ap (λ b. noted_at q o (by_set s ∷ map by_set ss) (cond b (Some s) (search_of (map by_set ss) q.set))) e
+        ∙ beyond (search_of (map by_set ss) q.set)
+        ∙ (λ i. by_set (noted_if (sym (other_op q s g.0 e) i) o s) ∷ more i)
       where
-        beyond : (x : Option Searched) → noted_at q o (filed s ∷ map filed ss) x ≡ filed s ∷ noted_at q o (map filed ss) x
+        beyond : (x : Option Searched) → noted_at q o (by_set s ∷ map by_set ss) x ≡ by_set s ∷ noted_at q o (map by_set ss) x
         beyond None = refl
         beyond (Some x) =
             let w = noted_if (x.op == q.op) o x in
-            ap (λ b. cond b ((s.set, w) ∷ map filed ss) (filed s ∷ set_value (nat_eq q.set) (map filed ss) w)) e
+            ap (λ b. cond b ((s.set, w) ∷ map by_set ss) (by_set s ∷ set_value (nat_eq q.set) (map by_set ss) w)) e

@@ -8,9 +8,9 @@ use Rattle.zber.specs.Bits.{bit_octets}
 use Rattle.zber.specs.Canonical.{canonical}
 use Rattle.zber.specs.Elements.{Element, height}
 use Rattle.zber.specs.Oids.{is_oid}
-use Rattle.zasn.specs.Meanings.{is_i64, oid_spelt}
+use Rattle.zasn.specs.Meanings.{is_i64, oid_spelling}
 use Rattle.zasn.specs.Table.{ComponentTable, required, ended, Fields, fields, put}
-use Rattle.zasn.specs.Within.{around, all_spelt}
+use Rattle.zasn.specs.Within.{around, all_spellings}
 use Rattle.zapdu.specs.declared.apdu.Apdu.{Apdu}
 use Rattle.zapdu.specs.declared.productions.element_set_names.ElementSetNames.{ElementSetNames}
 use Rattle.zapdu.specs.declared.productions.element_set_names.ElementSetNames.TheVariants.{Generic}
@@ -21,7 +21,7 @@ use Rattle.zapdu.specs.Productions.InitRequests.{init_request_table, init_reques
 use Rattle.zapdu.specs.Productions.PresentRequests.{present_request_table, present_request_parts}
 use Rattle.zapdu.specs.Productions.Ranges.{range_table, range_parts, whole_range}
 use Rattle.zapdu.specs.Productions.RecordCompositions.{record_composition}
-use Rattle.zapdu.specs.Writes.{tag_of_kind, kind_of, apdu_made, apdu_spelt}
+use Rattle.zapdu.specs.Writes.{tag_of_kind, kind_of, apdu_parts, apdu_spelling}
 use Rattle.zplan.specs.declared.range.Range.{Range}
 use Rattle.zorigin.specs.declared.settings.Ask.{Ask}
 use Rattle.zorigin.specs.declared.settings.Settings.{Settings}
@@ -32,7 +32,7 @@ use Rattle.zorigin.specs.Sending.{versions, options, set_name, composition, sent
 use Rattle.zorigin.specs.Sendable.{SendableLaws}
 use Rattle.zorigin.proofs.Calling.{close_sendable}
 use Rattle.zorigin.proofs.Ranges.{IsGood, good_each}
-use Rattle.zorigin.proofs.SendableSizes.{HasRoom, AreWithin, HaveRoom, IfThere, nothing, of_table, of_around, of_onto, of_octets, of_integer, of_oid, decimal_few}
+use Rattle.zorigin.proofs.SendableSizes.{HasRoom, AreWithin, HaveRoom, IfThere, empty_past, of_table, of_around, of_onto, of_octets, of_integer, of_oid, decimal_few}
 use Rattle.zorigin.proofs.SendableSearches.{IsHalf, AreArcs, searched_so}
 
 -- ---- an APDU of few levels and octets can be sent
@@ -41,16 +41,16 @@ can_be_sent : (o : Option Element) → HasRoom 64 2097152 o → too_large o ≡ 
 can_be_sent None r = absurd r
 can_be_sent (Some n) r = rw (le-ltb 64 (height n) r.0, le-ltb 2097152 (length (canonical n)) r.1) refl
 
-few_parts : (v : Apdu) → HaveRoom 63 2097137 (apdu_made v) → is_unsendable v ≡ false
+few_parts : (v : Apdu) → HaveRoom 63 2097137 (apdu_parts v) → is_unsendable v ≡ false
 unfolding is_unsendable
 few_parts v h =
-    can_be_sent (apdu_spelt v) (of_around 63 2097137 2097152 (tag_of_kind (kind_of v)) (apdu_made v) (omega arith) h)
+    can_be_sent (apdu_spelling v) (of_around 63 2097137 2097152 (tag_of_kind (kind_of v)) (apdu_parts v) (omega arith) h)
 
 -- ---- Init
 
 -- the last places, of which only the name is filled
 implementation_fits : (name : List ℕ) (j m : ℕ) (out : List Element) → j + (length name + 15) ≤ m → AreWithin 63 j out
-    → HaveRoom 63 m (implementation_parts.made (implementation None (Some name) None None None) out)
+    → HaveRoom 63 m (implementation_parts.spelling (implementation None (Some name) None None None) out)
 unfolding implementation_parts
 implementation_fits name j m out l w =
     of_table 63 j m implementation_table
@@ -64,7 +64,7 @@ init_places settings =
     (Some (reference_id 0), (versions, (options, (pos 1048576, (pos 1048576, (None, last))))))
 
 init_fits : (settings : Settings) → length settings.name ≤ 2000000
-    → HaveRoom 63 2097137 (apdu_made (init_request settings))
+    → HaveRoom 63 2097137 (apdu_parts (init_request settings))
 unfolding init_request_parts
 init_fits settings l =
     of_table 63 0 2097137 init_request_table (init_places settings)
@@ -81,7 +81,7 @@ init_fits settings l =
         ),
       ),
     )
-    (nothing 63)
+    (empty_past 63)
 
 pub init_sendable : (settings : Settings) → length settings.name ≤ 2000000
     → is_unsendable (init_request settings) ≡ false
@@ -100,30 +100,30 @@ start_fits r g = number_fits r.start g.low (omega (arith, ints, g.low, g.some, g
 count_fits : (r : Range) → IsGood r → is_i64 r.n ≡ true
 count_fits r g = number_fits r.n g.some (omega (arith, ints, g.low, g.some, g.high))
 
-numbers_fit : (r : Range) → IsGood r → HaveRoom 61 46 (range_parts.made (sent_range r) [])
+numbers_fit : (r : Range) → IsGood r → HaveRoom 61 46 (range_parts.spelling (sent_range r) [])
 unfolding range_parts
 numbers_fit r g =
     of_table 61 0 46 range_table (fields range_table (sent_range r)) (23 ∷ 23 ∷ []) [] (omega arith)
     (of_integer 61 (context 1) r.start (start_fits r g), (of_integer 61 (context 2) r.n (count_fits r g), tt))
-    (nothing 61)
+    (empty_past 61)
 
-range_fits : (r : Range) → IsGood r → HasRoom 62 61 (whole_range.spelt (sent_range r))
+range_fits : (r : Range) → IsGood r → HasRoom 62 61 (whole_range.spelling (sent_range r))
 range_fits r g =
-    of_around 61 46 61 (universal 16) (range_parts.made (sent_range r) []) (omega arith) (numbers_fit r g)
+    of_around 61 46 61 (universal 16) (range_parts.spelling (sent_range r) []) (omega arith) (numbers_fit r g)
 
 ranges_fit : (rs : List Range) → AllByRecursion IsGood rs
-    → HaveRoom 62 (61 * length rs) (all_spelt whole_range.spelt (map sent_range rs))
+    → HaveRoom 62 (61 * length rs) (all_spellings whole_range.spelling (map sent_range rs))
 ranges_fit [] h = (omega arith, omega arith)
 ranges_fit (r ∷ rs) h =
-    of_onto 62 61 (61 * length rs) (61 * length (r ∷ rs)) (whole_range.spelt (sent_range r))
-    (all_spelt whole_range.spelt (map sent_range rs)) (omega arith) (range_fits r h.0) (ranges_fit rs h.1)
+    of_onto 62 61 (61 * length rs) (61 * length (r ∷ rs)) (whole_range.spelling (sent_range r))
+    (all_spellings whole_range.spelling (map sent_range rs)) (omega arith) (range_fits r h.0) (ranges_fit rs h.1)
 
 additional_fit : (rs : List Range) → AllByRecursion IsGood rs → length rs ≤ 1000
-    → IfThere 63 61015 (λ xs. around (context 212) (all_spelt whole_range.spelt xs)) (additional rs)
+    → IfThere 63 61015 (λ xs. around (context 212) (all_spellings whole_range.spelling xs)) (additional rs)
 additional_fit [] h l = tt
 additional_fit (r ∷ rs) h l =
     of_around 62 (61 * length (r ∷ rs)) 61015 (context 212)
-    (all_spelt whole_range.spelt (map sent_range (r ∷ rs))) (omega (arith, l)) (ranges_fit (r ∷ rs) h)
+    (all_spellings whole_range.spelling (map sent_range (r ∷ rs))) (omega (arith, l)) (ranges_fit (r ∷ rs) h)
 
 -- the element set's name, alone in an element
 abbrev one_set : ComponentTable ElementSetNames
@@ -133,10 +133,10 @@ generic_fits : (xs : List ℕ) → 2 * length xs ≤ 2097152 → HaveRoom 62 104
 unfolding element_set_names
 generic_fits xs h =
     of_table 62 0 1048591 one_set (Generic xs, tt) (1048591 ∷ []) [] (omega arith)
-    (of_octets 62 1048591 (context 0) xs (omega (arith, h)), tt) (nothing 62)
+    (of_octets 62 1048591 (context 0) xs (omega (arith, h)), tt) (empty_past 62)
 
 composition_fits : (elements : Option (List ℕ)) → IsHalf 2097152 elements
-    → IfThere 63 1048606 record_composition.spelt (composition elements)
+    → IfThere 63 1048606 record_composition.spelling (composition elements)
 composition_fits None h = tt
 composition_fits (Some xs) h =
     of_around 62 1048591 1048606 (context 19) (put one_set (Generic xs, tt) []) (omega arith) (generic_fits xs h)
@@ -146,13 +146,13 @@ abbrev HasSyntax : Option (List ℕ) → Type 0
 HasSyntax None = Unit {0}
 HasSyntax (Some arcs) = (is_oid arcs ≡ true) × (length arcs ≤ 1000)
 
-syntax_fits : (syntax : Option (List ℕ)) → HasSyntax syntax → IfThere 63 5015 (oid_spelt (context 104)) syntax
+syntax_fits : (syntax : Option (List ℕ)) → HasSyntax syntax → IfThere 63 5015 (oid_spelling (context 104)) syntax
 syntax_fits None h = tt
 syntax_fits (Some arcs) h = of_oid 63 5015 (context 104) arcs h.0 (omega (arith, h.1))
 
 delivery_fits : (syntax : Option (List ℕ)) → HasSyntax syntax → (j m : ℕ) (out : List Element) → j + 5015 ≤ m
     → AreWithin 63 j out
-    → HaveRoom 63 m (delivery_parts.made (delivery syntax None None None None) out)
+    → HaveRoom 63 m (delivery_parts.spelling (delivery syntax None None None None) out)
 unfolding delivery_parts
 delivery_fits syntax h j m out l w =
     of_table 63 j m delivery_table (fields delivery_table (delivery syntax None None None None))
@@ -174,7 +174,7 @@ present_places named op r rs searched =
 present_fits : (named : Bool) (op : ℕ) (r : Range) (rs : List Range) (searched : Searched) → IsGood r
     → AllByRecursion IsGood rs → length rs ≤ 1000
     → IsHalf 2097152 searched.elements → HasSyntax searched.syntax
-    → HaveRoom 63 2097137 (apdu_made (present_request named op r rs searched))
+    → HaveRoom 63 2097137 (apdu_parts (present_request named op r rs searched))
 unfolding present_request_parts
 present_fits named op r rs searched g h few half syntax =
     of_table 63 0 2097137 present_request_table (present_places named op r rs searched)
@@ -191,7 +191,7 @@ present_fits named op r rs searched g h few half syntax =
         ),
       ),
     )
-    (nothing 63)
+    (empty_past 63)
 
 has_syntax : (syntax : Option (List ℕ)) → AreArcs syntax → ((arcs : List ℕ) → syntax ≡ Some arcs → length arcs ≤ 1000)
     → HasSyntax syntax

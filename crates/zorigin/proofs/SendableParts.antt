@@ -16,10 +16,10 @@ Filled spelt (Some x) rest j = (n : Element) × (spelt x ≡ Some n) × rest (j 
 -- the table's elements, put behind j octets, make k of them
 abbrev pub Measures : {V : Type 0} (t : ComponentTable V) → Fields t → ℕ → ℕ → Type 0
 Measures ended x k j = j ≡ k
-Measures (required p get more) x k j = Filled p.spelt (Some x.0) (Measures more x.1 k) j
-Measures (optional p get more) x k j = Filled p.spelt x.0 (Measures more x.1 k) j
+Measures (required p get more) x k j = Filled p.spelling (Some x.0) (Measures more x.1 k) j
+Measures (optional p get more) x k j = Filled p.spelling x.0 (Measures more x.1 k) j
 Measures (also e get) x k j =
-    (out : List Element) × (ns : List Element) × (e.made x out ≡ Some ns) × (run_len out ≡ j) × (run_len ns ≡ k)
+    (out : List Element) × (ns : List Element) × (e.spelling x out ≡ Some ns) × (run_len out ≡ j) × (run_len ns ≡ k)
 
 same_run : (ns ms : List Element) → Some ns ≡ Some ms → run_len ns ≡ run_len ms
 same_run ns ms e = let same : ns ≡ ms = cc in ap run_len same
@@ -40,9 +40,9 @@ pub measured : {V : Type 0} (t : ComponentTable V) (x : Fields t) (out ns : List
     → Measures t x (run_len ns) (run_len out)
 measured ended x out ns e = same_run out ns e
 measured (required p get more) x out ns e =
-    placed p.spelt ns (λ a. put more x.1 a) (Measures more x.1 (run_len ns)) (λ ms f. measured more x.1 ms ns f) x.0
-    (p.spelt x.0) out refl e
+    placed p.spelling ns (λ a. put more x.1 a) (Measures more x.1 (run_len ns)) (λ ms f. measured more x.1 ms ns f) x.0
+    (p.spelling x.0) out refl e
 measured (optional p get more) x out ns e =
-    placed_if p.spelt ns (λ a. put more x.1 a) (Measures more x.1 (run_len ns)) (λ ms f. measured more x.1 ms ns f) x.0
+    placed_if p.spelling ns (λ a. put more x.1 a) (Measures more x.1 (run_len ns)) (λ ms f. measured more x.1 ms ns f) x.0
     out e
 measured (also e get) x out ns is = (out, ns, is, refl, refl)

@@ -7,7 +7,7 @@ use Rattle.zber.specs.Canonical.{canonical}
 use Rattle.zber.specs.Elements.{Element, Primitive, Constructed, forest, height}
 use Rattle.zber.specs.Oids.{oid_octets, is_oid}
 use Rattle.zber.proofs.ElementSizes.{run_len}
-use Rattle.zasn.specs.Meanings.{oid_spelt}
+use Rattle.zasn.specs.Meanings.{oid_spelling}
 use Rattle.zasn.specs.Table.{Fields, fields}
 use Rattle.zasn.specs.Within.{around}
 use Rattle.zquery.specs.Trees.{RpnQuery}
@@ -53,7 +53,7 @@ named_spelt tag xs n e =
 
 -- the places of the syntax and of the query, which are the last that are filled
 queried : (syntax : Option (List ℕ)) (query : RpnQuery) (k j : ℕ)
-    → Filled (oid_spelt (context 104)) syntax (λ i. Filled search_query.spelt (Some (Rpn query)) (λ l. l ≡ k) i) j
+    → Filled (oid_spelling (context 104)) syntax (λ i. Filled search_query.spelling (Some (Rpn query)) (λ l. l ≡ k) i) j
     → (j ≤ k) × AreArcs syntax
 queried None query k j m = (omega (arith, m.2), tt)
 queried (Some arcs) query k j m =
@@ -89,12 +89,12 @@ built tag (Some ns) e =
     let few = ltb-false 2097152 (length (canonical whole)) (second_false (nat_lt 64 (height whole)) _ e) in
     (ns, refl, omega (arith, few, run_within tag ns))
 
-in_details : (v : SearchRequest) (out ns : List Element) → search_details_parts.made (details_of v) out ≡ Some ns
+in_details : (v : SearchRequest) (out ns : List Element) → search_details_parts.spelling (details_of v) out ≡ Some ns
     → Measures search_details_table (fields search_details_table (details_of v)) (run_len ns) (run_len out)
 unfolding search_details_parts
 in_details v out ns e = measured search_details_table (fields search_details_table (details_of v)) out ns e
 
-in_search : (v : SearchRequest) (ns : List Element) → search_request_parts.made v [] ≡ Some ns
+in_search : (v : SearchRequest) (ns : List Element) → search_request_parts.spelling v [] ≡ Some ns
     → Measures search_request_table (fields search_request_table v) (run_len ns) (run_len [])
 unfolding search_request_parts
 in_search v ns e = measured search_request_table (fields search_request_table v) [] ns e
@@ -108,7 +108,7 @@ module _ (named : Bool) (op set : ℕ) (ask : Ask) where
       → IsHalf 2097152 ask.elements × AreArcs ask.syntax
   unfolding is_unsendable
   searched_so e =
-      let made = built (context 22) (search_request_parts.made request []) e in
+      let made = built (context 22) (search_request_parts.spelling request []) e in
       let parts = in_search request made.0 made.1 in
       let last = parts.2.2.2.2.2.2.2 in
       let inner = in_details request last.0 last.1 last.2 in

@@ -17,10 +17,10 @@ use Rattle.zber.proofs.CanonicalSteps.{canonical_before}
 use Rattle.zber.proofs.ElementSizes.{run_len}
 use Rattle.zber.proofs.OidTest.{is_oid_from_pass}
 use Rattle.zasn.specs.Building.{◌>>=◌ as and_then, optional_put}
-use Rattle.zasn.specs.Meanings.{is_i64, oid_spelt, int_spelt}
+use Rattle.zasn.specs.Meanings.{is_i64, oid_spelling, int_spelling}
 use Rattle.zasn.specs.Reading.{option_map}
 use Rattle.zasn.specs.Table.{ComponentTable, required, optional, also, ended, Fields, put}
-use Rattle.zasn.specs.Within.{around, onto}
+use Rattle.zasn.specs.Within.{around, with_head}
 
 -- ---- what stands before contents: no more than 15 octets
 
@@ -147,15 +147,15 @@ IfThere h k spelt None = Unit {0}
 IfThere h k spelt (Some x) = HasRoom h k (spelt x)
 
 -- of the values of a table's places, with the octets of each
-abbrev pub Fits : {V : Type 0} → ℕ → (t : ComponentTable V) → Fields t → List ℕ → Type 0
-Fits h ended x ks = Unit {0}
-Fits h (required p get more) x [] = ⊥
-Fits h (required p get more) x (k ∷ ks) = HasRoom h k (p.spelt x.0) × Fits h more x.1 ks
-Fits h (optional p get more) x [] = ⊥
-Fits h (optional p get more) x (k ∷ ks) = IfThere h k p.spelt x.0 × Fits h more x.1 ks
-Fits h (also e get) x [] = ⊥
-Fits h (also e get) x (k ∷ ks) =
-    (j m : ℕ) (out : List Element) → j + k ≤ m → AreWithin h j out → HaveRoom h m (e.made x out)
+abbrev pub IsFitReply : {V : Type 0} → ℕ → (t : ComponentTable V) → Fields t → List ℕ → Type 0
+IsFitReply h ended x ks = Unit {0}
+IsFitReply h (required p get more) x [] = ⊥
+IsFitReply h (required p get more) x (k ∷ ks) = HasRoom h k (p.spelling x.0) × IsFitReply h more x.1 ks
+IsFitReply h (optional p get more) x [] = ⊥
+IsFitReply h (optional p get more) x (k ∷ ks) = IfThere h k p.spelling x.0 × IsFitReply h more x.1 ks
+IsFitReply h (also e get) x [] = ⊥
+IsFitReply h (also e get) x (k ∷ ks) =
+    (j m : ℕ) (out : List Element) → j + k ≤ m → AreWithin h j out → HaveRoom h m (e.spelling x out)
 
 pushed : (h j k : ℕ) (out : List Element) (n : Element) → AreWithin h j out → height n ≤ h → length (canonical n) ≤ k
     → AreWithin h (j + k) (out ++ n ∷ [])
@@ -179,24 +179,24 @@ step_if h j k m spelt None out rest l w f = f out (more_octets h j (j + k) out (
 step_if h j k m spelt (Some x) out rest l w f = step h j k m (spelt x) out rest l w f
 
 pub of_table : {V : Type 0} (h j m : ℕ) (t : ComponentTable V) (x : Fields t) (ks : List ℕ) (out : List Element)
-    → j + total ks ≤ m → Fits h t x ks → AreWithin h j out → HaveRoom h m (put t x out)
+    → j + total ks ≤ m → IsFitReply h t x ks → AreWithin h j out → HaveRoom h m (put t x out)
 of_table h j m ended x ks out l f w = more_octets h j m out (omega (arith, l)) w
 of_table h j m (required p get more) x [] out l f w = absurd f
 of_table h j m (required p get more) x (k ∷ ks) out l f w =
     let left : (j + k) + total ks ≤ m = omega (arith, l) in
-    step h j k m (p.spelt x.0) out (λ ns. put more x.1 ns) f.0 w
+    step h j k m (p.spelling x.0) out (λ ns. put more x.1 ns) f.0 w
     (λ ns v. of_table h (j + k) m more x.1 ks ns left f.1 v)
 of_table h j m (optional p get more) x [] out l f w = absurd f
 of_table h j m (optional p get more) x (k ∷ ks) out l f w =
     let left : (j + k) + total ks ≤ m = omega (arith, l) in
-    step_if h j k m p.spelt x.0 out (λ ns. put more x.1 ns) f.0 w
+    step_if h j k m p.spelling x.0 out (λ ns. put more x.1 ns) f.0 w
     (λ ns v. of_table h (j + k) m more x.1 ks ns left f.1 v)
 of_table h j m (also e get) x [] out l f w = absurd f
 of_table h j m (also e get) x (k ∷ ks) out l f w = f j m out (omega (arith, l)) w
 
 -- no elements yet
-pub nothing : (h : ℕ) → AreWithin h 0 []
-nothing h = (omega arith, omega arith)
+pub empty_past : (h : ℕ) → AreWithin h 0 []
+empty_past h = (omega arith, omega arith)
 
 -- one level more, and what stands before contents
 pub of_around : (h k m : ℕ) (tag : AsnTag) (o : Option (List Element)) → k + 15 ≤ m → HaveRoom h k o
@@ -206,7 +206,7 @@ of_around h k m tag (Some ns) l r = (omega (arith, r.0), omega (arith, run_few t
 
 -- one before others
 pub of_onto : (h j k m : ℕ) (o : Option Element) (os : Option (List Element)) → j + k ≤ m → HasRoom h j o
-    → HaveRoom h k os → HaveRoom h m (onto o os)
+    → HaveRoom h k os → HaveRoom h m (with_head o os)
 of_onto h j k m None os l a b = absurd a
 of_onto h j k m (Some n) None l a b = absurd b
 of_onto h j k m (Some n) (Some ns) l a b = (height_before h n ns a.0 b.0, omega (arith, run_before n ns, l, a.1, b.1))
@@ -230,7 +230,7 @@ integer_few : (z : ℤ) → length (integer_octets z) ≤ 8
 unfolding integer_octets
 integer_few z = shortest_few 7 z
 
-pub of_integer : (h : ℕ) (tag : AsnTag) (z : ℤ) → is_i64 z ≡ true → HasRoom h 23 (int_spelt tag z)
+pub of_integer : (h : ℕ) (tag : AsnTag) (z : ℤ) → is_i64 z ≡ true → HasRoom h 23 (int_spelling tag z)
 of_integer h tag z is =
     subst (λ (b : Bool). HasRoom h 23 (cond b (Some (Primitive tag (integer_octets z))) None)) (sym is)
     (of_octets h 23 tag (integer_octets z) (omega (arith, integer_few z)))
@@ -259,7 +259,7 @@ arcs_few (a ∷ b ∷ arcs) is =
     omega (arith, whole, groups_few (40 * a + b) small, all_groups arcs fits.1.1)
 
 pub of_oid : (h k : ℕ) (tag : AsnTag) (arcs : List ℕ) → is_oid arcs ≡ true → 5 * length arcs + 15 ≤ k
-    → HasRoom h k (oid_spelt tag arcs)
+    → HasRoom h k (oid_spelling tag arcs)
 of_oid h k tag arcs is l =
     subst (λ (b : Bool). HasRoom h k (cond b (Some (Primitive tag (oid_octets arcs))) None)) (sym is)
     (of_octets h k tag (oid_octets arcs) (omega (arith, arcs_few arcs (is_oid_from_pass arcs is), l)))

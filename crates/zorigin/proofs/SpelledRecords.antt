@@ -3,7 +3,7 @@ use Rattle.std.proofs.Common.{ℕ, zero, suc, List, [], ◌∷◌, Option, Some,
 use Rattle.std.specs.List.{AllByRecursion}
 use Rattle.zber.specs.Elements.{Element, Primitive, Constructed, elements}
 use Rattle.zasn.specs.Standing as standing
-use Rattle.zasn.specs.Table.{ComponentTable, required, optional, ended, also, fields, Stand}
+use Rattle.zasn.specs.Table.{ComponentTable, required, optional, ended, also, fields, TableWrites}
 use Rattle.zasn.specs.Within.{each}
 use Rattle.zapdu.specs.declared.apdu.Apdu.{Apdu}
 use Rattle.zapdu.specs.declared.apdu.Apdu.TheVariants as apdus
@@ -34,7 +34,7 @@ after (suc k) (optional p get more) = after k more
 after (suc k) (also e get) = also e get
 
 -- some elements stand for what is left
-later : {V : Type 0} (k : ℕ) (t : ComponentTable V) (v : V) (ns : List Element) → Stand t (fields t v) ns → (ms : List Element) × Stand (after k t) (fields (after k t) v) ms
+later : {V : Type 0} (k : ℕ) (t : ComponentTable V) (v : V) (ns : List Element) → TableWrites t (fields t v) ns → (ms : List Element) × TableWrites (after k t) (fields (after k t) v) ms
 later zero t v ns h = (ns, h)
 later (suc k) ended v ns h = (ns, h)
 later (suc k) (required p get more) v [] h = absurd h
@@ -42,42 +42,42 @@ later (suc k) (required p get more) v (n ∷ ns) h = later k more v ns h.1
 later (suc k) (also e get) v ns h = (ns, h)
 later {V} (suc k) (optional {A = A} p get more) v ns h = by (get v) ns h (λ ms g. later k more v ms g)
   where
-    by : (o : Option A) (ns : List Element) → standing.optional p.stands o (Stand more (fields more v)) ns
-        → ((ms : List Element) → Stand more (fields more v) ms → (ls : List Element) × Stand (after k more) (fields (after k more) v) ls)
-        → (ls : List Element) × Stand (after k more) (fields (after k more) v) ls
+    by : (o : Option A) (ns : List Element) → standing.optional p.writes o (TableWrites more (fields more v)) ns
+        → ((ms : List Element) → TableWrites more (fields more v) ms → (ls : List Element) × TableWrites (after k more) (fields (after k more) v) ls)
+        → (ls : List Element) × TableWrites (after k more) (fields (after k more) v) ls
     by None ns h next = next ns h
     by (Some x) [] h next = absurd h
     by (Some x) (n ∷ ns) h next = next ns h.1
 
 -- ---- records
 
-each_spelled : (rs : List Record) (ns : List Element) → each whole_record.stands rs ns → AreSpelled rs
+each_spelled : (rs : List Record) (ns : List Element) → each whole_record.writes rs ns → AreSpelled rs
 each_spelled [] ns h = tt
 each_spelled (r ∷ rs) [] h = absurd h
 each_spelled (r ∷ rs) (n ∷ ns) h = ((n, h.0), each_spelled rs ns h.1)
 
-inside : (r : Records) (n : Element) → records.stands r n → AreSpelled (records_in (Some r))
+inside : (r : Records) (n : Element) → records.writes r n → AreSpelled (records_in (Some r))
 inside (kinds.List rs) (Primitive t b) h = absurd h
 inside (kinds.List rs) (Constructed t f) h = each_spelled rs (elements f) h.1
 inside (kinds.OneDiag d) n h = tt
 inside (kinds.ManyDiags ds) n h = tt
 
-shown : (o : Option Records) (rest : List Element → Type 0) (ns : List Element) → standing.optional records.stands o rest ns → AreSpelled (records_in o)
+shown : (o : Option Records) (rest : List Element → Type 0) (ns : List Element) → standing.optional records.writes o rest ns → AreSpelled (records_in o)
 shown None rest ns h = tt
 shown (Some r) rest [] h = absurd h
 shown (Some r) rest (n ∷ ns) h = inside r n h.0
 
-in_search : (v : SearchResponse) (ns : List Element) → search_response_parts.stand v ns → AreSpelled (records_in v.records)
+in_search : (v : SearchResponse) (ns : List Element) → search_response_parts.writes v ns → AreSpelled (records_in v.records)
 unfolding search_response_parts
 in_search v ns h =
     let left = later 7 search_response_table v ns h in
-    shown v.records (Stand (after 8 search_response_table) (fields (after 8 search_response_table) v)) left.0 left.1
+    shown v.records (TableWrites (after 8 search_response_table) (fields (after 8 search_response_table) v)) left.0 left.1
 
-in_present : (v : PresentResponse) (ns : List Element) → present_response_parts.stand v ns → AreSpelled (records_in v.records)
+in_present : (v : PresentResponse) (ns : List Element) → present_response_parts.writes v ns → AreSpelled (records_in v.records)
 unfolding present_response_parts
 in_present v ns h =
     let left = later 4 present_response_table v ns h in
-    shown v.records (Stand (after 5 present_response_table) (fields (after 5 present_response_table) v)) left.0 left.1
+    shown v.records (TableWrites (after 5 present_response_table) (fields (after 5 present_response_table) v)) left.0 left.1
 
 pub spelled_records : (v : Apdu) (n : Element) → Writes v n → AllByRecursion (λ r. IsSpellable whole_record r) (records_of v)
 spelled_records v (Primitive t b) h = absurd (no_primitive v h)

@@ -14,7 +14,7 @@ use Rattle.zorigin.specs.Standings.{Call, Init, Search, Present, Close, Standing
 use Rattle.zorigin.specs.Fitting.{first_row, is_empty}
 use Rattle.zorigin.specs.Ranges.{are_ranges, is_past}
 use Rattle.zplan.specs.Ranges.{positions}
-use Rattle.zorigin.specs.Sending.{request_of, is_unsendable, sent_of, Sends}
+use Rattle.zorigin.specs.Sending.{request_of, is_unsendable, sent_of, IsSendResult}
 
 -- Init is not called in Fresh, or another call not in Ready
 abbrev pub wrong_state : Standing → Call → Bool
@@ -59,12 +59,12 @@ set_not_ready s (Present op set ranges) = is_unready (search_of s.searches set)
 set_not_ready s _ = false
 
 -- the latest search made the set
-abbrev pub is_set : ℕ → Option (ℕ × Searched) → Bool
-is_set set None = false
-is_set set (Some latest) = latest.0 == set
+abbrev pub is_latest_set : ℕ → Option (ℕ × Searched) → Bool
+is_latest_set set None = false
+is_latest_set set (Some latest) = latest.0 == set
 
 abbrev pub is_latest : Standing → ℕ → Bool
-is_latest s set = is_set set (slice_get s.searches (length s.searches - 1))
+is_latest s set = is_latest_set set (slice_get s.searches (length s.searches - 1))
 
 -- named result sets are not in force, and a later search was admitted
 abbrev pub set_replaced : Standing → Call → Bool
@@ -72,8 +72,8 @@ set_replaced s (Present op set ranges) = not s.force.named && not (is_latest s s
 set_replaced s _ = false
 
 -- set 0, a negative bound, or a large bound not above the small one
-abbrev pub search_beyond : ℕ → Ask → Bool
-search_beyond set ask =
+abbrev pub bad_search_bounds : ℕ → Ask → Bool
+bad_search_bounds set ask =
     set == 0 || int_lt ask.small (pos 0) || int_lt ask.large (pos 0) || int_lt ask.medium (pos 0)
     || not (int_lt ask.small ask.large)
 
@@ -89,7 +89,7 @@ past_count asked (Some searched) = past_outcome asked searched.outcome
 
 -- a search is of set 0 or has wrong bounds; or a Present's ranges can't be asked for, or pass the count
 abbrev pub out_of_range : Standing → Call → Bool
-out_of_range s (Search op set ask) = search_beyond set ask
+out_of_range s (Search op set ask) = bad_search_bounds set ask
 out_of_range s (Present op set ranges) =
     not (are_ranges ranges) || past_count (positions ranges) (search_of s.searches set)
 out_of_range s _ = false
@@ -140,20 +140,20 @@ unfoldable pub refusal : Standing → Call → Option CallRefused
 refusal s call = or_unsendable (unsendable s call) (early_refusal s call)
 
 -- the result of a call: the request that it sends, or why it is refused
-abbrev pub answer_by : Option CallRefused → Option Apdu → Result Sent CallRefused
-answer_by (Some reason) request = Err reason
-answer_by None (Some apdu) = Ok (sent_of apdu)
-answer_by None None = Err refused.SetUnknown
+abbrev pub call_result_by : Option CallRefused → Option Apdu → Result Sent CallRefused
+call_result_by (Some reason) request = Err reason
+call_result_by None (Some apdu) = Ok (sent_of apdu)
+call_result_by None None = Err refused.SetUnknown
 
 -- the result of a call on an origin
-abbrev pub call_answer : Standing → Call → Result Sent CallRefused
-call_answer s call = answer_by (refusal s call) (request_of s call)
+abbrev pub call_result : Standing → Call → Result Sent CallRefused
+call_result s call = call_result_by (refusal s call) (request_of s call)
 
 -- the result of sending the request of a call, memory aside
-abbrev pub SendsOf : Option Apdu → Result Sent CallRefused → Type 0
-SendsOf None answer = answer ≡ Err refused.SetUnknown
-SendsOf (Some apdu) answer = Sends apdu answer
+abbrev pub IsSendResultOf : Option Apdu → Result Sent CallRefused → Type 0
+IsSendResultOf None answer = answer ≡ Err refused.SetUnknown
+IsSendResultOf (Some apdu) answer = IsSendResult apdu answer
 
 -- the result of sending the request of a call on an origin, memory aside
-abbrev pub SendsFor : Standing → Call → Result Sent CallRefused → Type 0
-SendsFor s call answer = SendsOf (request_of s call) answer
+abbrev pub IsSendResultFor : Standing → Call → Result Sent CallRefused → Type 0
+IsSendResultFor s call answer = IsSendResultOf (request_of s call) answer

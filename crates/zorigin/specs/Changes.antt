@@ -1,4 +1,4 @@
--- How an admitted call and a taken APDU change an origin (Z39.50-2003, 3.2 and 3.4). Public clauses use `FailsFor`
+-- How an admitted call and a taken APDU change an origin (Z39.50-2003, 3.2 and 3.4). Public clauses use `AfterFailure`
 -- alone; all others are about logs. Log.antt imports from here what one call or reply changes.
 use Rattle.std.specs.Prelude.{◌≡◌, ◌≢◌, ℕ, nat_eq, ◌==◌, Bool, true, false, slice_index_or, if◌then◌else◌, List, Option, Some, None, Result, Ok, Err}
 use Rattle.std.specs.Map.{set_value}
@@ -96,8 +96,8 @@ abbrev pub noted : Asked → Option Outcome → List (ℕ × Searched) → List 
 noted asked outcome searches = noted_at asked outcome searches (search_of searches asked.set)
 
 -- the operation is no longer outstanding
-abbrev pub without : Standing → ℕ → Standing
-without s op = record s { outstanding = shift_remove_entry (nat_eq op) s.outstanding }
+abbrev pub without_operation : Standing → ℕ → Standing
+without_operation s op = record s { outstanding = shift_remove_entry (nat_eq op) s.outstanding }
 
 -- the origin after a response to Init that accepts the association
 abbrev pub opened_at : Standing → Apdu → Standing
@@ -106,15 +106,15 @@ opened_at s _ = s
 
 -- the origin after a verdict
 abbrev pub settled_at : Standing → Result Taken Refused → Standing
-settled_at s (Ok (taken.Opened answer)) = opened_at (without s answer.asked.op) answer.reply
-settled_at s (Ok (taken.Rejected answer)) = record (without s answer.asked.op) { state = states.Closed }
-settled_at s (Ok (taken.Answered answer)) = record (without s answer.asked.op) {
+settled_at s (Ok (taken.Opened answer)) = opened_at (without_operation s answer.asked.op) answer.reply
+settled_at s (Ok (taken.Rejected answer)) = record (without_operation s answer.asked.op) { state = states.Closed }
+settled_at s (Ok (taken.Answered answer)) = record (without_operation s answer.asked.op) {
   searches = noted answer.asked (outcome_in answer.reply) s.searches;
 }
 settled_at s (Ok taken.Closed) = record s { state = states.Closed }
 settled_at s (Err reason) = if is_open s.state then record s { state = states.Failed reason } else s
 
 -- unless the reason is the state or memory, the origin failed for this reason and is otherwise unchanged
-abbrev pub FailsFor : Standing → Standing → Refused → Type 0
-FailsFor old new reason =
+abbrev pub AfterFailure : Standing → Standing → Refused → Type 0
+AfterFailure old new reason =
     reason ≢ refused.WrongState → reason ≢ refused.Memory → new ≡ record old { state = states.Failed reason }

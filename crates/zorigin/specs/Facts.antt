@@ -19,7 +19,7 @@ use Rattle.zorigin.specs.declared.answer.Taken.TheVariants as taken
 use Rattle.zorigin.specs.Ranges.{are_ranges}
 use Rattle.zplan.specs.Positions.{first_of}
 use Rattle.zplan.specs.Ranges.{positions}
-use Rattle.zorigin.specs.Fitting.{Fits, records_in, diagnostics_in}
+use Rattle.zorigin.specs.Fitting.{IsFitReply, records_in, diagnostics_in}
 
 -- the facts of records at consecutive positions, the first of them at this position
 abbrev pub seen_from : ℕ → ℕ → ℤ → List Record → List Fact
@@ -31,8 +31,8 @@ abbrev pub seen_at : ℕ → ℕ → List ℕ → List Record → List Fact
 seen_at target set asked records = map (λ (e : ℕ × Record). Seen target set (pos e.0) e.1) (zip asked records)
 
 -- the facts of diagnostics; the place is 0 for a search, and the first position asked for a Present
-abbrev pub told_at : ℕ → ℕ → ℤ → List DiagRec → List Fact
-told_at target set place diags = map (λ diag. Diag target set place diag) diags
+abbrev pub diagnostic_facts : ℕ → ℕ → ℤ → List DiagRec → List Fact
+diagnostic_facts target set place diags = map (λ diag. Diag target set place diag) diags
 
 -- the fact of a search: its count, or that it failed
 abbrev pub count_or_failed : ℕ → ℕ → Bool → ℤ → Fact
@@ -47,13 +47,13 @@ abbrev pub search_facts : ℕ → ℕ → SearchResponse → List Fact
 search_facts target set v =
     (count_or_failed target set v.search_status v.result_count ∷ [])
     ++ seen_from target set (pos 1) (records_in v.records)
-    ++ told_at target set (pos 0) (diagnostics_in v.records)
+    ++ diagnostic_facts target set (pos 0) (diagnostics_in v.records)
 
 -- the facts of the response to a Present of these positions
 abbrev pub present_facts : ℕ → ℕ → List ℕ → PresentResponse → List Fact
 present_facts target set asked v =
     seen_at target set asked (records_in v.records)
-    ++ told_at target set (pos (first_of asked)) (diagnostics_in v.records)
+    ++ diagnostic_facts target set (pos (first_of asked)) (diagnostics_in v.records)
 
 abbrev pub facts_by : ℕ → ℕ → What → Apdu → List Fact
 facts_by target set what.Init (apdus.InitResponse v) = init_facts target v
@@ -66,29 +66,29 @@ abbrev pub facts_of : ℕ → Answer → List Fact
 facts_of target answer = facts_by target answer.asked.set answer.asked.what answer.reply
 
 -- the ranges of a Present can be asked for, whatever the set's count is
-abbrev pub asks_positions : What → Bool
-asks_positions (what.Present ranges) = are_ranges ranges
-asks_positions _ = true
+abbrev pub has_valid_ranges : What → Bool
+has_valid_ranges (what.Present ranges) = are_ranges ranges
+has_valid_ranges _ = true
 
 -- the reply fits its request, and the ranges of a Present can be asked for
-pub record IsShowable (answer : Answer) : Type 0 where
-  pub fits : Fits answer.asked.what answer.reply
-  pub positions : asks_positions answer.asked.what ≡ true
+pub record IsFitAnswer (answer : Answer) : Type 0 where
+  pub fits : IsFitReply answer.asked.what answer.reply
+  pub positions : has_valid_ranges answer.asked.what ≡ true
 
 -- the answer has this reply, and fits
-abbrev pub IsShown : Apdu → Answer → Type 0
-IsShown reply answer = (answer.reply ≡ reply) × IsShowable answer
+abbrev pub IsFitAnswerWith : Apdu → Answer → Type 0
+IsFitAnswerWith reply answer = (answer.reply ≡ reply) × IsFitAnswer answer
 
 -- the answer in it, if it has one, has this reply and fits
-abbrev pub HasShowable : Apdu → Taken → Type 0
-HasShowable reply (taken.Opened answer) = IsShown reply answer
-HasShowable reply (taken.Rejected answer) = IsShown reply answer
-HasShowable reply (taken.Answered answer) = IsShown reply answer
-HasShowable reply taken.Closed = Unit {0}
+abbrev pub HasFitAnswer : Apdu → Taken → Type 0
+HasFitAnswer reply (taken.Opened answer) = IsFitAnswerWith reply answer
+HasFitAnswer reply (taken.Rejected answer) = IsFitAnswerWith reply answer
+HasFitAnswer reply (taken.Answered answer) = IsFitAnswerWith reply answer
+HasFitAnswer reply taken.Closed = Unit {0}
 
 -- the ranges of all outstanding Presents can be asked for
-abbrev pub AskPositions : List (ℕ × Asked) → Type 0
-AskPositions outstanding = AllByRecursion (λ (e : ℕ × Asked). asks_positions e.1.what ≡ true) outstanding
+abbrev pub HaveValidRanges : List (ℕ × Asked) → Type 0
+HaveValidRanges outstanding = AllByRecursion (λ (e : ℕ × Asked). has_valid_ranges e.1.what ≡ true) outstanding
 
 -- the records of a response to a search or a Present
 abbrev pub records_of : Apdu → List Record

@@ -44,29 +44,29 @@ has_fragment records = list_any (λ (r : Record). is_fragment r.body) (records_i
 -- ---- what fits
 
 -- diagnostics came, or this is the number of the records
-abbrev pub IsCounted : Option Records → ℤ → Type 0
-IsCounted records n = (diagnostics_in records ≢ []) ⊎ (n ≡ pos (length (records_in records)))
+abbrev pub IsRecordCount : Option Records → ℤ → Type 0
+IsRecordCount records n = (diagnostics_in records ≢ []) ⊎ (n ≡ pos (length (records_in records)))
 
 -- the response fits a search
-pub record FitsSearch (v : SearchResponse) : Type 0 where
-  pub counted : IsCounted v.records v.number_of_records_returned
+pub record IsFitSearchReply (v : SearchResponse) : Type 0 where
+  pub counted : IsRecordCount v.records v.number_of_records_returned
   pub positive : pos 0 ≤ℤ v.result_count
   pub within : pos (length (records_in v.records)) ≤ℤ v.result_count
   pub entire : has_fragment v.records ≡ false
 
 -- the response fits a Present of these positions
-pub record FitsPresent (asked : List ℕ) (v : PresentResponse) : Type 0 where
-  pub counted : IsCounted v.records v.number_of_records_returned
+pub record IsFitPresentReply (asked : List ℕ) (v : PresentResponse) : Type 0 where
+  pub counted : IsRecordCount v.records v.number_of_records_returned
   pub within : length (records_in v.records) ≤ length asked
   pub entire : has_fragment v.records ≡ false
   pub some : (records_in v.records ≢ []) ⊎ (diagnostics_in v.records ≢ [])
 
 -- the reply fits such an operation, its reference id aside
-abbrev pub Fits : What → Apdu → Type 0
-Fits what.Init (apdus.InitResponse v) = Unit {0}
-Fits what.Search (apdus.SearchResponse v) = FitsSearch v
-Fits (what.Present ranges) (apdus.PresentResponse v) = FitsPresent (positions ranges) v
-Fits _ _ = ⊥
+abbrev pub IsFitReply : What → Apdu → Type 0
+IsFitReply what.Init (apdus.InitResponse v) = Unit {0}
+IsFitReply what.Search (apdus.SearchResponse v) = IsFitSearchReply v
+IsFitReply (what.Present ranges) (apdus.PresentResponse v) = IsFitPresentReply (positions ranges) v
+IsFitReply _ _ = ⊥
 
 -- ---- what does not, row by row
 
@@ -81,9 +81,9 @@ is_number (pos n) k = n == k
 is_number (negsuc n) k = false
 
 -- the first number is above the second
-abbrev pub exceeds : ℕ → ℤ → Bool
-exceeds k (pos n) = nat_lt n k
-exceeds k (negsuc n) = true
+abbrev pub is_more_than : ℕ → ℤ → Bool
+is_more_than k (pos n) = nat_lt n k
+is_more_than k (negsuc n) = true
 
 abbrev pub count_mismatch : Option Records → ℤ → Bool
 count_mismatch records n = is_empty (diagnostics_in records) && not (is_number n (length (records_in records)))
@@ -92,7 +92,7 @@ abbrev pub bad_number : SearchResponse → Bool
 bad_number v = int_lt v.result_count (pos 0)
 
 abbrev pub bad_search : SearchResponse → Bool
-bad_search v = exceeds (length (records_in v.records)) v.result_count || has_fragment v.records
+bad_search v = is_more_than (length (records_in v.records)) v.result_count || has_fragment v.records
 
 abbrev pub bad_present : List ℕ → PresentResponse → Bool
 bad_present asked v =

@@ -8,45 +8,45 @@ use Rattle.zorigin.specs.declared.answer.Asked.{Asked}
 use Rattle.zorigin.specs.declared.answer.Answer.{Answer}
 use Rattle.zorigin.specs.declared.state.Searched.{Searched}
 use Rattle.zorigin.specs.Standings.{Call, Close, Standing}
-use Rattle.zorigin.specs.Facts.{asks_positions}
+use Rattle.zorigin.specs.Facts.{has_valid_ranges}
 use Rattle.zorigin.specs.Sending.{request_of, sent_of}
-use Rattle.zorigin.specs.Calls.{call_answer}
+use Rattle.zorigin.specs.Calls.{call_result}
 use Rattle.zorigin.specs.Log.{Past, asked, op_of, searches_in}
 
-abbrev pub set_of : Searched → ℕ
-set_of searched = searched.set
+abbrev pub searched_set : Searched → ℕ
+searched_set searched = searched.set
 
 -- the number of the operation that the reply is to
 abbrev pub answered_op : Answer → ℕ
 answered_op answer = answer.asked.op
 
 -- a response to Init that accepts the association
-abbrev pub Accepts : Apdu → Type 0
-Accepts (apdus.InitResponse v) = v.result ≡ true
-Accepts _ = ⊥
+abbrev pub IsAcceptance : Apdu → Type 0
+IsAcceptance (apdus.InitResponse v) = v.result ≡ true
+IsAcceptance _ = ⊥
 
 -- the association was accepted
-pub record IsOpened (p : Past) : Type 0 where
+pub record HasAssociation (p : Past) : Type 0 where
   pub answer : Answer
   pub accepted : Contains p.accepted answer
   pub init : answer.asked.what ≡ what.Init
-  pub accepts : Accepts answer.reply
+  pub accepts : IsAcceptance answer.reply
 
 -- what is true of the past of each log
 pub record IsOrderly (p : Past) : Type 0 where
   -- no two operations have the same number, and no two searches the same set
   pub operations : IsDistinct nat_eq (map op_of (asked p))
-  pub sets : IsDistinct nat_eq (map set_of (searches_in p))
+  pub sets : IsDistinct nat_eq (map searched_set (searches_in p))
   -- an accepted reply is to an admitted operation, and no two are to the same one
   pub known : (answer : Answer) → Contains p.accepted answer → Contains (asked p) answer.asked
   pub once : IsDistinct nat_eq (map answered_op p.accepted)
   -- the ranges of each Present can be asked for
-  pub positions : (q : Asked) → Contains (asked p) q → asks_positions q.what ≡ true
+  pub positions : (q : Asked) → Contains (asked p) q → has_valid_ranges q.what ≡ true
   -- Close was called only once the association was accepted
-  pub closing : Contains p.admitted Close → IsOpened p
+  pub closing : Contains p.admitted Close → HasAssociation p
 
 -- the call has a request, and its result is that request
-pub record IsSent (s : Standing) (call : Call) : Type 0 where
+pub record HasRequest (s : Standing) (call : Call) : Type 0 where
   pub request : Apdu
   pub made : request_of s call ≡ Some request
-  pub answer : call_answer s call ≡ Ok (sent_of request)
+  pub answer : call_result s call ≡ Ok (sent_of request)

@@ -23,7 +23,7 @@ use Rattle.zorigin.specs.declared.state.Searched.{Searched}
 use Rattle.zorigin.specs.declared.state.Outcome.{Outcome}
 use Rattle.zorigin.specs.Standings.{Call, Init, Search, Present, Close, Standing, is_open, nothing_in_force, ready}
 use Rattle.zorigin.specs.Sending.{request_of}
-use Rattle.zorigin.specs.Calls.{refusal, call_answer}
+use Rattle.zorigin.specs.Calls.{refusal, call_result}
 use Rattle.zorigin.specs.Replies.{verdict}
 use Rattle.zorigin.specs.Changes.{init_asked, search_asked, present_asked, unanswered, force_in, outcome_in}
 
@@ -47,8 +47,8 @@ pub record Past : Type 0 where
   pub fault : Option Refused
 
 -- the past of no entries
-abbrev pub nothing : Settings → Past
-nothing settings = record { settings = settings; admitted = []; sent = []; accepted = []; closed = false; fault = None }
+abbrev pub empty_past : Settings → Past
+empty_past settings = record { settings = settings; admitted = []; sent = []; accepted = []; closed = false; fault = None }
 
 -- ---- the operations
 
@@ -64,12 +64,12 @@ abbrev pub asked : Past → List Asked
 asked p = flat_map operation_of p.admitted
 
 -- the reply is to the operation with this number
-abbrev pub answers : ℕ → Answer → Bool
-answers op answer = answer.asked.op == op
+abbrev pub is_answer_to : ℕ → Answer → Bool
+is_answer_to op answer = answer.asked.op == op
 
 -- a reply to the operation with this number was accepted
 abbrev pub is_answered : Past → ℕ → Bool
-is_answered p op = list_any (answers op) p.accepted
+is_answered p op = list_any (is_answer_to op) p.accepted
 
 -- admitted, and not answered yet
 abbrev pub outstanding : Past → List Asked
@@ -81,12 +81,12 @@ abbrev pub is_init : What → Bool
 is_init what.Init = true
 is_init _ = false
 
-abbrev pub opens : Answer → Bool
-opens answer = is_init answer.asked.what
+abbrev pub is_opening : Answer → Bool
+is_opening answer = is_init answer.asked.what
 
 -- the reply to Init
 abbrev pub opening : Past → Option Answer
-opening p = find opens p.accepted
+opening p = find is_opening p.accepted
 
 abbrev pub is_init_call : Call → Bool
 is_init_call Init = true
@@ -146,7 +146,7 @@ outcome_by (Some answer) = outcome_in answer.reply
 
 -- a search with its outcome
 abbrev pub with_outcome : List Answer → Searched → Searched
-with_outcome accepted searched = record searched { outcome = outcome_by (find (answers searched.op) accepted) }
+with_outcome accepted searched = record searched { outcome = outcome_by (find (is_answer_to searched.op) accepted) }
 
 -- the searches that were admitted, in order, each with its outcome
 abbrev pub searches_in : Past → List Searched
@@ -154,11 +154,11 @@ searches_in p = map (with_outcome p.accepted) (flat_map search_in p.admitted)
 
 -- ---- what the tables ask
 
-abbrev pub numbered : Asked → ℕ × Asked
-numbered q = (q.op, q)
+abbrev pub by_operation : Asked → ℕ × Asked
+by_operation q = (q.op, q)
 
-abbrev pub filed : Searched → ℕ × Searched
-filed searched = (searched.set, searched)
+abbrev pub by_set : Searched → ℕ × Searched
+by_set searched = (searched.set, searched)
 
 abbrev pub op_of : Asked → ℕ
 op_of q = q.op
@@ -170,8 +170,8 @@ standing p = record {
   state = state_of p;
   force = force_after (opening p);
   used = map op_of (asked p);
-  searches = map filed (searches_in p);
-  outstanding = map numbered (outstanding p);
+  searches = map by_set (searches_in p);
+  outstanding = map by_operation (outstanding p);
 }
 
 -- ---- one entry more
@@ -210,7 +210,7 @@ with_entry (Got reply) p = after_verdict p (verdict (standing p) reply)
 
 -- the past of a log, by induction on its length
 abbrev pub past : Settings → Log → Past
-past settings [] = nothing settings
+past settings [] = empty_past settings
 past settings (e ∷ log) = with_entry e (past settings log)
 
 -- The log can have left this origin.
@@ -220,46 +220,46 @@ pub record After (settings : Settings) (log : Log) (origin : Standing) : Type 0 
 -- ---- memory aside
 
 -- the result is not `Memory`, so the call makes an entry
-abbrev pub IsCalled : {X : Type 0} → Result X CallRefused → Type 0
-IsCalled (Ok x) = Unit {0}
-IsCalled (Err reason) = reason ≢ calls.Memory
+abbrev pub IsMadeCall : {X : Type 0} → Result X CallRefused → Type 0
+IsMadeCall (Ok x) = Unit {0}
+IsMadeCall (Err reason) = reason ≢ calls.Memory
 
 -- the result is the given one, unless it is `Memory`
-abbrev pub Answers : {X : Type 0} → Result X CallRefused → Result X CallRefused → Type 0
-Answers given answer = IsCalled answer → answer ≡ given
+abbrev pub IsGivenResult : {X : Type 0} → Result X CallRefused → Result X CallRefused → Type 0
+IsGivenResult given answer = IsMadeCall answer → answer ≡ given
 
 -- the result is not `Memory`, so the take makes an entry
-abbrev pub IsTaken : Result Taken Refused → Type 0
-IsTaken (Ok x) = Unit {0}
-IsTaken (Err reason) = reason ≢ refused.Memory
+abbrev pub IsTakenReply : Result Taken Refused → Type 0
+IsTakenReply (Ok x) = Unit {0}
+IsTakenReply (Err reason) = reason ≢ refused.Memory
 
 -- the verdict is the given one, unless it is `Memory`
-abbrev pub Tells : Result Taken Refused → Result Taken Refused → Type 0
-Tells given answer = IsTaken answer → answer ≡ given
+abbrev pub IsGivenVerdict : Result Taken Refused → Result Taken Refused → Type 0
+IsGivenVerdict given answer = IsTakenReply answer → answer ≡ given
 
 -- ---- what holds for each log that can have left the origin
 
 -- for each log that can have left the origin, the result is that of the call after it
-abbrev pub AnswersCall : Standing → Call → Result Sent CallRefused → Type 0
-AnswersCall origin call answer =
+abbrev pub IsResultOfCall : Standing → Call → Result Sent CallRefused → Type 0
+IsResultOfCall origin call answer =
     (settings : Settings) (log : Log) → After settings log origin
-    → Answers (call_answer (standing (past settings log)) call) answer
+    → IsGivenResult (call_result (standing (past settings log)) call) answer
 
 -- before and after a call: each log that can have left the old origin, with the call, can have left the new one
-abbrev pub LeavesCall : Standing → Call → Result Sent CallRefused → Standing → Type 0
-LeavesCall old call answer new =
-    (settings : Settings) (log : Log) → After settings log old → IsCalled answer → After settings (Made call ∷ log) new
+abbrev pub OriginAfterCall : Standing → Call → Result Sent CallRefused → Standing → Type 0
+OriginAfterCall old call answer new =
+    (settings : Settings) (log : Log) → After settings log old → IsMadeCall answer → After settings (Made call ∷ log) new
 
 -- for each log that can have left the origin, the result is the verdict on the APDU after it
-abbrev pub TellsReply : Standing → Apdu → Result Taken Refused → Type 0
-TellsReply origin reply answer =
+abbrev pub IsResultOfTake : Standing → Apdu → Result Taken Refused → Type 0
+IsResultOfTake origin reply answer =
     (settings : Settings) (log : Log) → After settings log origin
-    → Tells (verdict (standing (past settings log)) reply) answer
+    → IsGivenVerdict (verdict (standing (past settings log)) reply) answer
 
 -- before and after a take: each log that can have left the old origin, with the APDU, can have left the new one
-abbrev pub LeavesReply : Standing → Apdu → Result Taken Refused → Standing → Type 0
-LeavesReply old reply answer new =
-    (settings : Settings) (log : Log) → After settings log old → IsTaken answer → After settings (Got reply ∷ log) new
+abbrev pub OriginAfterTake : Standing → Apdu → Result Taken Refused → Standing → Type 0
+OriginAfterTake old reply answer new =
+    (settings : Settings) (log : Log) → After settings log old → IsTakenReply answer → After settings (Got reply ∷ log) new
 
 -- for each log that can have left the origin, this is its state
 abbrev pub IsState : Standing → State → Type 0

@@ -18,14 +18,14 @@ abbrev pub is_range : Range → Bool
 is_range r = int_le (pos 1) r.start && int_le (pos 1) r.n && int_le (last_of r) (pos 2147483647)
 
 -- each begins after the end of the one before, the first after this position
-abbrev pub follow : ℤ → List Range → Bool
-follow last [] = true
-follow last (r ∷ rs) = is_range r && int_lt last r.start && follow (last_of r) rs
+abbrev pub are_ranges_after : ℤ → List Range → Bool
+are_ranges_after last [] = true
+are_ranges_after last (r ∷ rs) = is_range r && int_lt last r.start && are_ranges_after (last_of r) rs
 
 -- there is a range, and each begins after the end of the one before
 abbrev pub are_ranges : List Range → Bool
 are_ranges [] = false
-are_ranges (r ∷ rs) = follow (pos 0) (r ∷ rs)
+are_ranges (r ∷ rs) = are_ranges_after (pos 0) (r ∷ rs)
 
 -- one of the positions is above the count
 abbrev pub is_past : ℤ → List ℕ → Bool

@@ -6,7 +6,7 @@ abbrev pub reference_id : ℕ → List ℕ
 reference_id op = op / 16777216 ∷ op / 65536 % 256 ∷ op / 256 % 256 ∷ op % 256 ∷ []
 
 -- the number in a reference id, if it has four octets
-abbrev pub number_of : List ℕ → Option ℕ
-number_of (a ∷ b ∷ c ∷ d ∷ []) =
+abbrev pub operation_number : List ℕ → Option ℕ
+operation_number (a ∷ b ∷ c ∷ d ∷ []) =
     if nat_lt b 256 && nat_lt c 256 && nat_lt d 256 then Some (16777216 * a + 65536 * b + 256 * c + d) else None
-number_of _ = None
+operation_number _ = None

@@ -6,25 +6,25 @@ use Rattle.zorigin.specs.declared.refusal.Refused.{Refused}
 use Rattle.zorigin.specs.declared.refusal.Refused.TheVariants as replies
 
 -- the name of the refusal of a call
-abbrev pub call_word : CallRefused → List ℕ
-call_word calls.WrongState = codes "WrongState"
-call_word calls.NotOffered = codes "NotOffered"
-call_word calls.OpUsed = codes "OpUsed"
-call_word calls.SetUsed = codes "SetUsed"
-call_word calls.SetUnknown = codes "SetUnknown"
-call_word calls.SetNotReady = codes "SetNotReady"
-call_word calls.SetReplaced = codes "SetReplaced"
-call_word calls.OutOfRange = codes "OutOfRange"
-call_word calls.Busy = codes "Busy"
-call_word calls.Unsendable = codes "Unsendable"
-call_word calls.Memory = codes "Memory"
+abbrev pub call_refusal_name : CallRefused → List ℕ
+call_refusal_name calls.WrongState = codes "WrongState"
+call_refusal_name calls.NotOffered = codes "NotOffered"
+call_refusal_name calls.OpUsed = codes "OpUsed"
+call_refusal_name calls.SetUsed = codes "SetUsed"
+call_refusal_name calls.SetUnknown = codes "SetUnknown"
+call_refusal_name calls.SetNotReady = codes "SetNotReady"
+call_refusal_name calls.SetReplaced = codes "SetReplaced"
+call_refusal_name calls.OutOfRange = codes "OutOfRange"
+call_refusal_name calls.Busy = codes "Busy"
+call_refusal_name calls.Unsendable = codes "Unsendable"
+call_refusal_name calls.Memory = codes "Memory"
 
 -- the name of the refusal of a reply
-abbrev pub reply_word : Refused → List ℕ
-reply_word replies.WrongState = codes "WrongState"
-reply_word replies.WrongKind = codes "WrongKind"
-reply_word replies.UnknownReference = codes "UnknownReference"
-reply_word replies.CountMismatch = codes "CountMismatch"
-reply_word replies.BadNumber = codes "BadNumber"
-reply_word replies.BadShape = codes "BadShape"
-reply_word replies.Memory = codes "Memory"
+abbrev pub reply_refusal_name : Refused → List ℕ
+reply_refusal_name replies.WrongState = codes "WrongState"
+reply_refusal_name replies.WrongKind = codes "WrongKind"
+reply_refusal_name replies.UnknownReference = codes "UnknownReference"
+reply_refusal_name replies.CountMismatch = codes "CountMismatch"
+reply_refusal_name replies.BadNumber = codes "BadNumber"
+reply_refusal_name replies.BadShape = codes "BadShape"
+reply_refusal_name replies.Memory = codes "Memory"

@@ -9,7 +9,7 @@ use Rattle.zorigin.specs.declared.answer.Taken.{Taken}
 use Rattle.zorigin.specs.declared.answer.Taken.TheVariants as taken
 use Rattle.zorigin.specs.declared.refusal.Refused.{Refused}
 use Rattle.zorigin.specs.declared.refusal.Refused.TheVariants as refused
-use Rattle.zorigin.specs.References.{number_of}
+use Rattle.zorigin.specs.References.{operation_number}
 use Rattle.zorigin.specs.Standings.{Standing, is_open}
 use Rattle.zorigin.specs.Fitting.{fault_of}
 
@@ -25,7 +25,7 @@ numbered_as outstanding (Some op) = lookup (nat_eq op) outstanding
 -- the outstanding operation that a reference id names; an absent one names the only operation, if concurrent operations
 -- are not in force
 abbrev pub named : Standing → Option (List ℕ) → Option Asked
-named s (Some id) = numbered_as s.outstanding (number_of id)
+named s (Some id) = numbered_as s.outstanding (operation_number id)
 named s None = if s.force.concurrent then None else only_of s.outstanding
 
 -- the result for an accepted reply: it accepts the association, rejects it, or is to another operation
@@ -47,24 +47,24 @@ against None reply = Err refused.UnknownReference
 against (Some asked) reply = judged (record { asked = asked; reply = reply }) (fault_of asked.what reply)
 
 -- the verdict while replies are taken: a reply is judged against the operation that it names, a Close is accepted
-abbrev pub answered : Standing → Apdu → Result Taken Refused
-answered s (apdus.InitResponse v) = against (named s v.reference_id) (apdus.InitResponse v)
-answered s (apdus.SearchResponse v) = against (named s v.reference_id) (apdus.SearchResponse v)
-answered s (apdus.PresentResponse v) = against (named s v.reference_id) (apdus.PresentResponse v)
-answered s (apdus.Close v) = Ok taken.Closed
-answered s _ = Err refused.WrongKind
+abbrev pub open_verdict : Standing → Apdu → Result Taken Refused
+open_verdict s (apdus.InitResponse v) = against (named s v.reference_id) (apdus.InitResponse v)
+open_verdict s (apdus.SearchResponse v) = against (named s v.reference_id) (apdus.SearchResponse v)
+open_verdict s (apdus.PresentResponse v) = against (named s v.reference_id) (apdus.PresentResponse v)
+open_verdict s (apdus.Close v) = Ok taken.Closed
+open_verdict s _ = Err refused.WrongKind
 
 -- the verdict on an APDU, which is the result of a take
 unfoldable pub verdict : Standing → Apdu → Result Taken Refused
-verdict s reply = if is_open s.state then answered s reply else Err refused.WrongState
+verdict s reply = if is_open s.state then open_verdict s reply else Err refused.WrongState
 
 -- the result is the operation that the reply is to, or the reason of the verdict, memory aside
-abbrev pub JudgesBy : Result Taken Refused → Apdu → Result Asked Refused → Type 0
-JudgesBy given reply (Ok asked) = given ≡ Ok (taken_as (record { asked = asked; reply = reply }))
-JudgesBy given reply (Err reason) = reason ≢ refused.Memory → given ≡ Err reason
+abbrev pub IsOperationJudgement : Result Taken Refused → Apdu → Result Asked Refused → Type 0
+IsOperationJudgement given reply (Ok asked) = given ≡ Ok (taken_as (record { asked = asked; reply = reply }))
+IsOperationJudgement given reply (Err reason) = reason ≢ refused.Memory → given ≡ Err reason
 
 -- the same for any APDU, with no operation for a Close
-abbrev pub Judges : Result Taken Refused → Apdu → Result (Option Asked) Refused → Type 0
-Judges given reply (Ok None) = given ≡ Ok taken.Closed
-Judges given reply (Ok (Some asked)) = given ≡ Ok (taken_as (record { asked = asked; reply = reply }))
-Judges given reply (Err reason) = reason ≢ refused.Memory → given ≡ Err reason
+abbrev pub IsJudgement : Result Taken Refused → Apdu → Result (Option Asked) Refused → Type 0
+IsJudgement given reply (Ok None) = given ≡ Ok taken.Closed
+IsJudgement given reply (Ok (Some asked)) = given ≡ Ok (taken_as (record { asked = asked; reply = reply }))
+IsJudgement given reply (Err reason) = reason ≢ refused.Memory → given ≡ Err reason

@@ -6,7 +6,7 @@ use Rattle.std.specs.Fmt.{decimal}
 use Rattle.zber.specs.declared.framer.TheConstants.{MESSAGE_LIMIT}
 use Rattle.zber.specs.Elements.{Element, height}
 use Rattle.zber.specs.Canonical.{canonical}
-use Rattle.zber.specs.Spelling.{Begins}
+use Rattle.zber.specs.Spelling.{HasFirstMessage}
 use Rattle.zapdu.specs.declared.apdu.Apdu.{Apdu}
 use Rattle.zapdu.specs.declared.apdu.Apdu.TheVariants as apdus
 use Rattle.zapdu.specs.declared.productions.close.Close.{Close as CloseApdu}
@@ -19,7 +19,7 @@ use Rattle.zapdu.specs.declared.productions.record_composition.RecordComposition
 use Rattle.zapdu.specs.declared.productions.record_composition.RecordComposition.TheVariants.{Simple}
 use Rattle.zapdu.specs.declared.productions.search_query.SearchQuery.TheVariants.{Rpn}
 use Rattle.zapdu.specs.declared.productions.search_request.SearchRequest.{SearchRequest}
-use Rattle.zapdu.specs.Writes.{Writes, apdu_spelt}
+use Rattle.zapdu.specs.Writes.{Writes, apdu_spelling}
 use Rattle.zorigin.specs.declared.settings.Settings.{Settings}
 use Rattle.zplan.specs.declared.range.Range.{Range}
 use Rattle.zorigin.specs.declared.settings.Ask.{Ask}
@@ -149,45 +149,45 @@ too_large (Some n) = nat_lt 64 (height n) || nat_lt MESSAGE_LIMIT (length (canon
 
 -- the APDU has no element, more than 64 levels of constructed elements, or more than 2,097,152 octets
 unfoldable pub is_unsendable : Apdu → Bool
-is_unsendable apdu = too_large (apdu_spelt apdu)
+is_unsendable apdu = too_large (apdu_spelling apdu)
 
 -- the canonical encoding of an element, empty if there is none
-abbrev pub octets_of : Option Element → List ℕ
-octets_of None = []
-octets_of (Some n) = canonical n
+abbrev pub element_octets : Option Element → List ℕ
+element_octets None = []
+element_octets (Some n) = canonical n
 
 -- the canonical encoding of an APDU, empty if it has no element
 unfoldable pub encoding_of : Apdu → List ℕ
-encoding_of apdu = octets_of (apdu_spelt apdu)
+encoding_of apdu = element_octets (apdu_spelling apdu)
 
 -- the result of encoding an element, memory aside
-abbrev pub Encodes : Element → Result (List ℕ) CallRefused → Type 0
-Encodes n (Ok octets) = (too_large (Some n) ≡ false) × (octets ≡ canonical n)
-Encodes n (Err refused.Unsendable) = too_large (Some n) ≡ true
-Encodes n (Err refused.Memory) = Unit {0}
-Encodes n (Err _) = ⊥
+abbrev pub IsEncodeResult : Element → Result (List ℕ) CallRefused → Type 0
+IsEncodeResult n (Ok octets) = (too_large (Some n) ≡ false) × (octets ≡ canonical n)
+IsEncodeResult n (Err refused.Unsendable) = too_large (Some n) ≡ true
+IsEncodeResult n (Err refused.Memory) = Unit {0}
+IsEncodeResult n (Err _) = ⊥
 
 -- the APDU with its canonical encoding
 abbrev pub sent_of : Apdu → Sent
 sent_of apdu = record { apdu = apdu; octets = encoding_of apdu }
 
 -- the result of sending an APDU, memory aside
-abbrev pub Sends : Apdu → Result Sent CallRefused → Type 0
-Sends apdu (Ok sent) = (is_unsendable apdu ≡ false) × (sent ≡ sent_of apdu)
-Sends apdu (Err refused.Unsendable) = is_unsendable apdu ≡ true
-Sends apdu (Err refused.Memory) = Unit {0}
-Sends apdu (Err _) = ⊥
+abbrev pub IsSendResult : Apdu → Result Sent CallRefused → Type 0
+IsSendResult apdu (Ok sent) = (is_unsendable apdu ≡ false) × (sent ≡ sent_of apdu)
+IsSendResult apdu (Err refused.Unsendable) = is_unsendable apdu ≡ true
+IsSendResult apdu (Err refused.Memory) = Unit {0}
+IsSendResult apdu (Err _) = ⊥
 
 -- ---- the receiver reads what was sent
 
 -- whatever octets come after them, the octets begin with the element, within the limit of a message
 abbrev pub IsFramed : Element → List ℕ → Type 0
-IsFramed n octets = (more : List ℕ) → Begins MESSAGE_LIMIT (octets ++ more) n more
+IsFramed n octets = (more : List ℕ) → HasFirstMessage MESSAGE_LIMIT (octets ++ more) n more
 
 -- whatever octets come after them, the octets begin with the element of the APDU, and the element has this APDU as its
 -- value
 pub record IsReadBack (sent : Sent) : Type 0 where
   pub element : Element
-  pub made : apdu_spelt sent.apdu ≡ Some element
+  pub made : apdu_spelling sent.apdu ≡ Some element
   pub stands : Writes sent.apdu element
   pub framed : IsFramed element sent.octets

@@ -2,9 +2,9 @@
 ghost use Rattle.std.specs.Prelude.{◌≡◌, IfOk, OnErr};
 ghost use Rattle.zorigin.specs.Standings.{Init, Search, Present, Close};
 ghost use Rattle.zorigin.specs.Ranges.{one_range};
-ghost use Rattle.zorigin.specs.Calls.{call_answer, SendsFor};
+ghost use Rattle.zorigin.specs.Calls.{call_result, IsSendResultFor};
 ghost use Rattle.zorigin.specs.Changes.{called_at};
-ghost use Rattle.zorigin.specs.Log.{Answers, AnswersCall, LeavesCall, IsCalled};
+ghost use Rattle.zorigin.specs.Log.{IsGivenResult, IsResultOfCall, OriginAfterCall, IsMadeCall};
 ghost use Rattle.zorigin.specs.Sending.{IsReadBack};
 
 use crate::answer::Sent;
@@ -20,7 +20,7 @@ use zplan::Range;
 impl Origin {
     /// The request of Init, whatever the state. Returns `Unsendable`, or `Memory` if no memory is found.
     fn init_sent(&self) -> Result<Sent, CallRefused>
-        ensures exact { SendsFor self.now Init result }
+        ensures exact { IsSendResultFor self.now Init result }
         ensures framed { IfOk result IsReadBack }
     {
         let apdu = init_request(self.alloc, &self.settings)?;
@@ -29,7 +29,7 @@ impl Origin {
 
     /// The request of a search, whatever the state. Returns `Unsendable`, or `Memory` if no memory is found.
     fn search_sent(&self, op: u32, set: u32, ask: &Ask) -> Result<Sent, CallRefused>
-        ensures exact { SendsFor self.now (Search op set ask.now) result }
+        ensures exact { IsSendResultFor self.now (Search op set ask.now) result }
         ensures framed { IfOk result IsReadBack }
     {
         let apdu = search_request(self.alloc, self.force.named, op, set, ask)?;
@@ -39,7 +39,7 @@ impl Origin {
     /// The request of a Present, whatever the state. Returns `SetUnknown` if no search made the set or no range is
     /// asked for, else `Unsendable`, or `Memory` if no memory is found.
     fn present_sent(&self, op: u32, set: u32, ranges: &[Range]) -> Result<Sent, CallRefused>
-        ensures exact { SendsFor self.now (Present op set ranges.now) result }
+        ensures exact { IsSendResultFor self.now (Present op set ranges.now) result }
         ensures framed { IfOk result IsReadBack }
     {
         let Some(searched) = search_of(&self.searches, set) else {
@@ -53,8 +53,8 @@ impl Origin {
     }
 
     fn make_init(&mut self) -> Result<Sent, CallRefused>
-        ensures answer { Answers (call_answer self.old Init) result }
-        ensures after { IsCalled result → self.new ≡ called_at self.old Init }
+        ensures answer { IsGivenResult (call_result self.old Init) result }
+        ensures after { IsMadeCall result → self.new ≡ called_at self.old Init }
         ensures framed { IfOk result IsReadBack }
         ensures err { OnErr result (self.new ≡ self.old) }
     {
@@ -72,8 +72,8 @@ impl Origin {
     }
 
     fn make_search(&mut self, op: u32, set: u32, ask: &Ask) -> Result<Sent, CallRefused>
-        ensures answer { Answers (call_answer self.old (Search op set ask.now)) result }
-        ensures after { IsCalled result → self.new ≡ called_at self.old (Search op set ask.now) }
+        ensures answer { IsGivenResult (call_result self.old (Search op set ask.now)) result }
+        ensures after { IsMadeCall result → self.new ≡ called_at self.old (Search op set ask.now) }
         ensures framed { IfOk result IsReadBack }
         ensures err { OnErr result (self.new ≡ self.old) }
     {
@@ -91,8 +91,8 @@ impl Origin {
     }
 
     fn make_present(&mut self, op: u32, set: u32, ranges: &[Range]) -> Result<Sent, CallRefused>
-        ensures answer { Answers (call_answer self.old (Present op set ranges.now)) result }
-        ensures after { IsCalled result → self.new ≡ called_at self.old (Present op set ranges.now) }
+        ensures answer { IsGivenResult (call_result self.old (Present op set ranges.now)) result }
+        ensures after { IsMadeCall result → self.new ≡ called_at self.old (Present op set ranges.now) }
         ensures framed { IfOk result IsReadBack }
         ensures err { OnErr result (self.new ≡ self.old) }
     {
@@ -110,8 +110,8 @@ impl Origin {
     }
 
     fn make_close(&mut self) -> Result<Sent, CallRefused>
-        ensures answer { Answers (call_answer self.old Close) result }
-        ensures after { IsCalled result → self.new ≡ called_at self.old Close }
+        ensures answer { IsGivenResult (call_result self.old Close) result }
+        ensures after { IsMadeCall result → self.new ≡ called_at self.old Close }
         ensures framed { IfOk result IsReadBack }
         ensures err { OnErr result (self.new ≡ self.old) }
     {
@@ -130,8 +130,8 @@ impl Origin {
     /// Returns `WrongState` if the state is not Fresh, `Unsendable` if the name is too long, and `Memory` if no memory
     /// is found. The origin is then unchanged.
     pub fn init(&mut self) -> Result<Sent, CallRefused>
-        ensures answer { AnswersCall self.old Init result }
-        ensures after { LeavesCall self.old Init result self.new }
+        ensures answer { IsResultOfCall self.old Init result }
+        ensures after { OriginAfterCall self.old Init result self.new }
         ensures framed { IfOk result IsReadBack }
         ensures err { OnErr result (self.new ≡ self.old) }
     {
@@ -143,8 +143,8 @@ impl Origin {
     ///
     /// `CallRefused` lists when the call is refused, in its order. The origin is then unchanged.
     pub fn search(&mut self, op: u32, set: u32, ask: &Ask) -> Result<Sent, CallRefused>
-        ensures answer { AnswersCall self.old (Search op set ask.now) result }
-        ensures after { LeavesCall self.old (Search op set ask.now) result self.new }
+        ensures answer { IsResultOfCall self.old (Search op set ask.now) result }
+        ensures after { OriginAfterCall self.old (Search op set ask.now) result self.new }
         ensures framed { IfOk result IsReadBack }
         ensures err { OnErr result (self.new ≡ self.old) }
     {
@@ -156,8 +156,8 @@ impl Origin {
     ///
     /// `CallRefused` lists when the call is refused, in its order. The origin is then unchanged.
     pub fn present(&mut self, op: u32, set: u32, start: i64, n: i64) -> Result<Sent, CallRefused>
-        ensures answer { AnswersCall self.old (Present op set (one_range start n)) result }
-        ensures after { LeavesCall self.old (Present op set (one_range start n)) result self.new }
+        ensures answer { IsResultOfCall self.old (Present op set (one_range start n)) result }
+        ensures after { OriginAfterCall self.old (Present op set (one_range start n)) result self.new }
         ensures framed { IfOk result IsReadBack }
         ensures err { OnErr result (self.new ≡ self.old) }
     {
@@ -175,8 +175,8 @@ impl Origin {
         set: u32,
         ranges: &[Range],
     ) -> Result<Sent, CallRefused>
-        ensures answer { AnswersCall self.old (Present op set ranges.now) result }
-        ensures after { LeavesCall self.old (Present op set ranges.now) result self.new }
+        ensures answer { IsResultOfCall self.old (Present op set ranges.now) result }
+        ensures after { OriginAfterCall self.old (Present op set ranges.now) result self.new }
         ensures framed { IfOk result IsReadBack }
         ensures err { OnErr result (self.new ≡ self.old) }
     {
@@ -189,8 +189,8 @@ impl Origin {
     /// Returns `WrongState` if the state is not Ready, and `Memory` if no memory is found. The origin is then
     /// unchanged.
     pub fn close(&mut self) -> Result<Sent, CallRefused>
-        ensures answer { AnswersCall self.old Close result }
-        ensures after { LeavesCall self.old Close result self.new }
+        ensures answer { IsResultOfCall self.old Close result }
+        ensures after { OriginAfterCall self.old Close result self.new }
         ensures framed { IfOk result IsReadBack }
         ensures err { OnErr result (self.new ≡ self.old) }
     {

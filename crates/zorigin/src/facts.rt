@@ -3,7 +3,7 @@ ghost use Rattle.std.specs.Prelude.{◌≡◌, true, ◌++◌, ℤ, pos, ◌+ℤ
 ghost use Rattle.zknow.specs.declared.fact.Fact.TheVariants.{Seen};
 ghost use Rattle.zorigin.specs.Ranges.{are_ranges};
 ghost use Rattle.zplan.specs.Ranges.{positions};
-ghost use Rattle.zorigin.specs.Facts.{seen_from, seen_at, told_at, count_or_failed, init_facts, search_facts, present_facts, facts_of, IsShowable};
+ghost use Rattle.zorigin.specs.Facts.{seen_from, seen_at, diagnostic_facts, count_or_failed, init_facts, search_facts, present_facts, facts_of, IsFitAnswer};
 ghost use Rattle.zorigin.specs.Fitting.{records_in, diagnostics_in};
 
 use crate::answer::{Answer, What};
@@ -64,7 +64,7 @@ fn put_diags(
     diags: &[DiagRec],
     out: &mut Vec<Fact>,
 ) -> Result<(), AllocError>
-    ensures { OnOk result (out.new.items ≡ out.old.items ++ told_at target set place diags.now) }
+    ensures { OnOk result (out.new.items ≡ out.old.items ++ diagnostic_facts target set place diags.now) }
 {
     for diag in diags {
         out.push(Fact::Diag {
@@ -78,7 +78,7 @@ fn put_diags(
 }
 
 /// Appends the facts of the nonsurrogate diagnostics of a response.
-fn put_told(
+fn put_diagnostics(
     alloc: Global,
     target: u32,
     set: u32,
@@ -86,7 +86,7 @@ fn put_told(
     records: &Option<Records>,
     out: &mut Vec<Fact>,
 ) -> Result<(), AllocError>
-    ensures { OnOk result (out.new.items ≡ out.old.items ++ told_at target set place (diagnostics_in records.now)) }
+    ensures { OnOk result (out.new.items ≡ out.old.items ++ diagnostic_facts target set place (diagnostics_in records.now)) }
 {
     match records {
         Some(Records::OneDiag(diag)) => {
@@ -156,7 +156,7 @@ fn search_facts(
         records_in(&response.records),
         &mut facts,
     )?;
-    put_told(alloc, target, set, 0, &response.records, &mut facts)?;
+    put_diagnostics(alloc, target, set, 0, &response.records, &mut facts)?;
     Ok(facts)
 }
 
@@ -196,7 +196,7 @@ fn present_facts(
     let mut facts = Vec::new(alloc);
     put_seen_in(alloc, target, set, ranges, records, &mut facts)?;
     let first = first_of(ranges);
-    put_told(alloc, target, set, first, &response.records, &mut facts)?;
+    put_diagnostics(alloc, target, set, first, &response.records, &mut facts)?;
     Ok(facts)
 }
 
@@ -209,7 +209,7 @@ fn present_facts(
 /// The answer is one that `take` or `peek` returned, or another whose reply fits its request and whose ranges can be
 /// asked for. Returns `AllocError` if no memory is found.
 pub fn facts_of(alloc: Global, target: u32, answer: &Answer) -> Result<Vec<Fact>, AllocError>
-    requires { IsShowable answer.now }
+    requires { IsFitAnswer answer.now }
     ensures { IfOk result (λ facts. facts.items ≡ facts_of target answer.now) }
 {
     let set = answer.asked.set;

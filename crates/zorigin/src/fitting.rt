@@ -1,7 +1,7 @@
 //! Whether a reply fits an operation.
 ghost use Rattle.std.specs.Prelude.{◌≡◌, not, length};
 ghost use Rattle.zplan.specs.Ranges.{positions};
-ghost use Rattle.zorigin.specs.Fitting.{records_in, diagnostics_in, is_empty, is_fragment, has_fragment, is_number, exceeds, count_mismatch, bad_number, bad_search, bad_present, search_fault, present_fault, fault_of};
+ghost use Rattle.zorigin.specs.Fitting.{records_in, diagnostics_in, is_empty, is_fragment, has_fragment, is_number, is_more_than, count_mismatch, bad_number, bad_search, bad_present, search_fault, present_fault, fault_of};
 
 use crate::answer::What;
 use crate::range::exceed_positions;
@@ -52,8 +52,8 @@ fn is_number(number: i64, len: usize) -> bool
 }
 
 /// Whether the length is above the number.
-fn exceeds(len: usize, number: i64) -> bool
-    ensures { result ≡ exceeds len number }
+fn is_more_than(len: usize, number: i64) -> bool
+    ensures { result ≡ is_more_than len number }
 {
     number < 0 || (number as usize) < len
 }
@@ -69,7 +69,7 @@ fn is_count_mismatch(records: &Option<Records>, returned: i64) -> bool
 fn is_bad_search(response: &SearchResponse) -> bool
     ensures { result ≡ bad_search response.now }
 {
-    exceeds(records_in(&response.records).len(), response.result_count)
+    is_more_than(records_in(&response.records).len(), response.result_count)
         || has_fragment(&response.records)
 }
 

@@ -30,7 +30,7 @@ pub struct Origin {
 
 impl Model for Origin {
     ghost use Rattle.zorigin.specs.Standings.{Standing};
-    ghost use Rattle.zorigin.specs.Facts.{AskPositions};
+    ghost use Rattle.zorigin.specs.Facts.{HaveValidRanges};
 
     ghost Value = { Standing };
 
@@ -43,7 +43,7 @@ impl Model for Origin {
       outstanding = o.outstanding.entries;
     } };
 
-    ghost invariant = { λ o. AskPositions o.outstanding.entries };
+    ghost invariant = { λ o. HaveValidRanges o.outstanding.entries };
 }
 
 impl Origin {

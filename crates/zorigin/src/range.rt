@@ -1,6 +1,6 @@
 //! Ranges of positions.
 ghost use Rattle.std.specs.Prelude.{◌≡◌, ◌&&◌, ℤ, pos, ◌≤ℤ◌, int_lt, nat_lt, length, true, IfOk};
-ghost use Rattle.zorigin.specs.Ranges.{last_of, is_range, follow, are_ranges, is_past};
+ghost use Rattle.zorigin.specs.Ranges.{last_of, is_range, are_ranges_after, are_ranges, is_past};
 ghost use Rattle.zplan.specs.Positions.{first_of};
 ghost use Rattle.zplan.specs.Ranges.{natural, positions, positions_of};
 

@@ -1,6 +1,6 @@
 //! Reference ids.
 ghost use Rattle.std.specs.Prelude.{◌≡◌, IfOk};
-ghost use Rattle.zorigin.specs.References.{reference_id, number_of};
+ghost use Rattle.zorigin.specs.References.{reference_id, operation_number};
 
 use bytes::Bytes;
 use std::alloc::{AllocError, Global};
@@ -20,8 +20,8 @@ pub(crate) fn reference_id(alloc: Global, op: u32) -> Result<Bytes, AllocError>
 }
 
 /// The number in a reference id, or `None` if it does not have four octets.
-pub(crate) fn number_of(id: &Bytes) -> Option<u32>
-    ensures { result ≡ number_of id.now }
+pub(crate) fn operation_number(id: &Bytes) -> Option<u32>
+    ensures { result ≡ operation_number id.now }
 {
     match id.as_slice() {
         [a, b, c, d] => Some(

@@ -1,6 +1,6 @@
 //! Why a call or a reply is refused.
 ghost use Rattle.std.specs.Prelude.{◌≡◌};
-ghost use Rattle.zorigin.specs.Refusal.{call_word, reply_word};
+ghost use Rattle.zorigin.specs.Refusal.{call_refusal_name, reply_refusal_name};
 
 use std::alloc::{AllocError, AllocFailed};
 use thiserror::Error;
@@ -78,8 +78,8 @@ pub enum Refused {
 
 impl CallRefused {
     /// Returns the variant's name in ASCII letters. It takes no memory.
-    pub fn word(&self) -> &'static str
-        ensures { result.now ≡ call_word self.now }
+    pub fn name(&self) -> &'static str
+        ensures { result.now ≡ call_refusal_name self.now }
     {
         match self {
             CallRefused::WrongState => "WrongState",
@@ -99,8 +99,8 @@ impl CallRefused {
 
 impl Refused {
     /// Returns the variant's name in ASCII letters. It takes no memory.
-    pub fn word(&self) -> &'static str
-        ensures { result.now ≡ reply_word self.now }
+    pub fn name(&self) -> &'static str
+        ensures { result.now ≡ reply_refusal_name self.now }
     {
         match self {
             Refused::WrongState => "WrongState",

@@ -3,15 +3,15 @@ ghost use Rattle.std.specs.Prelude.{◌≡◌, ◌==◌, Ok, Err, IfOk, IfErr};
 ghost use Rattle.std.specs.Option.{option_map};
 ghost use Rattle.zorigin.specs.declared.refusal.Refused.TheVariants.{Memory};
 ghost use Rattle.zorigin.specs.Standings.{is_open, ready};
-ghost use Rattle.zorigin.specs.Replies.{only_of, named, taken_by, taken_as, against, verdict, Judges, JudgesBy};
-ghost use Rattle.zorigin.specs.Changes.{force_in, outcome_in, noted_if, noted, without, opened_at, settled_at, FailsFor};
-ghost use Rattle.zorigin.specs.Facts.{HasShowable};
-ghost use Rattle.zorigin.specs.Log.{IsTaken, Tells, TellsReply, LeavesReply};
+ghost use Rattle.zorigin.specs.Replies.{only_of, named, taken_by, taken_as, against, verdict, IsJudgement, IsOperationJudgement};
+ghost use Rattle.zorigin.specs.Changes.{force_in, outcome_in, noted_if, noted, without_operation, opened_at, settled_at, AfterFailure};
+ghost use Rattle.zorigin.specs.Facts.{HasFitAnswer};
+ghost use Rattle.zorigin.specs.Log.{IsTakenReply, IsGivenVerdict, IsResultOfTake, OriginAfterTake};
 
 use crate::answer::{Answer, Asked, Taken};
 use crate::fitting::fault_of;
 use crate::origin::Origin;
-use crate::reference::number_of;
+use crate::reference::operation_number;
 use crate::refusal::Refused;
 use crate::state::{InForce, Outcome, Searched, State};
 use bytes::Bytes;
@@ -120,7 +120,7 @@ impl Origin {
         ensures { option_map (λ r. r.now) result ≡ named self.now id.now }
     {
         match id {
-            Some(id) => match number_of(id) {
+            Some(id) => match operation_number(id) {
                 Some(op) => self.outstanding.get(&op),
                 None => None,
             },
@@ -136,7 +136,7 @@ impl Origin {
 
     /// Returns the operation that a reply is to, by the reference id in it, or why the reply is refused.
     fn against(&self, id: &Option<Bytes>, reply: &Apdu) -> Result<Asked, Refused>
-        ensures { JudgesBy (against (named self.now id.now) reply.now) reply.now result }
+        ensures { IsOperationJudgement (against (named self.now id.now) reply.now) reply.now result }
     {
         let Some(asked) = self.operation_of(id) else {
             return Err(Refused::UnknownReference);
@@ -153,7 +153,7 @@ impl Origin {
     /// Returns the operation that an APDU is to, `None` for a Close, or why it is refused.
     #[tactic(auto, unfolding(crate::specs::Replies::verdict))]
     fn judge(&self, reply: &Apdu) -> Result<Option<Asked>, Refused>
-        ensures { Judges (verdict self.now reply.now) reply.now result }
+        ensures { IsJudgement (verdict self.now reply.now) reply.now result }
     {
         if !is_open(self.state) {
             return Err(Refused::WrongState);
@@ -175,8 +175,8 @@ impl Origin {
 
     /// Returns the verdict on an APDU, with a copy of it as the answer's reply.
     fn verdict(&self, reply: &Apdu) -> Result<Taken, Refused>
-        ensures answer { Tells (verdict self.now reply.now) result }
-        ensures showable { IfOk result (HasShowable reply.now) }
+        ensures answer { IsGivenVerdict (verdict self.now reply.now) result }
+        ensures showable { IfOk result (HasFitAnswer reply.now) }
     {
         match self.judge(reply) {
             Ok(None) => Ok(Taken::Closed),
@@ -190,7 +190,7 @@ impl Origin {
 
     /// Removes an operation from those outstanding.
     fn remove_operation(&mut self, op: u32)
-        ensures { self.new ≡ without self.old op }
+        ensures { self.new ≡ without_operation self.old op }
     {
         self.outstanding.shift_remove(&op);
     }
@@ -237,7 +237,7 @@ impl Origin {
 
     /// Changes the origin for a verdict. `Memory` leaves it unchanged.
     fn settle(&mut self, taken: &Result<Taken, Refused>)
-        ensures after { IsTaken taken.now → self.new ≡ settled_at self.old taken.now }
+        ensures after { IsTakenReply taken.now → self.new ≡ settled_at self.old taken.now }
         ensures memory { taken.now ≡ Err Memory → self.new ≡ self.old }
     {
         match taken {
@@ -249,8 +249,8 @@ impl Origin {
 
     /// Returns what `take` would return for this APDU, and changes nothing. The answer's reply is a copy of the APDU.
     pub fn peek(&self, reply: &Apdu) -> Result<Taken, Refused>
-        ensures answer { TellsReply self.now reply.now result }
-        ensures showable { IfOk result (HasShowable reply.now) }
+        ensures answer { IsResultOfTake self.now reply.now result }
+        ensures showable { IfOk result (HasFitAnswer reply.now) }
     {
         self.verdict(reply)
     }
@@ -265,11 +265,11 @@ impl Origin {
     /// otherwise unchanged. After `WrongState` and `Memory` it is wholly unchanged.
     pub fn take(&mut self, reply: &Apdu) -> Result<Taken, Refused>
         // the result, and the origin after it
-        ensures answer { TellsReply self.old reply.now result }
-        ensures after { LeavesReply self.old reply.now result self.new }
-        ensures showable { IfOk result (HasShowable reply.now) }
+        ensures answer { IsResultOfTake self.old reply.now result }
+        ensures after { OriginAfterTake self.old reply.now result self.new }
+        ensures showable { IfOk result (HasFitAnswer reply.now) }
         // what a refusal leaves
-        ensures failed { IfErr result (FailsFor self.old self.new) }
+        ensures failed { IfErr result (AfterFailure self.old self.new) }
         ensures wrong_state { result ≡ Err Refused.WrongState → self.new ≡ self.old }
         ensures memory { result ≡ Err Refused.Memory → self.new ≡ self.old }
     {

@@ -1,6 +1,6 @@
 //! APDUs and their octets.
 ghost use Rattle.std.specs.Prelude.{IfOk};
-ghost use Rattle.zorigin.specs.Sending.{Encodes, Sends, IsFramed, IsReadBack};
+ghost use Rattle.zorigin.specs.Sending.{IsEncodeResult, IsSendResult, IsFramed, IsReadBack};
 
 use crate::answer::Sent;
 use crate::refusal::CallRefused;
@@ -12,7 +12,7 @@ use zber::{EncodeError, MESSAGE_LIMIT, Node};
 /// Returns the canonical encoding of an element. Returns `Unsendable` if it is too deep or too long, and `Memory` if no
 /// memory is found.
 fn encode(alloc: Global, node: &Node) -> Result<Bytes, CallRefused>
-    ensures exact { Encodes node.now result }
+    ensures exact { IsEncodeResult node.now result }
     ensures framed { IfOk result (IsFramed node.now) }
 {
     let mut octets = Vec::new(alloc);
@@ -27,7 +27,7 @@ fn encode(alloc: Global, node: &Node) -> Result<Bytes, CallRefused>
 /// constructed elements, or more octets than the limit. Returns `Memory` if no memory is found.
 #[tactic(auto, unfolding(crate::specs::Sending::is_unsendable, crate::specs::Sending::encoding_of))]
 pub(crate) fn send(alloc: Global, apdu: Apdu) -> Result<Sent, CallRefused>
-    ensures exact { Sends apdu result }
+    ensures exact { IsSendResult apdu result }
     ensures framed { IfOk result IsReadBack }
 {
     match to_node(alloc, &apdu) {

@@ -4,8 +4,8 @@ use Rattle.std.proofs.lemmas.Bool.Decides.{nat_tests}
 use Rattle.std.proofs.lemmas.List.{take-append-drop}
 use Rattle.std.specs.Prelude.{nat_lt}
 use Rattle.std.specs.List.{concat}
-use Rattle.zplan.specs.Positions.{IsIn, IsFrom, Ascends, IsWanted, first_of}
-use Rattle.zplan.specs.Agenda.{put_list, without}
+use Rattle.zplan.specs.Positions.{IsIn, IsFrom, AreAscending, IsWanted, first_of}
+use Rattle.zplan.specs.Agenda.{put_list, without_start}
 use Rattle.zplan.proofs.Cuts.{in_right, AllSome}
 use Rattle.zplan.proofs.Ends.{ascends_right}
 
@@ -32,25 +32,25 @@ put_between l (k ∷ ks) ms b a =
     let e : nat_lt (first_of l) (first_of k) ≡ false = grind (arith, nat_tests, c) in
     ap (λ t. cond t (l ∷ k ∷ (ks ++ ms)) (k ∷ put_list l (ks ++ ms))) e ∙ ap (λ z. k ∷ z) (put_between l ks ms b.1 a)
 
-without_before : (p : ℕ) (ks ms : List (List ℕ)) → AllBefore p ks → without p (ks ++ ms) ≡ ks ++ without p ms
+without_before : (p : ℕ) (ks ms : List (List ℕ)) → AllBefore p ks → without_start p (ks ++ ms) ≡ ks ++ without_start p ms
 without_before p [] ms b = refl
 without_before p (k ∷ ks) ms b =
     let c = b.0 in
     let e : (first_of k == p) ≡ false = grind (arith, nat_tests, c) in
-    ap (λ t. cond (not t) (k ∷ without p (ks ++ ms)) (without p (ks ++ ms))) e ∙ ap (λ z. k ∷ z) (without_before p ks ms b.1)
+    ap (λ t. cond (not t) (k ∷ without_start p (ks ++ ms)) (without_start p (ks ++ ms))) e ∙ ap (λ z. k ∷ z) (without_before p ks ms b.1)
 
-without_after : (p : ℕ) (ms : List (List ℕ)) → AllAfter p ms → without p ms ≡ ms
+without_after : (p : ℕ) (ms : List (List ℕ)) → AllAfter p ms → without_start p ms ≡ ms
 without_after p [] a = refl
 without_after p (m ∷ ms) a =
     let c = a.0 in
     let e : (first_of m == p) ≡ false = grind (arith, nat_tests, c) in
-    ap (λ t. cond (not t) (m ∷ without p ms) (without p ms)) e ∙ ap (λ z. m ∷ z) (without_after p ms a.1)
+    ap (λ t. cond (not t) (m ∷ without_start p ms) (without_start p ms)) e ∙ ap (λ z. m ∷ z) (without_after p ms a.1)
 
-pub without_between : (l : List ℕ) (ks ms : List (List ℕ)) → AllBefore (first_of l) ks → AllAfter (first_of l) ms → without (first_of l) (ks ++ l ∷ ms) ≡ ks ++ ms
+pub without_between : (l : List ℕ) (ks ms : List (List ℕ)) → AllBefore (first_of l) ks → AllAfter (first_of l) ms → without_start (first_of l) (ks ++ l ∷ ms) ≡ ks ++ ms
 without_between l ks ms b a =
     let e : (first_of l == first_of l) ≡ true = grind (arith, nat_tests) in
     without_before (first_of l) ks (l ∷ ms) b
-    ∙ ap (λ z. ks ++ z) (ap (λ t. cond (not t) (l ∷ without (first_of l) ms) (without (first_of l) ms)) e ∙ without_after (first_of l) ms a)
+    ∙ ap (λ z. ks ++ z) (ap (λ t. cond (not t) (l ∷ without_start (first_of l) ms) (without_start (first_of l) ms)) e ∙ without_after (first_of l) ms a)
 
 pub before_some : (p : ℕ) (ls : List (List ℕ)) → ((l : List ℕ) → IsIn l ls → first_of l < p) → AllBefore p ls
 before_some p [] h = tt
@@ -82,7 +82,7 @@ from_without low [] [] zs h = h
 from_without low [] (y ∷ ys) zs h = from_without low [] ys zs h.1
 from_without low (x ∷ xs) ys zs h = (h.0, from_without low xs ys zs h.1)
 
-ascends_without : (xs ys zs : List ℕ) → Ascends (xs ++ (ys ++ zs)) → Ascends (xs ++ zs)
+ascends_without : (xs ys zs : List ℕ) → AreAscending (xs ++ (ys ++ zs)) → AreAscending (xs ++ zs)
 ascends_without [] ys zs h = ascends_right ys zs h
 ascends_without (x ∷ xs) ys zs h = (from_without (x + 1) xs ys zs h.0, ascends_without xs ys zs h.1)
 

@@ -7,8 +7,8 @@ use Rattle.std.proofs.lemmas.List.FromFn.{length-range_with_len}
 use Rattle.zplan.specs.declared.entry.Entry.{Entry}
 use Rattle.zplan.specs.Positions.{IsIn, first_of}
 use Rattle.zplan.specs.declared.span.Span.{Span}
-use Rattle.zplan.specs.Ranges.{places, AllHave, IsBegun}
-use Rattle.zplan.specs.Schedules.{lists_of, due_of, waiting_of, has_due, IsListed, AllListed, IsDueAt, IsWaitingAt, NoneWaits}
+use Rattle.zplan.specs.Ranges.{places, AreNonempty, IsNonemptyList}
+use Rattle.zplan.specs.Schedules.{lists_of, due_of, waiting_of, has_due, IsAskableList, AreAskableLists, IsDueAt, IsWaitingAt, HasNoneWaiting}
 use Rattle.zplan.proofs.Cuts.{in_either, AllSome}
 
 abbrev pub AllSent : List Entry → Type 0
@@ -99,11 +99,11 @@ has_one (y ∷ xs) ys x f =
     let later = has_one xs ys x f in
     elim y.sent as (λ b. (not b || has_due (xs ++ x ∷ ys)) ≡ true) [ true ↦ later | false ↦ refl ]
 
-pub all_listed : (three : Bool) (xs ys : List Entry) → AllListed three (xs ++ ys) → AllListed three xs × AllListed three ys
+pub all_listed : (three : Bool) (xs ys : List Entry) → AreAskableLists three (xs ++ ys) → AreAskableLists three xs × AreAskableLists three ys
 all_listed three [] ys h = (tt, h)
 all_listed three (x ∷ xs) ys h = let r = all_listed three xs ys h.1 in ((h.0, r.0), r.1)
 
-pub listed_all : (three : Bool) (xs ys : List Entry) → AllListed three xs → AllListed three ys → AllListed three (xs ++ ys)
+pub listed_all : (three : Bool) (xs ys : List Entry) → AreAskableLists three xs → AreAskableLists three ys → AreAskableLists three (xs ++ ys)
 listed_all three [] ys h g = g
 listed_all three (x ∷ xs) ys h g = (h.0, listed_all three xs ys h.1 g)
 
@@ -139,8 +139,8 @@ take_more [] at x lt e = absurd (omega arith)
 take_more (y ∷ es) zero x lt e = ap (λ z. z ∷ []) (sym e)
 take_more (y ∷ es) (suc at) x lt e = ap (λ l. y ∷ l) (take_more es at x (omega arith) e)
 
-pub none_more : (es : List Entry) (first at : ℕ) (x : Entry) → NoneWaits first (take at es) → at < length es → x ≡ slice_index_or es at x
-    → (x.sent && first_of (places x.list.items) == first) ≡ false → NoneWaits first (take (suc at) es)
+pub none_more : (es : List Entry) (first at : ℕ) (x : Entry) → HasNoneWaiting first (take at es) → at < length es → x ≡ slice_index_or es at x
+    → (x.sent && first_of (places x.list.items) == first) ≡ false → HasNoneWaiting first (take (suc at) es)
 none_more es first at x h lt e f = λ l i g.
     let j : IsIn l (waiting_of (take at es) ++ waiting_of (x ∷ [])) = subst (IsIn l) (ap waiting_of (take_more es at x lt e) ∙ waiting_append (take at es) (x ∷ [])) i in
     elim (in_either l (waiting_of (take at es)) (waiting_of (x ∷ [])) j) [
@@ -165,18 +165,18 @@ take_all [] (suc at) h = refl
 take_all (y ∷ es) zero h = absurd (omega (arith, h))
 take_all (y ∷ es) (suc at) h = ap (λ l. y ∷ l) (take_all es at (omega arith))
 
-pub listed_at : (three : Bool) (es : List Entry) (at : ℕ) (x : Entry) → AllListed three es → at < length es → x ≡ slice_index_or es at x → IsListed three x.list.items
+pub listed_at : (three : Bool) (es : List Entry) (at : ℕ) (x : Entry) → AreAskableLists three es → at < length es → x ≡ slice_index_or es at x → IsAskableList three x.list.items
 listed_at three [] at x h lt e = absurd (omega arith)
-listed_at three (y ∷ es) zero x h lt e = subst (λ z. IsListed three z.list.items) (sym e) h.0
+listed_at three (y ∷ es) zero x h lt e = subst (λ z. IsAskableList three z.list.items) (sym e) h.0
 listed_at three (y ∷ es) (suc at) x h lt e = listed_at three es at x h.1 (omega arith) e
 
-pub begin_is : (list : List Span) (f : Span) → IsBegun list → f ≡ slice_index_or list 0 f → f.start ≡ first_of (places list)
+pub begin_is : (list : List Span) (f : Span) → IsNonemptyList list → f ≡ slice_index_or list 0 f → f.start ≡ first_of (places list)
 begin_is [] f h e = absurd h
 begin_is (r ∷ rs) f h e =
     let b = h.0 in
     ap (λ z. z.start) e ∙ ap (λ n. first_of (range_with_len r.start n ++ places rs)) (let q : suc (r.n - 1) ≡ r.n = omega (arith, b) in q)
 
-pub begun_some : (list : List Span) → IsBegun list → 0 < length (places list)
+pub begun_some : (list : List Span) → IsNonemptyList list → 0 < length (places list)
 begun_some [] h = absurd h
 begun_some (r ∷ rs) h =
     let b = h.0 in
@@ -184,11 +184,11 @@ begun_some (r ∷ rs) h =
     length-append (range_with_len r.start r.n) (places rs) ∙ ap (λ k. k + length (places rs)) (length-range_with_len r.start r.n) in
     omega (arith, n, b)
 
-pub begun_have : (list : List Span) → 0 < length list → AllHave list → IsBegun list
+pub begun_have : (list : List Span) → 0 < length list → AreNonempty list → IsNonemptyList list
 begun_have [] lt h = absurd (omega (arith, lt))
 begun_have (r ∷ rs) lt h = h
 
-pub some_listed : (three : Bool) (es : List Entry) → AllListed three es → AllSome (lists_of es)
+pub some_listed : (three : Bool) (es : List Entry) → AreAskableLists three es → AllSome (lists_of es)
 some_listed three [] h = tt
 some_listed three (e ∷ es) h = (begun_some e.list.items h.0.begun, some_listed three es h.1)
 
@@ -211,7 +211,7 @@ waiting_among (e ∷ es) l i =
     ] i
 
 -- an answer leaves a part of a list, or nothing of it
-pub left_is : (old : List ℕ) (new : List Span) (k : ℕ) (b : Bool) → AllHave new → places new ≡ drop k old → 0 < k → (b ≡ true → length new ≡ 0) → (b ≡ false → 0 < length new)
+pub left_is : (old : List ℕ) (new : List Span) (k : ℕ) (b : Bool) → AreNonempty new → places new ≡ drop k old → 0 < k → (b ≡ true → length new ≡ 0) → (b ≡ false → 0 < length new)
     → not b ≡ (nat_lt 0 k && nat_lt k (length old))
 left_is old new k true have e pos none some =
     let z : length (places new) ≡ 0 = nothing new (none refl) in

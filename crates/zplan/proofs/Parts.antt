@@ -5,9 +5,9 @@ use Rattle.std.proofs.lemmas.Bool.Decides.{nat_tests}
 use Rattle.std.specs.List.{range_with_len}
 use Rattle.zplan.specs.declared.span.Span.{Span}
 use Rattle.zplan.specs.declared.part.Place.{Place}
-use Rattle.zplan.specs.Positions.{follows, IsFrom}
+use Rattle.zplan.specs.Positions.{is_followed, IsFrom}
 use Rattle.zplan.specs.Ranges.{places, IsApart, IsBounded}
-use Rattle.zplan.specs.Cutting.{left_at, IsUsed, IsPlace, IsPart}
+use Rattle.zplan.specs.Cutting.{left_at, IsWithinFirst, IsReadingPlace, IsNextPart}
 use Rattle.zplan.proofs.Cuts.{places_ascend, from_less}
 
 pub drop_range : (a b s : ℕ) (ps : List ℕ) → drop a (range_with_len s (a + b) ++ ps) ≡ range_with_len (s + a) b ++ ps
@@ -24,7 +24,7 @@ range_split (suc a) b s =
     let e : suc a + b ≡ suc (a + b) = omega arith in let f : s + 1 + a ≡ s + suc a = omega arith in
     ap (range_with_len s) e ∙ ap (λ l. s ∷ l) (range_split a b (s + 1) ∙ ap (λ t. range_with_len (s + 1) a ++ range_with_len t b) f)
 
-pub follows_far : (p low : ℕ) (ps : List ℕ) → IsFrom low ps → p + 1 < low → follows p ps ≡ false
+pub follows_far : (p low : ℕ) (ps : List ℕ) → IsFrom low ps → p + 1 < low → is_followed p ps ≡ false
 follows_far p low [] h lt = refl
 follows_far p low (q ∷ qs) h lt = let n : p + 1 < q = omega (arith, h.0) in grind (arith, nat_tests)
 
@@ -57,7 +57,7 @@ bounded_drop zero rs h = h
 bounded_drop (suc at) [] h = tt
 bounded_drop (suc at) (r ∷ rs) h = bounded_drop at rs h.1
 
-pub used_none : (low : ℕ) (rs : List Span) → IsApart low rs → IsUsed 0 rs
+pub used_none : (low : ℕ) (rs : List Span) → IsApart low rs → IsWithinFirst 0 rs
 used_none low [] h = tt
 used_none low (r ∷ rs) h = h.1
 
@@ -67,15 +67,15 @@ pub record Here (ranges : List Span) (place : Place) (r : Span) : Type 0 where
   pub used : place.used < r.n
   pub bound : r.start + r.n ≤ 2 ^ 31
   pub far : IsFrom (r.start + r.n + 1) (places (drop (place.at + 1) ranges))
-  pub unused : IsUsed 0 (drop (place.at + 1) ranges)
+  pub unused : IsWithinFirst 0 (drop (place.at + 1) ranges)
 
-pub here : (ranges : List Span) (place : Place) (d : Span) → IsApart 1 ranges → IsBounded ranges → IsPlace ranges place → place.at < length ranges → Here ranges place (get_or ranges place.at d)
+pub here : (ranges : List Span) (place : Place) (d : Span) → IsApart 1 ranges → IsBounded ranges → IsReadingPlace ranges place → place.at < length ranges → Here ranges place (get_or ranges place.at d)
 here ranges place d w b p lt =
     let e : drop place.at ranges ≡ get_or ranges place.at d ∷ drop (place.at + 1) ranges = drop-cons ranges place.at d lt ∙ ap (λ k. get_or ranges place.at d ∷ drop k ranges) (let s : suc place.at ≡ place.at + 1 = omega arith in s) in
     let a = apart_drop place.at 1 ranges w in
     let x = subst (IsApart a.0) e a.1 in
     let y = subst IsBounded e (bounded_drop place.at ranges b) in
-    record { stands = e; used = subst (IsUsed place.used) e p; bound = y.0; far = (places_ascend _ (drop (place.at + 1) ranges) x.2).0; unused = used_none _ (drop (place.at + 1) ranges) x.2 }
+    record { stands = e; used = subst (IsWithinFirst place.used) e p; bound = y.0; far = (places_ascend _ (drop (place.at + 1) ranges) x.2).0; unused = used_none _ (drop (place.at + 1) ranges) x.2 }
 
 pub taken : (used : ℕ) (r : Span) (rs : List Span) → used < r.n → drop used (places (r ∷ rs)) ≡ range_with_len (r.start + used) (r.n - used) ++ places rs
 taken used r rs lt =
@@ -83,7 +83,7 @@ taken used r rs lt =
     ap (λ n. drop used (range_with_len r.start n ++ places rs)) e ∙ drop_range used (r.n - used) r.start (places rs)
 
 pub part_whole : (ranges : List Span) (place : Place) (room : ℕ) (r : Span) → Here ranges place r → r.n - place.used ≤ room
-    → IsPart ranges place room (record { range = record { start = r.start + place.used; n = r.n - place.used }; next = record { at = place.at + 1; used = 0 } })
+    → IsNextPart ranges place room (record { range = record { start = r.start + place.used; n = r.n - place.used }; next = record { at = place.at + 1; used = 0 } })
 part_whole ranges place room r h fits = record {
   comes = ap (λ l. drop place.used (places l)) h.stands ∙ taken place.used r (drop (place.at + 1) ranges) h.used;
   some = let u = h.used in omega arith;
@@ -94,7 +94,7 @@ part_whole ranges place room r h fits = record {
 }
 
 pub part_cut : (ranges : List Span) (place : Place) (room : ℕ) (r : Span) → Here ranges place r → 0 < room → room < r.n - place.used
-    → IsPart ranges place room (record { range = record { start = r.start + place.used; n = room }; next = record { at = place.at; used = place.used + room } })
+    → IsNextPart ranges place room (record { range = record { start = r.start + place.used; n = room }; next = record { at = place.at; used = place.used + room } })
 part_cut ranges place room r h pos lt =
     let rs : List Span = drop (place.at + 1) ranges in
     let e : r.n - place.used ≡ room + (r.n - (place.used + room)) = omega arith in
@@ -111,6 +111,6 @@ part_cut ranges place room r h pos lt =
       some = pos;
       fits = omega arith;
       ends = inl refl;
-      stays = subst (IsUsed (place.used + room)) (sym h.stands) (let z : place.used + room < r.n = omega arith in z);
+      stays = subst (IsWithinFirst (place.used + room)) (sym h.stands) (let z : place.used + room < r.n = omega arith in z);
       bounded = let b = h.bound in omega (arith, b, lt);
     }

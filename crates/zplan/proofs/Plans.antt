@@ -8,10 +8,10 @@ use Rattle.zplan.specs.declared.span.Span.{Span}
 use Rattle.zplan.specs.declared.entry.Entry.{Entry}
 use Rattle.zplan.specs.declared.uncut.Uncut.{Uncut}
 use Rattle.zplan.specs.declared.uncut.Cut.{Cut}
-use Rattle.zplan.specs.Positions.{IsIn, IsFrom, Ascends, IsWanted, first_of, up_to}
-use Rattle.zplan.specs.Ranges.{positions, positions_of, places, span_of, range_of, clip, IsApart, IsBounded, AllHave, InOrder, CanBeAsked, AreWanted}
-use Rattle.zplan.specs.Agenda.{SameAgenda, IsFirst, IsSent, IsAnswered, put_list, without, whole_agenda}
-use Rattle.zplan.specs.Schedules.{lists_of, due_of, waiting_of, has_due, agenda_of, uncut_positions, uncut_lists, IsListed, AllListed, IsSound, IsCut, after_cut, IsDueAt, IsWaitingAt}
+use Rattle.zplan.specs.Positions.{IsIn, IsFrom, AreAscending, IsWanted, first_of, up_to}
+use Rattle.zplan.specs.Ranges.{positions, positions_of, places, span_of, range_of, clip, IsApart, IsBounded, AreNonempty, InOrder, ArePresentRanges, AreWanted}
+use Rattle.zplan.specs.Agenda.{SameAgenda, IsFirst, AfterNoteSent, AfterNoteAnswered, put_list, without_start, whole_agenda}
+use Rattle.zplan.specs.Schedules.{lists_of, due_of, waiting_of, has_due, agenda_of, uncut_positions, uncut_lists, IsAskableList, AreAskableLists, IsSound, IsFirstCut, after_cut, IsDueAt, IsWaitingAt}
 use Rattle.zplan.proofs.Cuts.{in_left, in_right, some_deal, concat_deal, places_ascend}
 use Rattle.zplan.proofs.Ends.{from_in, ascends_left, ascends_right, ascends_apart}
 use Rattle.zplan.proofs.Parts.{used_none}
@@ -50,7 +50,7 @@ from_all : (low : ℕ) (ps : List ℕ) → ((x : ℕ) → IsIn x ps → low ≤ 
 from_all low [] h = tt
 from_all low (p ∷ ps) h = (h p (inl refl), from_all low ps (λ x i. h x (inr i)))
 
-in_order : (low : ℕ) (list : List Span) → AllHave list → IsFrom low (places list) → Ascends (places list) → InOrder low (map range_of list)
+in_order : (low : ℕ) (list : List Span) → AreNonempty list → IsFrom low (places list) → AreAscending (places list) → InOrder low (map range_of list)
 in_order low [] have from up = tt
 in_order low (r ∷ rs) have from up =
     let some = have.0 in
@@ -63,7 +63,7 @@ in_order low (r ∷ rs) have from up =
       in_order (r.start + r.n) rs have.1 after (ascends_right (range_with_len r.start r.n) (places rs) up),
     )
 
-pub can_be_asked : (three : Bool) (list : List Span) → IsListed three list → IsWanted (places list) → CanBeAsked (map range_of list)
+pub can_be_asked : (three : Bool) (list : List Span) → IsAskableList three list → IsWanted (places list) → ArePresentRanges (map range_of list)
 can_be_asked three [] h w = absurd h.begun
 can_be_asked three (s ∷ ss) h w = record {
   some = λ e. absurd (let z : length (map range_of (s ∷ ss)) ≡ 0 = ap length e in omega (arith, z));
@@ -88,8 +88,8 @@ wanted_left xs ys h = (left 1 xs ys h.0, ascends_left xs ys h.1)
 pub record Stands (three : Bool) (xs : List Entry) (l : List ℕ) (ys : List Entry) (u : Uncut) : Type 0 where
   pub whole : IsWanted (concat (lists_of xs) ++ (l ++ (concat (lists_of ys) ++ uncut_positions u)))
   pub some : 0 < length l
-  pub before : AllListed three xs
-  pub after : AllListed three ys
+  pub before : AreAskableLists three xs
+  pub after : AreAskableLists three ys
 
 stands_of : (xs ys : List Entry) (x : Entry) (u : Uncut) → IsSound (xs ++ x ∷ ys) u → Stands u.three xs (places x.list.items) ys u
 stands_of xs ys x u h =
@@ -99,7 +99,7 @@ stands_of xs ys x u h =
           (ap (λ z. concat z ++ uncut_positions u) (lists_append xs (x ∷ ys)) ∙ ap (λ z. z ++ uncut_positions u) (concat_append (lists_of xs) (lists_of (x ∷ ys)))
           ∙ append_assoc (concat (lists_of xs)) (places x.list.items ++ concat (lists_of ys)) (uncut_positions u)
           ∙ ap (λ z. concat (lists_of xs) ++ z) (append_assoc (places x.list.items) (concat (lists_of ys)) (uncut_positions u)))
-          h.rises;
+          h.all_wanted;
       some = begun_some x.list.items l.1.0.begun;
       before = l.0;
       after = l.1.1;
@@ -157,7 +157,7 @@ due_left_is xs ys u = ap (λ z. z ++ uncut_lists u) (due_append xs ys) ∙ appen
 -- ---- sent
 
 sent_parts : (xs ys : List Entry) (x y : Entry) (u : Uncut) → IsSound (xs ++ x ∷ ys) u → AllSent xs → x.sent ≡ false → y.sent ≡ true → y.list.items ≡ x.list.items
-    → IsSent (agenda_of (xs ++ x ∷ ys) u) (agenda_of (xs ++ y ∷ ys) u)
+    → AfterNoteSent (agenda_of (xs ++ x ∷ ys) u) (agenda_of (xs ++ y ∷ ys) u)
 sent_parts xs ys x y u h all f t e =
     let l : List ℕ = places x.list.items in
     let s = stands_of xs ys x u h in
@@ -177,15 +177,15 @@ same_lists : (xs ys : List Entry) (x y : Entry) → y.list.items ≡ x.list.item
 same_lists [] ys x y e = ap (λ z. places z ∷ lists_of ys) e
 same_lists (z ∷ xs) ys x y e = ap (λ w. places z.list.items ∷ w) (same_lists xs ys x y e)
 
-same_listed : (three : Bool) (xs ys : List Entry) (x y : Entry) → y.list.items ≡ x.list.items → AllListed three (xs ++ x ∷ ys) → AllListed three (xs ++ y ∷ ys)
-same_listed three [] ys x y e h = (subst (IsListed three) (sym e) h.0, h.1)
+same_listed : (three : Bool) (xs ys : List Entry) (x y : Entry) → y.list.items ≡ x.list.items → AreAskableLists three (xs ++ x ∷ ys) → AreAskableLists three (xs ++ y ∷ ys)
+same_listed three [] ys x y e h = (subst (IsAskableList three) (sym e) h.0, h.1)
 same_listed three (z ∷ xs) ys x y e h = (h.0, same_listed three xs ys x y e h.1)
 
 sound_same : (xs ys : List Entry) (x y : Entry) (u : Uncut) → y.list.items ≡ x.list.items → IsSound (xs ++ x ∷ ys) u → IsSound (xs ++ y ∷ ys) u
 sound_same xs ys x y u e h = record {
   uncut = h.uncut;
   listed = same_listed u.three xs ys x y e h.listed;
-  rises = subst (λ z. IsWanted (concat z ++ uncut_positions u)) (sym (same_lists xs ys x y e)) h.rises;
+  all_wanted = subst (λ z. IsWanted (concat z ++ uncut_positions u)) (sym (same_lists xs ys x y e)) h.all_wanted;
 }
 
 module _ (es : List Entry) (u : Uncut) (at : ℕ) (x : Entry) (is : x ≡ slice_index_or es at x) where
@@ -197,11 +197,11 @@ module _ (es : List Entry) (u : Uncut) (at : ℕ) (x : Entry) (is : x ≡ slice_
       let r = due_split es at x d is in
       subst (λ z. IsSound z u) (sym (set_at es at y r.0)) (sound_same (take at es) (drop (suc at) es) x y u e (subst (λ z. IsSound z u) (split r.0) h))
 
-  pub sent_at : (y : Entry) → IsSound es u → IsDueAt es at → y.sent ≡ true → y.list.items ≡ x.list.items → IsSent (agenda_of es u) (agenda_of (slice_set es at y) u)
+  pub sent_at : (y : Entry) → IsSound es u → IsDueAt es at → y.sent ≡ true → y.list.items ≡ x.list.items → AfterNoteSent (agenda_of es u) (agenda_of (slice_set es at y) u)
   sent_at y h d t e =
       let r = due_split es at x d is in
-      subst (λ z. IsSent (agenda_of z u) (agenda_of (slice_set es at y) u)) (sym (split r.0))
-      (subst (λ z. IsSent (agenda_of (take at es ++ x ∷ drop (suc at) es) u) (agenda_of z u)) (sym (set_at es at y r.0))
+      subst (λ z. AfterNoteSent (agenda_of z u) (agenda_of (slice_set es at y) u)) (sym (split r.0))
+      (subst (λ z. AfterNoteSent (agenda_of (take at es ++ x ∷ drop (suc at) es) u) (agenda_of z u)) (sym (set_at es at y r.0))
       (sent_parts (take at es) (drop (suc at) es) x y u (subst (λ z. IsSound z u) (split r.0) h) r.1 r.2 t e))
 
 pub due_lt : (es : List Entry) (at : ℕ) → IsDueAt es at → at < length es
@@ -241,7 +241,7 @@ first_at es u at x is h d ranges e =
           ∙ ap (λ z. z ∷ (due_of ys ++ uncut_lists u)) (sym p);
       ready = has_at es at d;
       single = λ two. ap length e ∙ length_ranges x.list.items ∙ (all_listed u.three xs (x ∷ ys) g.listed).1.0.single two;
-      asked = subst CanBeAsked (sym e) (can_be_asked u.three x.list.items (all_listed u.three xs (x ∷ ys) g.listed).1.0 (list_wanted xs ys x u g));
+      asked = subst ArePresentRanges (sym e) (can_be_asked u.three x.list.items (all_listed u.three xs (x ∷ ys) g.listed).1.0 (list_wanted xs ys x u g));
       gaps = subst (IsApart 1) (sym (ap (map span_of) e ∙ spans_ranges x.list.items)) (all_listed u.three xs (x ∷ ys) g.listed).1.0.gaps;
     }
 
@@ -251,16 +251,16 @@ lists_last : (es : List Entry) (e : Entry) → concat (lists_of (es ++ e ∷ [])
 lists_last es e =
     ap concat (lists_append es (e ∷ [])) ∙ concat_append (lists_of es) (places e.list.items ∷ []) ∙ ap (λ z. concat (lists_of es) ++ z) (append-nil (places e.list.items))
 
-module _ (es : List Entry) (u : Uncut) (cut : Cut) (e : Entry) (is : e.list.items ≡ cut.list.items) (due : e.sent ≡ false) (c : IsCut u cut) where
+module _ (es : List Entry) (u : Uncut) (cut : Cut) (e : Entry) (is : e.list.items ≡ cut.list.items) (due : e.sent ≡ false) (c : IsFirstCut u cut) where
   pub pushed_sound : IsSound es u → IsSound (es ++ e ∷ []) (after_cut u cut.place cut.room)
   pushed_sound h = record {
     uncut = c.rest;
-    listed = listed_all u.three es (e ∷ []) h.listed (subst (IsListed u.three) (sym is) c.listed, tt);
-    rises = subst IsWanted
+    listed = listed_all u.three es (e ∷ []) h.listed (subst (IsAskableList u.three) (sym is) c.listed, tt);
+    all_wanted = subst IsWanted
         (ap (λ z. concat (lists_of es) ++ z) (c.comes ∙ ap (λ z. places z ++ uncut_positions (after_cut u cut.place cut.room)) (sym is))
         ∙ sym (append_assoc (concat (lists_of es)) (places e.list.items) (uncut_positions (after_cut u cut.place cut.room)))
         ∙ ap (λ z. z ++ uncut_positions (after_cut u cut.place cut.room)) (sym (lists_last es e)))
-        h.rises;
+        h.all_wanted;
   }
 
   pub pushed_same : SameAgenda (agenda_of es u) (agenda_of (es ++ e ∷ []) (after_cut u cut.place cut.room))
@@ -279,13 +279,13 @@ module _ (es : List Entry) (u : Uncut) (cut : Cut) (e : Entry) (is : e.list.item
       let p : positions ranges ≡ places cut.list.items = ap positions f ∙ positions_ranges cut.list.items in
       let w : IsWanted (places cut.list.items) =
       wanted_left (places cut.list.items) (uncut_positions (after_cut u cut.place cut.room))
-      (wanted_right (concat (lists_of es)) (places cut.list.items ++ uncut_positions (after_cut u cut.place cut.room)) (subst (λ z. IsWanted (concat (lists_of es) ++ z)) c.comes h.rises)) in
+      (wanted_right (concat (lists_of es)) (places cut.list.items ++ uncut_positions (after_cut u cut.place cut.room)) (subst (λ z. IsWanted (concat (lists_of es) ++ z)) c.comes h.all_wanted)) in
       record {
         others = uncut_lists (after_cut u cut.place cut.room);
         due = pushed_same.due ∙ ap (λ z. z ++ uncut_lists u) (none_due es none) ∙ c.first ∙ ap (λ z. z ∷ uncut_lists (after_cut u cut.place cut.room)) (sym p);
         ready = has_append es e due;
         single = λ two. ap length f ∙ length_ranges cut.list.items ∙ c.listed.single two;
-        asked = subst CanBeAsked (sym f) (can_be_asked u.three cut.list.items c.listed w);
+        asked = subst ArePresentRanges (sym f) (can_be_asked u.three cut.list.items c.listed w);
         gaps = subst (IsApart 1) (sym (ap (map span_of) f ∙ spans_ranges cut.list.items)) c.listed.gaps;
       }
 
@@ -314,10 +314,10 @@ module _ (es : List Entry) (u : Uncut) (first at : ℕ) (x : Entry) (is : x ≡ 
   among = subst (IsIn (places x.list.items)) (sym waited)
       (in_right (places x.list.items) (waiting_of (take at es)) (places x.list.items ∷ waiting_of (drop (suc at) es)) (inl refl))
 
-  gone : without first (waiting_of es) ≡ waiting_of (take at es) ++ waiting_of (drop (suc at) es)
+  gone : without_start first (waiting_of es) ≡ waiting_of (take at es) ++ waiting_of (drop (suc at) es)
   gone =
       let a = waiting_around u.three (take at es) (drop (suc at) es) (places x.list.items) u stood in
-      ap (λ p. without p (waiting_of es)) (sym parts.1) ∙ ap (without (first_of (places x.list.items))) waited
+      ap (λ p. without_start p (waiting_of es)) (sym parts.1) ∙ ap (without_start (first_of (places x.list.items))) waited
       ∙ without_between (places x.list.items) (waiting_of (take at es)) (waiting_of (drop (suc at) es)) a.0 a.1
 
   were_due : due_of es ++ uncut_lists u ≡ due_of (take at es) ++ (due_of (drop (suc at) es) ++ uncut_lists u)
@@ -328,7 +328,7 @@ module _ (es : List Entry) (u : Uncut) (first at : ℕ) (x : Entry) (is : x ≡ 
   gone_sound new e = subst (λ z. IsSound z u) (sym e) (record {
     uncut = h.uncut;
     listed = listed_all u.three (take at es) (drop (suc at) es) stood.before stood.after;
-    rises = subst IsWanted
+    all_wanted = subst IsWanted
         (sym (ap (λ z. concat z ++ uncut_positions u) (lists_append (take at es) (drop (suc at) es))
         ∙ ap (λ z. z ++ uncut_positions u) (concat_append (lists_of (take at es)) (lists_of (drop (suc at) es)))
         ∙ append_assoc (concat (lists_of (take at es))) (concat (lists_of (drop (suc at) es))) (uncut_positions u)))
@@ -336,7 +336,7 @@ module _ (es : List Entry) (u : Uncut) (first at : ℕ) (x : Entry) (is : x ≡ 
   })
 
   pub gone_answered : (k : ℕ) (new : List Entry) → new ≡ take at es ++ drop (suc at) es → (nat_lt 0 k && nat_lt k (length (places x.list.items))) ≡ false
-      → IsAnswered first k (agenda_of es u) (agenda_of new u)
+      → AfterNoteAnswered first k (agenda_of es u) (agenda_of new u)
   gone_answered k new e none = record {
     list = places x.list.items;
     waited = among;
@@ -348,12 +348,12 @@ module _ (es : List Entry) (u : Uncut) (first at : ℕ) (x : Entry) (is : x ≡ 
         ∙ sym (ap (λ b. cond b (put_list (drop k (places x.list.items)) (due_of es ++ uncut_lists u)) (due_of es ++ uncut_lists u)) none);
   }
 
-  module _ (k : ℕ) (y : Entry) (due : y.sent ≡ false) (left : places y.list.items ≡ drop k (places x.list.items)) (listed : IsListed u.three y.list.items) where
+  module _ (k : ℕ) (y : Entry) (due : y.sent ≡ false) (left : places y.list.items ≡ drop k (places x.list.items)) (listed : IsAskableList u.three y.list.items) where
     pub left_sound : IsSound (slice_set es at y) u
     left_sound = subst (λ z. IsSound z u) (sym (set_at es at y lt)) (record {
       uncut = h.uncut;
       listed = listed_all u.three (take at es) (y ∷ drop (suc at) es) stood.before (listed, stood.after);
-      rises = subst IsWanted
+      all_wanted = subst IsWanted
           (sym (ap (λ z. concat z ++ uncut_positions u) (lists_append (take at es) (y ∷ drop (suc at) es))
           ∙ ap (λ z. z ++ uncut_positions u) (concat_append (lists_of (take at es)) (lists_of (y ∷ drop (suc at) es)))
           ∙ append_assoc (concat (lists_of (take at es))) (places y.list.items ++ concat (lists_of (drop (suc at) es))) (uncut_positions u)
@@ -362,7 +362,7 @@ module _ (es : List Entry) (u : Uncut) (first at : ℕ) (x : Entry) (is : x ≡ 
           (wanted_drop (concat (lists_of (take at es))) k (places x.list.items) (concat (lists_of (drop (suc at) es)) ++ uncut_positions u) stood.whole);
     })
 
-    pub left_answered : (nat_lt 0 k && nat_lt k (length (places x.list.items))) ≡ true → IsAnswered first k (agenda_of es u) (agenda_of (slice_set es at y) u)
+    pub left_answered : (nat_lt 0 k && nat_lt k (length (places x.list.items))) ≡ true → AfterNoteAnswered first k (agenda_of es u) (agenda_of (slice_set es at y) u)
     left_answered some =
         let now : IsSound (take at es ++ y ∷ drop (suc at) es) u = subst (λ z. IsSound z u) (set_at es at y lt) left_sound in
         let a = due_around u.three (take at es) (drop (suc at) es) (places y.list.items) u (stands_of (take at es) (drop (suc at) es) y u now) in
@@ -391,7 +391,7 @@ pub new_sound : (v : Uncut) (es : List Entry) → IsApart 1 v.ranges.items → I
 new_sound v es a b s e = subst (λ z. IsSound z (record v { place = record { at = 0; used = 0 }; room = v.step })) (sym e) (record {
   uncut = record { wanted = a; bounded = b; stands = used_none 1 v.ranges.items a; steps = s; room = s; whole = λ _. refl };
   listed = tt;
-  rises = places_ascend 1 v.ranges.items a;
+  all_wanted = places_ascend 1 v.ranges.items a;
 })
 
 pub new_agenda : (wanted : List Range) (count : ℕ) (v : Uncut) (es : List Entry) → AreWanted wanted → v.ranges.items ≡ clip count (map span_of wanted) → es ≡ []

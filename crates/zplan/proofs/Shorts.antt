@@ -2,8 +2,8 @@
 use Rattle.std.proofs.Common.{◌≡◌, inl, inr, ℕ, zero, suc, ◌-◌, ◌*◌, ◌<◌, ◌≤◌, Bool, true, false, cond, List, [], ◌∷◌, length, take, drop, sym, subst, refl, arith, length-drop}
 use Rattle.std.proofs.lemmas.Bool.Decides.{nat_tests}
 use Rattle.std.specs.Prelude.{nat_le}
-use Rattle.zplan.specs.Positions.{up_to, put, follows, runs, presents, IsIn, IsWanted}
-use Rattle.zplan.specs.Plan.{Present, Replies, IsAsked, cut, rest, count_in}
+use Rattle.zplan.specs.Positions.{up_to, join_or_start, is_followed, runs, presents, IsIn, IsWanted}
+use Rattle.zplan.specs.Plan.{Present, Replies, IsPlanned, cut, rest, count_in}
 use Rattle.zplan.proofs.Asking.{pieces, asked_tail, tail_in, above_none, in_wanted}
 
 take_short : (n : ℕ) (ps : List ℕ) → length (take n ps) ≤ n
@@ -13,7 +13,7 @@ take_short zero (p ∷ ps) = omega arith
 take_short (suc n) (p ∷ ps) = let s = take_short n ps in omega (arith, s)
 
 put_short : (n : ℕ) (b : Bool) (p : ℕ) (ls : List (List ℕ)) → ((m : List ℕ) → IsIn m ls → length m ≤ n)
-    → (l : List ℕ) → IsIn l (put b p ls) → length l ≤ suc n
+    → (l : List ℕ) → IsIn l (join_or_start b p ls) → length l ≤ suc n
 put_short n b p [] h l (inl e) = subst (λ z. length z ≤ suc n) (sym e) (omega arith)
 put_short n b p [] h l (inr i) = absurd i
 put_short n false p (m ∷ ls) h l (inl e) = subst (λ z. length z ≤ suc n) (sym e) (omega arith)
@@ -24,7 +24,7 @@ put_short n true p (m ∷ ls) h l (inr i) = let s = h l (inr i) in omega (arith,
 
 runs_short : (ps l : List ℕ) → IsIn l (runs ps) → length l ≤ length ps
 runs_short [] l i = absurd i
-runs_short (p ∷ ps) l i = put_short (length ps) (follows p ps) p (runs ps) (λ m j. runs_short ps m j) l i
+runs_short (p ∷ ps) l i = put_short (length ps) (is_followed p ps) p (runs ps) (λ m j. runs_short ps m j) l i
 
 presents_short : (three : Bool) (ps l : List ℕ) → IsIn l (presents three ps) → length l ≤ length ps
 presents_short true ps l (inl e) = subst (λ z. length z ≤ length ps) (sym e) (omega arith)
@@ -32,7 +32,7 @@ presents_short true ps l (inr i) = absurd i
 presents_short false ps l i = runs_short ps l i
 
 pub asked_short : (wanted : List ℕ) (step : ℕ) (replies : Replies) (l : List ℕ)
-    → IsAsked wanted step replies (Present l) → length l ≤ step
+    → IsPlanned wanted step replies (Present l) → length l ≤ step
 asked_short wanted step replies l (cut three count i m a o h lt x) =
     let ps : List ℕ = drop (i * step) (up_to count wanted) in
     let s = presents_short three (take step ps) l x in
@@ -57,7 +57,7 @@ up_to_count count p (q ∷ ps) i =
     ] refl i
 
 pub asked_found : (wanted : List ℕ) (step : ℕ) (replies : Replies) (l : List ℕ) (p : ℕ) → IsWanted wanted → 0 < step
-    → IsAsked wanted step replies (Present l) → IsIn p l → (1 ≤ p) × (p ≤ count_in replies)
+    → IsPlanned wanted step replies (Present l) → IsIn p l → (1 ≤ p) × (p ≤ count_in replies)
 asked_found wanted zero replies l p w pos a i = absurd (omega arith)
 asked_found wanted (suc last) replies l p w pos a i = (
   above_none wanted last replies w p (tail_in p l (pieces wanted last replies) (asked_tail wanted last replies l a) i),

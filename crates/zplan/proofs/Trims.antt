@@ -3,14 +3,14 @@ use Rattle.std.proofs.Common.{subst, ◌≡◌, ℕ, zero, suc, ◌+◌, ◌-◌
 use Rattle.std.specs.List.{range_with_len, remove}
 use Rattle.std.specs.Prelude.{slice_index_or, slice_set}
 use Rattle.zplan.specs.declared.span.Span.{Span}
-use Rattle.zplan.specs.Ranges.{places, AllHave, IsApart, IsBounded}
+use Rattle.zplan.specs.Ranges.{places, AreNonempty, IsApart, IsBounded}
 use Rattle.zplan.proofs.Parts.{taken}
 use Rattle.zplan.proofs.Clips.{apart_less}
 
 -- what a loop has still to drop
 pub record IsTrimming (old : List Span) (k : ℕ) (list : List Span) (skip : ℕ) : Type 0 where
   pub left : drop skip (places list) ≡ drop k (places old)
-  pub have : AllHave list
+  pub have : AreNonempty list
   pub gaps : IsApart 1 list
   pub bounded : IsBounded list
   pub fewer : length list ≤ length old

@@ -1,9 +1,9 @@
 -- The agenda of a schedule: the lists that are due, and those that wait for an answer.
 use Rattle.std.specs.Prelude.{◌≡◌, ℕ, ◌-◌, ◌&&◌, not, ◌==◌, nat_lt, Bool, true, false, if◌then◌else◌, List, [], ◌∷◌, map, filter, drop, length, Option, None, Some, Vec}
 use Rattle.zplan.specs.declared.range.Range.{Range}
-use Rattle.zplan.specs.Positions.{first_of, IsIn, Ascends}
-use Rattle.zplan.specs.Ranges.{positions, span_of, IsApart, CanBeAsked}
-use Rattle.zplan.specs.Plan.{Present, Event, asked_in, replies_in, IsDue}
+use Rattle.zplan.specs.Positions.{first_of, IsIn, AreAscending}
+use Rattle.zplan.specs.Ranges.{positions, span_of, IsApart, ArePresentRanges}
+use Rattle.zplan.specs.Plan.{Present, PlanEvent, asked_in, replies_in, IsDue}
 use Rattle.zplan.specs.Cutting.{deal}
 
 -- `due` has the lists whose Presents are due, by first position. `waiting` has those whose Presents were sent and are
@@ -21,8 +21,8 @@ put_list l [] = l ∷ []
 put_list l (m ∷ ms) = if nat_lt (first_of l) (first_of m) then l ∷ m ∷ ms else m ∷ put_list l ms
 
 -- the lists without those that begin at p
-abbrev pub without : ℕ → List (List ℕ) → List (List ℕ)
-without p = filter (λ l. not (first_of l == p))
+abbrev pub without_start : ℕ → List (List ℕ) → List (List ℕ)
+without_start p = filter (λ l. not (first_of l == p))
 
 -- the agenda at first: all lists of the wanted positions are due, and none waits
 abbrev pub whole_agenda : Bool → ℕ → List ℕ → Agenda
@@ -31,15 +31,15 @@ whole_agenda three step wanted =
 
 -- The agenda has exactly the lists whose Presents are due, and those whose Presents wait, each once and by first
 -- position.
-pub record IsAgenda (wanted : List ℕ) (step : ℕ) (events : List Event) (a : Agenda) : Type 0 where
+pub record IsAgenda (wanted : List ℕ) (step : ℕ) (events : List PlanEvent) (a : Agenda) : Type 0 where
   pub only : (l : List ℕ) → IsIn l a.due → IsDue wanted step events (Present l)
   pub all : (l : List ℕ) → IsDue wanted step events (Present l) → IsIn l a.due
-  pub ascends : Ascends (map first_of a.due)
+  pub ascends : AreAscending (map first_of a.due)
   pub asked : (l : List ℕ) → IsIn l a.waiting → IsIn (Present l) (asked_in events)
   pub unanswered : (l : List ℕ) → IsIn l a.waiting → replies_in events (Present l) ≡ None
   pub waits : (l : List ℕ) → IsIn (Present l) (asked_in events) → replies_in events (Present l) ≡ None
       → IsIn l a.waiting
-  pub in_order : Ascends (map first_of a.waiting)
+  pub in_order : AreAscending (map first_of a.waiting)
 
 -- the same lists are due, and the same wait
 pub record SameAgenda (old new : Agenda) : Type 0 where
@@ -52,7 +52,7 @@ pub record IsFirst (a : Agenda) (list : List Range) : Type 0 where
   pub others : List (List ℕ)
   pub due : a.due ≡ positions list ∷ others
   pub ready : a.ready ≡ true
-  pub asked : CanBeAsked list
+  pub asked : ArePresentRanges list
   -- a gap is between any two ranges, so no run is asked for in parts
   pub gaps : IsApart 1 (map span_of list)
   -- there is one range if version 3 is not in force
@@ -64,7 +64,7 @@ IsFirstOf a None = a.due ≡ []
 IsFirstOf a (Some v) = IsFirst a v.items
 
 -- before and after `note_sent`: the first list due now waits
-pub record IsSent (old new : Agenda) : Type 0 where
+pub record AfterNoteSent (old new : Agenda) : Type 0 where
   pub list : List ℕ
   pub due : old.due ≡ list ∷ new.due
   pub waiting : new.waiting ≡ put_list list old.waiting
@@ -80,11 +80,11 @@ abbrev pub HasWaiting : ℕ → Agenda → Type 0
 HasWaiting p a = (l : List ℕ) × IsIn l a.waiting × (first_of l ≡ p)
 
 -- before and after `note_answered`: the list that waits and begins at p was answered with k records
-pub record IsAnswered (p k : ℕ) (old new : Agenda) : Type 0 where
+pub record AfterNoteAnswered (p k : ℕ) (old new : Agenda) : Type 0 where
   pub list : List ℕ
   pub waited : IsIn list old.waiting
   pub begins : first_of list ≡ p
-  pub waiting : new.waiting ≡ without p old.waiting
+  pub waiting : new.waiting ≡ without_start p old.waiting
   pub due : new.due ≡ with_rest list k old.due
   -- if a Present could be sent before, one can be sent after
   pub ready : old.ready ≡ true → new.ready ≡ true

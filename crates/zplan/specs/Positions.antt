@@ -12,13 +12,13 @@ IsFrom low [] = Unit {0}
 IsFrom low (p ∷ ps) = (low ≤ p) × IsFrom low ps
 
 -- each position is below those after it
-abbrev pub Ascends : List ℕ → Type 0
-Ascends [] = Unit {0}
-Ascends (p ∷ ps) = IsFrom (p + 1) ps × Ascends ps
+abbrev pub AreAscending : List ℕ → Type 0
+AreAscending [] = Unit {0}
+AreAscending (p ∷ ps) = IsFrom (p + 1) ps × AreAscending ps
 
 -- positions that can be wanted: from 1 on, in order, each once
 abbrev pub IsWanted : List ℕ → Type 0
-IsWanted wanted = IsFrom 1 wanted × Ascends wanted
+IsWanted wanted = IsFrom 1 wanted × AreAscending wanted
 
 -- the wanted positions up to the count
 abbrev pub up_to : ℕ → List ℕ → List ℕ
@@ -29,20 +29,20 @@ abbrev pub cut_of : ℕ → List ℕ → ℕ → List ℕ
 cut_of step ps i = take step (drop (i * step) ps)
 
 -- the lists with p: in front of the first list if it joins it, else as a list of its own
-abbrev pub put : Bool → ℕ → List (List ℕ) → List (List ℕ)
-put joins p [] = (p ∷ []) ∷ []
-put false p (l ∷ ls) = (p ∷ []) ∷ l ∷ ls
-put true p (l ∷ ls) = (p ∷ l) ∷ ls
+abbrev pub join_or_start : Bool → ℕ → List (List ℕ) → List (List ℕ)
+join_or_start joins p [] = (p ∷ []) ∷ []
+join_or_start false p (l ∷ ls) = (p ∷ []) ∷ l ∷ ls
+join_or_start true p (l ∷ ls) = (p ∷ l) ∷ ls
 
 -- the positions begin right after p
-abbrev pub follows : ℕ → List ℕ → Bool
-follows p [] = false
-follows p (q ∷ qs) = q == p + 1
+abbrev pub is_followed : ℕ → List ℕ → Bool
+is_followed p [] = false
+is_followed p (q ∷ qs) = q == p + 1
 
 -- the runs of consecutive positions
 abbrev pub runs : List ℕ → List (List ℕ)
 runs [] = []
-runs (p ∷ ps) = put (follows p ps) p (runs ps)
+runs (p ∷ ps) = join_or_start (is_followed p ps) p (runs ps)
 
 -- the lists of the Presents for a list: one if version 3 is in force, else one for each run
 abbrev pub presents : Bool → List ℕ → List (List ℕ)

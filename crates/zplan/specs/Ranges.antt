@@ -48,14 +48,14 @@ IsBounded [] = Unit {0}
 IsBounded (s ∷ ss) = (s.start + s.n ≤ 2 ^ 31) × IsBounded ss
 
 -- each has positions
-abbrev pub AllHave : List Span → Type 0
-AllHave [] = Unit {0}
-AllHave (s ∷ ss) = (0 < s.n) × AllHave ss
+abbrev pub AreNonempty : List Span → Type 0
+AreNonempty [] = Unit {0}
+AreNonempty (s ∷ ss) = (0 < s.n) × AreNonempty ss
 
 -- there is a range, and each has positions
-abbrev pub IsBegun : List Span → Type 0
-IsBegun [] = ⊥
-IsBegun (s ∷ ss) = (0 < s.n) × AllHave ss
+abbrev pub IsNonemptyList : List Span → Type 0
+IsNonemptyList [] = ⊥
+IsNonemptyList (s ∷ ss) = (0 < s.n) × AreNonempty ss
 
 -- Ranges that can be wanted: their positions are from 1 to 2,147,483,647; each has positions; they are in order, with
 -- gaps between them.
@@ -71,7 +71,7 @@ InOrder low (r ∷ rs) =
 
 -- Ranges that a Present can ask for: there is one at least; each begins after the end of the one before, the first at
 -- position 1 or later; no position is above 2,147,483,647.
-pub record CanBeAsked (ranges : List Range) : Type 0 where
+pub record ArePresentRanges (ranges : List Range) : Type 0 where
   pub some : ranges ≡ [] → ⊥
   pub order : InOrder 1 ranges
   pub bounded : IsBounded (map span_of ranges)

@@ -7,8 +7,8 @@ use Rattle.zplan.specs.declared.uncut.Uncut.{Uncut}
 use Rattle.zplan.specs.declared.uncut.Cut.{Cut}
 use Rattle.zplan.specs.declared.part.Place.{Place}
 use Rattle.zplan.specs.Positions.{IsWanted, IsIn, first_of}
-use Rattle.zplan.specs.Ranges.{places, IsApart, IsBounded, IsBegun}
-use Rattle.zplan.specs.Cutting.{deal, left_at, IsPlace}
+use Rattle.zplan.specs.Ranges.{places, IsApart, IsBounded, IsNonemptyList}
+use Rattle.zplan.specs.Cutting.{deal, left_at, IsReadingPlace}
 use Rattle.zplan.specs.Agenda.{Agenda}
 
 -- the positions of the lists that were cut off, list by list
@@ -53,22 +53,22 @@ abbrev pub IsSingle : Bool → List Span → Type 0
 IsSingle three list = three ≡ false → length list ≡ 1
 
 -- a Present can ask for the list
-pub record IsListed (three : Bool) (list : List Span) : Type 0 where
-  pub begun : IsBegun list
+pub record IsAskableList (three : Bool) (list : List Span) : Type 0 where
+  pub begun : IsNonemptyList list
   pub gaps : IsApart 1 list
   pub bounded : IsBounded list
   pub single : IsSingle three list
 
 -- a Present can ask for each list
-abbrev pub AllListed : Bool → List Entry → Type 0
-AllListed three [] = Unit {0}
-AllListed three (e ∷ es) = IsListed three e.list.items × AllListed three es
+abbrev pub AreAskableLists : Bool → List Entry → Type 0
+AreAskableLists three [] = Unit {0}
+AreAskableLists three (e ∷ es) = IsAskableList three e.list.items × AreAskableLists three es
 
 -- the ranges can be wanted, the place is one of them, and the limits are 1 or more
 pub record IsUncut (u : Uncut) : Type 0 where
   pub wanted : IsApart 1 u.ranges.items
   pub bounded : IsBounded u.ranges.items
-  pub stands : IsPlace u.ranges.items u.place
+  pub stands : IsReadingPlace u.ranges.items u.place
   pub steps : 0 < u.step
   pub room : 0 < u.room
   pub whole : u.three ≡ true → u.room ≡ u.step
@@ -76,8 +76,8 @@ pub record IsUncut (u : Uncut) : Type 0 where
 -- The positions of the lists that were cut off, and then those that are not cut yet, ascend.
 pub record IsSound (entries : List Entry) (u : Uncut) : Type 0 where
   pub uncut : IsUncut u
-  pub listed : AllListed u.three entries
-  pub rises : IsWanted (concat (lists_of entries) ++ uncut_positions u)
+  pub listed : AreAskableLists u.three entries
+  pub all_wanted : IsWanted (concat (lists_of entries) ++ uncut_positions u)
 
 -- ---- what the parts return
 
@@ -86,8 +86,8 @@ abbrev pub after_cut : Uncut → Place → ℕ → Uncut
 after_cut u place room = record u { place = place; room = room }
 
 -- the list is the first of the uncut ones, and the others begin at the place of the cut
-pub record IsCut (u : Uncut) (cut : Cut) : Type 0 where
-  pub listed : IsListed u.three cut.list.items
+pub record IsFirstCut (u : Uncut) (cut : Cut) : Type 0 where
+  pub listed : IsAskableList u.three cut.list.items
   pub first : uncut_lists u ≡ places cut.list.items ∷ uncut_lists (after_cut u cut.place cut.room)
   pub comes : uncut_positions u ≡ places cut.list.items ++ uncut_positions (after_cut u cut.place cut.room)
   pub rest : IsUncut (after_cut u cut.place cut.room)
@@ -95,7 +95,7 @@ pub record IsCut (u : Uncut) (cut : Cut) : Type 0 where
 -- the cut is the first list; with none, no list is left
 abbrev pub IsCutOf : Uncut → Option Cut → Type 0
 IsCutOf u None = uncut_lists u ≡ []
-IsCutOf u (Some cut) = IsCut u cut
+IsCutOf u (Some cut) = IsFirstCut u cut
 
 -- the list at this index is due, and none before it
 abbrev pub IsDueAt : List Entry → ℕ → Type 0
@@ -114,5 +114,5 @@ IsWaitingAt first (e ∷ es) zero = IsWaitingFrom first e
 IsWaitingAt first (e ∷ es) (suc at) = IsWaitingAt first es at
 
 -- no list that waits begins at this position
-abbrev pub NoneWaits : ℕ → List Entry → Type 0
-NoneWaits first es = (l : List ℕ) → IsIn l (waiting_of es) → first_of l ≡ first → ⊥
+abbrev pub HasNoneWaiting : ℕ → List Entry → Type 0
+HasNoneWaiting first es = (l : List ℕ) → IsIn l (waiting_of es) → first_of l ≡ first → ⊥

@@ -1,5 +1,5 @@
 //! Laws of the definitions. Each is the contract of a function that does nothing.
-ghost use Rattle.zplan.specs.Laws.{CompleteLaws, OrderLaw, NumberLaw, RunLaw, ReplyLaws, ShownLaws, BoundLaws, AgendaLaws, NextLaws, RowLaws};
+ghost use Rattle.zplan.specs.Laws.{CompleteLaws, ReplyOrderLaw, NumberLaw, PresentRunLaw, ReplyLaws, ShownLaws, BoundLaws, AgendaLaws, NextLaws, CutExampleLaws};
 
 /// A history is complete if Close was sent, or if the reply to Init lets no search be sent. The operations that were
 /// answered in it are exactly those that are planned.
@@ -10,7 +10,7 @@ pub fn complete_laws()
 /// If equal operations had equal replies in two complete histories, both have the same operations, with the same
 /// replies.
 pub fn order_law()
-    ensures { OrderLaw }
+    ensures { ReplyOrderLaw }
 {}
 
 /// A number names one operation: no two planned lists have the same first position.
@@ -20,7 +20,7 @@ pub fn number_law()
 
 /// If version 3 is not in force, each planned list is one run of positions.
 pub fn run_law()
-    ensures { RunLaw }
+    ensures { PresentRunLaw }
 {}
 
 /// A reply adds to the plan the operations that it makes due, and nothing else.
@@ -53,5 +53,5 @@ pub fn next_laws()
 
 /// An example: positions 1, 2 and 5 to 7 of a set of 7 records, cut by 3.
 pub fn row_laws()
-    ensures { RowLaws }
+    ensures { CutExampleLaws }
 {}

@@ -1,7 +1,7 @@
 //! Parts of ranges, read one after the other.
 ghost use Rattle.std.specs.Prelude.{◌≡◌, [], ◌<◌, IfSome, IfNone, IfOk};
 ghost use Rattle.zplan.specs.Ranges.{IsApart, IsBounded};
-ghost use Rattle.zplan.specs.Cutting.{left_at, IsPlace, IsPart, IsRun, IsList};
+ghost use Rattle.zplan.specs.Cutting.{left_at, IsReadingPlace, IsNextPart, IsNextRun, IsNextList};
 
 use crate::span::Span;
 use std::alloc::{AllocError, Global};
@@ -29,11 +29,11 @@ pub(crate) fn next_part(ranges: &[Span], place: Place, room: u32) -> Option<Part
     // ranges that can be wanted, and a place of theirs
     requires wanted { IsApart 1 ranges.now }
     requires bounded { IsBounded ranges.now }
-    requires place { IsPlace ranges.now place }
+    requires place { IsReadingPlace ranges.now place }
     // limits of 1 or more
     requires room { 0 < room }
     // the result
-    ensures some { IfSome result (λ p. IsPart ranges.now place room p) }
+    ensures some { IfSome result (λ p. IsNextPart ranges.now place room p) }
     ensures none { IfNone result (left_at ranges.now place ≡ []) }
 {
     if place.at >= ranges.len() {
@@ -79,12 +79,12 @@ pub(crate) fn next_run(ranges: &[Span], place: Place, room: u32, step: u32) -> O
     // ranges that can be wanted, and a place of theirs
     requires wanted { IsApart 1 ranges.now }
     requires bounded { IsBounded ranges.now }
-    requires place { IsPlace ranges.now place }
+    requires place { IsReadingPlace ranges.now place }
     // limits of 1 or more
     requires room { 0 < room }
     requires step { 0 < step }
     // the result
-    ensures some { IfSome result (λ r. IsRun ranges.now place room step r) }
+    ensures some { IfSome result (λ r. IsNextRun ranges.now place room step r) }
     ensures none { IfNone result (left_at ranges.now place ≡ []) }
 {
     let part = next_part(ranges, place, room)?;
@@ -110,8 +110,8 @@ pub(crate) fn next_list(
 ) -> Result<(Vec<Span>, Place), AllocError>
     requires wanted { IsApart 1 ranges.now }
     requires bounded { IsBounded ranges.now }
-    requires place { IsPlace ranges.now from }
-    ensures { IfOk result (λ r. IsList ranges.now from step r.0.items r.1) }
+    requires place { IsReadingPlace ranges.now from }
+    ensures { IfOk result (λ r. IsNextList ranges.now from step r.0.items r.1) }
 {
     let mut list = Vec::new(alloc);
     let mut place = from;

@@ -2,7 +2,7 @@
 ghost use Rattle.std.specs.Prelude.{◌≡◌, ◌<◌, true, false, IfOk, OnErr, IfNone, length};
 ghost use Rattle.zplan.specs.Positions.{up_to};
 ghost use Rattle.zplan.specs.Ranges.{AreWanted, positions};
-ghost use Rattle.zplan.specs.Agenda.{SameAgenda, IsFirstOf, IsSent, IsAnswered, HasWaiting, whole_agenda};
+ghost use Rattle.zplan.specs.Agenda.{SameAgenda, IsFirstOf, AfterNoteSent, AfterNoteAnswered, HasWaiting, whole_agenda};
 
 use crate::clip::clip;
 use crate::entry::{Entry, count_waiting, first_due, leave, place_of};
@@ -109,7 +109,7 @@ impl Schedule {
     /// requires that a Present can be sent, as `is_ready` tells. It takes no memory.
     pub fn note_sent(&mut self)
         requires { self.old.ready ≡ true }
-        ensures { IsSent self.old self.new }
+        ensures { AfterNoteSent self.old self.new }
     {
         if let Some(at) = first_due(&self.entries) {
             self.entries[at].sent = true;
@@ -122,7 +122,7 @@ impl Schedule {
     /// `is_waiting` tells. It takes no memory.
     pub fn note_answered(&mut self, first: u32, records: usize)
         requires { HasWaiting first self.old }
-        ensures { IsAnswered first records self.old self.new }
+        ensures { AfterNoteAnswered first records self.old self.new }
     {
         if let Some(at) = place_of(&self.entries, first) {
             let three = self.uncut.three;

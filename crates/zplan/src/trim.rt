@@ -1,19 +1,19 @@
 //! What an answer leaves of a list.
 ghost use Rattle.std.specs.Prelude.{◌≡◌, ◌≤◌, drop, length};
-ghost use Rattle.zplan.specs.Ranges.{AllHave, IsApart, IsBounded, places};
+ghost use Rattle.zplan.specs.Ranges.{AreNonempty, IsApart, IsBounded, places};
 
 use crate::span::Span;
 
 /// Takes the first `k` positions from the list, all if it has no more. It takes no memory.
 pub(crate) fn trim(list: &mut Vec<Span>, k: usize)
     // the ranges have positions, gaps between them, and no position above 2,147,483,647
-    requires have { AllHave list.old.items }
+    requires have { AreNonempty list.old.items }
     requires gaps { IsApart 1 list.old.items }
     requires bounded { IsBounded list.old.items }
     // the positions left
     ensures left { places list.new.items ≡ drop k (places list.old.items) }
     // the ranges left are such too, and no more
-    ensures have { AllHave list.new.items }
+    ensures have { AreNonempty list.new.items }
     ensures gaps { IsApart 1 list.new.items }
     ensures bounded { IsBounded list.new.items }
     ensures fewer { length list.new.items ≤ length list.old.items }

@@ -10,7 +10,7 @@ use Rattle.std.specs.Ordering.{int_eq}
 use Rattle.std.specs.List.{list_any}
 use Rattle.zquery_rpn.specs.declared.query.Attr.{Attr}
 use Rattle.zquery_rpn.specs.declared.query.AttrValue.{AttrValue}
-use Rattle.zquery.specs.InForce.{same_set, alike, firsts, last_value, in_force}
+use Rattle.zquery.specs.InForce.{same_set, alike, first_attrs, last_attr_value, in_force}
 use Rattle.zquery.specs.Notation.Reading.{put_in}
 
 -- likeness is an equality of keys
@@ -87,9 +87,9 @@ not-both : (t : Bool) → not t ≡ true → t ≡ true → ⊥
 not-both true h k = true≢false (sym h)
 not-both false h k = true≢false (sym k)
 
-apart-firsts : (xs : List Attr) → Apart (firsts xs)
-apart-firsts [] = tt
-apart-firsts (a ∷ xs) = (none-passes a (λ b. not (alike a b)) (firsts xs) (λ c. not-both (alike a c)), apart-filter (λ b. not (alike a b)) (firsts xs) (apart-firsts xs))
+apart-first_attrs : (xs : List Attr) → Apart (first_attrs xs)
+apart-first_attrs [] = tt
+apart-first_attrs (a ∷ xs) = (none-passes a (λ b. not (alike a b)) (first_attrs xs) (λ c. not-both (alike a c)), apart-filter (λ b. not (alike a b)) (first_attrs xs) (apart-first_attrs xs))
 
 -- putting is changing the one that is alike, and adding the attribute where there is none
 abbrev revalued : Attr → Attr → Attr
@@ -117,7 +117,7 @@ put-is a (b ∷ bs) h =
     either (alike b a) refl
 
 -- the last value of one more
-last-append : (xs : List Attr) (a b : Attr) (v : AttrValue) → last_value (xs ++ b ∷ []) a v ≡ (if alike a b then b.value else last_value xs a v)
+last-append : (xs : List Attr) (a b : Attr) (v : AttrValue) → last_attr_value (xs ++ b ∷ []) a v ≡ (if alike a b then b.value else last_attr_value xs a v)
 last-append [] a b v = refl
 last-append (x ∷ xs) a b v = last-append xs a b (if alike a x then x.value else v)
 
@@ -132,17 +132,17 @@ agree : (x a : Attr) (v : Bool) → alike x a ≡ v → (fs : List Attr) → put
 agree x a true e fs = refl
 agree x a false e fs = ap (λ r. put_last r a) (sym (any-filter_same (λ b. alike b a) (λ b. not (alike x b)) true (λ b h. kept-out x b a e h) fs))
 
-firsts-append : (xs : List Attr) (a : Attr) → firsts (xs ++ a ∷ []) ≡ firsts xs ++ put_last (list_any (λ b. alike b a) (firsts xs)) a
-firsts-append [] a = refl
-firsts-append (x ∷ xs) a =
+first_attrs-append : (xs : List Attr) (a : Attr) → first_attrs (xs ++ a ∷ []) ≡ first_attrs xs ++ put_last (list_any (λ b. alike b a) (first_attrs xs)) a
+first_attrs-append [] a = refl
+first_attrs-append (x ∷ xs) a =
     let keep : Attr → Bool = λ b. not (alike x b) in
-    let found : Bool = list_any (λ b. alike b a) (firsts xs) in
-    ap (λ (zs : List Attr). x ∷ filter keep zs) (firsts-append xs a)
-    ∙ ap (λ (zs : List Attr). x ∷ zs) (filter-append keep (firsts xs) (put_last found a)
-    ∙ ap (λ (zs : List Attr). filter keep (firsts xs) ++ zs) (filter-put x a found ∙ agree x a (alike x a) refl (firsts xs)))
+    let found : Bool = list_any (λ b. alike b a) (first_attrs xs) in
+    ap (λ (zs : List Attr). x ∷ filter keep zs) (first_attrs-append xs a)
+    ∙ ap (λ (zs : List Attr). x ∷ zs) (filter-append keep (first_attrs xs) (put_last found a)
+    ∙ ap (λ (zs : List Attr). filter keep (first_attrs xs) ++ zs) (filter-put x a found ∙ agree x a (alike x a) refl (first_attrs xs)))
 
 abbrev lasting : List Attr → Attr → Attr
-lasting xs a = record a { value = last_value xs a a.value }
+lasting xs a = record a { value = last_attr_value xs a a.value }
 
 fused : (xs : List Attr) (a : Attr) (fs : List Attr) → map (lasting (xs ++ a ∷ [])) fs ≡ map (revalued a) (map (lasting xs) fs)
 unfolding alike
@@ -168,14 +168,14 @@ apart-lasting xs (y ∷ fs) h = (any-of-lasting xs y fs ∙ h.0, apart-lasting x
 last-lasting : (xs : List Attr) (a : Attr) (found : Bool) → map (lasting (xs ++ a ∷ [])) (put_last found a) ≡ put_last found a
 last-lasting xs a true = refl
 last-lasting xs a false =
-    ap (λ (v : AttrValue). valued v a ∷ []) (last-append xs a a a.value ∙ ap (λ (b : Bool). if b then a.value else last_value xs a a.value) (alike-same a))
+    ap (λ (v : AttrValue). valued v a ∷ []) (last-append xs a a a.value ∙ ap (λ (b : Bool). if b then a.value else last_attr_value xs a a.value) (alike-same a))
 
 pub put-law : (xs : List Attr) (a : Attr) → in_force (xs ++ a ∷ []) ≡ put_in (in_force xs) a
 unfolding in_force
 put-law xs a =
-    let found : Bool = list_any (λ b. alike b a) (firsts xs) in
-    ap (map (lasting (xs ++ a ∷ []))) (firsts-append xs a)
-    ∙ map-append (lasting (xs ++ a ∷ [])) (firsts xs) (put_last found a)
-    ∙ ap (λ (zs : List Attr). zs ++ map (lasting (xs ++ a ∷ [])) (put_last found a)) (fused xs a (firsts xs))
-    ∙ ap (λ (zs : List Attr). map (revalued a) (map (lasting xs) (firsts xs)) ++ zs) (last-lasting xs a found ∙ ap (λ (b : Bool). put_last b a) (sym (any-lasting xs a (firsts xs))))
-    ∙ sym (put-is a (map (lasting xs) (firsts xs)) (apart-lasting xs (firsts xs) (apart-firsts xs)))
+    let found : Bool = list_any (λ b. alike b a) (first_attrs xs) in
+    ap (map (lasting (xs ++ a ∷ []))) (first_attrs-append xs a)
+    ∙ map-append (lasting (xs ++ a ∷ [])) (first_attrs xs) (put_last found a)
+    ∙ ap (λ (zs : List Attr). zs ++ map (lasting (xs ++ a ∷ [])) (put_last found a)) (fused xs a (first_attrs xs))
+    ∙ ap (λ (zs : List Attr). map (revalued a) (map (lasting xs) (first_attrs xs)) ++ zs) (last-lasting xs a found ∙ ap (λ (b : Bool). put_last b a) (sym (any-lasting xs a (first_attrs xs))))
+    ∙ sym (put-is a (map (lasting xs) (first_attrs xs)) (apart-lasting xs (first_attrs xs) (apart-first_attrs xs)))

@@ -17,15 +17,15 @@ unfoldable pub alike : Attr → Attr → Bool
 alike a b = same_set a.attr_set b.attr_set && int_eq a.kind b.kind
 
 -- the first attribute of each set and type
-abbrev pub firsts : List Attr → List Attr
-firsts [] = []
-firsts (a ∷ xs) = a ∷ filter (λ b. not (alike a b)) (firsts xs)
+abbrev pub first_attrs : List Attr → List Attr
+first_attrs [] = []
+first_attrs (a ∷ xs) = a ∷ filter (λ b. not (alike a b)) (first_attrs xs)
 
 -- the value of the last attribute with the set and type of `a`, or `v` if there is none
-abbrev pub last_value : List Attr → Attr → AttrValue → AttrValue
-last_value [] a v = v
-last_value (b ∷ bs) a v = last_value bs a (if alike a b then b.value else v)
+abbrev pub last_attr_value : List Attr → Attr → AttrValue → AttrValue
+last_attr_value [] a v = v
+last_attr_value (b ∷ bs) a v = last_attr_value bs a (if alike a b then b.value else v)
 
 -- the attributes in force: for each set and type the last value, in the order of the first of each
 unfoldable pub in_force : List Attr → List Attr
-in_force xs = map {A = Attr} (λ a. record a { value = last_value xs a a.value }) (firsts xs)
+in_force xs = map {A = Attr} (λ a. record a { value = last_attr_value xs a a.value }) (first_attrs xs)

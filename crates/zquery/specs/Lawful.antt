@@ -6,7 +6,7 @@ use Rattle.zber.specs.Oids.{IsOid}
 use Rattle.zquery_rpn.specs.declared.query.Attr.{Attr}
 use Rattle.zquery_rpn.specs.declared.query.TermValue.{TermValue}
 use Rattle.zquery_rpn.specs.declared.query.TermValue.TheVariants.{Numeric}
-use Rattle.zquery_rpn.specs.Trees.{Tree, OfTerm, OfSet, OfSetAttrs, Of, Near, RpnQuery}
+use Rattle.zquery_rpn.specs.Trees.{Tree, OfTerm, OfSet, OfSetAttrs, Of, OfProx, RpnQuery}
 
 -- the set, if there is one, is an object identifier
 abbrev pub IsLawfulSet : Option (List ℕ) → Type 0
@@ -14,9 +14,9 @@ IsLawfulSet None = Unit {0}
 IsLawfulSet (Some set) = IsOid set
 
 -- the own set of each attribute is an object identifier
-abbrev pub AreLawful : List Attr → Type 0
-AreLawful [] = Unit {0}
-AreLawful (a ∷ xs) = IsLawfulSet a.attr_set × AreLawful xs
+abbrev pub AreLawfulAttrs : List Attr → Type 0
+AreLawfulAttrs [] = Unit {0}
+AreLawfulAttrs (a ∷ xs) = IsLawfulSet a.attr_set × AreLawfulAttrs xs
 
 -- the number of a numeric term is of 64 bits
 abbrev pub IsLawfulTerm : TermValue → Type 0
@@ -25,13 +25,13 @@ IsLawfulTerm _ = Unit {0}
 
 -- the attributes and terms of the tree are lawful
 abbrev pub IsLawfulTree : Tree → Type 0
-IsLawfulTree (OfTerm xs v) = AreLawful xs × IsLawfulTerm v
+IsLawfulTree (OfTerm xs v) = AreLawfulAttrs xs × IsLawfulTerm v
 IsLawfulTree (OfSet name) = Unit {0}
-IsLawfulTree (OfSetAttrs name xs) = AreLawful xs
+IsLawfulTree (OfSetAttrs name xs) = AreLawfulAttrs xs
 IsLawfulTree (Of o a b) = IsLawfulTree a × IsLawfulTree b
-IsLawfulTree (Near e a b) = IsLawfulTree a × IsLawfulTree b
+IsLawfulTree (OfProx e a b) = IsLawfulTree a × IsLawfulTree b
 
 -- the query's set is an object identifier, and its tree is lawful
-pub record IsLawful (q : RpnQuery) : Type 0 where
+pub record IsLawfulQuery (q : RpnQuery) : Type 0 where
   pub attr_set : IsOid q.attr_set
   pub root : IsLawfulTree q.root

@@ -1,5 +1,5 @@
 // Laws of the definitions, each the contract of a function that does nothing.
-ghost use Rattle.zquery.specs.Notation.Laws.{OneLexing, SetNames, OneQuery, NoneRefused, FirstFault, TooDeepAlone, OneAnswer, PrintedReads, TextPrintable, TextSpellable};
+ghost use Rattle.zquery.specs.Notation.Laws.{OneLexing, SetNames, OneQuery, NoneRefused, FirstFault, TooDeepAlone, OneQueryOrFault, PrintedReads, TextPrintable, TextSpellable};
 
 /// A text has one list of tokens at most, or one quote that no quote closes, and not both.
 pub fn one_lexing()
@@ -35,7 +35,7 @@ pub fn too_deep_alone()
 /// A text stands for one query at most and has one error at most. It has no error if it stands for a query of height 32
 /// at most.
 pub fn one_answer()
-    ensures { OneAnswer }
+    ensures { OneQueryOrFault }
 {}
 
 /// The text that is printed for a query stands for this query.

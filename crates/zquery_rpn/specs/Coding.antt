@@ -11,7 +11,7 @@ use Rattle.zquery_rpn.specs.declared.query.TermValue.{TermValue}
 use Rattle.zquery_rpn.specs.declared.query.TermValue.TheVariants.{General, Numeric, Text, Other}
 use Rattle.zquery_rpn.specs.declared.operator.Operator.{Operator}
 use Rattle.zquery_rpn.specs.declared.operator.Operator.TheVariants.{And, Or, Not}
-use Rattle.zquery_rpn.specs.Trees.{Tree, OfTerm, OfSet, OfSetAttrs, Of, Near, RpnQuery}
+use Rattle.zquery_rpn.specs.Trees.{Tree, OfTerm, OfSet, OfSetAttrs, Of, OfProx, RpnQuery}
 
 abbrev pub coded_octets : Coded (List ℕ)
 coded_octets = coded_list coded_ℕ
@@ -82,15 +82,15 @@ abbrev pub coded_operator : Coded Operator
 coded_operator = code_by ℕ coded_ℕ operator_number operator_at operator_back
 
 -- one step: an operand, or an operator or proximity over the two trees on top
-abbrev pub Step : Type 0
-Step = (List Attr × TermValue) ⊎ (List ℕ ⊎ ((List ℕ × List Attr) ⊎ (Operator ⊎ Element)))
+abbrev pub TreeStep : Type 0
+TreeStep = (List Attr × TermValue) ⊎ (List ℕ ⊎ ((List ℕ × List Attr) ⊎ (Operator ⊎ Element)))
 
-abbrev pub steps : Tree → List Step
+abbrev pub steps : Tree → List TreeStep
 steps (OfTerm xs v) = inl (xs, v) ∷ []
 steps (OfSet name) = inr (inl name) ∷ []
 steps (OfSetAttrs name xs) = inr (inr (inl (name, xs))) ∷ []
 steps (Of o a b) = steps a ++ (steps b ++ inr (inr (inr (inl o))) ∷ [])
-steps (Near e a b) = steps a ++ (steps b ++ inr (inr (inr (inr e))) ∷ [])
+steps (OfProx e a b) = steps a ++ (steps b ++ inr (inr (inr (inr e))) ∷ [])
 
 -- the tree that `f` makes of the two trees on top takes their place
 abbrev pub with_two : (Tree → Tree → Tree) → List Tree → List Tree
@@ -99,15 +99,15 @@ with_two f (b ∷ []) = []
 with_two f (b ∷ a ∷ qs) = f a b ∷ qs
 
 -- the trees after one step; the last tree built is on top
-abbrev pub step : Step → List Tree → List Tree
+abbrev pub step : TreeStep → List Tree → List Tree
 step (inl p) qs = OfTerm p.0 p.1 ∷ qs
 step (inr (inl name)) qs = OfSet name ∷ qs
 step (inr (inr (inl p))) qs = OfSetAttrs p.0 p.1 ∷ qs
 step (inr (inr (inr (inl o)))) qs = with_two (Of o) qs
-step (inr (inr (inr (inr e)))) qs = with_two (Near e) qs
+step (inr (inr (inr (inr e)))) qs = with_two (OfProx e) qs
 
 -- the trees after these steps
-abbrev pub built : List Step → List Tree → List Tree
+abbrev pub built : List TreeStep → List Tree → List Tree
 built [] qs = qs
 built (s ∷ ss) qs = built ss (step s qs)
 
@@ -115,11 +115,11 @@ abbrev pub top : List Tree → Tree
 top [] = OfSet []
 top (q ∷ qs) = q
 
-pub built-append : (a b : List Step) (qs : List Tree) → built (a ++ b) qs ≡ built b (built a qs)
+pub built-append : (a b : List TreeStep) (qs : List Tree) → built (a ++ b) qs ≡ built b (built a qs)
 built-append [] b qs = refl
 built-append (s ∷ a) b qs = built-append a b (step s qs)
 
-pub built-two : (a b : Tree) (s : Step) (qs : List Tree) → built (steps a) qs ≡ a ∷ qs
+pub built-two : (a b : Tree) (s : TreeStep) (qs : List Tree) → built (steps a) qs ≡ a ∷ qs
     → built (steps b) (a ∷ qs) ≡ b ∷ a ∷ qs
     → built (steps a ++ (steps b ++ s ∷ [])) qs ≡ step s (b ∷ a ∷ qs)
 built-two a b s qs first second =
@@ -131,21 +131,21 @@ built-steps (OfTerm xs v) qs = refl
 built-steps (OfSet name) qs = refl
 built-steps (OfSetAttrs name xs) qs = refl
 built-steps (Of o a b) qs = built-two a b (inr (inr (inr (inl o)))) qs (built-steps a qs) (built-steps b (a ∷ qs))
-built-steps (Near e a b) qs = built-two a b (inr (inr (inr (inr e)))) qs (built-steps a qs) (built-steps b (a ∷ qs))
+built-steps (OfProx e a b) qs = built-two a b (inr (inr (inr (inr e)))) qs (built-steps a qs) (built-steps b (a ∷ qs))
 
-abbrev pub tree_at : List Step → Tree
+abbrev pub tree_at : List TreeStep → Tree
 tree_at ss = top (built ss [])
 
 pub tree_back : (q : Tree) → tree_at (steps q) ≡ q
 tree_back q = ap top (built-steps q [])
 
-abbrev pub coded_step : Coded Step
+abbrev pub coded_step : Coded TreeStep
 coded_step =
     coded⊎ (coded× (coded_list coded_attr) coded_term)
     (coded⊎ coded_octets (coded⊎ (coded× coded_octets (coded_list coded_attr)) (coded⊎ coded_operator coded_element)))
 
 abbrev pub coded_tree : Coded Tree
-coded_tree = code_by (List Step) (coded_list coded_step) steps tree_at tree_back
+coded_tree = code_by (List TreeStep) (coded_list coded_step) steps tree_at tree_back
 
 abbrev pub coded_query : Coded RpnQuery
 coded_query =

@@ -2,18 +2,18 @@
 use Rattle.zquery_rpn.specs.declared.query.Query.TheInside.{Inside}
 use Rattle.zquery_rpn.specs.declared.query.Rpn.{Rpn, Term, ResultSet, SetAttrs, And', Or', Not', Prox'}
 use Rattle.zquery_rpn.specs.declared.operator.Operator.TheVariants.{And, Or, Not}
-use Rattle.zquery_rpn.specs.Trees.{Tree, OfTerm, OfSet, OfSetAttrs, Of, Near, RpnQuery}
+use Rattle.zquery_rpn.specs.Trees.{Tree, OfTerm, OfSet, OfSetAttrs, Of, OfProx, RpnQuery}
 
 -- a tree without the addresses of its parts
-abbrev pub seen : Rpn → Tree
-seen (Term attrs term) = OfTerm attrs term
-seen (ResultSet name) = OfSet name
-seen (SetAttrs name attrs) = OfSetAttrs name attrs
-seen (And' p a q b) = Of And (seen a) (seen b)
-seen (Or' p a q b) = Of Or (seen a) (seen b)
-seen (Not' p a q b) = Of Not (seen a) (seen b)
-seen (Prox' e p a q b) = Near e (seen a) (seen b)
+abbrev pub rpn_tree : Rpn → Tree
+rpn_tree (Term attrs term) = OfTerm attrs term
+rpn_tree (ResultSet name) = OfSet name
+rpn_tree (SetAttrs name attrs) = OfSetAttrs name attrs
+rpn_tree (And' p a q b) = Of And (rpn_tree a) (rpn_tree b)
+rpn_tree (Or' p a q b) = Of Or (rpn_tree a) (rpn_tree b)
+rpn_tree (Not' p a q b) = Of Not (rpn_tree a) (rpn_tree b)
+rpn_tree (Prox' e p a q b) = OfProx e (rpn_tree a) (rpn_tree b)
 
 -- a query without the addresses of its parts
 abbrev pub query_of : Inside → RpnQuery
-query_of q = record { attr_set = q.attr_set; root = seen q.root }
+query_of q = record { attr_set = q.attr_set; root = rpn_tree q.root }

@@ -11,7 +11,7 @@ pub data Tree : Type 0 where
   OfSet : List ℕ → Tree
   OfSetAttrs : List ℕ → List Attr → Tree
   Of : Operator → Tree → Tree → Tree
-  Near : Element → Tree → Tree → Tree
+  OfProx : Element → Tree → Tree → Tree
 
 -- the default attribute set and a tree
 pub record RpnQuery : Type 0 where
@@ -24,4 +24,4 @@ height (OfTerm xs v) = 1
 height (OfSet name) = 1
 height (OfSetAttrs name xs) = 1
 height (Of o a b) = max (height a) (height b) + 1
-height (Near e a b) = max (height a) (height b) + 1
+height (OfProx e a b) = max (height a) (height b) + 1

@@ -2,7 +2,7 @@
 ghost use Rattle.std.specs.Prelude.{◌≡◌, Option, Some};
 ghost use Rattle.zber.specs.Elements.{Element};
 ghost use Rattle.zquery_rpn.specs.Trees.{RpnQuery};
-ghost use Rattle.zquery_rpn.specs.Element.Type1.{IsQueryOf, WritesQuery};
+ghost use Rattle.zquery_rpn.specs.Element.Type1.{IsQueryOfElement, WritesQuery};
 
 /// An element stands for one type-1 query at most.
 pub fn one_query()
@@ -11,5 +11,5 @@ pub fn one_query()
 
 /// If an element stands for a query, reading it returns this query.
 pub fn read_back()
-    ensures { (q : RpnQuery) (n : Element) (o : Option RpnQuery) → WritesQuery q n → IsQueryOf n o → o ≡ Some q }
+    ensures { (q : RpnQuery) (n : Element) (o : Option RpnQuery) → WritesQuery q n → IsQueryOfElement n o → o ≡ Some q }
 {}

@@ -1,6 +1,6 @@
 // Type-1 queries (Z39.50-2003, RPNQuery).
 ghost use Rattle.std.specs.Prelude.{◌≡◌, IfOk};
-ghost use Rattle.zquery_rpn.specs.QueryTrees.{seen};
+ghost use Rattle.zquery_rpn.specs.QueryTrees.{rpn_tree};
 
 use crate::attribute::copies;
 use bytes::Bytes;
@@ -63,7 +63,7 @@ pub enum Rpn {
 /// A type-1 query (Z39.50-2003, 3.7): the default attribute set, and a tree of any height.
 ///
 /// Contracts see it as plain data, an `RpnQuery`, without the addresses of its parts in memory. They see an `Rpn` as a
-/// `Tree`, by `seen`.
+/// `Tree`, by `rpn_tree`.
 #[derive(Drop)]
 pub struct Query {
     /// The attribute set of attributes that name none.
@@ -103,7 +103,7 @@ impl Rpn {
     /// Returns an equal tree, or `AllocError` if no memory is found.
     #[cycle(copy)]
     pub(crate) fn copy(&self, alloc: Global) -> Result<Rpn, AllocError>
-        ensures { IfOk result (λ r. seen r ≡ seen self.now) }
+        ensures { IfOk result (λ r. rpn_tree r ≡ rpn_tree self.now) }
     {
         match self {
             Rpn::Term { attrs, term } => Ok(Rpn::Term {
@@ -137,7 +137,7 @@ impl Rpn {
     /// Returns an equal tree in a box, or `AllocError` if no memory is found.
     #[cycle(copy)]
     fn boxed_copy(&self, alloc: Global) -> Result<Box<Rpn>, AllocError>
-        ensures { IfOk result (λ b. seen b.value ≡ seen self.now) }
+        ensures { IfOk result (λ b. rpn_tree b.value ≡ rpn_tree self.now) }
     {
         Ok(Box::new(alloc, self.copy(alloc)?)?)
     }

@@ -11,8 +11,8 @@ use Rattle.zber.proofs.Tests.{both_true}
 use Rattle.zplan.specs.Ranges.{natural, positions_of, positions}
 use Rattle.ztarget.specs.declared.database.Database.{Database}
 use Rattle.ztarget.specs.declared.found.Hit.{Hit}
-use Rattle.ztarget.specs.Keeping.{AllStand, found_at, all_found_at, records_at}
-use Rattle.ztarget.specs.Showing.{shown, size_of, fitting, used_after, fitting_after, used_by, held}
+use Rattle.ztarget.specs.Keeping.{AreHits, found_at, all_found_at, records_at_hits}
+use Rattle.ztarget.specs.Showing.{shown_record, size_of, fitting, used_after, fitting_after, used_by, held}
 use Rattle.ztarget.specs.Positions.{is_in_set, are_in_set, at_positions}
 
 pub left_more : (ranges : List Range) (i : ℕ) (x : Range) → i < length ranges → x ≡ get_or ranges i x → positions (drop i ranges) ≡ positions_of x ++ positions (drop (i + 1) ranges)
@@ -148,60 +148,60 @@ some_at found s n h =
 
 -- the records of hits, one by one
 module _ (size : ℕ) (asked : Option (List ℕ)) (databases : List Database) where
-  records_both : (hits more : List Hit) → records_at size asked databases (hits ++ more) ≡ records_at size asked databases hits ++ records_at size asked databases more
+  records_both : (hits more : List Hit) → records_at_hits size asked databases (hits ++ more) ≡ records_at_hits size asked databases hits ++ records_at_hits size asked databases more
   records_both hits more =
-      ap (map (shown size asked)) (map-append (found_at databases) hits more)
-      ∙ map-append (shown size asked) (all_found_at databases hits) (all_found_at databases more)
+      ap (map (shown_record size asked)) (map-append (found_at databases) hits more)
+      ∙ map-append (shown_record size asked) (all_found_at databases hits) (all_found_at databases more)
 
-  records_many : (hits : List Hit) → length (records_at size asked databases hits) ≡ length hits
-  records_many hits = length-map (all_found_at databases hits) (shown size asked) ∙ length-map hits (found_at databases)
+  records_many : (hits : List Hit) → length (records_at_hits size asked databases hits) ≡ length hits
+  records_many hits = length-map (all_found_at databases hits) (shown_record size asked) ∙ length-map hits (found_at databases)
 
   at_more : (hits : List Hit) (ranges : List Range) (i : ℕ) (x : Range) (due : List Hit) → i < length ranges → x ≡ get_or ranges i x → due ≡ at_positions hits (positions_of x)
-      → records_at size asked databases (at_positions hits (positions (drop i ranges)))
-      ≡ records_at size asked databases due ++ records_at size asked databases (at_positions hits (positions (drop (i + 1) ranges)))
+      → records_at_hits size asked databases (at_positions hits (positions (drop i ranges)))
+      ≡ records_at_hits size asked databases due ++ records_at_hits size asked databases (at_positions hits (positions (drop (i + 1) ranges)))
   at_more hits ranges i x due l e d =
-      ap (λ ps. records_at size asked databases (at_positions hits ps)) (left_more ranges i x l e)
-      ∙ ap (records_at size asked databases) (flat_append hits (positions_of x) (positions (drop (i + 1) ranges)))
+      ap (λ ps. records_at_hits size asked databases (at_positions hits ps)) (left_more ranges i x l e)
+      ∙ ap (records_at_hits size asked databases) (flat_append hits (positions_of x) (positions (drop (i + 1) ranges)))
       ∙ records_both (at_positions hits (positions_of x)) (at_positions hits (positions (drop (i + 1) ranges)))
-      ∙ ap (λ h. records_at size asked databases h ++ records_at size asked databases (at_positions hits (positions (drop (i + 1) ranges)))) (sym d)
+      ∙ ap (λ h. records_at_hits size asked databases h ++ records_at_hits size asked databases (at_positions hits (positions (drop (i + 1) ranges)))) (sym d)
 
   -- the step of a loop over the ranges
   pub held_step : (hits : List Hit) (ranges : List Range) (i : ℕ) (x : Range) (records after : List Record) (used next : Option ℕ) (octets : ℕ) (due : List Hit)
       → i < length ranges → x ≡ get_or ranges i x → used ≡ Some octets → due ≡ at_positions hits (positions_of x)
-      → after ≡ records ++ fitting size octets (records_at size asked databases due) → next ≡ used_after size octets (records_at size asked databases due)
-      → after ++ fitting_after size next (records_at size asked databases (at_positions hits (positions (drop (i + 1) ranges))))
-      ≡ records ++ fitting_after size used (records_at size asked databases (at_positions hits (positions (drop i ranges))))
+      → after ≡ records ++ fitting size octets (records_at_hits size asked databases due) → next ≡ used_after size octets (records_at_hits size asked databases due)
+      → after ++ fitting_after size next (records_at_hits size asked databases (at_positions hits (positions (drop (i + 1) ranges))))
+      ≡ records ++ fitting_after size used (records_at_hits size asked databases (at_positions hits (positions (drop i ranges))))
   held_step hits ranges i x records after used next octets due l e u d a n =
-      let xs = records_at size asked databases due in
-      let ys = records_at size asked databases (at_positions hits (positions (drop (i + 1) ranges))) in
+      let xs = records_at_hits size asked databases due in
+      let ys = records_at_hits size asked databases (at_positions hits (positions (drop (i + 1) ranges))) in
       (λ j. a j ++ fitting_after size (n j) ys)
       ∙ append_assoc records (fitting size octets xs) (fitting_after size (used_after size octets xs) ys)
       ∙ ap (λ r. records ++ r) (sym (fitting_both size octets xs ys))
       ∙ ap (λ rs. records ++ fitting size octets rs) (sym (at_more hits ranges i x due l e d))
-      ∙ ap (λ o. records ++ fitting_after size o (records_at size asked databases (at_positions hits (positions (drop i ranges))))) (sym u)
+      ∙ ap (λ o. records ++ fitting_after size o (records_at_hits size asked databases (at_positions hits (positions (drop i ranges))))) (sym u)
 
   -- the first range and then the others
   pub held_first : (hits : List Hit) (ranges : List Range) (x : Range) (first after : List Record) (used : Option ℕ) (due : List Hit)
       → 0 < length ranges → x ≡ get_or ranges 0 x → is_in_set (natural x.start) (natural x.n) (length hits) ≡ true → due ≡ at_positions hits (positions_of x)
-      → first ≡ held size (records_at size asked databases due) → used ≡ used_by size (records_at size asked databases due)
-      → after ≡ first ++ fitting_after size used (records_at size asked databases (at_positions hits (positions (drop 1 ranges))))
-      → after ≡ held size (records_at size asked databases (at_positions hits (positions ranges)))
+      → first ≡ held size (records_at_hits size asked databases due) → used ≡ used_by size (records_at_hits size asked databases due)
+      → after ≡ first ++ fitting_after size used (records_at_hits size asked databases (at_positions hits (positions (drop 1 ranges))))
+      → after ≡ held size (records_at_hits size asked databases (at_positions hits (positions ranges)))
   held_first hits ranges x first after used due l e within d h u a =
-      let xs = records_at size asked databases due in
-      let ys = records_at size asked databases (at_positions hits (positions (drop 1 ranges))) in
+      let xs = records_at_hits size asked databases due in
+      let ys = records_at_hits size asked databases (at_positions hits (positions (drop 1 ranges))) in
       let some : 1 ≤ length xs = omega (arith, records_many due, ap length d, some_at hits (natural x.start) (natural x.n) within) in
       a ∙ (λ j. h j ++ fitting_after size (u j) ys) ∙ sym (held_both size xs ys some) ∙ ap (held size) (sym (at_more hits ranges 0 x due l e d))
 
 -- entries stand at the hits at the positions
-pub stand_at : (databases : List Database) (hits : List Hit) (ps : List ℕ) → AllStand databases hits → AllStand databases (at_positions hits ps)
+pub stand_at : (databases : List Database) (hits : List Hit) (ps : List ℕ) → AreHits databases hits → AreHits databases (at_positions hits ps)
 stand_at databases hits [] h = tt
 stand_at databases hits (p ∷ ps) h = both (drop (p - 1) hits) (at_positions hits ps) (left (p - 1) hits h) (stand_at databases hits ps h)
   where
-    left : (k : ℕ) (xs : List Hit) → AllStand databases xs → AllStand databases (drop k xs)
+    left : (k : ℕ) (xs : List Hit) → AreHits databases xs → AreHits databases (drop k xs)
     left zero xs h = h
     left (suc k) [] h = tt
     left (suc k) (x ∷ xs) h = left k xs h.1
 
-    both : (xs ys : List Hit) → AllStand databases xs → AllStand databases ys → AllStand databases (take 1 xs ++ ys)
+    both : (xs ys : List Hit) → AreHits databases xs → AreHits databases ys → AreHits databases (take 1 xs ++ ys)
     both [] ys h g = g
     both (x ∷ xs) ys h g = (h.0, g)

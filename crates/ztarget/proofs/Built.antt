@@ -16,7 +16,7 @@ use Rattle.ztarget.specs.declared.database.Entry.{Entry}
 use Rattle.ztarget.specs.declared.database.Field.{Field}
 use Rattle.ztarget.specs.declared.index.Place.{Place}
 use Rattle.ztarget.specs.Words.{words}
-use Rattle.ztarget.specs.Indexing.{word_places, field_places, entry_places, at_word, standing}
+use Rattle.ztarget.specs.Indexing.{word_places, field_places, entry_places, at_word, indexed_places}
 use Rattle.ztarget.proofs.Indexes.{picked_append}
 
 -- a clause on `Ok`, case by case
@@ -25,26 +25,26 @@ OnOk_map (Ok x) P Q f h = f h
 OnOk_map (Err e) P Q f h = h
 
 -- what is added at one word
-module _ (m n : List (List ℕ × List Place)) (word : List ℕ) (p : Place) (new : List Place) (at : (q : List ℕ) → lookup (is_at (slice_cmp nat_cmp q)) n ≡ cond (is_at (slice_cmp nat_cmp word) q) (Some new) (lookup (is_at (slice_cmp nat_cmp q)) m)) (is : new ≡ standing m word ++ p ∷ []) where
-  added_by : (w : List ℕ) (b : Bool) → is_at (slice_cmp nat_cmp word) w ≡ b → standing n w ≡ standing m w ++ (if bytes_eq w word then p ∷ [] else [])
+module _ (m n : List (List ℕ × List Place)) (word : List ℕ) (p : Place) (new : List Place) (at : (q : List ℕ) → lookup (is_at (slice_cmp nat_cmp q)) n ≡ cond (is_at (slice_cmp nat_cmp word) q) (Some new) (lookup (is_at (slice_cmp nat_cmp q)) m)) (is : new ≡ indexed_places m word ++ p ∷ []) where
+  added_by : (w : List ℕ) (b : Bool) → is_at (slice_cmp nat_cmp word) w ≡ b → indexed_places n w ≡ indexed_places m w ++ (if bytes_eq w word then p ∷ [] else [])
   added_by w true here =
       let same : word ≡ w = exact_bytes word w ((Equal-is (slice_cmp nat_cmp word w)).0 here) in
       let equal : bytes_eq w word ≡ true = subst (λ v. bytes_eq w v ≡ true) (sym same) (nat_list_eq_equiv.refl w) in
       ap (λ o. unwrap_or o []) (at w ∙ ap (λ b. cond b (Some new) (lookup (is_at (slice_cmp nat_cmp w)) m)) here)
-      ∙ is ∙ ap (λ v. standing m v ++ p ∷ []) same ∙ ap (λ b. standing m w ++ (if b then p ∷ [] else [])) (sym equal)
+      ∙ is ∙ ap (λ v. indexed_places m v ++ p ∷ []) same ∙ ap (λ b. indexed_places m w ++ (if b then p ∷ [] else [])) (sym equal)
   added_by w false here =
       let other : bytes_eq w word ≡ false = nat_list_eq_equiv.symm w word ∙ sym (is_eq-slice_cmp word w) ∙ here in
       ap (λ o. unwrap_or o []) (at w ∙ ap (λ b. cond b (Some new) (lookup (is_at (slice_cmp nat_cmp w)) m)) here)
-      ∙ sym (append-nil (standing m w)) ∙ ap (λ b. standing m w ++ (if b then p ∷ [] else [])) (sym other)
+      ∙ sym (append-nil (indexed_places m w)) ∙ ap (λ b. indexed_places m w ++ (if b then p ∷ [] else [])) (sym other)
 
-  added : (w : List ℕ) → standing n w ≡ standing m w ++ at_word w ((word, p) ∷ [])
+  added : (w : List ℕ) → indexed_places n w ≡ indexed_places m w ++ at_word w ((word, p) ∷ [])
   added w = added_by w _ refl
 
 module _ (m n : BTreeMap (List ℕ) (List Place)) (word : List ℕ) (p : Place) (new : List Place) where
-  pub put_lent : (v : List Place) → Some v ≡ get (slice_cmp nat_cmp) m word → WritesThrough (slice_cmp nat_cmp) (slice_cmp nat_cmp word) m new n → new ≡ v ++ p ∷ [] → (w : List ℕ) → standing n.entries w ≡ standing m.entries w ++ at_word w ((word, p) ∷ [])
+  pub put_lent : (v : List Place) → Some v ≡ get (slice_cmp nat_cmp) m word → WritesThrough (slice_cmp nat_cmp) (slice_cmp nat_cmp word) m new n → new ≡ v ++ p ∷ [] → (w : List ℕ) → indexed_places n.entries w ≡ indexed_places m.entries w ++ at_word w ((word, p) ∷ [])
   put_lent v is through pushed = added m.entries n.entries word p new (through.3 (subst IsSome is refl)).0 (pushed ∙ ap (λ o. unwrap_or o [] ++ p ∷ []) is)
 
-  pub put_fresh : None ≡ get (slice_cmp nat_cmp) m word → Updates (slice_cmp nat_cmp) m n word (Some new) → new ≡ p ∷ [] → (w : List ℕ) → standing n.entries w ≡ standing m.entries w ++ at_word w ((word, p) ∷ [])
+  pub put_fresh : None ≡ get (slice_cmp nat_cmp) m word → Updates (slice_cmp nat_cmp) m n word (Some new) → new ≡ p ∷ [] → (w : List ℕ) → indexed_places n.entries w ≡ indexed_places m.entries w ++ at_word w ((word, p) ∷ [])
   put_fresh is puts pushed = added m.entries n.entries word p new puts.0 (pushed ∙ ap (λ o. unwrap_or o [] ++ p ∷ []) is)
 
 pub field_more : (w : List ℕ) (e f : ℕ) (x : Field) (rest xs : List Field) (so_far next all : List Place) → rest ≡ x ∷ xs → next ≡ so_far ++ at_word w (word_places e f 0 (words x.text))

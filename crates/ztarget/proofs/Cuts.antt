@@ -5,7 +5,7 @@ use Rattle.std.proofs.lemmas.List.{append-nil, take_all, drop_all}
 use Rattle.std.specs.Char.{to_ascii_lowercase}
 use Rattle.std.specs.List.{slice_split, onto_first, position_or_len}
 use Rattle.std.specs.Prelude.{◌⊎◌}
-use Rattle.ztarget.specs.Words.{is_in_words, is_between, has_octets, runs, folded, words}
+use Rattle.ztarget.specs.Words.{is_in_words, is_between, has_octets, word_runs, folded, words}
 
 -- the first part, and those of what is left
 module _ {X : Type 0} (p : X → Bool) where
@@ -30,11 +30,11 @@ put_first : (front : List ℕ) (others : List (List ℕ)) → filter has_octets 
 put_first [] others = refl
 put_first (b ∷ bs) others = refl
 
-first_run : (xs : List ℕ) (parts : List (List ℕ)) (n : ℕ) → IsCut is_between xs parts n → filter has_octets parts ≡ filter has_octets (take n xs ∷ []) ++ runs (drop (n + 1) xs)
+first_run : (xs : List ℕ) (parts : List (List ℕ)) (n : ℕ) → IsCut is_between xs parts n → filter has_octets parts ≡ filter has_octets (take n xs ∷ []) ++ word_runs (drop (n + 1) xs)
 first_run xs parts n (inl whole) =
     ap (filter has_octets) whole.0
     ∙ sym (append-nil (filter has_octets (xs ∷ [])))
-    ∙ (λ i. filter has_octets (sym (take_all n xs (omega (arith, whole.1))) i ∷ []) ++ runs (sym (drop_all (n + 1) xs (omega (arith, whole.1))) i))
+    ∙ (λ i. filter has_octets (sym (take_all n xs (omega (arith, whole.1))) i ∷ []) ++ word_runs (sym (drop_all (n + 1) xs (omega (arith, whole.1))) i))
 first_run xs parts n (inr more) = ap (filter has_octets) more ∙ put_first (take n xs) (slice_split is_between (drop (n + 1) xs))
 
 drop_one : (n : ℕ) (xs : List ℕ) → drop 1 (drop n xs) ≡ drop (n + 1) xs
@@ -49,12 +49,12 @@ drop_at_most_one (x ∷ xs) m one = ap (λ k. drop k (x ∷ xs)) (one (omega ari
 
 -- one word more
 pub word_more : (text rest front behind : List ℕ) (n m : ℕ) (so_far next : List (List ℕ)) → n ≡ position_or_len is_between rest → front ≡ take n rest → behind ≡ drop n rest → (0 < length behind → m ≡ 1)
-    → next ≡ so_far ++ filter has_octets (front ∷ []) → so_far ++ runs rest ≡ words text → next ++ runs (drop m behind) ≡ words text
+    → next ≡ so_far ++ filter has_octets (front ∷ []) → so_far ++ word_runs rest ≡ words text → next ++ word_runs (drop m behind) ≡ words text
 word_more text rest front behind n m so_far next first is_front is_behind one put before =
-    (λ i. put i ++ runs (drop_at_most_one behind m one i))
-    ∙ (λ i. (so_far ++ filter has_octets (is_front i ∷ [])) ++ runs (drop 1 (is_behind i)))
-    ∙ (λ i. (so_far ++ filter has_octets (take (first i) rest ∷ [])) ++ runs (drop 1 (drop (first i) rest)))
-    ∙ ap (λ left. (so_far ++ filter has_octets (take (position_or_len is_between rest) rest ∷ [])) ++ runs left) (drop_one (position_or_len is_between rest) rest)
+    (λ i. put i ++ word_runs (drop_at_most_one behind m one i))
+    ∙ (λ i. (so_far ++ filter has_octets (is_front i ∷ [])) ++ word_runs (drop 1 (is_behind i)))
+    ∙ (λ i. (so_far ++ filter has_octets (take (first i) rest ∷ [])) ++ word_runs (drop 1 (drop (first i) rest)))
+    ∙ ap (λ left. (so_far ++ filter has_octets (take (position_or_len is_between rest) rest ∷ [])) ++ word_runs left) (drop_one (position_or_len is_between rest) rest)
     ∙ append_assoc so_far _ _
     ∙ ap (λ l. so_far ++ l) (sym (first_run rest (slice_split is_between rest) (position_or_len is_between rest) (is_cut is_between rest)))
     ∙ before
@@ -108,6 +108,6 @@ lowered_runs ([] ∷ parts) = lowered_runs parts
 lowered_runs ((b ∷ bs) ∷ parts) = ap (λ l. folded (b ∷ bs) ∷ l) (lowered_runs parts)
 
 -- the words of a text are the runs of its copy
-pub lowered : (text : List ℕ) → runs (map to_ascii_lowercase text) ≡ words text
+pub lowered : (text : List ℕ) → word_runs (map to_ascii_lowercase text) ≡ words text
 unfolding words
 lowered text = ap (filter has_octets) (lowered_parts text) ∙ lowered_runs (slice_split is_between text)

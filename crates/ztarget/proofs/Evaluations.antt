@@ -11,7 +11,7 @@ use Rattle.std.specs.Ordering.{nat_cmp, int_cmp, bool_cmp, ordering_then}
 use Rattle.std.specs.declared.cmp.Ordering.TheVariants.{Equal}
 use Rattle.ztarget.specs.declared.database.Entry.{Entry}
 use Rattle.ztarget.specs.declared.evaluation.Sought.{Sought}
-use Rattle.ztarget.specs.Asking.{HasPhrase, meets}
+use Rattle.ztarget.specs.Asking.{HasPhrase, is_satisfied}
 use Rattle.ztarget.specs.Evaluating.{has_sought, sought_cmp, IsListOf, AreLists}
 use Rattle.ztarget.specs.Searching.{places_from}
 
@@ -23,7 +23,7 @@ exact_bool true true same = refl
 
 -- phrases that are not told apart are had by the same entries
 same_sought : (s t : Sought) → sought_cmp s t ≡ Equal → has_sought s ≡ has_sought t
-same_sought s t same = ap (λ (p : ℤ × (Bool × List (List ℕ))). meets (HasPhrase p.0 p.1.0 p.1.1))
+same_sought s t same = ap (λ (p : ℤ × (Bool × List (List ℕ))). is_satisfied (HasPhrase p.0 p.1.0 p.1.1))
     (exact_pairs int_cmp (λ (x y : Bool × List (List ℕ)). ordering_then (bool_cmp x.0 y.0) (slice_cmp (slice_cmp nat_cmp) x.1 y.1)) exact_signed
     (exact_pairs bool_cmp (slice_cmp (slice_cmp nat_cmp)) exact_bool (slice_cmp-IsAntisymmetric exact_bytes))
     (s.used, (s.truncated, s.asked.now)) (t.used, (t.truncated, t.asked.now)) same)

@@ -9,7 +9,7 @@ use Rattle.ztarget.specs.declared.database.Database.{Database}
 use Rattle.ztarget.specs.declared.found.Hit.{Hit}
 use Rattle.ztarget.specs.declared.searched.Numbered.{Numbered}
 use Rattle.ztarget.specs.Counting.{kept_in, kept_by}
-use Rattle.ztarget.specs.Keeping.{hit, entry_in, entry_at, AllStand, nothing, found_at, all_found_at, AreAt, IsNumbered, databases_of, hits_in, hits_by}
+use Rattle.ztarget.specs.Keeping.{hit, entry_in, entry_at, AreHits, no_entry, found_at, all_found_at, AreAt, IsNumberedDatabase, databases_of, hits_in, hits_by}
 use Rattle.ztarget.specs.Searching.{Found, found, places_from}
 
 module _ (databases : List Database) where
@@ -17,7 +17,7 @@ module _ (databases : List Database) where
   one_more : (h : Hit) (f : Found) (hits : List Hit) (founds : List Found) → entry_at databases h ≡ Some f → AreAt databases hits founds → AreAt databases (h ∷ hits) (f ∷ founds)
   one_more h f hits founds is rest = record {
     stand = (subst IsSome (sym is) refl, rest.stand);
-    found = ap (λ o. unwrap_or o nothing ∷ all_found_at databases hits) is ∙ ap (λ (l : List Found). f ∷ l) rest.found;
+    found = ap (λ o. unwrap_or o no_entry ∷ all_found_at databases hits) is ∙ ap (λ (l : List Found). f ∷ l) rest.found;
   }
 
   pub as_many : (hits : List Hit) (founds : List Found) → AreAt databases hits founds → length hits ≡ length founds
@@ -26,7 +26,7 @@ module _ (databases : List Database) where
   none_at : AreAt databases [] []
   none_at = record { stand = tt; found = refl }
 
-  all_stand : (hits more : List Hit) → AllStand databases hits → AllStand databases more → AllStand databases (hits ++ more)
+  all_stand : (hits more : List Hit) → AreHits databases hits → AreHits databases more → AreHits databases (hits ++ more)
   all_stand [] more a b = b
   all_stand (h ∷ hits) more a b = (a.0, all_stand hits more a.1 b)
 
@@ -53,9 +53,9 @@ module _ (databases : List Database) where
     kept_here : AreAt databases (map (hit n) (places_from p 0 d.entries)) (kept_in p d)
     kept_here = kept_from 0 d.entries (λ k. let same : 0 + k ≡ k = omega arith in ap (slice_get d.entries) same)
 
-  pub kept_at : (p : Entry → Bool) (ns : List Numbered) → All (IsNumbered databases) ns → AreAt databases (hits_by p ns) (kept_by p (databases_of ns))
+  pub kept_at : (p : Entry → Bool) (ns : List Numbered) → All (IsNumberedDatabase databases) ns → AreAt databases (hits_by p ns) (kept_by p (databases_of ns))
   kept_at p [] all = none_at
   kept_at p (n ∷ ns) all =
       both_at (hits_in p n) (hits_by p ns) (kept_in p n.database.now) (kept_by p (databases_of ns))
-      (kept_here p n.number n.database.now (All-head (IsNumbered databases) n ns all))
-      (kept_at p ns (All-tail (IsNumbered databases) n ns all))
+      (kept_here p n.number n.database.now (All-head (IsNumberedDatabase databases) n ns all))
+      (kept_at p ns (All-tail (IsNumberedDatabase databases) n ns all))

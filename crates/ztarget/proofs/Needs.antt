@@ -4,9 +4,9 @@ use Rattle.std.proofs.lemmas.Bool.{true≢false}
 use Rattle.std.specs.Prelude.{IfSome}
 use Rattle.ztarget.specs.declared.database.Entry.{Entry}
 use Rattle.ztarget.specs.declared.needed.Needed.{Needed}
-use Rattle.ztarget.specs.Asking.{HasPhrase, meets}
+use Rattle.ztarget.specs.Asking.{HasPhrase, is_satisfied}
 use Rattle.ztarget.specs.Merging.{merged}
-use Rattle.ztarget.specs.Narrowing.{Narrows, IsNeeded, rarer}
+use Rattle.ztarget.specs.Narrowing.{IsNarrowed, IsNeeded, rarer}
 use Rattle.ztarget.specs.Searching.{places_from}
 use Rattle.ztarget.proofs.Merges.{places_same, none_places, either_places, without_places}
 
@@ -49,42 +49,42 @@ needless false false h = refl
 -- ---- narrowing
 
 module _ (a b : Entry → Bool) (entries : List Entry) where
-  pub kept_by_both : (among kept found : List ℕ) → Narrows a entries among kept → Narrows b entries kept found → Narrows (λ e. a e && b e) entries among found
+  pub kept_by_both : (among kept found : List ℕ) → IsNarrowed a entries among kept → IsNarrowed b entries kept found → IsNarrowed (λ e. a e && b e) entries among found
   kept_by_both among kept found first second p are =
       second (λ e. p e && a e) (first p are)
       ∙ places_same (λ e. (p e && a e) && b e) (λ e. p e && (a e && b e)) (λ e. regrouped (p e) (a e) (b e)) 0 entries
 
-  pub kept_by_either : (among left right : List ℕ) → Narrows a entries among left → Narrows b entries among right
-      → Narrows (λ e. a e || b e) entries among (merged (record { both = true; first = true; second = true }) left right)
+  pub kept_by_either : (among left right : List ℕ) → IsNarrowed a entries among left → IsNarrowed b entries among right
+      → IsNarrowed (λ e. a e || b e) entries among (merged (record { both = true; first = true; second = true }) left right)
   kept_by_either among left right first second p are =
       (λ i. merged (record { both = true; first = true; second = true }) (first p are i) (second p are i))
       ∙ either_places (λ e. p e && a e) (λ e. p e && b e) 0 entries
       ∙ places_same (λ e. (p e && a e) || (p e && b e)) (λ e. p e && (a e || b e)) (λ e. shared (p e) (a e) (b e)) 0 entries
 
-  pub kept_without : (among kept dropped : List ℕ) → Narrows a entries among kept → Narrows b entries kept dropped
-      → Narrows (λ e. a e && not (b e)) entries among (merged (record { both = false; first = true; second = false }) kept dropped)
+  pub kept_without : (among kept dropped : List ℕ) → IsNarrowed a entries among kept → IsNarrowed b entries kept dropped
+      → IsNarrowed (λ e. a e && not (b e)) entries among (merged (record { both = false; first = true; second = false }) kept dropped)
   kept_without among kept dropped first second p are =
       (λ i. merged (record { both = false; first = true; second = false }) (first p are i) (second (λ e. p e && a e) (first p are) i))
       ∙ without_places (λ e. p e && a e) (λ e. (p e && a e) && b e) 0 entries
       ∙ places_same (λ e. (p e && a e) && not ((p e && a e) && b e)) (λ e. p e && (a e && not (b e))) (λ e. left_over (p e) (a e) (b e)) 0 entries
 
-  pub found_without : (kept dropped : List ℕ) → kept ≡ places_from a 0 entries → Narrows b entries kept dropped
+  pub found_without : (kept dropped : List ℕ) → kept ≡ places_from a 0 entries → IsNarrowed b entries kept dropped
       → merged (record { both = false; first = true; second = false }) kept dropped ≡ places_from (λ e. a e && not (b e)) 0 entries
   found_without kept dropped are second =
       (λ i. merged (record { both = false; first = true; second = false }) (are i) (second a are i))
       ∙ without_places a (λ e. a e && b e) 0 entries
       ∙ places_same (λ e. a e && not (a e && b e)) (λ e. a e && not (b e)) (λ e. dropped_of (a e) (b e)) 0 entries
 
-pub none_kept : (entries : List Entry) (among : List ℕ) → Narrows (λ e. false) entries among []
+pub none_kept : (entries : List Entry) (among : List ℕ) → IsNarrowed (λ e. false) entries among []
 none_kept entries among p are = sym (places_same (λ e. p e && false) (λ e. false) (λ e. nothing (p e)) 0 entries ∙ none_places 0 entries)
 
 -- ---- needs
 
-pub kept_of_needed : (q : Entry → Bool) (n : Needed) (entries : List Entry) (among found : List ℕ) → IsNeeded q n → among ≡ places_from (meets (HasPhrase n.used false n.asked.now)) 0 entries
-    → Narrows q entries among found → found ≡ places_from q 0 entries
+pub kept_of_needed : (q : Entry → Bool) (n : Needed) (entries : List Entry) (among found : List ℕ) → IsNeeded q n → among ≡ places_from (is_satisfied (HasPhrase n.used false n.asked.now)) 0 entries
+    → IsNarrowed q entries among found → found ≡ places_from q 0 entries
 kept_of_needed q n entries among found needs are narrows =
-    narrows (meets (HasPhrase n.used false n.asked.now)) are
-    ∙ places_same (λ e. meets (HasPhrase n.used false n.asked.now) e && q e) q (λ e. needless (meets (HasPhrase n.used false n.asked.now) e) (q e) (needs e)) 0 entries
+    narrows (is_satisfied (HasPhrase n.used false n.asked.now)) are
+    ∙ places_same (λ e. is_satisfied (HasPhrase n.used false n.asked.now) e && q e) q (λ e. needless (is_satisfied (HasPhrase n.used false n.asked.now) e) (q e) (needs e)) 0 entries
 
 module _ (a b : Entry → Bool) where
   needed_first : (n : Option Needed) → IfSome n (IsNeeded a) → IfSome n (IsNeeded (λ e. a e && b e))

@@ -9,13 +9,13 @@ use Rattle.std.specs.Ordering.{nat_cmp}
 use Rattle.std.specs.Str.{bytes_eq}
 use Rattle.ztarget.specs.declared.database.Database.{Database}
 use Rattle.ztarget.specs.Faults.{is_called}
-use Rattle.ztarget.specs.Searching.{stands_among, each_once, called}
+use Rattle.ztarget.specs.Searching.{is_name_among, each_once, called}
 use Rattle.ztarget.proofs.FewEntries.{among_more}
 
 -- what a set of the names before tells of them with one more
-pub told_more : (before after : List (List ℕ)) (name q : List ℕ) (old new : Bool) → after ≡ before ++ name ∷ [] → old ≡ stands_among before q
-    → new ≡ cond (is_at (slice_cmp nat_cmp name) q) true old → new ≡ stands_among after q
-told_more before after name q old new is told added =
+pub membership_more : (before after : List (List ℕ)) (name q : List ℕ) (old new : Bool) → after ≡ before ++ name ∷ [] → old ≡ is_name_among before q
+    → new ≡ cond (is_at (slice_cmp nat_cmp name) q) true old → new ≡ is_name_among after q
+membership_more before after name q old new is told added =
     let either : (a b : Bool) → cond b true a ≡ (a || b) = λ a b. elim b as (λ b. cond b true a ≡ (a || b)) [
       | true ↦ elim a as (λ a. true ≡ (a || true)) [ true ↦ refl | false ↦ refl ]
       | false ↦ elim a as (λ a. a ≡ (a || false)) [ true ↦ refl | false ↦ refl ]
@@ -25,20 +25,20 @@ told_more before after name q old new is told added =
     ∙ either old (bytes_eq name q)
     ∙ ap (λ b. b || bytes_eq name q) told
     ∙ sym (among_more before name q)
-    ∙ ap (λ names. stands_among names q) (sym is)
+    ∙ ap (λ names. is_name_among names q) (sym is)
 
 module _ (ds : List Database) (before left after behind : List (List ℕ)) (name : List ℕ) (is : left ≡ name ∷ behind) (next : after ≡ before ++ name ∷ []) where
-  one_step : flat_map (called ds) (each_once before left) ≡ flat_map (called ds) (if stands_among before name then each_once after behind else name ∷ each_once after behind)
+  one_step : flat_map (called ds) (each_once before left) ≡ flat_map (called ds) (if is_name_among before name then each_once after behind else name ∷ each_once after behind)
   one_step =
       ap (λ names. flat_map (called ds) (each_once before names)) is
-      ∙ ap (λ names. flat_map (called ds) (if stands_among before name then each_once names behind else name ∷ each_once names behind)) (sym next)
+      ∙ ap (λ names. flat_map (called ds) (if is_name_among before name then each_once names behind else name ∷ each_once names behind)) (sym next)
 
   -- a name that is new
-  pub new_name : stands_among before name ≡ false → flat_map (called ds) (each_once before left) ≡ called ds name ++ flat_map (called ds) (each_once after behind)
+  pub new_name : is_name_among before name ≡ false → flat_map (called ds) (each_once before left) ≡ called ds name ++ flat_map (called ds) (each_once after behind)
   new_name h = one_step ∙ ap (λ b. flat_map (called ds) (if b then each_once after behind else name ∷ each_once after behind)) h
 
   -- one that is not
-  pub old_name : stands_among before name ≡ true → flat_map (called ds) (each_once before left) ≡ flat_map (called ds) (each_once after behind)
+  pub old_name : is_name_among before name ≡ true → flat_map (called ds) (each_once before left) ≡ flat_map (called ds) (each_once after behind)
   old_name h = one_step ∙ ap (λ b. flat_map (called ds) (if b then each_once after behind else name ∷ each_once after behind)) h
 
 -- the databases of a name among those from a number on

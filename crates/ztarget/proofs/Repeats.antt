@@ -26,6 +26,6 @@ module _ (all left right left' right' : Entry → Bool) (lefts : left ≡ left')
   first_meets h = h ∙ (λ i e. lefts i e && not (rights i e))
 
 -- a clause on `true`, where it is told by the equation
-pub told_true : (b : Bool) (P : Type 0) → (b ≡ true → P) → OnTrue b P
-told_true true P f = f refl
-told_true false P f = tt
+pub true_by_equation : (b : Bool) (P : Type 0) → (b ≡ true → P) → OnTrue b P
+true_by_equation true P f = f refl
+true_by_equation false P f = tt

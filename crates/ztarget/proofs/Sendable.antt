@@ -5,18 +5,18 @@ use Rattle.std.proofs.lemmas.Option.{slice_get_within, get_or_from_slice_get}
 use Rattle.std.proofs.lemmas.List.Elements.{All-append, All-take, All-drop, All-push, All-same, All-get_or}
 use Rattle.zapdu.specs.declared.apdu.Apdu.{Apdu}
 use Rattle.ztarget.specs.Levels.{HasElement}
-use Rattle.ztarget.specs.Receiving.{TakesOut}
+use Rattle.ztarget.specs.Receiving.{TakeOutStep}
 
 pub put_last : (old new : List Apdu) (apdu : Apdu) → new ≡ old ++ apdu ∷ [] → All HasElement old → HasElement apdu → All HasElement new
 put_last old new apdu is h last = All-same HasElement new (old ++ apdu ∷ []) is (All-push HasElement old apdu h last)
 
-pub others_left : (old new : List Apdu) (k : ℕ) (o : Option Apdu) → TakesOut old k o new → All HasElement old → All HasElement new
+pub others_left : (old new : List Apdu) (k : ℕ) (o : Option Apdu) → TakeOutStep old k o new → All HasElement old → All HasElement new
 others_left old new k None h all = All-same HasElement new old h.1 all
 others_left old new k (Some apdu) h all =
     All-same HasElement new (remove old k) h.2
     (All-append HasElement (take k old) (drop (suc k) old) (All-take HasElement k old all) (All-drop HasElement (suc k) old all))
 
-pub one_taken : (old new : List Apdu) (k : ℕ) (o : Option Apdu) → TakesOut old k o new → All HasElement old → IfSome o HasElement
+pub one_taken : (old new : List Apdu) (k : ℕ) (o : Option Apdu) → TakeOutStep old k o new → All HasElement old → IfSome o HasElement
 one_taken old new k None h all = tt
 one_taken old new k (Some apdu) h all =
     subst HasElement (get_or_from_slice_get old k apdu apdu h.1) (All-get_or HasElement old k apdu (slice_get_within old k apdu h.1) all)

@@ -27,9 +27,9 @@ use Rattle.zplan.proofs.Cuts.{in_left, in_right, in_either}
 use Rattle.ztarget.specs.declared.database.Entry.{Entry}
 use Rattle.ztarget.specs.declared.database.Field.{Field}
 use Rattle.ztarget.specs.declared.index.Place.{Place}
-use Rattle.ztarget.specs.Indexing.{place, word_places, field_places, entry_places, picked, standing, IsIndexOf, begun, places_of}
-use Rattle.ztarget.specs.Matching.{stands_first}
-use Rattle.ztarget.specs.Phrasing.{word_begins, field_begins, entry_begins, phrase_places, place_cmp, is_begun_by}
+use Rattle.ztarget.specs.Indexing.{place, word_places, field_places, entry_places, picked_places, indexed_places, IsIndexOf, begun, all_indexed_places}
+use Rattle.ztarget.specs.Matching.{is_at_front}
+use Rattle.ztarget.specs.Phrasing.{word_starts, field_starts, entry_starts, phrase_places, place_cmp, is_begun_by}
 use Rattle.ztarget.specs.Words.{words}
 use Rattle.ztarget.proofs.Indexes.{picked_append}
 use Rattle.ztarget.proofs.Members.{among_from, contains_from, same_members, place_total, place_exact}
@@ -37,53 +37,53 @@ use Rattle.ztarget.proofs.Walks.{equal, Behind, word_less, behind_less, all_word
 
 -- the places of the words that pass are those at which a word passes
 module _ (p : List ℕ → Bool) (q : List (List ℕ) → Bool) (same : (v : List ℕ) (vs : List (List ℕ)) → p v ≡ q (v ∷ vs)) where
-  picked_words : (e f k : ℕ) (vs : List (List ℕ)) → picked p (word_places e f k vs) ≡ word_begins q e f k vs
+  picked_words : (e f k : ℕ) (vs : List (List ℕ)) → picked_places p (word_places e f k vs) ≡ word_starts q e f k vs
   picked_words e f k [] = refl
   picked_words e f k (v ∷ vs) =
-      ap (λ b. if b then place e f k ∷ picked p (word_places e f (k + 1) vs) else picked p (word_places e f (k + 1) vs)) (same v vs)
+      ap (λ b. if b then place e f k ∷ picked_places p (word_places e f (k + 1) vs) else picked_places p (word_places e f (k + 1) vs)) (same v vs)
       ∙ ap (λ l. if q (v ∷ vs) then place e f k ∷ l else l) (picked_words e f (k + 1) vs)
 
-  picked_fields : (e f : ℕ) (fs : List Field) → picked p (field_places e f fs) ≡ field_begins q e f fs
+  picked_fields : (e f : ℕ) (fs : List Field) → picked_places p (field_places e f fs) ≡ field_starts q e f fs
   picked_fields e f [] = refl
   picked_fields e f (x ∷ xs) =
       picked_append p (word_places e f 0 (words x.text)) (field_places e (f + 1) xs)
-      ∙ ap (λ l. l ++ picked p (field_places e (f + 1) xs)) (picked_words e f 0 (words x.text))
-      ∙ ap (λ l. word_begins q e f 0 (words x.text) ++ l) (picked_fields e (f + 1) xs)
+      ∙ ap (λ l. l ++ picked_places p (field_places e (f + 1) xs)) (picked_words e f 0 (words x.text))
+      ∙ ap (λ l. word_starts q e f 0 (words x.text) ++ l) (picked_fields e (f + 1) xs)
 
-  pub picked_entries : (n : ℕ) (es : List Entry) → picked p (entry_places n es) ≡ entry_begins q n es
+  pub picked_entries : (n : ℕ) (es : List Entry) → picked_places p (entry_places n es) ≡ entry_starts q n es
   picked_entries n [] = refl
   picked_entries n (x ∷ xs) =
       picked_append p (field_places n 0 x.fields) (entry_places (n + 1) xs)
-      ∙ ap (λ l. l ++ picked p (entry_places (n + 1) xs)) (picked_fields n 0 x.fields)
-      ∙ ap (λ l. field_begins q n 0 x.fields ++ l) (picked_entries (n + 1) xs)
+      ∙ ap (λ l. l ++ picked_places p (entry_places (n + 1) xs)) (picked_fields n 0 x.fields)
+      ∙ ap (λ l. field_starts q n 0 x.fields ++ l) (picked_entries (n + 1) xs)
 
 -- they stand in order
 module _ (q : List (List ℕ) → Bool) where
-  sorted_words : (e f k : ℕ) (vs : List (List ℕ)) (rest : List Place) → AllByRecursion (Behind e f) rest → IsStrictlySortedBy place_cmp rest → IsStrictlySortedBy place_cmp (word_begins q e f k vs ++ rest)
+  sorted_words : (e f k : ℕ) (vs : List (List ℕ)) (rest : List Place) → AllByRecursion (Behind e f) rest → IsStrictlySortedBy place_cmp rest → IsStrictlySortedBy place_cmp (word_starts q e f k vs ++ rest)
   unfolding IsStrictlySortedBy
   sorted_words e f k [] rest behind sorted = sorted
   sorted_words e f k (v ∷ vs) rest behind sorted =
       let later = sorted_words e f (k + 1) vs rest behind sorted in
-      let above : AllByRecursion (λ y. place_cmp (place e f k) y ≡ Less) (word_begins q e f (k + 1) vs ++ rest) =
+      let above : AllByRecursion (λ y. place_cmp (place e f k) y ≡ Less) (word_starts q e f (k + 1) vs ++ rest) =
       all_words (λ y. place_cmp (place e f k) y ≡ Less) q e f (k + 1) vs rest (λ j le. word_less e f k j (omega (arith, le)))
       (map_all (Behind e f) (λ y. place_cmp (place e f k) y ≡ Less) (λ y h. behind_less e f k y.word y h) rest behind) in
-      elim (q (v ∷ vs)) as (λ b. IsStrictlySortedBy place_cmp ((if b then place e f k ∷ word_begins q e f (k + 1) vs else word_begins q e f (k + 1) vs) ++ rest)) [
+      elim (q (v ∷ vs)) as (λ b. IsStrictlySortedBy place_cmp ((if b then place e f k ∷ word_starts q e f (k + 1) vs else word_starts q e f (k + 1) vs) ++ rest)) [
         | true ↦ (above, later)
         | false ↦ later
       ]
 
-  sorted_fields : (e f : ℕ) (fs : List Field) (rest : List Place) → AllByRecursion (λ p. e < p.entry) rest → IsStrictlySortedBy place_cmp rest → IsStrictlySortedBy place_cmp (field_begins q e f fs ++ rest)
+  sorted_fields : (e f : ℕ) (fs : List Field) (rest : List Place) → AllByRecursion (λ p. e < p.entry) rest → IsStrictlySortedBy place_cmp rest → IsStrictlySortedBy place_cmp (field_starts q e f fs ++ rest)
   sorted_fields e f [] rest behind sorted = sorted
   sorted_fields e f (x ∷ xs) rest behind sorted =
-      subst (IsStrictlySortedBy place_cmp) (sym (append_assoc (word_begins q e f 0 (words x.text)) (field_begins q e (f + 1) xs) rest))
-      (sorted_words e f 0 (words x.text) (field_begins q e (f + 1) xs ++ rest)
+      subst (IsStrictlySortedBy place_cmp) (sym (append_assoc (word_starts q e f 0 (words x.text)) (field_starts q e (f + 1) xs) rest))
+      (sorted_words e f 0 (words x.text) (field_starts q e (f + 1) xs ++ rest)
       (all_fields (Behind e f) q e (f + 1) xs rest (λ g j le. inr (refl, omega (arith, le))) (map_all (λ p. e < p.entry) (Behind e f) (λ p lt. inl lt) rest behind))
       (sorted_fields e (f + 1) xs rest behind sorted))
 
-  pub sorted_begins : (n : ℕ) (es : List Entry) → IsStrictlySortedBy place_cmp (entry_begins q n es)
+  pub sorted_begins : (n : ℕ) (es : List Entry) → IsStrictlySortedBy place_cmp (entry_starts q n es)
   unfolding IsStrictlySortedBy
   sorted_begins n [] = tt
-  sorted_begins n (x ∷ xs) = sorted_fields n 0 x.fields (entry_begins q (n + 1) xs) (all_entries (λ p. n < p.entry) q (n + 1) xs (λ e g j le. omega (arith, le))) (sorted_begins (n + 1) xs)
+  sorted_begins n (x ∷ xs) = sorted_fields n 0 x.fields (entry_starts q (n + 1) xs) (all_entries (λ p. n < p.entry) q (n + 1) xs (λ e g j le. omega (arith, le))) (sorted_begins (n + 1) xs)
 
 -- a word is not above those that begin with it
 begun_above : (w v : List ℕ) → is_begun_by w v ≡ true → is_le (slice_cmp nat_cmp w v) ≡ true
@@ -157,17 +157,17 @@ module _ (w : List ℕ) where
       ] in
       either (is_le (slice_cmp nat_cmp w e.0)) refl
 
-picked_before : (p : List ℕ → Bool) (x : Place) (o : List ℕ × Place) (os : List (List ℕ × Place)) → IsIn x (picked p os) → IsIn x (picked p (o ∷ os))
-picked_before p x o os h = elim (p o.0) as (λ b. IsIn x (if b then o.1 ∷ picked p os else picked p os)) [ true ↦ inr h | false ↦ h ]
+picked_before : (p : List ℕ → Bool) (x : Place) (o : List ℕ × Place) (os : List (List ℕ × Place)) → IsIn x (picked_places p os) → IsIn x (picked_places p (o ∷ os))
+picked_before p x o os h = elim (p o.0) as (λ b. IsIn x (if b then o.1 ∷ picked_places p os else picked_places p os)) [ true ↦ inr h | false ↦ h ]
 
 -- more words pass
-picked_more : (p r : List ℕ → Bool) (x : Place) (os : List (List ℕ × Place)) → ((v : List ℕ) → p v ≡ true → r v ≡ true) → IsIn x (picked p os) → IsIn x (picked r os)
+picked_more : (p r : List ℕ → Bool) (x : Place) (os : List (List ℕ × Place)) → ((v : List ℕ) → p v ≡ true → r v ≡ true) → IsIn x (picked_places p os) → IsIn x (picked_places r os)
 picked_more p r x [] more h = h
 picked_more p r x (o ∷ os) more h =
-    let either : (b : Bool) → p o.0 ≡ b → IsIn x (if b then o.1 ∷ picked p os else picked p os) → IsIn x (picked r (o ∷ os)) =
-    λ b. elim b as (λ b. p o.0 ≡ b → IsIn x (if b then o.1 ∷ picked p os else picked p os) → IsIn x (picked r (o ∷ os))) [
-      | true ↦ (λ is h. elim h as (λ _. IsIn x (picked r (o ∷ os))) [
-        | inl e ↦ subst (λ b. IsIn x (if b then o.1 ∷ picked r os else picked r os)) (sym (more o.0 is)) (inl e)
+    let either : (b : Bool) → p o.0 ≡ b → IsIn x (if b then o.1 ∷ picked_places p os else picked_places p os) → IsIn x (picked_places r (o ∷ os)) =
+    λ b. elim b as (λ b. p o.0 ≡ b → IsIn x (if b then o.1 ∷ picked_places p os else picked_places p os) → IsIn x (picked_places r (o ∷ os))) [
+      | true ↦ (λ is h. elim h as (λ _. IsIn x (picked_places r (o ∷ os))) [
+        | inl e ↦ subst (λ b. IsIn x (if b then o.1 ∷ picked_places r os else picked_places r os)) (sym (more o.0 is)) (inl e)
         | inr k ↦ picked_before r x o os (picked_more p r x os more k)
       ])
       | false ↦ (λ is h. picked_before r x o os (picked_more p r x os more h))
@@ -178,15 +178,15 @@ same_octets : (v : List ℕ) → bytes_eq v v ≡ true
 same_octets v = (bytes_eq-Decides v v).1 refl
 
 -- a place of words that pass is one of a word that passes
-picked_word : (p : List ℕ → Bool) (x : Place) (os : List (List ℕ × Place)) → IsIn x (picked p os) → (v : List ℕ) × (p v ≡ true) × IsIn x (picked (bytes_eq v) os)
+picked_word : (p : List ℕ → Bool) (x : Place) (os : List (List ℕ × Place)) → IsIn x (picked_places p os) → (v : List ℕ) × (p v ≡ true) × IsIn x (picked_places (bytes_eq v) os)
 picked_word p x [] h = absurd h
 picked_word p x (o ∷ os) h =
-    let further : IsIn x (picked p os) → (v : List ℕ) × (p v ≡ true) × IsIn x (picked (bytes_eq v) (o ∷ os)) =
+    let further : IsIn x (picked_places p os) → (v : List ℕ) × (p v ≡ true) × IsIn x (picked_places (bytes_eq v) (o ∷ os)) =
     λ k. (let found = picked_word p x os k in (found.0, found.1, picked_before (bytes_eq found.0) x o os found.2)) in
-    let either : (b : Bool) → p o.0 ≡ b → IsIn x (if b then o.1 ∷ picked p os else picked p os) → (v : List ℕ) × (p v ≡ true) × IsIn x (picked (bytes_eq v) (o ∷ os)) =
-    λ b. elim b as (λ b. p o.0 ≡ b → IsIn x (if b then o.1 ∷ picked p os else picked p os) → (v : List ℕ) × (p v ≡ true) × IsIn x (picked (bytes_eq v) (o ∷ os))) [
-      | true ↦ (λ is h. elim h as (λ _. (v : List ℕ) × (p v ≡ true) × IsIn x (picked (bytes_eq v) (o ∷ os))) [
-        | inl e ↦ (o.0, is, subst (λ b. IsIn x (if b then o.1 ∷ picked (bytes_eq o.0) os else picked (bytes_eq o.0) os)) (sym (same_octets o.0)) (inl e))
+    let either : (b : Bool) → p o.0 ≡ b → IsIn x (if b then o.1 ∷ picked_places p os else picked_places p os) → (v : List ℕ) × (p v ≡ true) × IsIn x (picked_places (bytes_eq v) (o ∷ os)) =
+    λ b. elim b as (λ b. p o.0 ≡ b → IsIn x (if b then o.1 ∷ picked_places p os else picked_places p os) → (v : List ℕ) × (p v ≡ true) × IsIn x (picked_places (bytes_eq v) (o ∷ os))) [
+      | true ↦ (λ is h. elim h as (λ _. (v : List ℕ) × (p v ≡ true) × IsIn x (picked_places (bytes_eq v) (o ∷ os))) [
+        | inl e ↦ (o.0, is, subst (λ b. IsIn x (if b then o.1 ∷ picked_places (bytes_eq o.0) os else picked_places (bytes_eq o.0) os)) (sym (same_octets o.0)) (inl e))
         | inr k ↦ further k
       ])
       | false ↦ (λ is h. further h)
@@ -194,15 +194,15 @@ picked_word p x (o ∷ os) h =
     either (p o.0) refl h
 
 module _ (w : List ℕ) where
-  told_by : (x : Place) (es : List (List ℕ × List Place)) → IsIn x (places_of (begun w es)) → (e : List ℕ × List Place) × IsIn e es × (is_begun_by w e.0 ≡ true) × IsIn x e.1
+  told_by : (x : Place) (es : List (List ℕ × List Place)) → IsIn x (all_indexed_places (begun w es)) → (e : List ℕ × List Place) × IsIn e es × (is_begun_by w e.0 ≡ true) × IsIn x e.1
   told_by x [] h = absurd h
   told_by x (e ∷ es) h =
-      let further : IsIn x (places_of (begun w es)) → (f : List ℕ × List Place) × IsIn f (e ∷ es) × (is_begun_by w f.0 ≡ true) × IsIn x f.1 =
+      let further : IsIn x (all_indexed_places (begun w es)) → (f : List ℕ × List Place) × IsIn f (e ∷ es) × (is_begun_by w f.0 ≡ true) × IsIn x f.1 =
       λ k. (let found = told_by x es k in (found.0, inr found.1, found.2, found.3)) in
       let later = begun w es in
-      let either : (b : Bool) → is_begun_by w e.0 ≡ b → IsIn x (places_of (cond b (e ∷ later) later)) → (f : List ℕ × List Place) × IsIn f (e ∷ es) × (is_begun_by w f.0 ≡ true) × IsIn x f.1 =
-      λ b. elim b as (λ b. is_begun_by w e.0 ≡ b → IsIn x (places_of (cond b (e ∷ later) later)) → (f : List ℕ × List Place) × IsIn f (e ∷ es) × (is_begun_by w f.0 ≡ true) × IsIn x f.1) [
-        | true ↦ (λ is h. elim (in_either x e.1 (places_of later) h) as (λ _. (f : List ℕ × List Place) × IsIn f (e ∷ es) × (is_begun_by w f.0 ≡ true) × IsIn x f.1) [
+      let either : (b : Bool) → is_begun_by w e.0 ≡ b → IsIn x (all_indexed_places (cond b (e ∷ later) later)) → (f : List ℕ × List Place) × IsIn f (e ∷ es) × (is_begun_by w f.0 ≡ true) × IsIn x f.1 =
+      λ b. elim b as (λ b. is_begun_by w e.0 ≡ b → IsIn x (all_indexed_places (cond b (e ∷ later) later)) → (f : List ℕ × List Place) × IsIn f (e ∷ es) × (is_begun_by w f.0 ≡ true) × IsIn x f.1) [
+        | true ↦ (λ is h. elim (in_either x e.1 (all_indexed_places later) h) as (λ _. (f : List ℕ × List Place) × IsIn f (e ∷ es) × (is_begun_by w f.0 ≡ true) × IsIn x f.1) [
           | inl k ↦ (e, inl refl, is, k)
           | inr k ↦ further k
         ])
@@ -210,64 +210,64 @@ module _ (w : List ℕ) where
       ] in
       either (is_begun_by w e.0) refl h
 
-  stood_by : (x : Place) (v : List ℕ) (es : List (List ℕ × List Place)) → is_begun_by w v ≡ true → IsIn x (standing es v) → IsIn x (places_of (begun w es))
+  stood_by : (x : Place) (v : List ℕ) (es : List (List ℕ × List Place)) → is_begun_by w v ≡ true → IsIn x (indexed_places es v) → IsIn x (all_indexed_places (begun w es))
   stood_by x v [] is h = absurd h
   stood_by x v (e ∷ es) is h =
       let later = begun w es in
-      let either : (b : Bool) → is_at (slice_cmp nat_cmp v) e.0 ≡ b → IsIn x (unwrap_or (cond b (Some e.1) (lookup (is_at (slice_cmp nat_cmp v)) es)) []) → IsIn x (places_of (cond (is_begun_by w e.0) (e ∷ later) later)) =
-      λ b. elim b as (λ b. is_at (slice_cmp nat_cmp v) e.0 ≡ b → IsIn x (unwrap_or (cond b (Some e.1) (lookup (is_at (slice_cmp nat_cmp v)) es)) []) → IsIn x (places_of (cond (is_begun_by w e.0) (e ∷ later) later))) [
+      let either : (b : Bool) → is_at (slice_cmp nat_cmp v) e.0 ≡ b → IsIn x (unwrap_or (cond b (Some e.1) (lookup (is_at (slice_cmp nat_cmp v)) es)) []) → IsIn x (all_indexed_places (cond (is_begun_by w e.0) (e ∷ later) later)) =
+      λ b. elim b as (λ b. is_at (slice_cmp nat_cmp v) e.0 ≡ b → IsIn x (unwrap_or (cond b (Some e.1) (lookup (is_at (slice_cmp nat_cmp v)) es)) []) → IsIn x (all_indexed_places (cond (is_begun_by w e.0) (e ∷ later) later))) [
         | true ↦ (λ at h.
             let same : v ≡ e.0 = exact_bytes v e.0 ((Equal-is (slice_cmp nat_cmp v e.0)).0 at) in
             let here : is_begun_by w e.0 ≡ true = ap (is_begun_by w) (sym same) ∙ is in
-            subst (λ b. IsIn x (places_of (cond b (e ∷ later) later))) (sym here) (in_left x e.1 (places_of later) h))
+            subst (λ b. IsIn x (all_indexed_places (cond b (e ∷ later) later))) (sym here) (in_left x e.1 (all_indexed_places later) h))
         | false ↦ (λ at h.
             let found = stood_by x v es is h in
-            elim (is_begun_by w e.0) as (λ b. IsIn x (places_of (cond b (e ∷ later) later))) [ true ↦ in_right x e.1 (places_of later) found | false ↦ found ])
+            elim (is_begun_by w e.0) as (λ b. IsIn x (all_indexed_places (cond b (e ∷ later) later))) [ true ↦ in_right x e.1 (all_indexed_places later) found | false ↦ found ])
       ] in
       either (is_at (slice_cmp nat_cmp v) e.0) refl h
 
 module _ (entries : List Entry) (index : List (List ℕ × List Place)) (w : List ℕ) (sorted : IsStrictlySortedBy (slice_cmp nat_cmp) (keys_of index)) (is : IsIndexOf entries index) where
-  gathered_begins : (x : Place) → IsIn x (places_of (begun w index)) → IsIn x (picked (is_begun_by w) (entry_places 0 entries))
+  gathered_begins : (x : Place) → IsIn x (all_indexed_places (begun w index)) → IsIn x (picked_places (is_begun_by w) (entry_places 0 entries))
   gathered_begins x h =
       let told = told_by w x index h in
       let v = told.0.0 in
       let here = lookup-from_Contains (eq_by_cmp_equiv nat_list_cmp_total) v told.0.1 index (IsDistinct-from_sorted (slice_cmp nat_cmp) (keys_of index) sorted) (contains_from told.0 index told.1) in
-      let stands : told.0.1 ≡ picked (bytes_eq v) (entry_places 0 entries) = sym (ap (λ o. unwrap_or o []) here) ∙ is v in
+      let stands : told.0.1 ≡ picked_places (bytes_eq v) (entry_places 0 entries) = sym (ap (λ o. unwrap_or o []) here) ∙ is v in
       picked_more (bytes_eq v) (is_begun_by w) x (entry_places 0 entries) (λ u same. ap (is_begun_by w) (sym ((bytes_eq-Decides v u).0 same)) ∙ told.2) (subst (IsIn x) stands told.3)
 
-  begins_gathered : (x : Place) → IsIn x (picked (is_begun_by w) (entry_places 0 entries)) → IsIn x (places_of (begun w index))
+  begins_gathered : (x : Place) → IsIn x (picked_places (is_begun_by w) (entry_places 0 entries)) → IsIn x (all_indexed_places (begun w index))
   begins_gathered x h =
       let found = picked_word (is_begun_by w) x (entry_places 0 entries) h in
       stood_by w x found.0 index found.1 (subst (IsIn x) (sym (is found.0)) found.2)
 
   -- what was gathered, in order and each once, is where a word begins with this one
   pub truncated_found : (found : List Place) → IsStrictlySortedBy place_cmp found
-      → ((x : Place) → IsIn x found → IsIn x (places_of (begun w index)))
-      → ((x : Place) → IsIn x (places_of (begun w index)) → IsIn x found)
-      → found ≡ entry_begins (stands_first true (w ∷ [])) 0 entries
+      → ((x : Place) → IsIn x found → IsIn x (all_indexed_places (begun w index)))
+      → ((x : Place) → IsIn x (all_indexed_places (begun w index)) → IsIn x found)
+      → found ≡ entry_starts (is_at_front true (w ∷ [])) 0 entries
   truncated_found found in_order to from =
-      let begins = picked_entries (is_begun_by w) (stands_first true (w ∷ [])) (λ v vs. elim (is_begun_by w v) as (λ b. b ≡ (b && true)) [ true ↦ refl | false ↦ refl ]) 0 entries in
-      same_members found (entry_begins (stands_first true (w ∷ [])) 0 entries) in_order (sorted_begins (stands_first true (w ∷ [])) 0 entries)
+      let begins = picked_entries (is_begun_by w) (is_at_front true (w ∷ [])) (λ v vs. elim (is_begun_by w v) as (λ b. b ≡ (b && true)) [ true ↦ refl | false ↦ refl ]) 0 entries in
+      same_members found (entry_starts (is_at_front true (w ∷ [])) 0 entries) in_order (sorted_begins (is_at_front true (w ∷ [])) 0 entries)
       (λ x h. subst (IsIn x) begins (gathered_begins x (to x h)))
       (λ x h. from x (begins_gathered x (subst (IsIn x) (sym begins) h)))
 
 -- the same after a sort, and with each place kept once
 module _ (entries : List Entry) (index : List (List ℕ × List Place)) (w : List ℕ) (in_order : IsStrictlySortedBy (slice_cmp nat_cmp) (keys_of index)) (is : IsIndexOf entries index) where
-  tidied_once : (sorted : List Place) → IsPermutation (places_of (begun w index)) sorted → IsSorted place_cmp sorted → dedup (eq_by_cmp place_cmp) sorted ≡ entry_begins (stands_first true (w ∷ [])) 0 entries
+  tidied_once : (sorted : List Place) → IsPermutation (all_indexed_places (begun w index)) sorted → IsSorted place_cmp sorted → dedup (eq_by_cmp place_cmp) sorted ≡ entry_starts (is_at_front true (w ∷ [])) 0 entries
   tidied_once sorted moved rising =
       let exact : (x y : Place) → eq_by_cmp place_cmp x y ≡ true → x ≡ y = λ x y h. place_exact x y ((Equal-is (place_cmp x y)).0 h) in
       truncated_found entries index w in_order is (dedup (eq_by_cmp place_cmp) sorted)
       (IsStrictlySortedBy-dedup place_total (λ x y. refl) sorted rising)
-      (λ x h. among_from x (places_of (begun w index)) (Contains-permutation sorted (places_of (begun w index)) x (IsPermutation-sym (places_of (begun w index)) sorted moved)
+      (λ x h. among_from x (all_indexed_places (begun w index)) (Contains-permutation sorted (all_indexed_places (begun w index)) x (IsPermutation-sym (all_indexed_places (begun w index)) sorted moved)
       (Contains-from_dedup (eq_by_cmp place_cmp) sorted x (contains_from x (dedup (eq_by_cmp place_cmp) sorted) h))))
       (λ x h. among_from x (dedup (eq_by_cmp place_cmp) sorted) (Contains-dedup (eq_by_cmp_equiv place_total) exact sorted x
-      (Contains-permutation (places_of (begun w index)) sorted x moved (contains_from x (places_of (begun w index)) h))))
+      (Contains-permutation (all_indexed_places (begun w index)) sorted x moved (contains_from x (all_indexed_places (begun w index)) h))))
 
-  pub tidied : (E : Place → Place → Bool) → ((x y : Place) → E x y ≡ eq_by_cmp place_cmp x y) → (gathered sorted found : List Place) → gathered ≡ places_of (begun w index)
-      → IsPermutation gathered sorted → IsSorted place_cmp sorted → found ≡ dedup E sorted → found ≡ entry_begins (stands_first true (w ∷ [])) 0 entries
+  pub tidied : (E : Place → Place → Bool) → ((x y : Place) → E x y ≡ eq_by_cmp place_cmp x y) → (gathered sorted found : List Place) → gathered ≡ all_indexed_places (begun w index)
+      → IsPermutation gathered sorted → IsSorted place_cmp sorted → found ≡ dedup E sorted → found ≡ entry_starts (is_at_front true (w ∷ [])) 0 entries
   tidied E ties gathered sorted found from moved rising once =
       once ∙ ap (λ e. dedup e sorted) (fun_ext (λ x. fun_ext (ties x))) ∙ tidied_once sorted (subst (λ l. IsPermutation l sorted) from moved) rising
 
 -- the places of one word
-pub one_word : (entries : List Entry) (w : List ℕ) → picked (bytes_eq w) (entry_places 0 entries) ≡ phrase_places false (w ∷ []) entries
-one_word entries w = picked_entries (bytes_eq w) (stands_first false (w ∷ [])) (λ v vs. elim (bytes_eq w v) as (λ b. b ≡ (b && true)) [ true ↦ refl | false ↦ refl ]) 0 entries
+pub one_word : (entries : List Entry) (w : List ℕ) → picked_places (bytes_eq w) (entry_places 0 entries) ≡ phrase_places false (w ∷ []) entries
+one_word entries w = picked_entries (bytes_eq w) (is_at_front false (w ∷ [])) (λ v vs. elim (bytes_eq w v) as (λ b. b ≡ (b && true)) [ true ↦ refl | false ↦ refl ]) 0 entries

@@ -6,12 +6,12 @@ use Rattle.ztarget.specs.declared.error.MatchError.{MatchError}
 use Rattle.ztarget.specs.declared.error.MatchError.TheVariants as matching
 
 -- of the refusal of an APDU
-abbrev pub target_word : TargetError → List ℕ
-target_word refusals.NotRequest = codes "NotRequest"
-target_word refusals.WrongState = codes "WrongState"
-target_word refusals.Memory = codes "Memory"
+abbrev pub target_error_name : TargetError → List ℕ
+target_error_name refusals.NotRequest = codes "NotRequest"
+target_error_name refusals.WrongState = codes "WrongState"
+target_error_name refusals.Memory = codes "Memory"
 
 -- of the refusal of a query
-abbrev pub match_word : MatchError → List ℕ
-match_word (matching.Code code info) = codes "Code"
-match_word matching.Memory = codes "Memory"
+abbrev pub match_error_name : MatchError → List ℕ
+match_error_name (matching.Code code info) = codes "Code"
+match_error_name matching.Memory = codes "Memory"

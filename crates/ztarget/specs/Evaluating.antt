@@ -7,12 +7,12 @@ use Rattle.std.specs.Ordering.{nat_cmp, int_cmp, bool_cmp, ordering_then}
 use Rattle.std.specs.declared.cmp.Ordering.{Ordering}
 use Rattle.ztarget.specs.declared.database.Entry.{Entry}
 use Rattle.ztarget.specs.declared.evaluation.Sought.{Sought}
-use Rattle.ztarget.specs.Asking.{HasPhrase, meets}
+use Rattle.ztarget.specs.Asking.{HasPhrase, is_satisfied}
 use Rattle.ztarget.specs.Searching.{places_from}
 
 -- the entry has the phrase
 abbrev pub has_sought : Sought → Entry → Bool
-has_sought s = meets (HasPhrase s.used s.truncated s.asked.now)
+has_sought s = is_satisfied (HasPhrase s.used s.truncated s.asked.now)
 
 -- by Use, then truncation, then words
 abbrev pub sought_cmp : Sought → Sought → Ordering

@@ -9,7 +9,7 @@ use Rattle.std.specs.Str.{bytes_eq}
 use Rattle.ztarget.specs.declared.database.Entry.{Entry}
 use Rattle.ztarget.specs.declared.database.Field.{Field}
 use Rattle.ztarget.specs.declared.index.Place.{Place}
-use Rattle.ztarget.specs.Matching.{is_used}
+use Rattle.ztarget.specs.Matching.{is_searched_field}
 use Rattle.ztarget.specs.Words.{words}
 
 abbrev pub place : ℕ → ℕ → ℕ → Place
@@ -31,29 +31,29 @@ entry_places e [] = []
 entry_places e (x ∷ xs) = field_places e 0 x.fields ++ entry_places (e + 1) xs
 
 -- the places of those words that pass
-abbrev pub picked : (List ℕ → Bool) → List (List ℕ × Place) → List Place
-picked p [] = []
-picked p (o ∷ os) = if p o.0 then o.1 ∷ picked p os else picked p os
+abbrev pub picked_places : (List ℕ → Bool) → List (List ℕ × Place) → List Place
+picked_places p [] = []
+picked_places p (o ∷ os) = if p o.0 then o.1 ∷ picked_places p os else picked_places p os
 
 -- the places of one word
 abbrev pub at_word : List ℕ → List (List ℕ × Place) → List Place
-at_word w os = picked (bytes_eq w) os
+at_word w os = picked_places (bytes_eq w) os
 
 -- the places that an index has for a word
-abbrev pub standing : List (List ℕ × List Place) → List ℕ → List Place
-standing index w = unwrap_or (lookup (is_at (slice_cmp nat_cmp w)) index) []
+abbrev pub indexed_places : List (List ℕ × List Place) → List ℕ → List Place
+indexed_places index w = unwrap_or (lookup (is_at (slice_cmp nat_cmp w)) index) []
 
 -- the index has for each word exactly its places among the entries, in order
 abbrev pub IsIndexOf : List Entry → List (List ℕ × List Place) → Type 0
-IsIndexOf entries index = (w : List ℕ) → standing index w ≡ at_word w (entry_places 0 entries)
+IsIndexOf entries index = (w : List ℕ) → indexed_places index w ≡ at_word w (entry_places 0 entries)
 
 -- the words of an index that begin with this one
 abbrev pub begun : List ℕ → List (List ℕ × List Place) → List (List ℕ × List Place)
 begun w index = filter (λ e. starts_with nat_eq e.0 w) index
 
 -- the places of words, one word after the other
-abbrev pub places_of : List (List ℕ × List Place) → List Place
-places_of index = flat_map (λ e. e.1) index
+abbrev pub all_indexed_places : List (List ℕ × List Place) → List Place
+all_indexed_places index = flat_map (λ e. e.1) index
 
 -- the field of a place
 abbrev pub field_in : Option Entry → ℕ → Option Field
@@ -61,13 +61,13 @@ field_in None k = None
 field_in (Some e) k = slice_get e.fields k
 
 -- there is a field, and searches with this Use look in it
-abbrev pub is_used_field : ℤ → Option Field → Bool
-is_used_field used None = false
-is_used_field used (Some f) = is_used used f
+abbrev pub has_searched_field : ℤ → Option Field → Bool
+has_searched_field used None = false
+has_searched_field used (Some f) = is_searched_field used f
 
 -- searches with this Use look in the field of the place
-abbrev pub looks_at : ℤ → List Entry → Place → Bool
-looks_at used entries p = is_used_field used (field_in (slice_get entries p.entry) p.field)
+abbrev pub is_searched_place : ℤ → List Entry → Place → Bool
+is_searched_place used entries p = has_searched_field used (field_in (slice_get entries p.entry) p.field)
 
 -- n is the last number
 abbrev pub is_last : Option ℕ → ℕ → Bool

@@ -10,7 +10,7 @@ use Rattle.ztarget.specs.declared.database.Database.{Database}
 use Rattle.ztarget.specs.declared.found.Hit.{Hit}
 use Rattle.ztarget.specs.declared.searched.Numbered.{Numbered}
 use Rattle.ztarget.specs.Searching.{Found, found, places_from}
-use Rattle.ztarget.specs.Showing.{shown}
+use Rattle.ztarget.specs.Showing.{shown_record}
 use Rattle.ztarget.specs.Standing.{NamedSet}
 
 abbrev pub hit : ℕ → ℕ → Hit
@@ -26,34 +26,34 @@ abbrev pub entry_at : List Database → Hit → Option Found
 entry_at databases h = entry_in (slice_get databases h.database) h.entry
 
 -- there is an entry at the hit
-abbrev pub Stands : List Database → Hit → Type 0
-Stands databases h = IsSome (entry_at databases h)
+abbrev pub IsHit : List Database → Hit → Type 0
+IsHit databases h = IsSome (entry_at databases h)
 
-abbrev pub AllStand : List Database → List Hit → Type 0
-AllStand databases hits = AllByRecursion (Stands databases) hits
+abbrev pub AreHits : List Database → List Hit → Type 0
+AreHits databases hits = AllByRecursion (IsHit databases) hits
 
 -- the same of the sets of all names
-abbrev pub SetsStand : List Database → List (List ℕ × List Hit) → Type 0
-SetsStand databases sets = All (AllStand databases) (values_of sets)
+abbrev pub AreHitSets : List Database → List (List ℕ × List Hit) → Type 0
+AreHitSets databases sets = All (AreHits databases) (values_of sets)
 
 -- stands for the entry at a hit that has none
-abbrev pub nothing : Found
-nothing = record { database = []; syntax = []; octets = [] }
+abbrev pub no_entry : Found
+no_entry = record { database = []; syntax = []; octets = [] }
 
 abbrev pub found_at : List Database → Hit → Found
-found_at databases h = unwrap_or (entry_at databases h) nothing
+found_at databases h = unwrap_or (entry_at databases h) no_entry
 
 -- the entries at hits, as a result set has them
 abbrev pub all_found_at : List Database → List Hit → List Found
 all_found_at databases hits = map (found_at databases) hits
 
 -- the records that a response shows for hits
-abbrev pub records_at : ℕ → Option (List ℕ) → List Database → List Hit → List Record
-records_at size asked databases hits = map (shown size asked) (all_found_at databases hits)
+abbrev pub records_at_hits : ℕ → Option (List ℕ) → List Database → List Hit → List Record
+records_at_hits size asked databases hits = map (shown_record size asked) (all_found_at databases hits)
 
 -- there is an entry at each hit, and the entries are those that were found, in their order
 pub record AreAt (databases : List Database) (hits : List Hit) (founds : List Found) : Type 0 where
-  pub stand : AllStand databases hits
+  pub stand : AreHits databases hits
   pub found : all_found_at databases hits ≡ founds
 
 abbrev pub named_set : List Database → List ℕ × List Hit → NamedSet
@@ -64,8 +64,8 @@ abbrev pub sets_of : List Database → List (List ℕ × List Hit) → List Name
 sets_of databases sets = map (named_set databases) sets
 
 -- the database has its number among these
-abbrev pub IsNumbered : List Database → Numbered → Type 0
-IsNumbered databases n = slice_get databases n.number ≡ Some n.database.now
+abbrev pub IsNumberedDatabase : List Database → Numbered → Type 0
+IsNumberedDatabase databases n = slice_get databases n.number ≡ Some n.database.now
 
 abbrev pub databases_of : List Numbered → List Database
 databases_of numbered = map (λ n. n.database.now) numbered

@@ -11,14 +11,14 @@ abbrev pub received_range : SentRange → Range
 received_range r = record { start = r.starting_position; n = r.number_of_records }
 
 -- the additional ranges as they are sent
-abbrev pub additional : Option (List SentRange) → List Range
-additional None = []
-additional (Some ranges) = map received_range ranges
+abbrev pub received_additional : Option (List SentRange) → List Range
+received_additional None = []
+received_additional (Some ranges) = map received_range ranges
 
 -- the first range, then the additional ones
 abbrev pub ranges_of : PresentRequest → List Range
 ranges_of r =
-    record { start = r.result_set_start_point; n = r.number_of_records_requested } ∷ additional r.additional_ranges
+    record { start = r.result_set_start_point; n = r.number_of_records_requested } ∷ received_additional r.additional_ranges
 
 -- these positions, at least one, are positions of a set of `count` records
 abbrev pub is_in_set : ℕ → ℕ → ℕ → Bool
@@ -34,5 +34,5 @@ abbrev pub at_positions : {X : Type 0} → List X → List ℕ → List X
 at_positions found asked = flat_map (λ p. take 1 (drop (p - 1) found)) asked
 
 -- the last of the first k positions, or 0 if there is none
-abbrev pub last_of : List ℕ → ℕ → ℕ
-last_of asked k = slice_index_or asked (k - 1) 0
+abbrev pub last_position : List ℕ → ℕ → ℕ
+last_position asked k = slice_index_or asked (k - 1) 0

@@ -1,19 +1,19 @@
 //! What a criterion finds among the entries of a database. The list of a phrase is made once, however often the phrase
 //! occurs in the criterion.
 ghost use Rattle.std.specs.Prelude.{◌≡◌, IfOk, IfSome};
-ghost use Rattle.ztarget.specs.Asking.{meets};
+ghost use Rattle.ztarget.specs.Asking.{is_satisfied};
 ghost use Rattle.ztarget.specs.Evaluating.{has_sought};
 ghost use Rattle.ztarget.specs.Indexing.{IsIndexOf};
-ghost use Rattle.ztarget.specs.Narrowing.{Narrows, IsNeeded};
+ghost use Rattle.ztarget.specs.Narrowing.{IsNarrowed, IsNeeded};
 ghost use Rattle.ztarget.specs.Searching.{places_from};
-ghost use Rattle.ztarget.specs.TargetStates.{asks};
+ghost use Rattle.ztarget.specs.TargetStates.{criterion_meaning};
 
 use crate::common::{are_few, in_both};
 use crate::criterion::Criterion;
 use crate::database::Entry;
 use crate::index::Index;
 use crate::merging::{IN_EITHER, IN_FIRST_ALONE, merged};
-use crate::narrowed::having;
+use crate::narrowed::narrowed_places;
 use crate::needed::{Needed, needed_by, rarer};
 use crate::phrase::with_phrase;
 use crate::shared::SharedPlaces;
@@ -92,7 +92,7 @@ impl<'a> Evaluation<'a> {
     /// Returns the rarest word without which no entry satisfies the criterion, if one is known without a search.
     #[tactic(auto, using(crate::proofs::Needs::needed_for_both, crate::proofs::Needs::needed_for_without))]
     fn rarest(&self, criterion: &'a Criterion) -> Option<Needed<'a>>
-        ensures { IfSome result (IsNeeded (meets (asks criterion.now))) }
+        ensures { IfSome result (IsNeeded (is_satisfied (criterion_meaning criterion.now))) }
     {
         match criterion {
             Criterion::Phrase {
@@ -109,7 +109,7 @@ impl<'a> Evaluation<'a> {
     /// Returns the same, but `None` if `may_need` is false, or if the word's places are not few beside the entries.
     /// Then a walk over all of them costs no more.
     fn need_of(&self, criterion: &'a Criterion, may_need: bool) -> Option<Needed<'a>>
-        ensures { IfSome result (IsNeeded (meets (asks criterion.now))) }
+        ensures { IfSome result (IsNeeded (is_satisfied (criterion_meaning criterion.now))) }
     {
         if !may_need {
             return None;
@@ -121,14 +121,14 @@ impl<'a> Evaluation<'a> {
     }
 
     /// Returns those of the places whose entries have the phrase as well, in order.
-    fn having(&mut self, sought: Sought<'a>, among: &[u32]) -> Result<Vec<u32>, AllocError>
+    fn narrowed_places(&mut self, sought: Sought<'a>, among: &[u32]) -> Result<Vec<u32>, AllocError>
         ensures same { self.new ≡ self.old }
-        ensures narrows { IfOk result (λ found. Narrows (has_sought sought.entry) self.old among.now found.items) }
+        ensures narrowed { IfOk result (λ found. IsNarrowed (has_sought sought.entry) self.old among.now found.items) }
     {
         match sought.asked {
             [word] if !sought.truncated && are_few(among.len(), self.index.places(word).len()) => {
                 let places = self.index.places(word);
-                having(self.alloc, sought.used, self.entries, places, among)
+                narrowed_places(self.alloc, sought.used, self.entries, places, among)
             }
             _ => {
                 let alloc = self.alloc;
@@ -142,7 +142,7 @@ impl<'a> Evaluation<'a> {
     #[tactic(auto, using(crate::proofs::Needs::kept_by_both))]
     fn narrow(&mut self, criterion: &'a Criterion, among: &[u32]) -> Result<Vec<u32>, AllocError>
         ensures same { self.new ≡ self.old }
-        ensures narrows { IfOk result (λ found. Narrows (meets (asks criterion.now)) self.old among.now found.items) }
+        ensures narrowed { IfOk result (λ found. IsNarrowed (is_satisfied (criterion_meaning criterion.now)) self.old among.now found.items) }
     {
         let alloc = self.alloc;
         match criterion {
@@ -156,7 +156,7 @@ impl<'a> Evaluation<'a> {
                     truncated: *truncated,
                     asked: asked.as_slice(),
                 };
-                self.having(sought, among)
+                self.narrowed_places(sought, among)
             }
             Criterion::Never => Ok(Vec::new(alloc)),
             Criterion::And(left, right) => {
@@ -183,9 +183,9 @@ impl<'a> Evaluation<'a> {
         needed: Needed<'a>,
         criterion: &'a Criterion,
     ) -> Result<Vec<u32>, AllocError>
-        requires { IsNeeded (meets (asks criterion.now)) needed }
+        requires { IsNeeded (is_satisfied (criterion_meaning criterion.now)) needed }
         ensures same { self.new ≡ self.old }
-        ensures places { IfOk result (λ places. places.items ≡ places_from (meets (asks criterion.now)) 0 self.old) }
+        ensures places { IfOk result (λ places. places.items ≡ places_from (is_satisfied (criterion_meaning criterion.now)) 0 self.old) }
     {
         let sought = Sought {
             used: needed.used,
@@ -204,7 +204,7 @@ impl<'a> Evaluation<'a> {
         may_need: bool,
     ) -> Result<SharedPlaces, AllocError>
         ensures same { self.new ≡ self.old }
-        ensures places { IfOk result (λ places. places ≡ places_from (meets (asks criterion.now)) 0 self.old) }
+        ensures places { IfOk result (λ places. places ≡ places_from (is_satisfied (criterion_meaning criterion.now)) 0 self.old) }
     {
         let alloc = self.alloc;
         match criterion {
@@ -249,7 +249,7 @@ impl<'a> Evaluation<'a> {
 
     /// Returns the places of the entries that satisfy the criterion, in order.
     pub(crate) fn evaluate(&mut self, criterion: &'a Criterion) -> Result<SharedPlaces, AllocError>
-        ensures { IfOk result (λ places. places ≡ places_from (meets (asks criterion.now)) 0 self.old) }
+        ensures { IfOk result (λ places. places ≡ places_from (is_satisfied (criterion_meaning criterion.now)) 0 self.old) }
     {
         self.found_by(criterion, true)
     }

@@ -4,8 +4,8 @@ ghost use Rattle.std.specs.Fmt.{signed_decimal};
 ghost use Rattle.std.specs.List.{find};
 ghost use Rattle.std.specs.Option.{option_map};
 ghost use Rattle.zquery_rpn.specs.Trees.{OfTerm};
-ghost use Rattle.zquery_rpn.specs.QueryTrees.{seen};
-ghost use Rattle.ztarget.specs.Faults.{fault, first_of, is_unknown, is_among, number_fault, row_of, value_fault, set_fault, attr_fault, attrs_fault, term_fault, tree_fault, query_fault, is_known, names_fault, match_fault};
+ghost use Rattle.zquery_rpn.specs.QueryTrees.{rpn_tree};
+ghost use Rattle.ztarget.specs.Faults.{fault, first_of_faults, is_unknown, is_number_among, number_fault, attribute_row, value_fault, set_fault, attr_fault, attrs_fault, term_fault, tree_fault, query_fault, is_known, names_fault, match_fault};
 
 use crate::decimal::{decimal, dotted};
 use crate::indexed::Indexed;
@@ -16,7 +16,7 @@ use zber::Oid;
 use zquery_rpn::{Attr, AttrValue, Query, Rpn, TermValue};
 
 /// Why a request fails: a condition of the bib-1 diagnostics (Z39.50-2003, ERR), and what it names. Contracts see a
-/// `Reason`.
+/// `Bib1Fault`.
 #[derive(Drop)]
 pub(crate) struct Fault {
     pub condition: i64,
@@ -24,9 +24,9 @@ pub(crate) struct Fault {
 }
 
 impl Model for Fault {
-    ghost use Rattle.ztarget.specs.Faults.{Reason};
+    ghost use Rattle.ztarget.specs.Faults.{Bib1Fault};
 
-    ghost Value = { Reason };
+    ghost Value = { Bib1Fault };
 
     ghost view = { λ f. record { condition = f.condition; info = f.info } };
 }
@@ -35,8 +35,8 @@ impl Model for Fault {
 const BIB_1: [u32; 6] = [1, 2, 840, 10003, 3, 1];
 
 /// Returns whether a value is one of those that are supported.
-fn is_among(values: &[u16], value: i64) -> bool
-    ensures { result ≡ is_among values.now value }
+fn is_number_among(values: &[u16], value: i64) -> bool
+    ensures { result ≡ is_number_among values.now value }
 {
     values
         .iter()
@@ -51,9 +51,9 @@ fn unless_among(
     value: i64,
 ) -> Result<Option<Fault>, AllocError>
     ensures { IfOk result (λ f. f ≡
-        (if is_among values.now value then None else Some (fault condition (signed_decimal value)))) }
+        (if is_number_among values.now value then None else Some (fault condition (signed_decimal value)))) }
 {
-    if is_among(values, value) {
+    if is_number_among(values, value) {
         return Ok(None);
     }
     Ok(Some(Fault {
@@ -75,7 +75,7 @@ fn unsupported_type(alloc: Global, kind: i64) -> Result<Option<Fault>, AllocErro
 /// Returns the fault of an attribute whose value is a number. The types 1 to 6 are Use, Relation, Position, Structure,
 /// Truncation and Completeness; no other is supported.
 fn number_fault(alloc: Global, kind: i64, value: i64) -> Result<Option<Fault>, AllocError>
-    ensures { IfOk result (λ f. f ≡ number_fault kind value (row_of kind)) }
+    ensures { IfOk result (λ f. f ≡ number_fault kind value (attribute_row kind)) }
 {
     match kind {
         1 => unless_among(alloc, &[4, 7, 12, 21, 31, 1003, 1016], 114, value),
@@ -184,7 +184,7 @@ fn result_set_fault(name: &Bytes) -> Result<Option<Fault>, AllocError>
 
 /// Returns the first fault of a tree, from the left. An operator's comes before those of its operands.
 fn tree_fault(alloc: Global, rpn: &Rpn) -> Result<Option<Fault>, AllocError>
-    ensures { IfOk result (λ f. f ≡ tree_fault (seen rpn.now)) }
+    ensures { IfOk result (λ f. f ≡ tree_fault (rpn_tree rpn.now)) }
 {
     match rpn {
         Rpn::Term { attrs, term } => operand_fault(alloc, attrs.as_slice(), term),

@@ -7,12 +7,12 @@ use zber::Oid;
 
 /// Does nothing: it shows that a number is within 64 bits.
 #[tactic(auto, using(zasn_tables::proofs::Meanings::fits_i64))]
-pub(crate) fn number_fits(number: i64)
+pub(crate) fn show_i64(number: i64)
     ensures { is_i64 number ≡ true }
 {}
 
 /// Does nothing: it shows that the arcs are those of an object identifier.
-pub(crate) fn oid_fits(oid: &Oid)
+pub(crate) fn show_oid(oid: &Oid)
     ensures { IsOid oid.now }
 {
     let _ = oid.arcs();

@@ -1,8 +1,8 @@
 //! What a search finds.
 ghost use Rattle.std.specs.Prelude.{◌≡◌, ◌+◌, ◌++◌, ◌<◌, ◌^◌, length, map, IfOk, OnOk};
 ghost use Rattle.std.specs.List.{AllByRecursion};
-ghost use Rattle.ztarget.specs.Asking.{meets};
-ghost use Rattle.ztarget.specs.TargetStates.{asks};
+ghost use Rattle.ztarget.specs.Asking.{is_satisfied};
+ghost use Rattle.ztarget.specs.TargetStates.{criterion_meaning};
 ghost use Rattle.ztarget.specs.Counting.{places_in};
 ghost use Rattle.ztarget.specs.Keeping.{hit, databases_of, hits_in, hits_by};
 ghost use Rattle.ztarget.specs.Searching.{entries_in, places_from};
@@ -43,7 +43,7 @@ fn put_found(
 ) -> Result<(), AllocError>
     requires { first + length database.now.entries < 2 ^ 32 }
     ensures { OnOk result (places.new.items ≡ places.old.items
-        ++ places_from (meets (asks criterion.now)) first database.now.entries) }
+        ++ places_from (is_satisfied (criterion_meaning criterion.now)) first database.now.entries) }
 {
     let found = database.evaluate(alloc, criterion)?;
     put_shifted(first, found.as_slice(), places)
@@ -57,7 +57,7 @@ pub(crate) fn places(
 ) -> Result<Vec<u32>, AllocError>
     requires { length (entries_in (databases_of searched.now)) < 2 ^ 32 }
     ensures { IfOk result (λ places. places.items
-        ≡ places_in (meets (asks criterion.now)) 0 (databases_of searched.now)) }
+        ≡ places_in (is_satisfied (criterion_meaning criterion.now)) 0 (databases_of searched.now)) }
 {
     let mut places = Vec::new(alloc);
     let mut first = 0;
@@ -94,7 +94,7 @@ fn put_hits(
     hits: &mut Vec<Hit>,
 ) -> Result<(), AllocError>
     requires { length numbered.database.now.entries < 2 ^ 32 }
-    ensures { OnOk result (hits.new.items ≡ hits.old.items ++ hits_in (meets (asks criterion.now)) numbered.entry) }
+    ensures { OnOk result (hits.new.items ≡ hits.old.items ++ hits_in (is_satisfied (criterion_meaning criterion.now)) numbered.entry) }
 {
     let found = numbered.database.evaluate(alloc, criterion)?;
     put_entries(numbered.number, found.as_slice(), hits)
@@ -108,7 +108,7 @@ pub(crate) fn hits(
     searched: &[Numbered<'_>],
 ) -> Result<Vec<Hit>, AllocError>
     requires { length (entries_in (databases_of searched.now)) < 2 ^ 32 }
-    ensures { IfOk result (λ hits. hits.items ≡ hits_by (meets (asks criterion.now)) searched.now) }
+    ensures { IfOk result (λ hits. hits.items ≡ hits_by (is_satisfied (criterion_meaning criterion.now)) searched.now) }
 {
     let mut hits = Vec::new(alloc);
     let mut left = searched;

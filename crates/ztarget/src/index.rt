@@ -5,11 +5,11 @@ ghost use Rattle.std.specs.Map.{keys_of};
 ghost use Rattle.std.specs.Cmp.Lexicographic.{slice_cmp};
 ghost use Rattle.std.specs.Ordering.{nat_cmp};
 ghost use Rattle.ztarget.specs.Words.{words};
-ghost use Rattle.ztarget.specs.Indexing.{place, word_places, field_places, entry_places, at_word, standing, IsIndexOf};
-ghost use Rattle.ztarget.specs.Indexing.{looks_at, is_last, entries_at, begun, places_of};
+ghost use Rattle.ztarget.specs.Indexing.{place, word_places, field_places, entry_places, at_word, indexed_places, IsIndexOf};
+ghost use Rattle.ztarget.specs.Indexing.{is_searched_place, is_last, entries_at, begun, all_indexed_places};
 
 use crate::database::{Entry, Field};
-use crate::matching::is_used;
+use crate::matching::is_searched_field;
 use crate::word::Word;
 use crate::words::words;
 use std::alloc::{AllocError, Global};
@@ -93,7 +93,7 @@ impl Index {
 
     /// Appends a place to those of a word.
     fn put(&mut self, word: &Word, place: Place) -> Result<(), AllocError>
-        ensures { OnOk result ((w : List ℕ) → standing self.new w ≡ standing self.old w
+        ensures { OnOk result ((w : List ℕ) → indexed_places self.new w ≡ indexed_places self.old w
             ++ at_word w ((word.now, place) ∷ [])) }
     {
         if let Some(places) = self.words.get_mut(word) {
@@ -108,7 +108,7 @@ impl Index {
 
     /// Returns the places of a word, in order.
     pub(crate) fn places(&self, word: &Word) -> &[Place]
-        ensures { result.now ≡ standing self.now word.now }
+        ensures { result.now ≡ indexed_places self.now word.now }
     {
         match self.words.get(word) {
             Some(places) => places.as_slice(),
@@ -118,7 +118,7 @@ impl Index {
 
     /// Returns the places of the words that begin with this one, word by word.
     pub(crate) fn beginning(&self, alloc: Global, word: &Word) -> Result<Vec<Place>, AllocError>
-        ensures places { IfOk result (λ found. found.items ≡ places_of (begun word.now self.now)) }
+        ensures places { IfOk result (λ found. found.items ≡ all_indexed_places (begun word.now self.now)) }
         ensures in_order { IsStrictlySortedBy (slice_cmp nat_cmp) (keys_of self.now) }
     {
         let mut found = Vec::new(alloc);
@@ -135,7 +135,7 @@ impl Index {
 
 /// Adds the words of a field, with their places.
 fn put_words(index: &mut Index, entry: u32, field: usize, words: &[Word]) -> Result<(), AllocError>
-    ensures { OnOk result ((w : List ℕ) → standing index.new w ≡ standing index.old w
+    ensures { OnOk result ((w : List ℕ) → indexed_places index.new w ≡ indexed_places index.old w
         ++ at_word w (word_places entry field 0 words.now)) }
 {
     let mut word = 0;
@@ -155,7 +155,7 @@ fn put_fields(
     entry: u32,
     fields: &[Field],
 ) -> Result<(), AllocError>
-    ensures { OnOk result ((w : List ℕ) → standing index.new w ≡ standing index.old w
+    ensures { OnOk result ((w : List ℕ) → indexed_places index.new w ≡ indexed_places index.old w
         ++ at_word w (field_places entry 0 fields.now)) }
 {
     let mut number = 0;
@@ -182,14 +182,14 @@ pub(crate) fn index_of(alloc: Global, entries: &[Entry]) -> Result<Index, AllocE
 }
 
 /// Returns whether searches with this Use look in the field of the place.
-pub(crate) fn looks_at(used: i64, entries: &[Entry], place: Place) -> bool
-    ensures { result ≡ looks_at used entries.now place }
+pub(crate) fn is_searched_place(used: i64, entries: &[Entry], place: Place) -> bool
+    ensures { result ≡ is_searched_place used entries.now place }
 {
     match entries.get(place.entry as usize) {
         None => false,
         Some(entry) => match entry.fields.as_slice().get(place.field) {
             None => false,
-            Some(field) => is_used(used, field),
+            Some(field) => is_searched_field(used, field),
         },
     }
 }
@@ -212,13 +212,13 @@ pub(crate) fn entries_at(
     entries: &[Entry],
     places: &[Place],
 ) -> Result<Vec<u32>, AllocError>
-    ensures { IfOk result (λ found. found.items ≡ entries_at (looks_at used entries.now) None places.now) }
+    ensures { IfOk result (λ found. found.items ≡ entries_at (is_searched_place used entries.now) None places.now) }
 {
     let mut found = Vec::new(alloc);
     let mut last = None;
     let mut left = places;
     while let [place, others @ ..] = left {
-        if !is_last(last, place.entry) && looks_at(used, entries, *place) {
+        if !is_last(last, place.entry) && is_searched_place(used, entries, *place) {
             found.push(place.entry)?;
             last = Some(place.entry);
         }

@@ -1,9 +1,9 @@
 //! A database with its index.
 ghost use Rattle.std.specs.Prelude.{◌≡◌, ◌<◌, ◌^◌, length, IfOk};
-ghost use Rattle.ztarget.specs.Asking.{meets};
+ghost use Rattle.ztarget.specs.Asking.{is_satisfied};
 ghost use Rattle.ztarget.specs.Indexing.{IsIndexOf};
 ghost use Rattle.ztarget.specs.Searching.{entries_in, places_from};
-ghost use Rattle.ztarget.specs.TargetStates.{asks};
+ghost use Rattle.ztarget.specs.TargetStates.{criterion_meaning};
 
 use crate::criterion::Criterion;
 use crate::database::{Database, Entry};
@@ -60,7 +60,7 @@ impl Indexed {
         alloc: Global,
         criterion: &Criterion,
     ) -> Result<SharedPlaces, AllocError>
-        ensures { IfOk result (λ places. places ≡ places_from (meets (asks criterion.now)) 0 self.now.entries) }
+        ensures { IfOk result (λ places. places ≡ places_from (is_satisfied (criterion_meaning criterion.now)) 0 self.now.entries) }
     {
         let mut evaluation = Evaluation::new(alloc, &self.index, self.entries());
         evaluation.evaluate(criterion)

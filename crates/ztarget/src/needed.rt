@@ -1,6 +1,6 @@
 //! Words without which no entry satisfies a criterion.
 ghost use Rattle.std.specs.Prelude.{◌≡◌, IfSome};
-ghost use Rattle.ztarget.specs.Asking.{HasPhrase, meets};
+ghost use Rattle.ztarget.specs.Asking.{HasPhrase, is_satisfied};
 ghost use Rattle.ztarget.specs.Narrowing.{IsNeeded, rarer};
 
 use crate::index::Index;
@@ -21,7 +21,7 @@ pub(crate) fn needed_by<'a>(
     truncated: bool,
     asked: &'a [Word],
 ) -> Option<Needed<'a>>
-    ensures { IfSome result (IsNeeded (meets (HasPhrase used truncated asked.now))) }
+    ensures { IfSome result (IsNeeded (is_satisfied (HasPhrase used truncated asked.now))) }
 {
     match asked {
         [word] if !truncated => {

@@ -1,7 +1,7 @@
 //! The positions that a Present asks for.
 ghost use Rattle.std.specs.Prelude.{◌≡◌, ◌==◌, ◌<◌, ◌^◌, ◌≤◌, true, length, map, IfOk};
 ghost use Rattle.zplan.specs.Ranges.{natural, positions};
-ghost use Rattle.ztarget.specs.Positions.{received_range, ranges_of, is_in_set, are_in_set, last_of};
+ghost use Rattle.ztarget.specs.Positions.{received_range, ranges_of, is_in_set, are_in_set, last_position};
 
 use crate::init::natural;
 use std::alloc::{AllocError, Global};
@@ -82,10 +82,10 @@ pub(crate) fn are_so_many(ranges: &[Range], number: usize) -> bool
 }
 
 /// Returns the last of the first `number` positions, or 0 if there is none.
-pub(crate) fn last_of(ranges: &[Range], number: usize, count: usize) -> usize
+pub(crate) fn last_position(ranges: &[Range], number: usize, count: usize) -> usize
     requires few { count < 2 ^ 32 }
     requires within { are_in_set count ranges.now ≡ true }
-    ensures last { result ≡ last_of (positions ranges.now) number }
+    ensures last { result ≡ last_position (positions ranges.now) number }
     ensures within { result ≤ count }
 {
     let mut left = number.saturating_sub(1);

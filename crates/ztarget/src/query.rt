@@ -1,8 +1,8 @@
 //! What a target finds for a query.
 ghost use Rattle.std.specs.Prelude.{◌≡◌, ◌<◌, ◌^◌, None, length, map, IfOk, IfErr, OnOk};
-ghost use Rattle.zquery_rpn.specs.QueryTrees.{seen};
+ghost use Rattle.zquery_rpn.specs.QueryTrees.{rpn_tree};
 ghost use Rattle.ztarget.specs.Faults.{match_fault};
-ghost use Rattle.ztarget.specs.Matching.{matches};
+ghost use Rattle.ztarget.specs.Matching.{is_matching_entry};
 ghost use Rattle.ztarget.specs.Searching.{entries_in, found_places, result_set};
 ghost use Rattle.ztarget.specs.Counting.{places_in};
 ghost use Rattle.ztarget.specs.Keeping.{AreAt};

@@ -5,7 +5,7 @@ ghost use Rattle.std.specs.Cmp.Lexicographic.{slice_cmp};
 ghost use Rattle.std.specs.Ordering.{nat_cmp};
 ghost use Rattle.std.specs.List.{All};
 ghost use Rattle.ztarget.specs.declared.database.Database.{Database};
-ghost use Rattle.ztarget.specs.Keeping.{IsNumbered, databases_of};
+ghost use Rattle.ztarget.specs.Keeping.{IsNumberedDatabase, databases_of};
 ghost use Rattle.ztarget.specs.Searching.{called, searched};
 
 use crate::indexed::Indexed;
@@ -28,8 +28,8 @@ fn put_if_called<'a>(
 ) -> Result<(), AllocError>
     ensures called { OnOk result (databases_of out.new.items ≡ databases_of out.old.items
         ++ called (numbered.entry.database.now ∷ []) name.now) }
-    ensures numbered { (databases : List Database) → IsNumbered databases numbered.entry
-        → All (IsNumbered databases) out.old.items → OnOk result (All (IsNumbered databases) out.new.items) }
+    ensures numbered { (databases : List Database) → IsNumberedDatabase databases numbered.entry
+        → All (IsNumberedDatabase databases) out.old.items → OnOk result (All (IsNumberedDatabase databases) out.new.items) }
 {
     if numbered.database.name().as_slice() == name.as_slice() {
         out.push(numbered)?;
@@ -45,8 +45,8 @@ fn put_called<'a>(
 ) -> Result<(), AllocError>
     ensures called { OnOk result (databases_of out.new.items
         ≡ databases_of out.old.items ++ called databases.now name.now) }
-    ensures numbered { All (IsNumbered databases.now) out.old.items
-        → OnOk result (All (IsNumbered databases.now) out.new.items) }
+    ensures numbered { All (IsNumberedDatabase databases.now) out.old.items
+        → OnOk result (All (IsNumberedDatabase databases.now) out.new.items) }
 {
     for number in 0..databases.len() {
         let database = &databases[number];
@@ -70,7 +70,7 @@ pub(crate) fn searched<'a>(
     names: &[Bytes],
 ) -> Result<Vec<Numbered<'a>>, AllocError>
     ensures found { IfOk result (λ found. databases_of found.items ≡ searched databases.now names.now) }
-    ensures numbered { IfOk result (λ found. All (IsNumbered databases.now) found.items) }
+    ensures numbered { IfOk result (λ found. All (IsNumberedDatabase databases.now) found.items) }
 {
     let mut searched = Vec::new(alloc);
     let mut named: BTreeSet<Bytes, Global> = BTreeSet::new(alloc);

@@ -5,13 +5,13 @@ ghost use Rattle.zapdu.specs.declared.apdu.Apdu.{Apdu};
 ghost use Rattle.zapdu.specs.declared.apdu.Apdu.TheVariants as apdus;
 ghost use Rattle.ztarget.specs.Faults.{match_fault};
 ghost use Rattle.ztarget.specs.Searching.{entries_in, found_places};
-ghost use Rattle.ztarget.specs.Keeping.{AllStand, named_set};
-ghost use Rattle.ztarget.specs.Replies.{close_reply, to_init, to_close, to_search, to_search_unless, to_present, found_by_query};
+ghost use Rattle.ztarget.specs.Keeping.{AreHits, named_set};
+ghost use Rattle.ztarget.specs.Replies.{close_reply, owed_to_init, owed_to_close, owed_to_search, owed_to_search_unless, owed_to_present, found_by_query};
 ghost use Rattle.ztarget.specs.Responding.{search_failed, presented};
 ghost use Rattle.ztarget.specs.Standing.{Open, put_set, set_named};
 ghost use Rattle.ztarget.specs.declared.database.Database.{Database};
 ghost use Rattle.ztarget.specs.declared.settings.TargetSettings.{TargetSettings};
-ghost use Rattle.ztarget.specs.Receiving.{new_target, answered, Receives, After, Answers, is_close, with_released, Releases, TakesOut, IsRefusal};
+ghost use Rattle.ztarget.specs.Receiving.{new_target, with_reply, TargetReceiveStep, After, AfterReceive, is_close, with_released, TargetReleaseStep, TakeOutStep, IsRefusal};
 ghost use Rattle.ztarget.specs.Levels.{HasElement};
 ghost use Rattle.ztarget.specs.TargetStates.{terms_of};
 
@@ -20,7 +20,7 @@ use crate::error::{MatchError, TargetError};
 use crate::fault::Fault;
 use crate::indexed::{Indexed, with_indexes};
 use crate::init::{init_response, is_accepted, terms};
-use crate::phase::{Phase, Terms};
+use crate::phase::{AssociationPhase, Terms};
 use crate::present::presented;
 use crate::query::{find_hits, matching_places};
 use crate::result_set::ResultSet;
@@ -45,7 +45,7 @@ pub struct Target {
     alloc: Global,
     databases: Vec<Indexed>,
     settings: TargetSettings,
-    phase: Phase,
+    phase: AssociationPhase,
     sets: ResultSets,
     pending: VecDeque<Apdu>,
 }
@@ -63,20 +63,20 @@ impl Model for Target {
     ghost coded = { Prim.hlevel (codes, coded_element, coded_query) };
 
     ghost use Rattle.ztarget.specs.Searching.{entries_in};
-    ghost use Rattle.ztarget.specs.TargetStates.{state_of};
+    ghost use Rattle.ztarget.specs.TargetStates.{phase_state};
     ghost use Rattle.std.specs.List.{All};
-    ghost use Rattle.ztarget.specs.Keeping.{SetsStand, sets_of};
+    ghost use Rattle.ztarget.specs.Keeping.{AreHitSets, sets_of};
     ghost use Rattle.ztarget.specs.Levels.{HasElement};
 
     ghost view = { λ t. record {
       databases = t.databases.items;
       settings = t.settings;
-      standing = record { state = state_of t.phase; sets = sets_of t.databases.items t.sets };
+      association = record { state = phase_state t.phase; sets = sets_of t.databases.items t.sets };
       pending = t.pending.items;
     } };
 
     ghost invariant = { λ t. (length (entries_in t.databases.items) < 2 ^ 32) × All HasElement t.pending.items
-        × SetsStand t.databases.items t.sets };
+        × AreHitSets t.databases.items t.sets };
 }
 
 /// Returns the reply to a Close: reason 0, finished, and the same reference id.
@@ -107,7 +107,7 @@ fn is_close(apdu: &Apdu) -> bool
 
 /// Takes pending reply `k` out, if it may be released.
 fn take_out(pending: &mut VecDeque<Apdu>, k: usize) -> Option<Apdu>
-    ensures { TakesOut pending.old.items k result pending.new.items }
+    ensures { TakeOutStep pending.old.items k result pending.new.items }
 {
     let count = pending.len();
     if k >= count || (is_close(&pending[k]) && count > 1) {
@@ -137,7 +137,7 @@ impl Target {
             alloc,
             databases: with_indexes(alloc, databases)?,
             settings,
-            phase: Phase::Fresh,
+            phase: AssociationPhase::Fresh,
             sets: ResultSets::new(alloc),
             pending: VecDeque::new(alloc),
         })
@@ -145,29 +145,29 @@ impl Target {
 
     /// Appends the response to Init to the pending replies, and opens the association or ends it.
     fn begin(&mut self, request: &InitRequest) -> Result<(), AllocError>
-        ensures ok { OnOk result (self.new ≡ answered self.old
-            (to_init self.old.settings self.old.standing.sets request.now)) }
+        ensures ok { OnOk result (self.new ≡ with_reply self.old
+            (owed_to_init self.old.settings self.old.association.sets request.now)) }
         ensures err { OnErr result (self.new ≡ self.old) }
     {
         let settings = self.settings;
         let response = init_response(self.alloc, settings, request)?;
         self.pending.push_back(Apdu::InitResponse(response))?;
         self.phase = if is_accepted(settings, &request.protocol_version) {
-            Phase::Open(terms(settings, request))
+            AssociationPhase::Open(terms(settings, request))
         } else {
-            Phase::Ended
+            AssociationPhase::Ended
         };
         Ok(())
     }
 
     /// Appends the reply to a Close to the pending replies, and ends the association.
     fn close(&mut self, close: &Close) -> Result<(), AllocError>
-        ensures ok { OnOk result (self.new ≡ answered self.old (to_close self.old.standing.sets close.now)) }
+        ensures ok { OnOk result (self.new ≡ with_reply self.old (owed_to_close self.old.association.sets close.now)) }
         ensures err { OnErr result (self.new ≡ self.old) }
     {
         let reply = close_reply(self.alloc, close)?;
         self.pending.push_back(Apdu::Close(reply))?;
-        self.phase = Phase::Ended;
+        self.phase = AssociationPhase::Ended;
         Ok(())
     }
 
@@ -179,11 +179,11 @@ impl Target {
         set: ResultSet,
     ) -> Result<(), AllocError>
         requires element { HasElement (apdus.SearchResponse response) }
-        requires stand { AllStand self.old.databases set }
+        requires stand { AreHits self.old.databases set }
         ensures ok { OnOk result (self.new ≡ record self.old {
-          standing = record {
-            state = self.old.standing.state;
-            sets = put_set self.old.standing.sets (named_set self.old.databases (name, set));
+          association = record {
+            state = self.old.association.state;
+            sets = put_set self.old.association.sets (named_set self.old.databases (name, set));
           };
           pending = self.old.pending ++ apdus.SearchResponse response ∷ [];
         }) }
@@ -215,9 +215,9 @@ impl Target {
 
     /// Appends the response to a search without a fault to the pending replies, and keeps its result set.
     fn find(&mut self, terms: Terms, request: &SearchRequest) -> Result<(), AllocError>
-        requires { self.old.standing.state ≡ Open (terms_of terms) }
-        ensures ok { OnOk result (self.new ≡ answered self.old
-            (to_search_unless (terms_of terms) self.old.standing.sets request.now
+        requires { self.old.association.state ≡ Open (terms_of terms) }
+        ensures ok { OnOk result (self.new ≡ with_reply self.old
+            (owed_to_search_unless (terms_of terms) self.old.association.sets request.now
             (found_by_query self.old.databases request.now request.now.query) None)) }
         ensures err { OnErr result (self.new ≡ self.old) }
     {
@@ -229,9 +229,9 @@ impl Target {
 
     /// Appends the response to a search to the pending replies.
     fn search(&mut self, terms: Terms, request: &SearchRequest) -> Result<(), AllocError>
-        requires { self.old.standing.state ≡ Open (terms_of terms) }
+        requires { self.old.association.state ≡ Open (terms_of terms) }
         ensures ok { OnOk result (self.new
-            ≡ answered self.old (to_search self.old.databases (terms_of terms) self.old.standing.sets request.now)) }
+            ≡ with_reply self.old (owed_to_search self.old.databases (terms_of terms) self.old.association.sets request.now)) }
         ensures err { OnErr result (self.new ≡ self.old) }
     {
         match search_fault(self.alloc, &self.databases, &self.sets, terms, request)? {
@@ -247,7 +247,7 @@ impl Target {
         request: &PresentRequest,
     ) -> Result<PresentResponse, AllocError>
         ensures value { IfOk result (λ response. response
-            ≡ presented (terms_of terms) request.now (set_named self.now.standing.sets request.now.result_set_id)) }
+            ≡ presented (terms_of terms) request.now (set_named self.now.association.sets request.now.result_set_id)) }
         ensures element { IfOk result (λ response. HasElement (apdus.PresentResponse response)) }
     {
         let found = self.sets.hits_of(&request.result_set_id);
@@ -256,9 +256,9 @@ impl Target {
 
     /// Appends the response to a Present to the pending replies.
     fn present(&mut self, terms: Terms, request: &PresentRequest) -> Result<(), AllocError>
-        requires { self.old.standing.state ≡ Open (terms_of terms) }
-        ensures ok { OnOk result (self.new ≡ answered self.old
-            (to_present (terms_of terms) self.old.standing.sets request.now)) }
+        requires { self.old.association.state ≡ Open (terms_of terms) }
+        ensures ok { OnOk result (self.new ≡ with_reply self.old
+            (owed_to_present (terms_of terms) self.old.association.sets request.now)) }
         ensures err { OnErr result (self.new ≡ self.old) }
     {
         let response = self.presented(terms, request)?;
@@ -268,47 +268,47 @@ impl Target {
 
     /// Receives a search.
     fn receive_search(&mut self, request: &SearchRequest) -> Result<(), TargetError>
-        ensures { Receives self.old (apdus.SearchRequest request.now) result self.new }
+        ensures { TargetReceiveStep self.old (apdus.SearchRequest request.now) result self.new }
     {
         match self.phase {
-            Phase::Open(terms) => Ok(self.search(terms, request)?),
-            Phase::Fresh | Phase::Ended => Err(TargetError::WrongState),
+            AssociationPhase::Open(terms) => Ok(self.search(terms, request)?),
+            AssociationPhase::Fresh | AssociationPhase::Ended => Err(TargetError::WrongState),
         }
     }
 
     /// Receives a Present.
     fn receive_present(&mut self, request: &PresentRequest) -> Result<(), TargetError>
-        ensures { Receives self.old (apdus.PresentRequest request.now) result self.new }
+        ensures { TargetReceiveStep self.old (apdus.PresentRequest request.now) result self.new }
     {
         match self.phase {
-            Phase::Open(terms) => Ok(self.present(terms, request)?),
-            Phase::Fresh | Phase::Ended => Err(TargetError::WrongState),
+            AssociationPhase::Open(terms) => Ok(self.present(terms, request)?),
+            AssociationPhase::Fresh | AssociationPhase::Ended => Err(TargetError::WrongState),
         }
     }
 
     /// Receives an Init.
     fn receive_init(&mut self, request: &InitRequest) -> Result<(), TargetError>
-        ensures { Receives self.old (apdus.InitRequest request.now) result self.new }
+        ensures { TargetReceiveStep self.old (apdus.InitRequest request.now) result self.new }
     {
         match self.phase {
-            Phase::Fresh => Ok(self.begin(request)?),
-            Phase::Open(_) | Phase::Ended => Err(TargetError::WrongState),
+            AssociationPhase::Fresh => Ok(self.begin(request)?),
+            AssociationPhase::Open(_) | AssociationPhase::Ended => Err(TargetError::WrongState),
         }
     }
 
     /// Receives a Close.
     fn receive_close(&mut self, close: &Close) -> Result<(), TargetError>
-        ensures { Receives self.old (apdus.Close close.now) result self.new }
+        ensures { TargetReceiveStep self.old (apdus.Close close.now) result self.new }
     {
         match self.phase {
-            Phase::Fresh | Phase::Open(_) => Ok(self.close(close)?),
-            Phase::Ended => Err(TargetError::WrongState),
+            AssociationPhase::Fresh | AssociationPhase::Open(_) => Ok(self.close(close)?),
+            AssociationPhase::Ended => Err(TargetError::WrongState),
         }
     }
 
     /// Receives an APDU, and appends the reply that is owed to it to the pending replies.
     fn take_in(&mut self, apdu: &Apdu) -> Result<(), TargetError>
-        ensures { Receives self.old apdu.now result self.new }
+        ensures { TargetReceiveStep self.old apdu.now result self.new }
     {
         match apdu {
             Apdu::InitRequest(request) => self.receive_init(request),
@@ -322,7 +322,7 @@ impl Target {
     }
 
     /// Does nothing: it shows that each pending reply has an element.
-    fn replies_have_elements(&self)
+    fn show_elements(&self)
         ensures { All HasElement self.now.pending }
     {
         let _ = &self.pending;
@@ -349,14 +349,14 @@ impl Target {
     /// - `Memory`.
     #[tactic(auto, using(crate::proofs::Histories::answers_of))]
     pub fn receive(&mut self, apdu: &Apdu) -> Result<(), TargetError>
-        ensures receives { Receives self.old apdu.now result self.new }
+        ensures receives { TargetReceiveStep self.old apdu.now result self.new }
         ensures answers { (databases : List Database) (settings : TargetSettings) (received released : List Apdu)
             → After databases settings received released self.old
-            → Answers databases settings received released apdu.now result self.old self.new }
+            → AfterReceive databases settings received released apdu.now result self.old self.new }
         ensures elements { All HasElement self.new.pending }
     {
         let received = self.take_in(apdu);
-        self.replies_have_elements();
+        self.show_elements();
         received
     }
 
@@ -395,7 +395,7 @@ impl Target {
 
     /// Takes pending reply `k` out, if it may be released.
     fn take(&mut self, k: usize) -> Option<Apdu>
-        ensures releases { Releases self.old k result self.new }
+        ensures releases { TargetReleaseStep self.old k result self.new }
         ensures element { IfSome result HasElement }
     {
         take_out(&mut self.pending, k)
@@ -406,7 +406,7 @@ impl Target {
     /// of at most 64 levels, as each pending reply has.
     #[tactic(auto, using(crate::proofs::Histories::release_of))]
     pub fn release(&mut self, k: usize) -> Option<Apdu>
-        ensures releases { Releases self.old k result self.new }
+        ensures releases { TargetReleaseStep self.old k result self.new }
         ensures after { (databases : List Database) (settings : TargetSettings) (received released : List Apdu)
             → After databases settings received released self.old
             → After databases settings received (with_released released result) self.new }

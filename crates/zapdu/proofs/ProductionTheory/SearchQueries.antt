@@ -4,7 +4,7 @@ use Rattle.zber.specs.Elements.{Element, Primitive, Constructed, elements}
 use Rattle.zasn.specs.Within.{found, sequence_of, any_at}
 use Rattle.zasn.specs.Reading.{option_map}
 use Rattle.zasn.specs.declared.error.PartError.{PartError}
-use Rattle.zasn.specs.Answers.{Means}
+use Rattle.zasn.specs.Answers.{MeaningResult}
 use Rattle.zquery_rpn.specs.Element.AnyQueries.{any_query, any_query_at, query_within}
 use Rattle.zquery_rpn.proofs.ElementTheory.AnyQueryPlaces.{alone_says}
 use Rattle.zapdu.specs.declared.productions.search_query.SearchQuery.{SearchQuery}
@@ -19,5 +19,5 @@ one_query : (e m : Element) → sequence_of any_at e ≡ Some m → query_within
 one_query (Primitive t b) m e = absurd cc
 one_query (Constructed t f) m e = one_of (elements f) m e
 
-pub sole_means : (e m : Element) (r : Result SearchQuery PartError) → sequence_of any_at e ≡ Some m → Means (option_map of_sum (any_query m)) r → Means (option_map of_sum (query_within e)) r
+pub sole_means : (e m : Element) (r : Result SearchQuery PartError) → sequence_of any_at e ≡ Some m → MeaningResult (option_map of_sum (any_query m)) r → MeaningResult (option_map of_sum (query_within e)) r
 sole_means e m r is h = rw (one_query e m is) h

@@ -69,8 +69,8 @@ diag_rec = of_choice diag_recs diag_pick diag-same diag-back refl
 
 -- the element stands for the diagnostic
 abbrev pub WritesDiag : DiagRec → Element → Type 0
-WritesDiag v n = diag_rec.stands v n
+WritesDiag v n = diag_rec.writes v n
 
 -- the element that is built for the diagnostic, with the contents octets of the canonical encoding
-abbrev pub diag_spelt : DiagRec → Option Element
-diag_spelt v = diag_rec.spelt v
+abbrev pub diag_spelling : DiagRec → Option Element
+diag_spelling v = diag_rec.spelling v

@@ -56,11 +56,11 @@ whole_record = within (universal 16) record_parts
 
 -- the element stands for the record
 abbrev pub WritesRecord : Record → Element → Type 0
-WritesRecord v n = whole_record.stands v n
+WritesRecord v n = whole_record.writes v n
 
 -- the element that is built for the record, with the contents octets of the canonical encoding
-abbrev pub record_spelt : Record → Option Element
-record_spelt v = whole_record.spelt v
+abbrev pub record_spelling : Record → Option Element
+record_spelling v = whole_record.spelling v
 
 -- responseRecords [28] SEQUENCE OF, nonSurrogateDiagnostic [130], multipleNonSurDiagnostics [205] SEQUENCE OF
 abbrev pub kinds_of_records : Choice Records

@@ -5,9 +5,9 @@ use Rattle.zber.specs.AsnTags.{context}
 use Rattle.zber.specs.Elements.{Element}
 use Rattle.zasn.specs.Place.{Place}
 use Rattle.zasn.specs.Choice.{Choice, finally, Pick, picked}
-use Rattle.zasn.specs.Places.{lawful, of_choice}
+use Rattle.zasn.specs.Places.{lawful_place, of_choice}
 use Rattle.zquery_rpn.specs.Trees.{RpnQuery}
-use Rattle.zquery_rpn.specs.Element.AnyQueries.{WritesWithin, query_within, within_spelt}
+use Rattle.zquery_rpn.specs.Element.AnyQueries.{WritesWithin, query_within, within_spelling}
 use Rattle.zquery_rpn.proofs.ElementTheory.AnyQueryPlaces.{any_query_place, any_query_spelled}
 use Rattle.zapdu.specs.declared.productions.search_query.SearchQuery.{SearchQuery}
 use Rattle.zapdu.specs.declared.productions.search_query.SearchQuery.TheVariants.{Rpn, Other}
@@ -15,8 +15,8 @@ use Rattle.zapdu.specs.declared.productions.search_query.SearchQuery.TheVariants
 -- query [21] Query, whose tag is explicit
 abbrev pub either_query : Place (RpnQuery ⊎ Element)
 either_query =
-    lawful {P = WritesWithin (context 21)} {tags = context 21 ∷ []} {meaning = query_within}
-    {spelt = within_spelt (context 21)} (any_query_place (context 21)) (any_query_spelled (context 21))
+    lawful_place {P = WritesWithin (context 21)} {tags = context 21 ∷ []} {meaning = query_within}
+    {spelling = within_spelling (context 21)} (any_query_place (context 21)) (any_query_spelled (context 21))
 
 -- a query of type 1, or another one
 abbrev pub of_sum : RpnQuery ⊎ Element → SearchQuery

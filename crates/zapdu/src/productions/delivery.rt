@@ -1,6 +1,6 @@
 //! The last elements of a PresentRequest: how the target is to deliver the records.
 ghost use Rattle.std.specs.Prelude.{◌≡◌, [], IfOk};
-ghost use Rattle.zasn.specs.Answers.{Finds, Puts};
+ghost use Rattle.zasn.specs.Answers.{ReadingResult, BuildStepResult};
 ghost use Rattle.zapdu.specs.Productions.Deliveries.{delivery, delivery_parts};
 
 use std::alloc::Global;
@@ -20,7 +20,7 @@ pub(crate) struct Delivery {
 /// Reads these elements, after which there are no more.
 #[tactic(auto, unfolding(crate::specs::Productions::Deliveries::delivery_parts))]
 pub(crate) fn read_delivery(alloc: Global, parts: &mut Parts<'_>) -> Result<Delivery, PartError>
-    ensures finds { Finds (delivery_parts.at parts.old) result parts.new }
+    ensures finds { ReadingResult (delivery_parts.at parts.old) result parts.new }
     ensures none { IfOk result (λ _. parts.new ≡ []) }
 {
     let preferred_record_syntax = parts.optional(alloc, Tag::context(104))?;
@@ -49,7 +49,7 @@ pub(crate) fn write_delivery(
     segment_size: &Option<Node>,
     other: &Option<Node>,
 ) -> Result<(), BuildError>
-    ensures { Puts (delivery_parts.made
+    ensures { BuildStepResult (delivery_parts.spelling
         (delivery syntax.now segments.now record_size.now segment_size.now other.now) out.old) result out.new }
 {
     out.optional(alloc, Tag::context(104), syntax)?;

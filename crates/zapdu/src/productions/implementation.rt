@@ -1,6 +1,6 @@
 //! The last elements of InitializeRequest and InitializeResponse: the implementation, and what either side may add.
 ghost use Rattle.std.specs.Prelude.{◌≡◌, [], IfOk};
-ghost use Rattle.zasn.specs.Answers.{Finds, Puts};
+ghost use Rattle.zasn.specs.Answers.{ReadingResult, BuildStepResult};
 ghost use Rattle.zapdu.specs.Productions.Implementations.{implementation, implementation_parts};
 
 use crate::productions::external::External;
@@ -24,7 +24,7 @@ pub(crate) fn read_implementation(
     alloc: Global,
     parts: &mut Parts<'_>,
 ) -> Result<Implementation, PartError>
-    ensures finds { Finds (implementation_parts.at parts.old) result parts.new }
+    ensures finds { ReadingResult (implementation_parts.at parts.old) result parts.new }
     ensures none { IfOk result (λ _. parts.new ≡ []) }
 {
     let implementation_id = parts.optional(alloc, Tag::context(110))?;
@@ -57,7 +57,7 @@ pub(crate) fn write_implementation(
     information: &Option<External>,
     other: &Option<Node>,
 ) -> Result<(), BuildError>
-    ensures { Puts (implementation_parts.made
+    ensures { BuildStepResult (implementation_parts.spelling
         (implementation id.now name.now version.now information.now other.now) out.old) result out.new }
 {
     out.optional(alloc, Tag::context(110), id)?;

@@ -1,6 +1,6 @@
 //! The last elements of a SearchRequest: the element sets and the syntax of the records in the response, and the query.
 ghost use Rattle.std.specs.Prelude.{◌≡◌, [], IfOk};
-ghost use Rattle.zasn.specs.Answers.{Finds, Puts};
+ghost use Rattle.zasn.specs.Answers.{ReadingResult, BuildStepResult};
 ghost use Rattle.zapdu.specs.Productions.SearchDetails.{details_of, search_details_parts};
 
 use crate::productions::element_set_names::ElementSetNames;
@@ -26,7 +26,7 @@ pub(crate) fn read_search_details(
     alloc: Global,
     parts: &mut Parts<'_>,
 ) -> Result<SearchDetails, PartError>
-    ensures finds { Finds (search_details_parts.at parts.old) result parts.new }
+    ensures finds { ReadingResult (search_details_parts.at parts.old) result parts.new }
     ensures none { IfOk result (λ _. parts.new ≡ []) }
 {
     let small_set_element_set_names = parts.optional_explicit_tagged(alloc, Tag::context(100))?;
@@ -53,7 +53,7 @@ pub(crate) fn write_search_details(
     out: &mut PartsBuf,
     request: &SearchRequest,
 ) -> Result<(), BuildError>
-    ensures { Puts (search_details_parts.made (details_of request.now) out.old) result out.new }
+    ensures { BuildStepResult (search_details_parts.spelling (details_of request.now) out.old) result out.new }
 {
     out.optional_explicit_tagged(
         alloc,

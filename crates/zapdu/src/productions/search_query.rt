@@ -1,7 +1,7 @@
 //! The query of a SearchRequest.
 ghost use Rattle.zasn.specs.Reading.{option_map};
 ghost use Rattle.zquery_rpn.specs.Element.AnyQueries.{any_query, query_within};
-ghost use Rattle.zasn.specs.Answers.{Means};
+ghost use Rattle.zasn.specs.Answers.{MeaningResult};
 ghost use Rattle.zapdu.specs.Productions.SearchQueries.{of_sum, search_query};
 
 use std::alloc::Global;
@@ -28,7 +28,7 @@ impl Drop for SearchQuery {
 
 /// Reads an element as a query of type 1 if its tag is `[1]`, and otherwise keeps it.
 fn query_of(alloc: Global, node: &Node) -> Result<SearchQuery, PartError>
-    ensures { Means (option_map of_sum (any_query node.now)) result }
+    ensures { MeaningResult (option_map of_sum (any_query node.now)) result }
 {
     if node.tag != Tag::context(1) {
         return Ok(SearchQuery::Other(node.copy(alloc)?));
@@ -41,7 +41,7 @@ fn query_of(alloc: Global, node: &Node) -> Result<SearchQuery, PartError>
 
 /// Reads the one element within an element as a query.
 fn query_in(alloc: Global, node: &Node) -> Result<SearchQuery, PartError>
-    ensures { Means (option_map of_sum (query_within node.now)) result }
+    ensures { MeaningResult (option_map of_sum (query_within node.now)) result }
 {
     match sole(node) {
         Some(only) => query_of(alloc, only),

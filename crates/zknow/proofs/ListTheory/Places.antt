@@ -18,7 +18,7 @@ use Rattle.zknow.specs.Tables.DistinctLaws.{in_cons, in_head, in_tail, none_in_n
 use Rattle.zknow.specs.Encodings.{encoding_cmp, encoding_total}
 use Rattle.zasn.specs.Place.{IsSpellable}
 use Rattle.zknow.specs.Facts.{fact_cmp, IsFact, AreFacts}
-use Rattle.zknow.specs.Known.{is_set, count_in, record_in, counts_at, records_at}
+use Rattle.zknow.specs.Known.{is_set, fact_count, fact_record, counts_at, records_at}
 use Rattle.zknow.specs.List.ListLaws.{HasTwoCounts, IsConflict}
 use Rattle.zknow.specs.Tables.Tables.{AreCounts, AreRecords}
 use Rattle.zknow.proofs.TableTheory.FactsInOrder.{same_place, counts_differ}
@@ -29,19 +29,19 @@ use Rattle.zknow.proofs.ListTheory.KnownAt.{is_set_itself}
 -- ---- what f tells of the elements of a list
 
 module _ {X Y : Type 0} (f : X → Option Y) where
-  more_told : (ys : List Y) (o : Option Y) (y : Y) → Contains ys y → Contains (cons_option o ys) y
-  more_told ys None y h = h
-  more_told ys (Some z) y h = in_tail z ys y h
+  image_later : (ys : List Y) (o : Option Y) (y : Y) → Contains ys y → Contains (cons_option o ys) y
+  image_later ys None y h = h
+  image_later ys (Some z) y h = in_tail z ys y h
 
-  told_first : (ys : List Y) (o : Option Y) (y : Y) → o ≡ Some y → Contains (cons_option o ys) y
-  told_first ys None y is = absurd (cc)
-  told_first ys (Some z) y is = let same : z ≡ y = cc in subst (Contains (z ∷ ys)) same (in_head z ys)
+  image_first : (ys : List Y) (o : Option Y) (y : Y) → o ≡ Some y → Contains (cons_option o ys) y
+  image_first ys None y is = absurd (cc)
+  image_first ys (Some z) y is = let same : z ≡ y = cc in subst (Contains (z ∷ ys)) same (in_head z ys)
 
-  pub told : (xs : List X) (x : X) (y : Y) → Contains xs x → f x ≡ Some y → Contains (filter_map f xs) y
-  told [] x y h is = absurd (none_in_nil x h)
-  told (z ∷ zs) x y h is = ⊎_elim
-      (λ same. told_first (filter_map f zs) (f z) y (ap f same ∙ is))
-      (λ later. more_told (filter_map f zs) (f z) y (told zs x y later is))
+  pub image_found : (xs : List X) (x : X) (y : Y) → Contains xs x → f x ≡ Some y → Contains (filter_map f xs) y
+  image_found [] x y h is = absurd (none_in_nil x h)
+  image_found (z ∷ zs) x y h is = ⊎_elim
+      (λ same. image_first (filter_map f zs) (f z) y (ap f same ∙ is))
+      (λ later. image_later (filter_map f zs) (f z) y (image_found zs x y later is))
       (in_cons z zs x h)
 
   by_first : (z : X) (zs : List X) (o : Option Y) (y : Y) → f z ≡ o → ((x : X) × Contains zs x × (f x ≡ Some y) → (x : X) × Contains (z ∷ zs) x × (f x ≡ Some y))
@@ -66,10 +66,10 @@ module _ {X Y : Type 0} (f : X → Option Y) where
       sorted,
     )
 
-    pub told_sorted : (xs : List X) → IsStrictlySortedBy c xs → IsStrictlySortedBy order (filter_map f xs)
+    pub image_sorted : (xs : List X) → IsStrictlySortedBy c xs → IsStrictlySortedBy order (filter_map f xs)
     unfolding IsStrictlySortedBy
-    told_sorted [] sorted = tt
-    told_sorted (x ∷ xs) sorted = one_more x xs (f x) refl (sorted_head c x xs sorted) (told_sorted xs (sorted_tail c x xs sorted))
+    image_sorted [] sorted = tt
+    image_sorted (x ∷ xs) sorted = one_more x xs (f x) refl (sorted_head c x xs sorted) (image_sorted xs (sorted_tail c x xs sorted))
 
 -- ---- the fact that tells a count, a record
 
@@ -81,7 +81,7 @@ module _ (t s : ℕ) where
   set_is : (u v : ℕ) → is_set t s u v ≡ true → (u ≡ t) × (v ≡ s)
   set_is u v is = let both = both_true _ _ is in ((Decides-eqb u t).0 both.0, (Decides-eqb v s).0 both.1)
 
-  pub count_is : (f : Fact) (n : ℤ) → count_in t s f ≡ Some n → f ≡ Count t s n
+  pub count_is : (f : Fact) (n : ℤ) → fact_count t s f ≡ Some n → f ≡ Count t s n
   count_is (Count u v m) n is =
       let one = some_if (is_set t s u v) m n is in
       let set = set_is u v one.0 in
@@ -90,11 +90,11 @@ module _ (t s : ℕ) where
   count_is (Seen u v p r) n is = absurd (cc)
   count_is (Diag u v p d) n is = absurd (cc)
 
-  pub count_told : (n : ℤ) → count_in t s (Count t s n) ≡ Some n
-  count_told n = ap (λ (b : Bool). if b then Some n else None) (is_set_itself t s)
+  pub count_is_found : (n : ℤ) → fact_count t s (Count t s n) ≡ Some n
+  count_is_found n = ap (λ (b : Bool). if b then Some n else None) (is_set_itself t s)
 
   module _ (p : ℤ) where
-    pub record_is : (f : Fact) (r : Record) → record_in t s p f ≡ Some r → f ≡ Seen t s p r
+    pub record_is : (f : Fact) (r : Record) → fact_record t s p f ≡ Some r → f ≡ Seen t s p r
     record_is (Count u v m) r is = absurd (cc)
     record_is (Failed u v) r is = absurd (cc)
     record_is (Seen u v q x) r is =
@@ -104,36 +104,36 @@ module _ (t s : ℕ) where
         ap (λ w. Seen w v q x) set.0 ∙ ap (λ w. Seen t w q x) set.1 ∙ ap (λ w. Seen t s w x) ((Decides-int_eq q p).0 both.1) ∙ ap (λ w. Seen t s p w) one.1
     record_is (Diag u v q d) r is = absurd (cc)
 
-    pub record_told : (r : Record) → record_in t s p (Seen t s p r) ≡ Some r
-    record_told r = ap (λ (b : Bool). if b && int_eq p p then Some r else None) (is_set_itself t s) ∙ ap (λ (b : Bool). if b then Some r else None) ((Decides-int_eq p p).1 refl)
+    pub record_is_found : (r : Record) → fact_record t s p (Seen t s p r) ≡ Some r
+    record_is_found r = ap (λ (b : Bool). if b && int_eq p p then Some r else None) (is_set_itself t s) ∙ ap (λ (b : Bool). if b then Some r else None) ((Decides-int_eq p p).1 refl)
 
 -- ---- the laws
 
 module _ (t s : ℕ) (facts : List Fact) where
   pub counts_are : (n : ℤ) → Contains (counts_at t s facts) n ↔ Contains facts (Count t s n)
   counts_are n = (
-    λ h. let f = teller (count_in t s) facts n h in subst (Contains facts) (count_is t s f.0 n f.2) f.1,
-    λ h. told (count_in t s) facts (Count t s n) n h (count_told t s n),
+    λ h. let f = teller (fact_count t s) facts n h in subst (Contains facts) (count_is t s f.0 n f.2) f.1,
+    λ h. image_found (fact_count t s) facts (Count t s n) n h (count_is_found t s n),
   )
 
-  counts_keep : (f g : Fact) (m n : ℤ) → count_in t s f ≡ Some m → count_in t s g ≡ Some n → fact_cmp f g ≡ Less → int_cmp m n ≡ Less
+  counts_keep : (f g : Fact) (m n : ℤ) → fact_count t s f ≡ Some m → fact_count t s g ≡ Some n → fact_cmp f g ≡ Less → int_cmp m n ≡ Less
   counts_keep f g m n is_m is_n less =
       counts_differ t s m n (subst (λ x. fact_cmp x (Count t s n) ≡ Less) (count_is t s f m is_m) (subst (λ x. fact_cmp f x ≡ Less) (count_is t s g n is_n) less))
 
   pub counts_in_order : AreFacts facts → AreCounts (counts_at t s facts)
   counts_in_order good = record {
-    ordered = told_sorted (count_in t s) fact_cmp int_cmp counts_keep facts good.ordered;
+    ordered = image_sorted (fact_count t s) fact_cmp int_cmp counts_keep facts good.ordered;
     each = all_from int_cmp _ (counts_at t s facts) (λ n h. tt);
   }
 
   module _ (p : ℤ) where
     pub records_are : (r : Record) → Contains (records_at t s p facts) r ↔ Contains facts (Seen t s p r)
     records_are r = (
-      λ h. let f = teller (record_in t s p) facts r h in subst (Contains facts) (record_is t s p f.0 r f.2) f.1,
-      λ h. told (record_in t s p) facts (Seen t s p r) r h (record_told t s p r),
+      λ h. let f = teller (fact_record t s p) facts r h in subst (Contains facts) (record_is t s p f.0 r f.2) f.1,
+      λ h. image_found (fact_record t s p) facts (Seen t s p r) r h (record_is_found t s p r),
     )
 
-    records_keep : (f g : Fact) (x y : Record) → record_in t s p f ≡ Some x → record_in t s p g ≡ Some y → fact_cmp f g ≡ Less → encoding_cmp whole_record x y ≡ Less
+    records_keep : (f g : Fact) (x y : Record) → fact_record t s p f ≡ Some x → fact_record t s p g ≡ Some y → fact_cmp f g ≡ Less → encoding_cmp whole_record x y ≡ Less
     unfolding fact_cmp
     records_keep f g x y is_x is_y less =
         let here : fact_cmp (Seen t s p x) (Seen t s p y) ≡ Less = subst (λ z. fact_cmp z (Seen t s p y) ≡ Less) (record_is t s p f x is_x) (subst (λ z. fact_cmp f z ≡ Less) (record_is t s p g y is_y) less) in
@@ -141,7 +141,7 @@ module _ (t s : ℕ) (facts : List Fact) where
 
     pub records_in_order : AreFacts facts → AreRecords (records_at t s p facts)
     records_in_order good = record {
-      ordered = told_sorted (record_in t s p) fact_cmp (encoding_cmp whole_record) records_keep facts good.ordered;
+      ordered = image_sorted (fact_record t s p) fact_cmp (encoding_cmp whole_record) records_keep facts good.ordered;
       each = all_from (encoding_cmp whole_record) (IsSpellable whole_record) (records_at t s p facts) (λ r h. (each_in IsFact facts good.each (Seen t s p r) ((records_are r).0 h)).1);
     }
 
@@ -169,10 +169,10 @@ module _ (t s : ℕ) (facts : List Fact) where
           one = both.0;
           other = both.1;
           differ = both.2;
-          tells_one = (counts_are t s facts both.0).0 both.3;
-          tells_other = (counts_are t s facts both.1).0 both.4;
+          counted_one = (counts_are t s facts both.0).0 both.3;
+          counted_other = (counts_are t s facts both.1).0 both.4;
         },
-    λ h. differ_two (counts_at t s facts) h.one h.other h.differ ((counts_are t s facts h.one).1 h.tells_one) ((counts_are t s facts h.other).1 h.tells_other),
+    λ h. differ_two (counts_at t s facts) h.one h.other h.differ ((counts_are t s facts h.one).1 h.counted_one) ((counts_are t s facts h.other).1 h.counted_other),
   )
 
 module _ (t s : ℕ) (p : ℤ) (facts : List Fact) where

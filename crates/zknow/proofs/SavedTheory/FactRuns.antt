@@ -6,21 +6,21 @@ use Rattle.zknow.specs.declared.fact.Fact.{Fact}
 use Rattle.zknow.specs.Encodings.{encoding}
 use Rattle.zknow.specs.Facts.{fact_cmp}
 use Rattle.zknow.specs.Saved.SavedFacts.{saved_names, saved_fact}
-use Rattle.zknow.specs.Saved.Saved.{Fits, IsSaved}
+use Rattle.zknow.specs.Saved.Saved.{IsWithinLimits, IsSaved}
 use Rattle.zknow.proofs.SavedTheory.OneElement.{one_element, same_rest}
 
 abbrev pub bodies : List Fact → List ℕ
 bodies facts = flat_map (encoding saved_fact) facts
 
 abbrev AllFit : List Fact → Type 0
-AllFit facts = AllByRecursion (Fits saved_fact) facts
+AllFit facts = AllByRecursion (IsWithinLimits saved_fact) facts
 
 -- behind the front the facts go on with one more, and its element stands next
 pub record GoesOn (facts front : List Fact) (rest after : List ℕ) : Type 0 where
   pub fact : Fact
   pub more : List Fact
   pub whole : facts ≡ front ++ fact ∷ more
-  pub fits : Fits saved_fact fact
+  pub fits : IsWithinLimits saved_fact fact
   pub follows : rest ≡ encoding saved_fact fact ++ (bodies more ++ after)
 
 -- the facts are the same, or those of one go on behind those of the other
@@ -75,7 +75,7 @@ sorted_front (x ∷ xs) ys sorted = (all_front _ xs ys sorted.0, sorted_front xs
 
 -- the octets begin with no fact's canonical element that may stand behind these facts
 abbrev pub IsStuck : List Fact → List ℕ → Type 0
-IsStuck facts rest = (f : Fact) (after : List ℕ) → rest ≡ encoding saved_fact f ++ after → Fits saved_fact f → IsStrictlySortedBy fact_cmp (facts ++ f ∷ []) → ⊥
+IsStuck facts rest = (f : Fact) (after : List ℕ) → rest ≡ encoding saved_fact f ++ after → IsWithinLimits saved_fact f → IsStrictlySortedBy fact_cmp (facts ++ f ∷ []) → ⊥
 
 pub no_further : (facts front : List Fact) (rest after : List ℕ) → IsStrictlySortedBy fact_cmp facts → IsStuck front rest → GoesOn facts front rest after → ⊥
 no_further facts front rest after sorted stuck next =

@@ -8,8 +8,8 @@ use Rattle.std.proofs.Math.Seq.{take-append_seam}
 use Rattle.zber.specs.AsnTags.{AsnTag}
 use Rattle.zber.specs.Elements.{Element, tag_of}
 use Rattle.zber.specs.Canonical.{IsLawful}
-use Rattle.zber.specs.Spelling.{Begins}
-use Rattle.zber.specs.Stream.{Stream, Answers}
+use Rattle.zber.specs.Spelling.{HasFirstMessage}
+use Rattle.zber.specs.Stream.{Stream, AfterNext}
 use Rattle.zber.specs.declared.fault.FaultKind.{FaultKind}
 use Rattle.zber.specs.declared.fault.FrameError.TheVariants.{Fault}
 use Rattle.zber.specs.Tags.{among}
@@ -17,8 +17,8 @@ use Rattle.zasn.specs.Place.{Place}
 use Rattle.zber.proofs.OneOutcome.{one_message, message_or_fault}
 use Rattle.zknow.specs.Encodings.{encoding}
 use Rattle.zknow.specs.Saved.Saved.{longest}
-use Rattle.zknow.specs.Saved.Loaded.{BeginsWith, NoElement}
-use Rattle.zknow.specs.Saved.Fronts.{FrontElement, FrontValue, IsTaken, IsOdd}
+use Rattle.zknow.specs.Saved.Loaded.{HasFrontValue, HasNoFrontValue}
+use Rattle.zknow.specs.Saved.Fronts.{IsFrontElement, IsFrontValue, IsTakenFront, IsNoncanonical}
 use Rattle.zber.proofs.Stays.{fault_stays}
 use Rattle.zknow.proofs.SavedTheory.OneElement.{canonical_front, odd_front}
 
@@ -35,27 +35,27 @@ front_kept (suc size) (x ∷ front) rest within =
 abbrev pub fed : List ℕ → Stream
 fed octets = record { limit = longest; octets = octets; fault = None; asked = false }
 
-pub found_is : (s t : Stream) (octets : List ℕ) (o : Option Element) → s ≡ fed octets → Answers s (Ok o) t → FrontElement octets o
+pub found_is : (s t : Stream) (octets : List ℕ) (o : Option Element) → s ≡ fed octets → AfterNext s (Ok o) t → IsFrontElement octets o
 found_is s t octets None is h =
-    let none = (subst (λ (q : Stream). Answers q (Ok None) t) is h).1 in
+    let none = (subst (λ (q : Stream). AfterNext q (Ok None) t) is h).1 in
     none.no_message
 found_is s t octets (Some n) is h =
-    let begins = (subst (λ (q : Stream). Answers q (Ok (Some n)) t) is h).1 in
+    let begins = (subst (λ (q : Stream). AfterNext q (Ok (Some n)) t) is h).1 in
     (t.octets, begins)
 
-pub fault_is : (s t : Stream) (octets : List ℕ) (kind : FaultKind) (at : ℕ) → s ≡ fed octets → Answers s (Err (Fault kind at)) t → (more : List ℕ) → FrontElement (octets ++ more) None
+pub fault_is : (s t : Stream) (octets : List ℕ) (kind : FaultKind) (at : ℕ) → s ≡ fed octets → AfterNext s (Err (Fault kind at)) t → (more : List ℕ) → IsFrontElement (octets ++ more) None
 fault_is s t octets kind at is h more n rest begins =
-    let shown = (subst (λ (q : Stream). Answers q (Err (Fault kind at)) t) is h).1 in
+    let shown = (subst (λ (q : Stream). AfterNext q (Err (Fault kind at)) t) is h).1 in
     ⊎_elim (λ other. absurd cc) (λ shows. message_or_fault longest (octets ++ more) n rest kind at begins (fault_stays longest octets more kind at shows.1)) shown
 
 -- ---- windows
 
 module _ (octets window : List ℕ) (size : ℕ) (is : window ≡ take size octets) where
-  pub from_fault : ((more : List ℕ) → FrontElement (window ++ more) None) → FrontElement octets None
-  from_fault none = subst (λ (l : List ℕ). FrontElement l None) (ap (λ l. l ++ drop size octets) is ∙ take-append-drop size octets) (none (drop size octets))
+  pub from_fault : ((more : List ℕ) → IsFrontElement (window ++ more) None) → IsFrontElement octets None
+  from_fault none = subst (λ (l : List ℕ). IsFrontElement l None) (ap (λ l. l ++ drop size octets) is ∙ take-append-drop size octets) (none (drop size octets))
 
   -- no element has more than so many octets
-  pub from_longest : (limit wide : ℕ) → limit ≡ min (length octets) longest → size ≡ min wide limit → limit ≤ wide → FrontElement window None → FrontElement octets None
+  pub from_longest : (limit wide : ℕ) → limit ≡ min (length octets) longest → size ≡ min wide limit → limit ≤ wide → IsFrontElement window None → IsFrontElement octets None
   from_longest limit wide limit_is size_is all none n rest begins =
       let long : length begins.message ≤ size = omega (arith, limit_is, size_is, all, begins.is.within, ap length begins.cut, length-append begins.message rest) in
       let kept = front_kept size begins.message rest long in
@@ -64,30 +64,30 @@ module _ (octets window : List ℕ) (size : ℕ) (is : window ≡ take size octe
 -- ---- the value
 
 module _ {A : Type 0} (p : Place A) (octets : List ℕ) where
-  begins_of : (x : A) (s t : List ℕ) (b : BeginsWith p x octets s t) → Begins longest octets b.element.node t
+  begins_of : (x : A) (s t : List ℕ) (b : HasFrontValue p x octets s t) → HasFirstMessage longest octets b.element.node t
   begins_of x s t b = record { message = s; is = b.element.message; cut = b.cut }
 
-  pub no_front : FrontElement octets None → NoElement p octets
+  pub no_front : IsFrontElement octets None → HasNoFrontValue p octets
   no_front none x s t b = none b.element.node t (begins_of x s t b)
 
-  module _ (n : Element) (front : FrontElement octets (Some n)) where
-    same_node : (x : A) (s t : List ℕ) (b : BeginsWith p x octets s t) → b.element.node ≡ n
+  module _ (n : Element) (front : IsFrontElement octets (Some n)) where
+    same_node : (x : A) (s t : List ℕ) (b : HasFrontValue p x octets s t) → b.element.node ≡ n
     same_node x s t b = (one_message longest octets b.element.node n t front.0 (begins_of x s t b) front.1).0
 
-    stands_here : (x : A) (s t : List ℕ) → BeginsWith p x octets s t → p.stands x n
-    stands_here x s t b = subst (p.stands x) (same_node x s t b) b.element.says
+    stands_here : (x : A) (s t : List ℕ) → HasFrontValue p x octets s t → p.writes x n
+    stands_here x s t b = subst (p.writes x) (same_node x s t b) b.element.says
 
-    pub not_tagged : (tag : AsnTag) (has : Bool) → tag_of n ≡ tag → has ≡ among tag p.tags → has ≡ false → NoElement p octets
+    pub not_tagged : (tag : AsnTag) (has : Bool) → tag_of n ≡ tag → has ≡ among tag p.tags → has ≡ false → HasNoFrontValue p octets
     not_tagged tag has is test other x s t b =
         let there : among tag p.tags ≡ true = subst (λ (u : AsnTag). among u p.tags ≡ true) is (p.begins x n (stands_here x s t b)) in
         absurd cc
 
-    pub no_meaning : p.meaning n ≡ None → NoElement p octets
+    pub no_meaning : p.meaning n ≡ None → HasNoFrontValue p octets
     no_meaning none x s t b = let found = p.finds x n (stands_here x s t b) in absurd cc
 
   -- the octets begin with the canonical element, or not
-  module _ (x : A) (lawful : (n : Element) → p.spelt x ≡ Some n → IsLawful n) (front : FrontValue p octets (Some x)) (canonical : List ℕ) (is : canonical ≡ encoding p x) (test : Bool) (tested : test ≡ pointwise eqb canonical (take (length canonical) octets)) where
-    pub taken_is : test ≡ true → length canonical ≤ length octets → IsTaken p octets x (length canonical)
+  module _ (x : A) (lawful : (n : Element) → p.spelling x ≡ Some n → IsLawful n) (front : IsFrontValue p octets (Some x)) (canonical : List ℕ) (is : canonical ≡ encoding p x) (test : Bool) (tested : test ≡ pointwise eqb canonical (take (length canonical) octets)) where
+    pub taken_is : test ≡ true → length canonical ≤ length octets → IsTakenFront p octets x (length canonical)
     taken_is passed within =
         let whole : octets ≡ canonical ++ drop (length canonical) octets = (starts_is Decides-eqb octets canonical test tested).0 passed in
         record {
@@ -101,7 +101,7 @@ module _ {A : Type 0} (p : Place A) (octets : List ℕ) where
         let passed = (starts_is Decides-eqb octets canonical test tested).1 after (whole ∙ ap (λ l. l ++ after) (sym is)) in
         cc
 
-    pub odd_is : test ≡ false → IsOdd p octets
+    pub odd_is : test ≡ false → IsNoncanonical p octets
     odd_is failed = record {
       value = x;
       spelling = front.0;

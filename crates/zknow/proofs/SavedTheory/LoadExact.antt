@@ -9,7 +9,7 @@ use Rattle.zknow.specs.Encodings.{encoding}
 use Rattle.zknow.specs.Facts.{fact_cmp}
 use Rattle.zknow.specs.Saved.SavedFacts.{saved_names, saved_fact}
 use Rattle.zknow.specs.Saved.Saved.{IsSaved}
-use Rattle.zknow.specs.Saved.Loaded.{BeginsWith, NoElement, IsSoundUpTo, IsNoFact, AreOddNames, IsOddFact, IsNotKnowledge, IsNotCanonical, IsFault}
+use Rattle.zknow.specs.Saved.Loaded.{HasFrontValue, HasNoFrontValue, IsSoundUpTo, IsNoFact, AreNoncanonicalNames, IsNoncanonicalFact, IsNotKnowledge, IsNotCanonical, IsLoadFault}
 use Rattle.zknow.proofs.SavedTheory.OneElement.{element_some, one_element}
 use Rattle.zknow.proofs.SavedTheory.FactRuns.{bodies, GoesOn, IsStuck, names_same, files_part, no_further}
 
@@ -23,7 +23,7 @@ nothing_next facts front after next =
 no_fact_stuck : (file : List ℕ) (at : ℕ) (o : IsNoFact file at) → IsStuck o.facts o.rest
 no_fact_stuck file at o f after cut fits sorted = o.none f (encoding saved_fact f) after (record { cut = cut; element = fits })
 
-odd_fact_stuck : (file : List ℕ) (at : ℕ) (o : IsOddFact file at) → IsStuck o.facts o.rest
+odd_fact_stuck : (file : List ℕ) (at : ℕ) (o : IsNoncanonicalFact file at) → IsStuck o.facts o.rest
 odd_fact_stuck file at o f after cut fits sorted =
     let one = one_element saved_fact o.fact f o.spelling (encoding saved_fact f) o.after after o.begins.element fits (sym o.begins.cut ∙ cut) in
     ⊎_elim (λ differs. differs (one.1 ∙ ap (encoding saved_fact) (sym one.0)))
@@ -42,13 +42,13 @@ module _ (file : List ℕ) where
   -- ---- of the names
 
   module _ (names : List (List ℕ)) (facts : List Fact) (front rest : List ℕ) (is : IsSaved names facts front) (cut : file ≡ front ++ rest) where
-    names_here : BeginsWith saved_names names file (encoding saved_names names) (bodies facts ++ rest)
+    names_here : HasFrontValue saved_names names file (encoding saved_names names) (bodies facts ++ rest)
     names_here = record { cut = cut ∙ ap (λ l. l ++ rest) is.octets ∙ append_assoc (encoding saved_names names) (bodies facts) rest; element = is.names_fit }
 
-    names_found : NoElement saved_names file → ⊥
+    names_found : HasNoFrontValue saved_names file → ⊥
     names_found none = none names (encoding saved_names names) (bodies facts ++ rest) names_here
 
-    names_even : AreOddNames file → ⊥
+    names_even : AreNoncanonicalNames file → ⊥
     names_even o =
         let one = one_element saved_names o.names names o.spelling (encoding saved_names names) o.rest (bodies facts ++ rest) o.begins.element is.names_fit (sym o.begins.cut ∙ names_here.cut) in
         o.odd (one.1 ∙ ap (encoding saved_names) (sym one.0))
@@ -91,27 +91,27 @@ module _ (file : List ℕ) where
   not_both a b (inr x) (inl y) = names_even x.names x.facts x.sound.front x.rest x.sound.saved x.sound.cut y.1
   not_both a b (inr x) (inr y) =
       let same = (one_place x.names y.names x.facts y.facts x.rest y.rest x.sound (no_fact_stuck file a x) y.sound (odd_fact_stuck file b y)).1 in
-      x.none y.fact y.spelling y.after (subst (λ l. BeginsWith saved_fact y.fact l y.spelling y.after) (sym same) y.begins)
+      x.none y.fact y.spelling y.after (subst (λ l. HasFrontValue saved_fact y.fact l y.spelling y.after) (sym same) y.begins)
 
-  pub one_fault : (e f : LoadError) → e ≢ Memory → f ≢ Memory → IsFault file e → IsFault file f → e ≡ f
-  one_fault Memory f told also x y = absurd (told refl)
-  one_fault (NotKnowledge a) Memory told also x y = absurd (also refl)
-  one_fault (NotCanonical a) Memory told also x y = absurd (also refl)
-  one_fault (NotKnowledge a) (NotKnowledge b) told also x y = ap NotKnowledge (both_unknown a b x y)
-  one_fault (NotKnowledge a) (NotCanonical b) told also x y = absurd (not_both a b x y)
-  one_fault (NotCanonical a) (NotKnowledge b) told also x y = absurd (not_both b a y x)
-  one_fault (NotCanonical a) (NotCanonical b) told also x y = ap NotCanonical (both_odd a b x y)
+  pub one_fault : (e f : LoadError) → e ≢ Memory → f ≢ Memory → IsLoadFault file e → IsLoadFault file f → e ≡ f
+  one_fault Memory f image_found also x y = absurd (image_found refl)
+  one_fault (NotKnowledge a) Memory image_found also x y = absurd (also refl)
+  one_fault (NotCanonical a) Memory image_found also x y = absurd (also refl)
+  one_fault (NotKnowledge a) (NotKnowledge b) image_found also x y = ap NotKnowledge (both_unknown a b x y)
+  one_fault (NotKnowledge a) (NotCanonical b) image_found also x y = absurd (not_both a b x y)
+  one_fault (NotCanonical a) (NotKnowledge b) image_found also x y = absurd (not_both b a y x)
+  one_fault (NotCanonical a) (NotCanonical b) image_found also x y = ap NotCanonical (both_odd a b x y)
 
   -- ---- a saved file has none
 
   module _ (names : List (List ℕ)) (facts : List Fact) (is : IsSaved names facts file) where
-    found : NoElement saved_names file → ⊥
+    found : HasNoFrontValue saved_names file → ⊥
     found = names_found names facts file [] is (sym (append-nil file))
 
-    even : AreOddNames file → ⊥
+    even : AreNoncanonicalNames file → ⊥
     even = names_even names facts file [] is (sym (append-nil file))
 
-    pub no_fault : (e : LoadError) → IsFault file e → e ≡ Memory
+    pub no_fault : (e : LoadError) → IsLoadFault file e → e ≡ Memory
     no_fault Memory fault = refl
     no_fault (NotKnowledge at) (inl x) = absurd (found x.1)
     no_fault (NotKnowledge at) (inr x) = absurd (none_saved x.names names x.facts facts x.rest [] x.sound (no_fact_stuck file at x) is)

@@ -14,14 +14,14 @@ use Rattle.zknow.specs.Facts.{fact_cmp, IsFact}
 use Rattle.zknow.specs.Tables.DistinctLaws.{none_in_nil, in_cons, same_sorted, each_in}
 use Rattle.zknow.specs.Tables.Join.{IsUnion}
 use Rattle.zknow.specs.Saved.SavedFacts.{saved_names, saved_fact, seen_parts}
-use Rattle.zknow.specs.Saved.Saved.{saved, IsElement, Fits, IsSaved}
-use Rattle.zknow.specs.Saved.Loaded.{BeginsWith, IsSoundUpTo, IsFault}
+use Rattle.zknow.specs.Saved.Saved.{saved, IsElement, IsWithinLimits, IsSaved}
+use Rattle.zknow.specs.Saved.Loaded.{HasFrontValue, IsSoundUpTo, IsLoadFault}
 use Rattle.zknow.specs.declared.saved.front.FrontError.{FrontError}
 use Rattle.zknow.specs.declared.saved.front.FrontError.TheVariants.{NoValue, NotCanonical, Memory}
 use Rattle.zber.proofs.HeaderLemmas.{take_add}
 use Rattle.zknow.proofs.SavedTheory.OneElement.{element_some}
 use Rattle.std.proofs.lemmas.List.{append-nil}
-use Rattle.zknow.specs.Saved.Fronts.{IsTaken, IsFrontFault}
+use Rattle.zknow.specs.Saved.Fronts.{IsTakenFront, IsFrontFault}
 use Rattle.zknow.specs.Saved.Loading.{IsAbove, IsLast, fault_at}
 use Rattle.zknow.specs.FactLaws.{fact_total}
 use Rattle.zknow.proofs.SavedTheory.FactSpelled.{from_at_least}
@@ -29,7 +29,7 @@ use Rattle.zknow.proofs.TableTheory.InSections.{sorted_append}
 use Rattle.zknow.proofs.SavedTheory.SavedParts.{each_push, saved_push, in_push, in_front, in_last}
 
 -- what an element says is a fact
-fourth : (t s : _) (p : ℤ) (r : Record) (ns : List Element) → seen_parts.stand (record { target = t; set = s; position = p; rec = r }) ns → IsSpellable whole_record r
+fourth : (t s : _) (p : ℤ) (r : Record) (ns : List Element) → seen_parts.writes (record { target = t; set = s; position = p; rec = r }) ns → IsSpellable whole_record r
 unfolding seen_parts
 fourth t s p r [] h = absurd h
 fourth t s p r (a ∷ []) h = absurd h.1
@@ -37,7 +37,7 @@ fourth t s p r (a ∷ b ∷ []) h = absurd h.1.1
 fourth t s p r (a ∷ b ∷ c ∷ []) h = absurd h.1.1.1
 fourth t s p r (a ∷ b ∷ c ∷ d ∷ ns) h = (d, h.1.1.1.0)
 
-pub said_is_fact : (f : Fact) (n : Element) → saved_fact.stands f n → IsFact f
+pub said_is_fact : (f : Fact) (n : Element) → saved_fact.writes f n → IsFact f
 said_is_fact (Count t s n) m h = from_at_least (pos 0) n h.1
 said_is_fact (Failed t s) m h = tt
 said_is_fact (Seen t s p r) (Primitive name xs) h = absurd h.0
@@ -83,7 +83,7 @@ module _ (facts : List Fact) (f : Fact) where
 
 -- ---- the file
 
-pub saved_first : (file : List ℕ) (names : List (List ℕ)) (size : ℕ) → IsTaken saved_names file names size → IsSaved names [] (take size file)
+pub saved_first : (file : List ℕ) (names : List (List ℕ)) (size : ℕ) → IsTakenFront saved_names file names size → IsSaved names [] (take size file)
 unfolding IsStrictlySortedBy
 saved_first file names size taken = record {
   octets = taken.canonical ∙ sym (append-nil (encoding saved_names names));
@@ -92,29 +92,29 @@ saved_first file names size taken = record {
   facts_fit = tt;
 }
 
-pub taken_some : {A : Type 0} (p : Place A) (octets : List ℕ) (x : A) (size : ℕ) → IsTaken p octets x size → 0 < size
+pub taken_some : {A : Type 0} (p : Place A) (octets : List ℕ) (x : A) (size : ℕ) → IsTakenFront p octets x size → 0 < size
 taken_some p octets x size taken = omega (arith, element_some p x (encoding p x) taken.element, ap length taken.canonical, length-take size octets)
 
 module _ (names : List (List ℕ)) (facts : List Fact) (file : List ℕ) (at : ℕ) (is : IsSaved names facts (take at file)) where
   pub sound_to : at < length file → IsSoundUpTo file names facts (drop at file)
   sound_to more = record { front = take at file; cut = sym (take-append-drop at file); saved = is; more = omega (arith, length-drop at file) }
 
-  module _ (f : Fact) (size : ℕ) (taken : IsTaken saved_fact (drop at file) f size) where
+  module _ (f : Fact) (size : ℕ) (taken : IsTakenFront saved_fact (drop at file) f size) where
     pub saved_next : IsStrictlySortedBy fact_cmp (facts ++ f ∷ []) → IsSaved names (facts ++ f ∷ []) (take (at + size) file)
     saved_next sorted = record {
       octets = take_add file at size ∙ ap (λ l. l ++ take size (drop at file)) is.octets ∙ ap (λ l. saved names facts ++ l) taken.canonical ∙ sym (saved_push names facts f);
       ordered = sorted;
       names_fit = is.names_fit;
-      facts_fit = each_push (Fits saved_fact) facts f is.facts_fit taken.element;
+      facts_fit = each_push (IsWithinLimits saved_fact) facts f is.facts_fit taken.element;
     }
 
-    pub begins_taken : BeginsWith saved_fact f (drop at file) (take size (drop at file)) (drop size (drop at file))
+    pub begins_taken : HasFrontValue saved_fact f (drop at file) (take size (drop at file)) (drop size (drop at file))
     begins_taken = record {
       cut = sym (take-append-drop size (drop at file));
       element = subst (IsElement saved_fact f) (sym taken.canonical) taken.element;
     }
 
-pub later_fault : (file : List ℕ) (names : List (List ℕ)) (facts : List Fact) (rest : List ℕ) (at : ℕ) (e : FrontError) → IsSoundUpTo file names facts rest → at ≡ length facts + 1 → IsFrontFault saved_fact rest e → IsFault file (fault_at at e)
+pub later_fault : (file : List ℕ) (names : List (List ℕ)) (facts : List Fact) (rest : List ℕ) (at : ℕ) (e : FrontError) → IsSoundUpTo file names facts rest → at ≡ length facts + 1 → IsFrontFault saved_fact rest e → IsLoadFault file (fault_at at e)
 later_fault file names facts rest at NoValue sound place h = inr (record { names = names; facts = facts; rest = rest; sound = sound; place = place; none = h })
 later_fault file names facts rest at NotCanonical sound place h =
     inr (record { names = names; facts = facts; rest = rest; sound = sound; place = place; fact = h.value; spelling = h.spelling; after = h.rest; begins = h.begins; odd = inl h.odd })

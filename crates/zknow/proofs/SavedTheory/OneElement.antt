@@ -7,15 +7,15 @@ use Rattle.zasn.specs.Place.{Place}
 use Rattle.zber.proofs.CanonicalLemmas.{canonical_is_spelling}
 use Rattle.zber.proofs.OneSpelling.{one_spelling}
 use Rattle.zber.proofs.ScanSteps.{spells_some}
-use Rattle.zknow.specs.Encodings.{encoding, octets_of}
-use Rattle.zknow.specs.Saved.Saved.{IsElement, Fits}
-use Rattle.zknow.specs.Saved.Loaded.{BeginsWith}
+use Rattle.zknow.specs.Encodings.{encoding, encoded_octets}
+use Rattle.zknow.specs.Saved.Saved.{IsElement, IsWithinLimits}
+use Rattle.zknow.specs.Saved.Loaded.{HasFrontValue}
 
 module _ {A : Type 0} (p : Place A) where
   pub element_some : (x : A) (s : List ℕ) → IsElement p x s → 0 < length s
   element_some x s e = spells_some e.message.spelled
 
-  same_value : (x y : A) (m n : Element) → p.stands x m → p.stands y n → m ≡ n → x ≡ y
+  same_value : (x y : A) (m n : Element) → p.writes x m → p.writes y n → m ≡ n → x ≡ y
   same_value x y m n sx sy same =
       let of_x = p.finds x m sx in
       let of_y = p.finds y n sy in
@@ -32,18 +32,18 @@ module _ {A : Type 0} (p : Place A) where
       let one = one_element x y s t a b ex ey same in
       append_cancel_left t a b (ap (λ l. l ++ a) (sym one.1) ∙ same)
 
-  module _ (x : A) (lawful : (n : Element) → p.spelt x ≡ Some n → IsLawful n) (octets spelling rest : List ℕ) (begins : BeginsWith p x octets spelling rest) where
+  module _ (x : A) (lawful : (n : Element) → p.spelling x ≡ Some n → IsLawful n) (octets spelling rest : List ℕ) (begins : HasFrontValue p x octets spelling rest) where
     -- where the octets begin with the canonical element, that is their element
-    canonical_spelling : (o : Option Element) → p.spelt x ≡ o → (after : List ℕ) → octets ≡ encoding p x ++ after → spelling ≡ encoding p x
+    canonical_spelling : (o : Option Element) → p.spelling x ≡ o → (after : List ℕ) → octets ≡ encoding p x ++ after → spelling ≡ encoding p x
     canonical_spelling None is after front = absurd (p.none x is begins.element.node begins.element.says)
     canonical_spelling (Some n) is after front =
         let spelled = canonical_is_spelling (height n) n (lawful n is) (omega arith) in
-        let written : encoding p x ≡ canonical n = ap octets_of is in
+        let written : encoding p x ≡ canonical n = ap encoded_octets is in
         let lined : spelling ++ rest ≡ canonical n ++ after = sym begins.cut ∙ front ∙ ap (λ l. l ++ after) written in
         (one_spelling rest after begins.element.message.spelled spelled lined).1 ∙ sym written
 
-    pub canonical_front : (after : List ℕ) → octets ≡ encoding p x ++ after → Fits p x
-    canonical_front after front = subst (IsElement p x) (canonical_spelling (p.spelt x) refl after front) begins.element
+    pub canonical_front : (after : List ℕ) → octets ≡ encoding p x ++ after → IsWithinLimits p x
+    canonical_front after front = subst (IsElement p x) (canonical_spelling (p.spelling x) refl after front) begins.element
 
     pub odd_front : ((after : List ℕ) → octets ≡ encoding p x ++ after → ⊥) → spelling ≢ encoding p x
     odd_front never same = never rest (begins.cut ∙ ap (λ l. l ++ rest) same)

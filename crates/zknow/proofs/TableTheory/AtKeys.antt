@@ -13,9 +13,9 @@ use Rattle.std.proofs.lemmas.Cmp.{tied_itself}
 use Rattle.std.proofs.lemmas.Grind.{flat_map-append}
 use Rattle.std.proofs.lemmas.List.{append-nil, take_more}
 use Rattle.std.proofs.lemmas.Map.Keys.{sorted_head, sorted_tail}
-use Rattle.zknow.specs.Tables.Table.{value_at}
+use Rattle.zknow.specs.Tables.Table.{value_at_key}
 use Rattle.zknow.specs.Tables.TableLaws.{none_below}
-use Rattle.zknow.specs.Tables.Sections.{section, numbered}
+use Rattle.zknow.specs.Tables.Sections.{section, number_pairs}
 
 -- the items of the value at a key
 abbrev pub items_of : {J I : Type 0} → (J → List I) → Option J → List I
@@ -55,11 +55,11 @@ module _ {K J I F G : Type 0} (items : J → List I) (make : K → I → F) (f :
   -- one of which f speaks at a key alone
   module _ (cmp : K → K → Ordering) (total : IsTotalOrder cmp) (exact : (a b : K) → cmp a b ≡ Equal → a ≡ b) (key : K) (line : I → List G)
       (hit : (i : I) → f (make key i) ≡ line i) (miss : (k : K) (i : I) → (k ≡ key → ⊥) → f (make k i) ≡ []) where
-    entry_by : (e : K × J) (t : List (K × J)) (b : Bool) → is_at (cmp key) e.0 ≡ b → IsStrictlySortedBy cmp (keys_of (e ∷ t)) → flat_map f (section items make t) ≡ flat_map line (items_of items (value_at cmp t key))
-        → flat_map (λ i. f (make e.0 i)) (items e.1) ++ flat_map f (section items make t) ≡ flat_map line (items_of items (cond b (Some e.1) (value_at cmp t key)))
+    entry_by : (e : K × J) (t : List (K × J)) (b : Bool) → is_at (cmp key) e.0 ≡ b → IsStrictlySortedBy cmp (keys_of (e ∷ t)) → flat_map f (section items make t) ≡ flat_map line (items_of items (value_at_key cmp t key))
+        → flat_map (λ i. f (make e.0 i)) (items e.1) ++ flat_map f (section items make t) ≡ flat_map line (items_of items (cond b (Some e.1) (value_at_key cmp t key)))
     entry_by e t true is sorted rest =
         let here : key ≡ e.0 = exact key e.0 ((Equal-is (cmp key e.0)).0 is) in
-        let missing : value_at cmp t key ≡ None = subst (λ k. value_at cmp t k ≡ None) (sym here) (none_below cmp e.0 t (sorted_head cmp e.0 (keys_of t) sorted)) in
+        let missing : value_at_key cmp t key ≡ None = subst (λ k. value_at_key cmp t k ≡ None) (sym here) (none_below cmp e.0 t (sorted_head cmp e.0 (keys_of t) sorted)) in
         ap (λ l. flat_map (λ i. f (make e.0 i)) (items e.1) ++ l) (rest ∙ ap (λ o. flat_map line (items_of items o)) missing)
         ∙ append-nil (flat_map (λ i. f (make e.0 i)) (items e.1))
         ∙ flat_map_same (λ i. f (make e.0 i)) line (λ i. ap (λ k. f (make k i)) (sym here) ∙ hit i) (items e.1)
@@ -69,7 +69,7 @@ module _ {K J I F G : Type 0} (items : J → List I) (make : K → I → F) (f :
         apart : e.0 ≡ key → ⊥
         apart same = let at : is_at (cmp key) e.0 ≡ true = ap (λ k. is_at (cmp key) k) same ∙ ap is_eq (tied_itself total key) in absurd (cc)
 
-    pub at_section : (t : List (K × J)) → IsStrictlySortedBy cmp (keys_of t) → flat_map f (section items make t) ≡ flat_map line (items_of items (value_at cmp t key))
+    pub at_section : (t : List (K × J)) → IsStrictlySortedBy cmp (keys_of t) → flat_map f (section items make t) ≡ flat_map line (items_of items (value_at_key cmp t key))
     at_section [] sorted = refl
     at_section (e ∷ t) sorted = flat_entry e t ∙ entry_by e t (is_at (cmp key) e.0) refl sorted (at_section t (sorted_tail cmp e.0 (keys_of t) sorted))
 
@@ -78,11 +78,11 @@ flat_map_ones [] = refl
 flat_map_ones (x ∷ xs) = ap (λ l. x ∷ l) (flat_map_ones xs)
 
 -- a loop over values by number: what is written, and what is left to be
-pub numbered_written : {T G : Type 0} (g : ℤ × T → List G) (e : ℤ × List T) (rest after : List (ℤ × List T)) (so_far next all : List G) → rest ≡ e ∷ after → so_far ++ flat_map g (numbered rest) ≡ all → next ≡ so_far ++ flat_map (λ x. g (e.0, x)) e.1
-    → next ++ flat_map g (numbered after) ≡ all
+pub numbered_written : {T G : Type 0} (g : ℤ × T → List G) (e : ℤ × List T) (rest after : List (ℤ × List T)) (so_far next all : List G) → rest ≡ e ∷ after → so_far ++ flat_map g (number_pairs rest) ≡ all → next ≡ so_far ++ flat_map (λ x. g (e.0, x)) e.1
+    → next ++ flat_map g (number_pairs after) ≡ all
 numbered_written g e rest after so_far next all front before now =
-    ap (λ l. l ++ flat_map g (numbered after)) now ∙ append_assoc so_far (flat_map (λ x. g (e.0, x)) e.1) (flat_map g (numbered after))
-    ∙ ap (λ l. so_far ++ l) (sym (flat_entry (λ xs. xs) (λ p x. (p, x)) g e after)) ∙ ap (λ t. so_far ++ flat_map g (numbered t)) (sym front) ∙ before
+    ap (λ l. l ++ flat_map g (number_pairs after)) now ∙ append_assoc so_far (flat_map (λ x. g (e.0, x)) e.1) (flat_map g (number_pairs after))
+    ∙ ap (λ l. so_far ++ l) (sym (flat_entry (λ xs. xs) (λ p x. (p, x)) g e after)) ∙ ap (λ t. so_far ++ flat_map g (number_pairs t)) (sym front) ∙ before
 
 -- what is written one after the other
 pub written_none : {G : Type 0} (out more : List G) → more ≡ [] → out ≡ out ++ more

@@ -7,7 +7,7 @@ use Rattle.std.specs.Ordering.{is_eq}
 use Rattle.std.specs.BTreeMap.{BTreeMap, is_at, get, IsOrdered, Updates, WritesThrough}
 use Rattle.std.proofs.lemmas.Cmp.{tied_itself}
 use Rattle.zknow.specs.Tables.Join.{IsUnion, IsPartOfUnion}
-use Rattle.zknow.specs.Tables.Table.{value_at, AtKey, HasItem, IsLawfulTable}
+use Rattle.zknow.specs.Tables.Table.{value_at_key, IsAtKey, HasItem, IsLawfulTable}
 use Rattle.zknow.proofs.TableTheory.Unions.{union_from_part}
 use Rattle.zknow.proofs.TableTheory.Entries.{SetsAt}
 
@@ -17,10 +17,10 @@ module _ {K J I : Type 0} (cmp : K → K → Ordering) (holds : J → I → Type
     pub sets : SetsAt cmp m n key w
     pub part : IsPartOfUnion (λ i. HasItem cmp holds m (key, i)) M (holds w)
 
-  pub change_found : (m n : List (K × J)) (key : K) (v w : J) (M : I → Type 0) → SetsAt cmp m n key w → value_at cmp m key ≡ Some v → IsPartOfUnion (holds v) M (holds w) → IsChange m n key w M
+  pub change_found : (m n : List (K × J)) (key : K) (v w : J) (M : I → Type 0) → SetsAt cmp m n key w → value_at_key cmp m key ≡ Some v → IsPartOfUnion (holds v) M (holds w) → IsChange m n key w M
   change_found m n key v w M sets is part = record { sets = sets; part = subst (λ o. IsPartOfUnion (λ i. IsSomeAnd o (λ j. holds j i)) M (holds w)) (sym is) part }
 
-  pub change_fresh : (m n : List (K × J)) (key : K) (fresh w : J) (M : I → Type 0) → SetsAt cmp m n key w → value_at cmp m key ≡ None → ((i : I) → holds fresh i → ⊥) → IsPartOfUnion (holds fresh) M (holds w) → IsChange m n key w M
+  pub change_fresh : (m n : List (K × J)) (key : K) (fresh w : J) (M : I → Type 0) → SetsAt cmp m n key w → value_at_key cmp m key ≡ None → ((i : I) → holds fresh i → ⊥) → IsPartOfUnion (holds fresh) M (holds w) → IsChange m n key w M
   change_fresh m n key fresh w M sets is never part = record {
     sets = sets;
     part = subst (λ o. IsPartOfUnion (λ i. IsSomeAnd o (λ j. holds j i)) M (holds w)) (sym is)
@@ -31,11 +31,11 @@ module _ {K J I : Type 0} (cmp : K → K → Ordering) (holds : J → I → Type
     here : (q : K) → is_at (cmp key) q ≡ true → q ≡ key
     here q e = sym (exact key q ((Equal-is (cmp key q)).0 e))
 
-    value_here : (q : K) → is_at (cmp key) q ≡ true → value_at cmp n q ≡ Some w
-    value_here q e = change.sets.at q ∙ ap (λ b. cond b (Some w) (value_at cmp m q)) e
+    value_here : (q : K) → is_at (cmp key) q ≡ true → value_at_key cmp n q ≡ Some w
+    value_here q e = change.sets.at q ∙ ap (λ b. cond b (Some w) (value_at_key cmp m q)) e
 
-    value_apart : (q : K) → is_at (cmp key) q ≡ false → value_at cmp n q ≡ value_at cmp m q
-    value_apart q e = change.sets.at q ∙ ap (λ b. cond b (Some w) (value_at cmp m q)) e
+    value_apart : (q : K) → is_at (cmp key) q ≡ false → value_at_key cmp n q ≡ value_at_key cmp m q
+    value_apart q e = change.sets.at q ∙ ap (λ b. cond b (Some w) (value_at_key cmp m q)) e
 
     has_from_value : (x : K × I) → is_at (cmp key) x.0 ≡ true → holds w x.1 → HasItem cmp holds n x
     has_from_value x e h = subst (λ o. IsSomeAnd o (λ j. holds j x.1)) (sym (value_here x.0 e)) h
@@ -44,21 +44,21 @@ module _ {K J I : Type 0} (cmp : K → K → Ordering) (holds : J → I → Type
     keeps_by x true e had = has_from_value x e (change.part.keeps x.1 (subst (λ q. HasItem cmp holds m (q, x.1)) (here x.0 e) had))
     keeps_by x false e had = subst (λ o. IsSomeAnd o (λ j. holds j x.1)) (sym (value_apart x.0 e)) had
 
-    within_by : (x : K × I) (b : Bool) → is_at (cmp key) x.0 ≡ b → HasItem cmp holds n x → HasItem cmp holds m x ⊎ AtKey key M x
+    within_by : (x : K × I) (b : Bool) → is_at (cmp key) x.0 ≡ b → HasItem cmp holds n x → HasItem cmp holds m x ⊎ IsAtKey key M x
     within_by x true e has = ⊎_elim
         (λ old. inl (subst (λ q. HasItem cmp holds m (q, x.1)) (sym (here x.0 e)) old))
         (λ new. inr (here x.0 e, new))
         (change.part.within x.1 (subst (λ o. IsSomeAnd o (λ j. holds j x.1)) (value_here x.0 e) has))
     within_by x false e has = inl (subst (λ o. IsSomeAnd o (λ j. holds j x.1)) (value_apart x.0 e) has)
 
-    pub part_at : IsPartOfUnion (HasItem cmp holds m) (AtKey key M) (HasItem cmp holds n)
+    pub part_at : IsPartOfUnion (HasItem cmp holds m) (IsAtKey key M) (HasItem cmp holds n)
     part_at = record { keeps = λ x had. keeps_by x _ refl had; within = λ x has. within_by x _ refl has }
 
-    pub union_at : ((i : I) → M i → holds w i) → IsUnion (HasItem cmp holds m) (AtKey key M) (HasItem cmp holds n)
+    pub union_at : ((i : I) → M i → holds w i) → IsUnion (HasItem cmp holds m) (IsAtKey key M) (HasItem cmp holds n)
     union_at all = union_from_part _ _ _ part_at (λ x at. has_from_value x (ap (is_at (cmp key)) at.0 ∙ ap is_eq (tied_itself total key)) (all x.1 at.1))
 
     module _ (lawful : J → Type 0) (was : IsLawfulTable cmp holds lawful m) (good : lawful w) (some : (i : I) × holds w i) where
-      values_by : (k : K) (j : J) (b : Bool) → is_at (cmp key) k ≡ b → value_at cmp n k ≡ Some j → lawful j × ((i : I) × holds j i)
+      values_by : (k : K) (j : J) (b : Bool) → is_at (cmp key) k ≡ b → value_at_key cmp n k ≡ Some j → lawful j × ((i : I) × holds j i)
       values_by k j true e is = let same : w ≡ j = (cc (value_here k e)) in subst (λ v. lawful v × ((i : I) × holds v i)) same (good, some)
       values_by k j false e is = let old = sym (value_apart k e) ∙ is in (was.values k j old, was.some k j old)
 

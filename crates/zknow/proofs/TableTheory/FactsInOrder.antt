@@ -21,9 +21,9 @@ use Rattle.zknow.specs.declared.fact.Fact.TheVariants.{Count, Failed, Seen, Diag
 use Rattle.zknow.specs.Encodings.{encoding_cmp}
 use Rattle.zasn.specs.Place.{IsSpellable}
 use Rattle.zknow.specs.Facts.{fact_cmp}
-use Rattle.zknow.specs.Tables.Sections.{facts_of, counts_of, failed_of, seen_of, diags_of, marked, numbered}
+use Rattle.zknow.specs.Tables.Sections.{table_facts, counts_of, failed_of, seen_of, diags_of, marked, number_pairs}
 use Rattle.zknow.specs.Tables.Table.{HasItem, IsLawfulTable}
-use Rattle.zknow.specs.Tables.Tables.{Knows, AreLawful, key, AnyValue, AreCounts, AreRecords, AreDiags}
+use Rattle.zknow.specs.Tables.Tables.{HasFact, AreLawfulTables, key, IsAnyValue, AreCounts, AreRecords, AreDiags}
 use Rattle.zknow.specs.Tables.DistinctLaws.{in_head, none_in_nil}
 use Rattle.zknow.specs.Tables.Keys.{set_cmp, set_total, set_exact, IsMarked, IsAnyMark}
 use Rattle.zknow.proofs.TableTheory.InSections.{from_section, to_section, section_sorted, sorted_append, map_sorted, self_members, numbered_members, numbered_sorted}
@@ -111,44 +111,44 @@ unfolding IsStrictlySortedBy
 one_sorted_by true g = (tt, tt)
 one_sorted_by false g = tt
 
-module _ (k : Tables) (good : AreLawful k) where
-  in_counts : (f : Fact) → Contains (counts_of k) f → (x : SetKey × ℤ) × Knows k (Count x.0.target x.0.set x.1) × (f ≡ Count x.0.target x.0.set x.1)
-  in_counts f h = from_section set_cmp set_total set_exact Contains AreCounts (λ xs. xs) (λ e n. Count e.target e.set n) (self_members int_cmp AnyValue) k.counts good.counts f h
+module _ (k : Tables) (good : AreLawfulTables k) where
+  in_counts : (f : Fact) → Contains (counts_of k) f → (x : SetKey × ℤ) × HasFact k (Count x.0.target x.0.set x.1) × (f ≡ Count x.0.target x.0.set x.1)
+  in_counts f h = from_section set_cmp set_total set_exact Contains AreCounts (λ xs. xs) (λ e n. Count e.target e.set n) (self_members int_cmp IsAnyValue) k.counts good.counts f h
 
-  in_failed : (f : Fact) → Contains (failed_of k) f → (x : SetKey × Unit {0}) × Knows k (Failed x.0.target x.0.set) × (f ≡ Failed x.0.target x.0.set)
+  in_failed : (f : Fact) → Contains (failed_of k) f → (x : SetKey × Unit {0}) × HasFact k (Failed x.0.target x.0.set) × (f ≡ Failed x.0.target x.0.set)
   in_failed f h = from_section set_cmp set_total set_exact IsMarked IsAnyMark marked (λ e u. Failed e.target e.set) mark_members k.failed good.failed f h
 
-  in_seen : (f : Fact) → Contains (seen_of k) f → (x : SetKey × (ℤ × Record)) × Knows k (Seen x.0.target x.0.set x.1.0 x.1.1) × (f ≡ Seen x.0.target x.0.set x.1.0 x.1.1)
-  in_seen f h = from_section set_cmp set_total set_exact (HasItem int_cmp Contains) (IsLawfulTable int_cmp Contains AreRecords) numbered (λ e x. Seen e.target e.set x.0 x.1) (numbered_members (encoding_cmp whole_record) (IsSpellable whole_record)) k.seen good.seen f h
+  in_seen : (f : Fact) → Contains (seen_of k) f → (x : SetKey × (ℤ × Record)) × HasFact k (Seen x.0.target x.0.set x.1.0 x.1.1) × (f ≡ Seen x.0.target x.0.set x.1.0 x.1.1)
+  in_seen f h = from_section set_cmp set_total set_exact (HasItem int_cmp Contains) (IsLawfulTable int_cmp Contains AreRecords) number_pairs (λ e x. Seen e.target e.set x.0 x.1) (numbered_members (encoding_cmp whole_record) (IsSpellable whole_record)) k.seen good.seen f h
 
-  in_diags : (f : Fact) → Contains (diags_of k) f → (x : SetKey × (ℤ × DiagRec)) × Knows k (Diag x.0.target x.0.set x.1.0 x.1.1) × (f ≡ Diag x.0.target x.0.set x.1.0 x.1.1)
-  in_diags f h = from_section set_cmp set_total set_exact (HasItem int_cmp Contains) (IsLawfulTable int_cmp Contains AreDiags) numbered (λ e x. Diag e.target e.set x.0 x.1) (numbered_members (encoding_cmp diag_rec) AnyValue) k.diags good.diags f h
+  in_diags : (f : Fact) → Contains (diags_of k) f → (x : SetKey × (ℤ × DiagRec)) × HasFact k (Diag x.0.target x.0.set x.1.0 x.1.1) × (f ≡ Diag x.0.target x.0.set x.1.0 x.1.1)
+  in_diags f h = from_section set_cmp set_total set_exact (HasItem int_cmp Contains) (IsLawfulTable int_cmp Contains AreDiags) number_pairs (λ e x. Diag e.target e.set x.0 x.1) (numbered_members (encoding_cmp diag_rec) IsAnyValue) k.diags good.diags f h
 
-  known : (f : Fact) → Contains (facts_of k) f → Knows k f
+  known : (f : Fact) → Contains (table_facts k) f → HasFact k f
   known f h = ⊎_elim
-      (λ c. let x = in_counts f c in subst (Knows k) (sym x.2) x.1)
+      (λ c. let x = in_counts f c in subst (HasFact k) (sym x.2) x.1)
       (λ r. ⊎_elim
-      (λ c. let x = in_failed f c in subst (Knows k) (sym x.2) x.1)
+      (λ c. let x = in_failed f c in subst (HasFact k) (sym x.2) x.1)
       (λ r. ⊎_elim
-      (λ c. let x = in_seen f c in subst (Knows k) (sym x.2) x.1)
-      (λ c. let x = in_diags f c in subst (Knows k) (sym x.2) x.1)
+      (λ c. let x = in_seen f c in subst (HasFact k) (sym x.2) x.1)
+      (λ c. let x = in_diags f c in subst (HasFact k) (sym x.2) x.1)
       (Contains-append_cases (seen_of k) (diags_of k) f r))
       (Contains-append_cases (failed_of k) (seen_of k ++ diags_of k) f r))
       (Contains-append_cases (counts_of k) (failed_of k ++ (seen_of k ++ diags_of k)) f h)
 
-  listed : (f : Fact) → Knows k f → Contains (facts_of k) f
-  listed (Count t s n) h = Contains-append_left (counts_of k) _ _ (to_section set_cmp set_total set_exact Contains AreCounts (λ xs. xs) (λ e n. Count e.target e.set n) (self_members int_cmp AnyValue) k.counts good.counts (key t s, n) h)
+  listed : (f : Fact) → HasFact k f → Contains (table_facts k) f
+  listed (Count t s n) h = Contains-append_left (counts_of k) _ _ (to_section set_cmp set_total set_exact Contains AreCounts (λ xs. xs) (λ e n. Count e.target e.set n) (self_members int_cmp IsAnyValue) k.counts good.counts (key t s, n) h)
   listed (Failed t s) h = Contains-append_right (counts_of k) _ _ (Contains-append_left (failed_of k) _ _ (to_section set_cmp set_total set_exact IsMarked IsAnyMark marked (λ e u. Failed e.target e.set) mark_members k.failed good.failed (key t s, tt) h))
   listed (Seen t s p r) h = Contains-append_right (counts_of k) _ _ (Contains-append_right (failed_of k) _ _ (Contains-append_left (seen_of k) _ _
-      (to_section set_cmp set_total set_exact (HasItem int_cmp Contains) (IsLawfulTable int_cmp Contains AreRecords) numbered (λ e x. Seen e.target e.set x.0 x.1) (numbered_members (encoding_cmp whole_record) (IsSpellable whole_record)) k.seen good.seen (key t s, (p, r)) h)))
+      (to_section set_cmp set_total set_exact (HasItem int_cmp Contains) (IsLawfulTable int_cmp Contains AreRecords) number_pairs (λ e x. Seen e.target e.set x.0 x.1) (numbered_members (encoding_cmp whole_record) (IsSpellable whole_record)) k.seen good.seen (key t s, (p, r)) h)))
   listed (Diag t s p d) h = Contains-append_right (counts_of k) _ _ (Contains-append_right (failed_of k) _ _ (Contains-append_right (seen_of k) _ _
-      (to_section set_cmp set_total set_exact (HasItem int_cmp Contains) (IsLawfulTable int_cmp Contains AreDiags) numbered (λ e x. Diag e.target e.set x.0 x.1) (numbered_members (encoding_cmp diag_rec) AnyValue) k.diags good.diags (key t s, (p, d)) h)))
+      (to_section set_cmp set_total set_exact (HasItem int_cmp Contains) (IsLawfulTable int_cmp Contains AreDiags) number_pairs (λ e x. Diag e.target e.set x.0 x.1) (numbered_members (encoding_cmp diag_rec) IsAnyValue) k.diags good.diags (key t s, (p, d)) h)))
 
-  pub facts_members : (f : Fact) → Contains (facts_of k) f ↔ Knows k f
+  pub facts_members : (f : Fact) → Contains (table_facts k) f ↔ HasFact k f
   facts_members f = (known f, listed f)
 
   counts_sorted : IsStrictlySortedBy fact_cmp (counts_of k)
-  counts_sorted = section_sorted set_cmp set_total set_exact Contains AreCounts (λ xs. xs) (λ e n. Count e.target e.set n) (self_members int_cmp AnyValue) fact_cmp (λ e q i j less. count_by_set e q less i j)
+  counts_sorted = section_sorted set_cmp set_total set_exact Contains AreCounts (λ xs. xs) (λ e n. Count e.target e.set n) (self_members int_cmp IsAnyValue) fact_cmp (λ e q i j less. count_by_set e q less i j)
       (λ e cs d. map_sorted int_cmp fact_cmp (λ n. Count e.target e.set n) (count_keeps e.target e.set) cs d.ordered) k.counts good.counts
 
   failed_sorted : IsStrictlySortedBy fact_cmp (failed_of k)
@@ -156,14 +156,14 @@ module _ (k : Tables) (good : AreLawful k) where
       (λ e m d. one_sorted_by m.is_set (λ u. Failed e.target e.set)) k.failed good.failed
 
   seen_sorted : IsStrictlySortedBy fact_cmp (seen_of k)
-  seen_sorted = section_sorted set_cmp set_total set_exact (HasItem int_cmp Contains) (IsLawfulTable int_cmp Contains AreRecords) numbered (λ e x. Seen e.target e.set x.0 x.1) (numbered_members (encoding_cmp whole_record) (IsSpellable whole_record)) fact_cmp
+  seen_sorted = section_sorted set_cmp set_total set_exact (HasItem int_cmp Contains) (IsLawfulTable int_cmp Contains AreRecords) number_pairs (λ e x. Seen e.target e.set x.0 x.1) (numbered_members (encoding_cmp whole_record) (IsSpellable whole_record)) fact_cmp
       (λ e q i j less. seen_by_set e q less i j)
       (λ e rows d. numbered_sorted (encoding_cmp whole_record) (IsSpellable whole_record) fact_cmp (λ x. Seen e.target e.set x.0 x.1) (seen_by_number e.target e.set) (seen_keeps e.target e.set) rows d) k.seen good.seen
 
   diags_sorted : IsStrictlySortedBy fact_cmp (diags_of k)
-  diags_sorted = section_sorted set_cmp set_total set_exact (HasItem int_cmp Contains) (IsLawfulTable int_cmp Contains AreDiags) numbered (λ e x. Diag e.target e.set x.0 x.1) (numbered_members (encoding_cmp diag_rec) AnyValue) fact_cmp
+  diags_sorted = section_sorted set_cmp set_total set_exact (HasItem int_cmp Contains) (IsLawfulTable int_cmp Contains AreDiags) number_pairs (λ e x. Diag e.target e.set x.0 x.1) (numbered_members (encoding_cmp diag_rec) IsAnyValue) fact_cmp
       (λ e q i j less. diag_by_set e q less i j)
-      (λ e rows d. numbered_sorted (encoding_cmp diag_rec) AnyValue fact_cmp (λ x. Diag e.target e.set x.0 x.1) (diag_by_number e.target e.set) (diag_keeps e.target e.set) rows d) k.diags good.diags
+      (λ e rows d. numbered_sorted (encoding_cmp diag_rec) IsAnyValue fact_cmp (λ x. Diag e.target e.set x.0 x.1) (diag_by_number e.target e.set) (diag_keeps e.target e.set) rows d) k.diags good.diags
 
   seen_diags : (x y : Fact) → Contains (seen_of k) x → Contains (diags_of k) y → fact_cmp x y ≡ Less
   unfolding fact_cmp
@@ -179,5 +179,5 @@ module _ (k : Tables) (good : AreLawful k) where
       (λ r. ⊎_elim (λ h. rw ((in_counts x hx).2, (in_seen y h).2) refl) (λ h. rw ((in_counts x hx).2, (in_diags y h).2) refl) (Contains-append_cases (seen_of k) (diags_of k) y r))
       (Contains-append_cases (failed_of k) (seen_of k ++ diags_of k) y hy)
 
-  pub facts_sorted : IsStrictlySortedBy fact_cmp (facts_of k)
+  pub facts_sorted : IsStrictlySortedBy fact_cmp (table_facts k)
   facts_sorted = sorted_append fact_cmp _ _ counts_sorted (sorted_append fact_cmp _ _ failed_sorted (sorted_append fact_cmp _ _ seen_sorted diags_sorted seen_diags) failed_rest) counts_rest

@@ -13,10 +13,10 @@ use Rattle.std.proofs.lemmas.Cmp.{int_cmp_total}
 use Rattle.std.proofs.lemmas.List.Elements.{Contains-append_cases, Contains-append_left, Contains-append_right}
 use Rattle.std.proofs.lemmas.Map.Keys.{sorted_head}
 use Rattle.std.proofs.lemmas.Map.Lookups.{exact_signed}
-use Rattle.zknow.specs.Tables.Table.{value_at, HasItem, IsLawfulTable}
+use Rattle.zknow.specs.Tables.Table.{value_at_key, HasItem, IsLawfulTable}
 use Rattle.zknow.specs.Tables.Distinct.{AreDistinct}
 use Rattle.zknow.specs.Tables.DistinctLaws.{in_cons, in_head, in_tail, none_in_nil}
-use Rattle.zknow.specs.Tables.Sections.{section, numbered}
+use Rattle.zknow.specs.Tables.Sections.{section, number_pairs}
 use Rattle.zknow.proofs.TableTheory.TableMerges.{split_by, at_head, item_in_tail, tail_lawful, head_found}
 
 module _ {F : Type 0} (c : F → F → Ordering) where
@@ -79,11 +79,11 @@ module _ {K J I F : Type 0} (cmp : K → K → Ordering) (total : IsTotalOrder c
       (split_by cmp holds lawful total exact e t x (is_at (cmp x.0) e.0) refl h)
 
   -- a key that has an item is above one that is below all keys
-  above_by : (k : K) (e : K × J) (t : List (K × J)) (q : K) (b : Bool) → is_at (cmp q) e.0 ≡ b → cmp k e.0 ≡ Less → (IsSomeAnd (value_at cmp t q) (λ j. ⊤) → cmp k q ≡ Less) → IsSomeAnd (cond b (Some e.1) (value_at cmp t q)) (λ j. ⊤) → cmp k q ≡ Less
+  above_by : (k : K) (e : K × J) (t : List (K × J)) (q : K) (b : Bool) → is_at (cmp q) e.0 ≡ b → cmp k e.0 ≡ Less → (IsSomeAnd (value_at_key cmp t q) (λ j. ⊤) → cmp k q ≡ Less) → IsSomeAnd (cond b (Some e.1) (value_at_key cmp t q)) (λ j. ⊤) → cmp k q ≡ Less
   above_by k e t q true is less rest h = subst (λ z. cmp k z ≡ Less) (sym (exact q e.0 ((Equal-is (cmp q e.0)).0 is))) less
   above_by k e t q false is less rest h = rest h
 
-  key_above : (k : K) (t : List (K × J)) → AllByRecursion (λ y. cmp k y ≡ Less) (keys_of t) → (q : K) → IsSomeAnd (value_at cmp t q) (λ j. ⊤) → cmp k q ≡ Less
+  key_above : (k : K) (t : List (K × J)) → AllByRecursion (λ y. cmp k y ≡ Less) (keys_of t) → (q : K) → IsSomeAnd (value_at_key cmp t q) (λ j. ⊤) → cmp k q ≡ Less
   key_above k [] all q h = absurd h
   key_above k (e ∷ t) all q h = above_by k e t q (is_at (cmp q) e.0) refl all.0 (key_above k t all.1 q) h
 
@@ -101,7 +101,7 @@ module _ {K J I F : Type 0} (cmp : K → K → Ordering) (total : IsTotalOrder c
         (λ a b ha hb.
         let one = in_map (make e.0) (items e.1) a ha in
         let two = from_section t (tail_lawful cmp holds lawful total exact e t good) b hb in
-        let less = key_above e.0 t (sorted_head cmp e.0 (keys_of t) good.ordered) two.0.0 (weaker (value_at cmp t two.0.0) two.0.1 two.1) in
+        let less = key_above e.0 t (sorted_head cmp e.0 (keys_of t) good.ordered) two.0.0 (weaker (value_at_key cmp t two.0.0) two.0.1 two.1) in
         rw (one.2, two.2) (by_key e.0 two.0.0 one.0 two.0.1 less))
 
 -- what is made of the items of a section
@@ -123,14 +123,14 @@ self_members order valid xs good x = (λ h. h, λ h. h)
 
 -- values by number
 module _ {T : Type 0} (order : T → T → Ordering) (valid : T → Type 0) where
-  pub numbered_members : (t : List (ℤ × List T)) → IsLawfulTable int_cmp Contains (AreDistinct order valid) t → (x : ℤ × T) → Contains (numbered t) x ↔ HasItem int_cmp Contains t x
+  pub numbered_members : (t : List (ℤ × List T)) → IsLawfulTable int_cmp Contains (AreDistinct order valid) t → (x : ℤ × T) → Contains (number_pairs t) x ↔ HasItem int_cmp Contains t x
   numbered_members t good x = (
     λ h. let one = from_section int_cmp int_cmp_total exact_signed Contains (AreDistinct order valid) (λ xs. xs) (λ p y. (p, y)) (self_members order valid) t good x h in subst (HasItem int_cmp Contains t) (sym one.2) one.1,
     λ h. to_section int_cmp int_cmp_total exact_signed Contains (AreDistinct order valid) (λ xs. xs) (λ p y. (p, y)) (self_members order valid) t good x h,
   )
 
   pub numbered_sorted : {F : Type 0} (c : F → F → Ordering) (make : ℤ × T → F) → ((p q : ℤ) (x y : T) → int_cmp p q ≡ Less → c (make (p, x)) (make (q, y)) ≡ Less) → ((p : ℤ) (x y : T) → order x y ≡ Less → c (make (p, x)) (make (p, y)) ≡ Less)
-      → (t : List (ℤ × List T)) → IsLawfulTable int_cmp Contains (AreDistinct order valid) t → IsStrictlySortedBy c (map make (numbered t))
+      → (t : List (ℤ × List T)) → IsLawfulTable int_cmp Contains (AreDistinct order valid) t → IsStrictlySortedBy c (map make (number_pairs t))
   numbered_sorted c make by_number by_value t good = subst (IsStrictlySortedBy c) (sym (map_section (λ xs. xs) (λ p y. (p, y)) make t))
       (section_sorted int_cmp int_cmp_total exact_signed Contains (AreDistinct order valid) (λ xs. xs) (λ p y. make (p, y)) (self_members order valid) c by_number
       (λ p xs d. map_sorted order c (λ y. make (p, y)) (by_value p) xs d.ordered) t good)

@@ -15,12 +15,12 @@ module _ {A : Type 0} (p : Place A) (test : A → Bool) where
   limited_meaning n = p.meaning n >>= passing
 
   -- the element of a value that passes
-  abbrev pub limited_spelt : A → Option Element
-  limited_spelt x = if test x then p.spelt x else None
+  abbrev pub limited_spelling : A → Option Element
+  limited_spelling x = if test x then p.spelling x else None
 
   -- the element has the value, and the value passes
-  abbrev pub LimitedStands : A → Element → Type 0
-  LimitedStands x n = p.stands x n × (test x ≡ true)
+  abbrev pub LimitedWrites : A → Element → Type 0
+  LimitedWrites x n = p.writes x n × (test x ≡ true)
 
   by_test : (x y : A) (b : Bool) → test y ≡ b → cond b (Some y) None ≡ Some x → (y ≡ x) × (test x ≡ true)
   by_test x y true is e = let same : y ≡ x = cc in (same, subst (λ (z : A). test z ≡ true) same is)
@@ -30,23 +30,23 @@ module _ {A : Type 0} (p : Place A) (test : A → Bool) where
   passed x None e = absurd cc
   passed x (Some y) e = let by = by_test x y (test y) refl e in (ap (λ (z : A). Some z) by.0, by.1)
 
-  pub limited_makes : (x : A) (n : Element) (b : Bool) → test x ≡ b → cond b (p.spelt x) None ≡ Some n
-      → LimitedStands x n
+  pub limited_makes : (x : A) (n : Element) (b : Bool) → test x ≡ b → cond b (p.spelling x) None ≡ Some n
+      → LimitedWrites x n
   limited_makes x n true is e = (p.makes x n e, is)
   limited_makes x n false is e = absurd cc
 
-  pub limited_none : (x : A) (b : Bool) → test x ≡ b → cond b (p.spelt x) None ≡ None → (n : Element)
-      → LimitedStands x n → ⊥
+  pub limited_none : (x : A) (b : Bool) → test x ≡ b → cond b (p.spelling x) None ≡ None → (n : Element)
+      → LimitedWrites x n → ⊥
   limited_none x true is e n h = p.none x e n h.0
   limited_none x false is e n h = let bad = h.1 in absurd cc
 
   -- the place, given a value that passes and its element
-  abbrev pub limited : (x : A) (n : Element) → LimitedStands x n → Place A
+  abbrev pub limited : (x : A) (n : Element) → LimitedWrites x n → Place A
   limited x n h = record {
     tags = p.tags;
-    stands = LimitedStands;
+    writes = LimitedWrites;
     meaning = limited_meaning;
-    spelt = limited_spelt;
+    spelling = limited_spelling;
     some = (x, n, h);
     begins = λ y m k. p.begins y m k.0;
     reads = λ y m b e. let by = passed y (p.meaning m) e in (p.reads y m b by.0, by.1);

@@ -14,7 +14,7 @@ use Rattle.zknow.specs.declared.tables.keys.RowKey.{RowKey}
 use Rattle.zknow.specs.Facts.{AreFacts}
 use Rattle.zknow.specs.Tables.Keys.{set_cmp, row_cmp}
 use Rattle.zknow.specs.Known.{counts_at, records_at}
-use Rattle.zknow.specs.List.Listing.{ascending, block_of, row_of, block_text, row_text, name_text, is_hex, listing}
+use Rattle.zknow.specs.List.Listing.{ascending, block_key_of, row_key_of, block_text, row_text, target_text, is_hex, listing}
 use Rattle.zknow.specs.Tables.Tables.{AreCounts, AreRecords}
 
 -- facts have two different records at the position
@@ -30,8 +30,8 @@ pub record HasTwoCounts (target set : ℕ) (facts : List Fact) : Type 0 where
   pub one : ℤ
   pub other : ℤ
   pub differ : one ≢ other
-  pub tells_one : Contains facts (Count target set one)
-  pub tells_other : Contains facts (Count target set other)
+  pub counted_one : Contains facts (Count target set one)
+  pub counted_other : Contains facts (Count target set other)
 
 -- The counts of a set are those of the facts, in order and each once. There are two or more exactly if facts have two
 -- different ones.
@@ -42,7 +42,7 @@ pub record CountLaws (t s : ℕ) (facts : List Fact) : Type 0 where
 
 -- The records at a position are those of the facts, in order and each once. There are two or more exactly if facts have
 -- two different ones.
-pub record RecordLaws (t s : ℕ) (p : ℤ) (facts : List Fact) : Type 0 where
+pub record PositionLaws (t s : ℕ) (p : ℤ) (facts : List Fact) : Type 0 where
   pub members : (r : Record) → Contains (records_at t s p facts) r ↔ Contains facts (Seen t s p r)
   pub once : AreFacts facts → AreRecords (records_at t s p facts)
   pub conflict : AreFacts facts → (2 ≤ length (records_at t s p facts)) ↔ IsConflict t s p facts
@@ -50,15 +50,15 @@ pub record RecordLaws (t s : ℕ) (p : ℤ) (facts : List Fact) : Type 0 where
 -- the laws of the counts of each set and of the records at each position
 pub record PlaceLaws : Type 0 where
   pub counts : (t s : ℕ) (facts : List Fact) → CountLaws t s facts
-  pub records : (t s : ℕ) (p : ℤ) (facts : List Fact) → RecordLaws t s p facts
+  pub records : (t s : ℕ) (p : ℤ) (facts : List Fact) → PositionLaws t s p facts
 
 -- the keys are those of the list, in order and each once
-pub record AreKeysOf {K : Type 0} (cmp : K → K → Ordering) (list keys : List K) : Type 0 where
+pub record AreSortedKeys {K : Type 0} (cmp : K → K → Ordering) (list keys : List K) : Type 0 where
   pub ordered : IsStrictlySortedBy cmp keys
   pub members : (k : K) → Contains keys k ↔ Contains list k
 
 -- the first text is a part of the second
-pub record StandsIn (part whole : List ℕ) : Type 0 where
+pub record IsSubstring (part whole : List ℕ) : Type 0 where
   pub before : List ℕ
   pub behind : List ℕ
   pub cut : whole ≡ before ++ (part ++ behind)
@@ -72,22 +72,22 @@ conflict_lines hex records =
 -- the text of a conflict
 abbrev pub conflict_text : List (List ℕ) → Bool → RowKey → List Record → List ℕ
 conflict_text names hex k records =
-    signed_decimal k.position ++ codes " " ++ name_text names k.target ++ codes " " ++ decimal k.set
+    signed_decimal k.position ++ codes " " ++ target_text names k.target ++ codes " " ++ decimal k.set
     ++ conflict_lines hex records
 
 -- if there is a conflict in the row, the list has its text, with all its records
 abbrev pub IsListedWhole : List (List ℕ) → Mode → List Fact → RowKey → Type 0
 IsListedWhole names mode facts k =
     let records = records_at k.target k.set k.position facts in
-    2 ≤ length records → StandsIn (conflict_text names (is_hex mode) k records) (listing names mode facts)
+    2 ≤ length records → IsSubstring (conflict_text names (is_hex mode) k records) (listing names mode facts)
 
 -- the targets and sets of the blocks, in order and each once
 abbrev pub block_keys : List Fact → List SetKey
-block_keys facts = ascending set_cmp (filter_map block_of facts)
+block_keys facts = ascending set_cmp (filter_map block_key_of facts)
 
 -- the positions, targets and sets of the rows, in order and each once
 abbrev pub row_keys : List Fact → List RowKey
-row_keys facts = ascending row_cmp (filter_map row_of facts)
+row_keys facts = ascending row_cmp (filter_map row_key_of facts)
 
 -- the list is the blocks, then the rows, and nothing else
 abbrev pub IsBlocksAndRows : List (List ℕ) → Mode → List Fact → Type 0
@@ -99,7 +99,7 @@ IsBlocksAndRows names mode facts =
 -- the list is the blocks and rows, in order and each once, and has each conflict with all its records
 pub record ListLaws : Type 0 where
   pub whole : (names : List (List ℕ)) (mode : Mode) (facts : List Fact) → IsBlocksAndRows names mode facts
-  pub blocks : (facts : List Fact) → AreKeysOf set_cmp (filter_map block_of facts) (block_keys facts)
-  pub rows : (facts : List Fact) → AreKeysOf row_cmp (filter_map row_of facts) (row_keys facts)
+  pub blocks : (facts : List Fact) → AreSortedKeys set_cmp (filter_map block_key_of facts) (block_keys facts)
+  pub rows : (facts : List Fact) → AreSortedKeys row_cmp (filter_map row_key_of facts) (row_keys facts)
   pub conflict : (names : List (List ℕ)) (mode : Mode) (facts : List Fact) (k : RowKey)
       → IsListedWhole names mode facts k

@@ -22,18 +22,18 @@ ascending cmp [] = []
 ascending cmp (k ∷ ks) = insert_key cmp (ascending cmp ks) k
 
 -- the target and set of the block that the fact is in
-abbrev pub block_of : Fact → Option SetKey
-block_of (Count t s n) = Some (record { target = t; set = s })
-block_of (Failed t s) = Some (record { target = t; set = s })
-block_of (Seen t s p r) = None
-block_of (Diag t s p d) = Some (record { target = t; set = s })
+abbrev pub block_key_of : Fact → Option SetKey
+block_key_of (Count t s n) = Some (record { target = t; set = s })
+block_key_of (Failed t s) = Some (record { target = t; set = s })
+block_key_of (Seen t s p r) = None
+block_key_of (Diag t s p d) = Some (record { target = t; set = s })
 
 -- the position, target and set of the row that the fact is in
-abbrev pub row_of : Fact → Option RowKey
-row_of (Count t s n) = None
-row_of (Failed t s) = None
-row_of (Seen t s p r) = Some (record { position = p; target = t; set = s })
-row_of (Diag t s p d) = None
+abbrev pub row_key_of : Fact → Option RowKey
+row_key_of (Count t s n) = None
+row_key_of (Failed t s) = None
+row_key_of (Seen t s p r) = Some (record { position = p; target = t; set = s })
+row_key_of (Diag t s p d) = None
 
 -- the quoted name, or # and the number if the target has no name
 abbrev pub name_or_number : ℕ → Option (List ℕ) → List ℕ
@@ -41,8 +41,8 @@ name_or_number target None = 35 ∷ decimal target
 name_or_number target (Some name) = quoted name
 
 -- the text of a target
-abbrev pub name_text : List (List ℕ) → ℕ → List ℕ
-name_text names target = name_or_number target (slice_get names target)
+abbrev pub target_text : List (List ℕ) → ℕ → List ℕ
+target_text names target = name_or_number target (slice_get names target)
 
 -- the position, if the fact has a record of this set
 abbrev pub fact_position : ℕ → ℕ → Fact → Option ℤ
@@ -57,7 +57,7 @@ positions_at target set facts = ascending int_cmp (filter_map (fact_position tar
 
 -- a line of a block
 abbrev pub line : List (List ℕ) → SetKey → List ℕ → List ℕ
-line names b tail = codes "target " ++ name_text names b.target ++ codes " set " ++ decimal b.set ++ tail ++ codes "\n"
+line names b tail = codes "target " ++ target_text names b.target ++ codes " set " ++ decimal b.set ++ tail ++ codes "\n"
 
 -- the line of a fact, empty if the fact is not in this block
 abbrev pub line_in : List (List ℕ) → SetKey → Fact → List ℕ
@@ -84,7 +84,7 @@ entry_text hex (r ∷ q ∷ rest) =
 -- a row: its position, target and set, and its records
 abbrev pub row_text : List (List ℕ) → Bool → List Fact → RowKey → List ℕ
 row_text names hex facts k =
-    signed_decimal k.position ++ codes " " ++ name_text names k.target ++ codes " " ++ decimal k.set
+    signed_decimal k.position ++ codes " " ++ target_text names k.target ++ codes " " ++ decimal k.set
     ++ entry_text hex (records_at k.target k.set k.position facts)
 
 -- octets of records are printed in hexadecimal
@@ -95,5 +95,5 @@ is_hex Hex = true
 -- the list: the blocks by target and set, then the rows by position, target and set
 abbrev pub listing : List (List ℕ) → Mode → List Fact → List ℕ
 listing names mode facts =
-    flat_map (block_text names facts) (ascending set_cmp (filter_map block_of facts))
-    ++ flat_map (row_text names (is_hex mode) facts) (ascending row_cmp (filter_map row_of facts))
+    flat_map (block_text names facts) (ascending set_cmp (filter_map block_key_of facts))
+    ++ flat_map (row_text names (is_hex mode) facts) (ascending row_cmp (filter_map row_key_of facts))

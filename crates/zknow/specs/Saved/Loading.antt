@@ -9,7 +9,7 @@ use Rattle.zknow.specs.declared.saved.front.FrontError.TheVariants as front
 use Rattle.zknow.specs.declared.saved.loading.LoadError.{LoadError}
 use Rattle.zknow.specs.declared.saved.loading.LoadError.TheVariants.{NotKnowledge, NotCanonical, Memory}
 use Rattle.zknow.specs.declared.saved.loading.Loading.{Loading}
-use Rattle.zknow.specs.Facts.{fact_cmp, kind_of, target_of, set_of, number_of}
+use Rattle.zknow.specs.Facts.{fact_cmp, fact_kind, fact_target, fact_set, fact_number}
 use Rattle.zknow.specs.Saved.Saved.{IsSaved}
 
 -- the fault of the element with this index
@@ -19,12 +19,12 @@ fault_at at front.NotCanonical = NotCanonical at
 fault_at at front.Memory = Memory
 
 -- the fact order without the record or diagnostic
-abbrev pub key_cmp : Fact → Fact → Ordering
-key_cmp a b =
-    ordering_then (nat_cmp (kind_of a) (kind_of b))
-    (ordering_then (nat_cmp (target_of a) (target_of b))
-    (ordering_then (nat_cmp (set_of a) (set_of b))
-    (int_cmp (number_of a) (number_of b))))
+abbrev pub fact_key_cmp : Fact → Fact → Ordering
+fact_key_cmp a b =
+    ordering_then (nat_cmp (fact_kind a) (fact_kind b))
+    (ordering_then (nat_cmp (fact_target a) (fact_target b))
+    (ordering_then (nat_cmp (fact_set a) (fact_set b))
+    (int_cmp (fact_number a) (fact_number b))))
 
 -- the fact is above the last one
 abbrev pub IsAbove : Option Fact → Fact → Type 0

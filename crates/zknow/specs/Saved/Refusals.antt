@@ -6,13 +6,13 @@ use Rattle.zknow.specs.declared.saved.saving.SaveError.{SaveError}
 use Rattle.zknow.specs.declared.saved.saving.SaveError.TheVariants as saves
 
 -- the name of an error of `load`
-abbrev pub load_word : LoadError → List ℕ
-load_word (loads.NotKnowledge _) = codes "NotKnowledge"
-load_word (loads.NotCanonical _) = codes "NotCanonical"
-load_word loads.Memory = codes "Memory"
+abbrev pub load_error_name : LoadError → List ℕ
+load_error_name (loads.NotKnowledge _) = codes "NotKnowledge"
+load_error_name (loads.NotCanonical _) = codes "NotCanonical"
+load_error_name loads.Memory = codes "Memory"
 
 -- the name of an error of `save`
-abbrev pub save_word : SaveError → List ℕ
-save_word saves.TooDeep = codes "TooDeep"
-save_word saves.TooLong = codes "TooLong"
-save_word saves.Memory = codes "Memory"
+abbrev pub save_error_name : SaveError → List ℕ
+save_error_name saves.TooDeep = codes "TooDeep"
+save_error_name saves.TooLong = codes "TooLong"
+save_error_name saves.Memory = codes "Memory"

@@ -25,41 +25,41 @@ longest = 4194304
 pub record IsElement {A : Type 0} (p : Place A) (x : A) (octets : List ℕ) : Type 0 where
   pub node : Element
   pub message : IsMessage longest node octets
-  pub says : p.stands x node
+  pub says : p.writes x node
 
 -- the canonical element of the value is within the limits
-abbrev pub Fits : {A : Type 0} → Place A → A → Type 0
-Fits p x = IsElement p x (encoding p x)
+abbrev pub IsWithinLimits : {A : Type 0} → Place A → A → Type 0
+IsWithinLimits p x = IsElement p x (encoding p x)
 
 -- the file is that of these names and facts, the facts are in order, and each element is within the limits
 pub record IsSaved (names : List (List ℕ)) (facts : List Fact) (file : List ℕ) : Type 0 where
   pub octets : file ≡ saved names facts
   pub ordered : IsStrictlySortedBy fact_cmp facts
-  pub names_fit : Fits saved_names names
-  pub facts_fit : AllByRecursion (Fits saved_fact) facts
+  pub names_fit : IsWithinLimits saved_names names
+  pub facts_fit : AllByRecursion (IsWithinLimits saved_fact) facts
 
 -- the value's element has more levels than the limit
-abbrev pub IsTooDeep : {A : Type 0} → Place A → A → Type 0
-IsTooDeep p x = IsSomeAnd (p.spelt x) (λ n. deepest < height n)
+abbrev pub IsTooDeepElement : {A : Type 0} → Place A → A → Type 0
+IsTooDeepElement p x = IsSomeAnd (p.spelling x) (λ n. deepest < height n)
 
 -- the value's element has more octets than the limit
-abbrev pub IsTooLong : {A : Type 0} → Place A → A → Type 0
-IsTooLong p x = IsSomeAnd (p.spelt x) (λ n. longest < length (canonical n))
+abbrev pub IsTooLongElement : {A : Type 0} → Place A → A → Type 0
+IsTooLongElement p x = IsSomeAnd (p.spelling x) (λ n. longest < length (canonical n))
 
 -- one of the elements has more levels than the limit
-abbrev pub HasDeep : List (List ℕ) → List Fact → Type 0
-HasDeep names facts = IsTooDeep saved_names names ⊎ ((f : Fact) × Contains facts f × IsTooDeep saved_fact f)
+abbrev pub HasTooDeep : List (List ℕ) → List Fact → Type 0
+HasTooDeep names facts = IsTooDeepElement saved_names names ⊎ ((f : Fact) × Contains facts f × IsTooDeepElement saved_fact f)
 
 -- one of the elements has more octets than the limit
-abbrev pub HasLong : List (List ℕ) → List Fact → Type 0
-HasLong names facts = IsTooLong saved_names names ⊎ ((f : Fact) × Contains facts f × IsTooLong saved_fact f)
+abbrev pub HasTooLong : List (List ℕ) → List Fact → Type 0
+HasTooLong names facts = IsTooLongElement saved_names names ⊎ ((f : Fact) × Contains facts f × IsTooLongElement saved_fact f)
 
 -- no element has more levels or octets than the limits
-abbrev pub AreWithin : List (List ℕ) → List Fact → Type 0
-AreWithin names facts = (HasDeep names facts → ⊥) × (HasLong names facts → ⊥)
+abbrev pub AreWithinLimits : List (List ℕ) → List Fact → Type 0
+AreWithinLimits names facts = (HasTooDeep names facts → ⊥) × (HasTooLong names facts → ⊥)
 
 -- why a knowledge is not saved: an element is too deep, or else one is too long
-abbrev pub IsRefused : List (List ℕ) → List Fact → SaveError → Type 0
-IsRefused names facts TooDeep = HasDeep names facts
-IsRefused names facts TooLong = HasLong names facts × (HasDeep names facts → ⊥)
-IsRefused names facts Memory = ⊤
+abbrev pub IsSaveRefusal : List (List ℕ) → List Fact → SaveError → Type 0
+IsSaveRefusal names facts TooDeep = HasTooDeep names facts
+IsSaveRefusal names facts TooLong = HasTooLong names facts × (HasTooDeep names facts → ⊥)
+IsSaveRefusal names facts Memory = ⊤

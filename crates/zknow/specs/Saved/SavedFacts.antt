@@ -8,10 +8,10 @@ use Rattle.zasn.specs.Place.{Place}
 use Rattle.zasn.specs.Choice.{Choice, either, finally, Pick, picked}
 use Rattle.zasn.specs.Table.{ComponentTable, required, ended, ◌⨾◌, Elements}
 use Rattle.zasn.specs.Standing.{tagged}
-use Rattle.zasn.specs.Meanings.{meant, octets_spelt}
+use Rattle.zasn.specs.Meanings.{meant, octets_spelling}
 use Rattle.zasn_tables.proofs.Readings.{tagged_place}
 use Rattle.zasn_tables.proofs.Builds.{contents_spelled}
-use Rattle.zasn.specs.Places.{of_table, of_choice, integer, within, list, lawful}
+use Rattle.zasn.specs.Places.{of_table, of_choice, integer, within, list, lawful_place}
 use Rattle.zapdu.specs.declared.productions.diagnostic.DiagRec.{DiagRec}
 use Rattle.zapdu.specs.declared.productions.record.Record.{Record}
 use Rattle.zapdu.specs.Productions.Records.{whole_record}
@@ -24,7 +24,7 @@ use Rattle.zknow.specs.declared.saved.saved_fact.SavedFailed.{SavedFailed}
 use Rattle.zknow.specs.declared.saved.saved_fact.SavedSeen.{SavedSeen}
 use Rattle.zknow.specs.declared.saved.saved_fact.SavedDiag.{SavedDiag}
 use Rattle.zknow.specs.Saved.Naturals.{natural}
-use Rattle.zknow.specs.List.Limited.{limited, LimitedStands}
+use Rattle.zknow.specs.List.Limited.{limited, LimitedWrites}
 
 -- a name: the contents octets of a primitive element
 abbrev pub name_of : Element → Option (List ℕ)
@@ -33,8 +33,8 @@ name_of e = meant (in_octets Ok e)
 -- a name [0]
 abbrev pub saved_name : Place (List ℕ)
 saved_name =
-    lawful {P = tagged (context 0) name_of} {tags = context 0 ∷ []} {meaning = name_of}
-    {spelt = octets_spelt (context 0)}
+    lawful_place {P = tagged (context 0) name_of} {tags = context 0 ∷ []} {meaning = name_of}
+    {spelling = octets_spelling (context 0)}
     (tagged_place (context 0) name_of [] (Primitive (context 0) []) refl refl)
     (contents_spelled (context 0) name_of (λ xs. xs) (λ xs. refl))
 
@@ -129,20 +129,20 @@ abbrev pub any_fact : Place Fact
 any_fact = of_choice kinds kind_pick kind-same kind-back refl
 
 -- a count is not negative, a position is at least 1, a place is at least 0
-abbrev pub in_range : Fact → Bool
-in_range (Count t s n) = int_le (pos 0) n
-in_range (Failed t s) = true
-in_range (Seen t s p r) = int_le (pos 1) p
-in_range (Diag t s p d) = int_le (pos 0) p
+abbrev pub fact_in_range : Fact → Bool
+fact_in_range (Count t s n) = int_le (pos 0) n
+fact_in_range (Failed t s) = true
+fact_in_range (Seen t s p r) = int_le (pos 1) p
+fact_in_range (Diag t s p d) = int_le (pos 0) p
 
 -- the element of the fact that set 0 of target 0 failed, as an example of a fact
 abbrev pub first_failed : Element
 first_failed = cons (context 1) (Primitive (context 0) (0 ∷ []) ∷ Primitive (context 1) (0 ∷ []) ∷ [])
 
-pub first_stands : LimitedStands any_fact in_range (Failed 0 0) first_failed
+pub first_stands : LimitedWrites any_fact fact_in_range (Failed 0 0) first_failed
 unfolding failed_parts
 first_stands = ((refl, ((refl, refl), ((refl, refl), tt))), refl)
 
 -- a fact with its numbers in their ranges
 abbrev pub saved_fact : Place Fact
-saved_fact = limited any_fact in_range (Failed 0 0) first_failed first_stands
+saved_fact = limited any_fact fact_in_range (Failed 0 0) first_failed first_stands

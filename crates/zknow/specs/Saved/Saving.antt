@@ -8,32 +8,32 @@ use Rattle.zknow.specs.declared.saved.saving.SaveError.{SaveError}
 use Rattle.zknow.specs.declared.saved.saving.SaveError.TheVariants.{TooDeep, TooLong, Memory}
 use Rattle.zknow.specs.Encodings.{encoding}
 use Rattle.zknow.specs.Saved.SavedFacts.{saved_names, saved_fact}
-use Rattle.zknow.specs.Saved.Saved.{saved, Fits, IsTooDeep, IsTooLong, HasDeep, HasLong}
+use Rattle.zknow.specs.Saved.Saved.{saved, IsWithinLimits, IsTooDeepElement, IsTooLongElement, HasTooDeep, HasTooLong}
 
 -- the value's element was appended
 pub record IsAdded {A : Type 0} (p : Place A) (x : A) (old new : Saving) : Type 0 where
   pub long : new.long ≡ old.long
   pub octets : new.octets.items ≡ old.octets.items ++ encoding p x
-  pub fits : Fits p x
-  pub short : IsTooLong p x → ⊥
+  pub fits : IsWithinLimits p x
+  pub short : IsTooLongElement p x → ⊥
 
 -- the value's element is too long, and was left out
 pub record IsLeftOut {A : Type 0} (p : Place A) (x : A) (old new : Saving) : Type 0 where
   pub long : new.long ≡ true
-  pub is : IsTooLong p x
+  pub is : IsTooLongElement p x
 
 -- before and after `put`: the value's element was appended, or left out because it is too long; or why not
-abbrev pub Adds : {A : Type 0} → Place A → A → Saving → Result (Unit {0}) SaveError → Saving → Type 0
-Adds p x old (Ok u) new = (IsTooDeep p x → ⊥) × (IsAdded p x old new ⊎ IsLeftOut p x old new)
-Adds p x old (Err TooDeep) new = IsTooDeep p x
-Adds p x old (Err TooLong) new = ⊥
-Adds p x old (Err Memory) new = ⊤
+abbrev pub AfterPut : {A : Type 0} → Place A → A → Saving → Result (Unit {0}) SaveError → Saving → Type 0
+AfterPut p x old (Ok u) new = (IsTooDeepElement p x → ⊥) × (IsAdded p x old new ⊎ IsLeftOut p x old new)
+AfterPut p x old (Err TooDeep) new = IsTooDeepElement p x
+AfterPut p x old (Err TooLong) new = ⊥
+AfterPut p x old (Err Memory) new = ⊤
 
 -- the octets are the elements of the names and facts, unless one was too long
 pub record IsSavedUpTo (names : List (List ℕ)) (facts : List Fact) (s : Saving) : Type 0 where
-  pub shallow : HasDeep names facts → ⊥
-  pub long : s.long ≡ true → HasLong names facts
-  pub short : s.long ≡ false → HasLong names facts → ⊥
+  pub shallow : HasTooDeep names facts → ⊥
+  pub long : s.long ≡ true → HasTooLong names facts
+  pub short : s.long ≡ false → HasTooLong names facts → ⊥
   pub octets : s.long ≡ false → s.octets.items ≡ saved names facts
-  pub names_fit : s.long ≡ false → Fits saved_names names
-  pub facts_fit : s.long ≡ false → AllByRecursion (Fits saved_fact) facts
+  pub names_fit : s.long ≡ false → IsWithinLimits saved_names names
+  pub facts_fit : s.long ≡ false → AllByRecursion (IsWithinLimits saved_fact) facts

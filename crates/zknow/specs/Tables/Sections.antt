@@ -15,8 +15,8 @@ abbrev pub marked : Mark → List (Unit {0})
 marked m = if m.is_set then tt ∷ [] else []
 
 -- values with their numbers
-abbrev pub numbered : {T : Type 0} → List (ℤ × List T) → List (ℤ × T)
-numbered t = section (λ xs. xs) (λ p x. (p, x)) t
+abbrev pub number_pairs : {T : Type 0} → List (ℤ × List T) → List (ℤ × T)
+number_pairs t = section (λ xs. xs) (λ p x. (p, x)) t
 
 -- the facts of each kind, in order
 abbrev pub counts_of : Tables → List Fact
@@ -26,11 +26,11 @@ abbrev pub failed_of : Tables → List Fact
 failed_of k = section marked (λ e u. Failed e.target e.set) k.failed
 
 abbrev pub seen_of : Tables → List Fact
-seen_of k = section numbered (λ e x. Seen e.target e.set x.0 x.1) k.seen
+seen_of k = section number_pairs (λ e x. Seen e.target e.set x.0 x.1) k.seen
 
 abbrev pub diags_of : Tables → List Fact
-diags_of k = section numbered (λ e x. Diag e.target e.set x.0 x.1) k.diags
+diags_of k = section number_pairs (λ e x. Diag e.target e.set x.0 x.1) k.diags
 
 -- all facts, in fact order
-abbrev pub facts_of : Tables → List Fact
-facts_of k = counts_of k ++ (failed_of k ++ (seen_of k ++ diags_of k))
+abbrev pub table_facts : Tables → List Fact
+table_facts k = counts_of k ++ (failed_of k ++ (seen_of k ++ diags_of k))

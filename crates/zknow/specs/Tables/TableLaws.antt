@@ -9,20 +9,20 @@ use Rattle.std.specs.List.Sorted.{IsStrictlySortedBy}
 use Rattle.std.specs.Map.{keys_of}
 use Rattle.std.proofs.lemmas.Cmp.{tied_itself}
 use Rattle.std.proofs.lemmas.Map.Keys.{sorted_head, sorted_tail}
-use Rattle.zknow.specs.Tables.Table.{value_at, HasItem, IsLawfulTable}
+use Rattle.zknow.specs.Tables.Table.{value_at_key, HasItem, IsLawfulTable}
 
 -- a key below all others has no value
 pub none_below : {K J : Type 0} (cmp : K → K → Ordering) (k : K) (es : List (K × J))
-    → AllByRecursion (λ y. cmp k y ≡ Less) (keys_of es) → value_at cmp es k ≡ None
+    → AllByRecursion (λ y. cmp k y ≡ Less) (keys_of es) → value_at_key cmp es k ≡ None
 none_below cmp k [] below = refl
 none_below cmp k (e ∷ es) below =
-    ap (λ o. cond (is_eq o) (Some e.1) (value_at cmp es k)) below.0 ∙ none_below cmp k es below.1
+    ap (λ o. cond (is_eq o) (Some e.1) (value_at_key cmp es k)) below.0 ∙ none_below cmp k es below.1
 
 -- tables in order with the same value at each key are equal
 module _ {K J : Type 0} (cmp : K → K → Ordering) (total : IsTotalOrder cmp)
     (exact : (a b : K) → cmp a b ≡ Equal → a ≡ b) where
-  found_first : (e : K × J) (es : List (K × J)) → value_at cmp (e ∷ es) e.0 ≡ Some e.1
-  found_first e es = ap (λ o. cond (is_eq o) (Some e.1) (value_at cmp es e.0)) (tied_itself total e.0)
+  found_first : (e : K × J) (es : List (K × J)) → value_at_key cmp (e ∷ es) e.0 ≡ Some e.1
+  found_first e es = ap (λ o. cond (is_eq o) (Some e.1) (value_at_key cmp es e.0)) (tied_itself total e.0)
 
   below_all : (k : K) (e : K × J) (es : List (K × J)) → IsStrictlySortedBy cmp (keys_of (e ∷ es)) → cmp k e.0 ≡ Less
       → AllByRecursion (λ y. cmp k y ≡ Less) (keys_of (e ∷ es))
@@ -34,7 +34,7 @@ module _ {K J : Type 0} (cmp : K → K → Ordering) (total : IsTotalOrder cmp)
       below_rest (f ∷ fs) all = (total.trans k e.0 f.0 less all.0, below_rest fs all.1)
 
   not_lower : (e f : K × J) (es fs : List (K × J)) → IsStrictlySortedBy cmp (keys_of (f ∷ fs))
-      → ((q : K) → value_at cmp (e ∷ es) q ≡ value_at cmp (f ∷ fs) q) → cmp e.0 f.0 ≡ Less → ⊥
+      → ((q : K) → value_at_key cmp (e ∷ es) q ≡ value_at_key cmp (f ∷ fs) q) → cmp e.0 f.0 ≡ Less → ⊥
   not_lower e f es fs sorted same less =
       let found = found_first e es in
       let missing = none_below cmp e.0 (f ∷ fs) (below_all e.0 f fs sorted less) in
@@ -43,29 +43,29 @@ module _ {K J : Type 0} (cmp : K → K → Ordering) (total : IsTotalOrder cmp)
 
   rest_same : (e f : K × J) (es fs : List (K × J)) → IsStrictlySortedBy cmp (keys_of (e ∷ es))
       → IsStrictlySortedBy cmp (keys_of (f ∷ fs)) → e.0 ≡ f.0
-      → ((q : K) → value_at cmp (e ∷ es) q ≡ value_at cmp (f ∷ fs) q) → (q : K) (b : Ordering) → cmp q e.0 ≡ b
-      → value_at cmp es q ≡ value_at cmp fs q
+      → ((q : K) → value_at_key cmp (e ∷ es) q ≡ value_at_key cmp (f ∷ fs) q) → (q : K) (b : Ordering) → cmp q e.0 ≡ b
+      → value_at_key cmp es q ≡ value_at_key cmp fs q
   rest_same e f es fs es_sorted fs_sorted keys same q Less is =
       let at_e : cmp q f.0 ≡ Less = subst (λ k. cmp q k ≡ Less) keys is in
-      ap (λ o. cond (is_eq o) (Some e.1) (value_at cmp es q)) (sym is) ∙ same q
-      ∙ ap (λ o. cond (is_eq o) (Some f.1) (value_at cmp fs q)) at_e
+      ap (λ o. cond (is_eq o) (Some e.1) (value_at_key cmp es q)) (sym is) ∙ same q
+      ∙ ap (λ o. cond (is_eq o) (Some f.1) (value_at_key cmp fs q)) at_e
   rest_same e f es fs es_sorted fs_sorted keys same q Greater is =
       let at_e : cmp q f.0 ≡ Greater = subst (λ k. cmp q k ≡ Greater) keys is in
-      ap (λ o. cond (is_eq o) (Some e.1) (value_at cmp es q)) (sym is) ∙ same q
-      ∙ ap (λ o. cond (is_eq o) (Some f.1) (value_at cmp fs q)) at_e
+      ap (λ o. cond (is_eq o) (Some e.1) (value_at_key cmp es q)) (sym is) ∙ same q
+      ∙ ap (λ o. cond (is_eq o) (Some f.1) (value_at_key cmp fs q)) at_e
   rest_same e f es fs es_sorted fs_sorted keys same q Equal is =
       let here : e.0 ≡ q = sym (exact q e.0 is) in
-      let left : value_at cmp es q ≡ None =
-      subst (λ k. value_at cmp es k ≡ None) here
+      let left : value_at_key cmp es q ≡ None =
+      subst (λ k. value_at_key cmp es k ≡ None) here
       (none_below cmp e.0 es (sorted_head cmp e.0 (keys_of es) es_sorted)) in
-      let right : value_at cmp fs q ≡ None =
-      subst (λ k. value_at cmp fs k ≡ None) (sym keys ∙ here)
+      let right : value_at_key cmp fs q ≡ None =
+      subst (λ k. value_at_key cmp fs k ≡ None) (sym keys ∙ here)
       (none_below cmp f.0 fs (sorted_head cmp f.0 (keys_of fs) fs_sorted)) in
       left ∙ sym right
 
   by_order : (e f : K × J) (es fs : List (K × J)) → IsStrictlySortedBy cmp (keys_of (e ∷ es))
-      → IsStrictlySortedBy cmp (keys_of (f ∷ fs)) → ((q : K) → value_at cmp (e ∷ es) q ≡ value_at cmp (f ∷ fs) q)
-      → (((q : K) → value_at cmp es q ≡ value_at cmp fs q) → es ≡ fs) → (o : Ordering) → cmp e.0 f.0 ≡ o
+      → IsStrictlySortedBy cmp (keys_of (f ∷ fs)) → ((q : K) → value_at_key cmp (e ∷ es) q ≡ value_at_key cmp (f ∷ fs) q)
+      → (((q : K) → value_at_key cmp es q ≡ value_at_key cmp fs q) → es ≡ fs) → (o : Ordering) → cmp e.0 f.0 ≡ o
       → e ∷ es ≡ f ∷ fs
   by_order e f es fs es_sorted fs_sorted same tails Less is = absurd (not_lower e f es fs fs_sorted same is)
   by_order e f es fs es_sorted fs_sorted same tails Greater is =
@@ -73,7 +73,7 @@ module _ {K J : Type 0} (cmp : K → K → Ordering) (total : IsTotalOrder cmp)
   by_order e f es fs es_sorted fs_sorted same tails Equal is =
       let keys : e.0 ≡ f.0 = exact e.0 f.0 is in
       let found_e = found_first e es in
-      let found_f = subst (λ k. value_at cmp (f ∷ fs) k ≡ Some f.1) (sym keys) (found_first f fs) in
+      let found_f = subst (λ k. value_at_key cmp (f ∷ fs) k ≡ Some f.1) (sym keys) (found_first f fs) in
       let agree = same e.0 in
       let values : e.1 ≡ f.1 = (cc) in
       let rest : es ≡ fs = tails (λ q. rest_same e f es fs es_sorted fs_sorted keys same q (cmp q e.0) refl) in
@@ -81,7 +81,7 @@ module _ {K J : Type 0} (cmp : K → K → Ordering) (total : IsTotalOrder cmp)
       ap (λ x. x ∷ es) heads ∙ ap (λ xs. f ∷ xs) rest
 
   pub same_entries : (es fs : List (K × J)) → IsStrictlySortedBy cmp (keys_of es) → IsStrictlySortedBy cmp (keys_of fs)
-      → ((q : K) → value_at cmp es q ≡ value_at cmp fs q) → es ≡ fs
+      → ((q : K) → value_at_key cmp es q ≡ value_at_key cmp fs q) → es ≡ fs
   same_entries [] [] es_sorted fs_sorted same = refl
   same_entries [] (f ∷ fs) es_sorted fs_sorted same = let found = found_first f fs in let agree = same f.0 in (cc)
   same_entries (e ∷ es) [] es_sorted fs_sorted same = let found = found_first e es in let agree = same e.0 in (cc)
@@ -94,7 +94,7 @@ module _ {K J : Type 0} (cmp : K → K → Ordering) (total : IsTotalOrder cmp)
       (each : (a b : J) → lawful a → lawful b → ((i : I) → holds a i ↔ holds b i) → a ≡ b) (s t : List (K × J))
       (ls : IsLawfulTable cmp holds lawful s) (lt : IsLawfulTable cmp holds lawful t)
       (same : (x : K × I) → HasItem cmp holds s x ↔ HasItem cmp holds t x) where
-    same_values : (q : K) (a b : Option J) → value_at cmp s q ≡ a → value_at cmp t q ≡ b → a ≡ b
+    same_values : (q : K) (a b : Option J) → value_at_key cmp s q ≡ a → value_at_key cmp t q ≡ b → a ≡ b
     same_values q None None is_a is_b = refl
     same_values q None (Some b) is_a is_b =
         let item = lt.some q b is_b in
@@ -114,4 +114,4 @@ module _ {K J : Type 0} (cmp : K → K → Ordering) (total : IsTotalOrder cmp)
     -- lawful tables with the same items are equal
     pub same_table : s ≡ t
     same_table =
-        same_entries s t ls.ordered lt.ordered (λ q. same_values q (value_at cmp s q) (value_at cmp t q) refl refl)
+        same_entries s t ls.ordered lt.ordered (λ q. same_values q (value_at_key cmp s q) (value_at_key cmp t q) refl refl)

@@ -30,23 +30,23 @@ abbrev pub ByNumber : Type 0 → Type 0
 ByNumber T = List (SetKey × List (ℤ × List T))
 
 -- the table has the value, at this set and number
-abbrev pub HasValue : {T : Type 0} → ByNumber T → SetKey × (ℤ × T) → Type 0
-HasValue t x = HasItem set_cmp (HasItem int_cmp Contains) t x
+abbrev pub HasNumberedValue : {T : Type 0} → ByNumber T → SetKey × (ℤ × T) → Type 0
+HasNumberedValue t x = HasItem set_cmp (HasItem int_cmp Contains) t x
 
 -- the table of its kind has the fact
-abbrev pub Knows : Tables → Fact → Type 0
-Knows k (Count t s n) = HasItem set_cmp Contains k.counts (key t s, n)
-Knows k (Failed t s) = HasItem set_cmp IsMarked k.failed (key t s, tt)
-Knows k (Seen t s p r) = HasValue k.seen (key t s, (p, r))
-Knows k (Diag t s p d) = HasValue k.diags (key t s, (p, d))
+abbrev pub HasFact : Tables → Fact → Type 0
+HasFact k (Count t s n) = HasItem set_cmp Contains k.counts (key t s, n)
+HasFact k (Failed t s) = HasItem set_cmp IsMarked k.failed (key t s, tt)
+HasFact k (Seen t s p r) = HasNumberedValue k.seen (key t s, (p, r))
+HasFact k (Diag t s p d) = HasNumberedValue k.diags (key t s, (p, d))
 
 -- each value is valid
-abbrev pub AnyValue : {T : Type 0} → T → Type 0
-AnyValue x = ⊤
+abbrev pub IsAnyValue : {T : Type 0} → T → Type 0
+IsAnyValue x = ⊤
 
 -- counts in order, each once
 abbrev pub AreCounts : List ℤ → Type 0
-AreCounts xs = AreDistinct int_cmp AnyValue xs
+AreCounts xs = AreDistinct int_cmp IsAnyValue xs
 
 -- records in the order of their encodings, each once
 abbrev pub AreRecords : List Record → Type 0
@@ -54,21 +54,21 @@ AreRecords xs = AreDistinct (encoding_cmp whole_record) (IsSpellable whole_recor
 
 -- diagnostics in the order of their encodings, each once
 abbrev pub AreDiags : List DiagRec → Type 0
-AreDiags xs = AreDistinct (encoding_cmp diag_rec) AnyValue xs
+AreDiags xs = AreDistinct (encoding_cmp diag_rec) IsAnyValue xs
 
 -- each table is lawful
-pub record AreLawful (k : Tables) : Type 0 where
+pub record AreLawfulTables (k : Tables) : Type 0 where
   pub counts : IsLawfulTable set_cmp Contains AreCounts k.counts
   pub failed : IsLawfulTable set_cmp IsMarked IsAnyMark k.failed
   pub seen : IsLawfulTable set_cmp (HasItem int_cmp Contains) (IsLawfulTable int_cmp Contains AreRecords) k.seen
   pub diags : IsLawfulTable set_cmp (HasItem int_cmp Contains) (IsLawfulTable int_cmp Contains AreDiags) k.diags
 
 -- lawful tables with the same facts are equal
-pub same_tables : (a b : Tables) → AreLawful a → AreLawful b → ((f : Fact) → Knows a f ↔ Knows b f) → a ≡ b
+pub same_tables : (a b : Tables) → AreLawfulTables a → AreLawfulTables b → ((f : Fact) → HasFact a f ↔ HasFact b f) → a ≡ b
 same_tables a b la lb same =
     let counts =
     same_table set_cmp set_total set_exact Contains AreCounts
-    (same_distinct int_cmp int_cmp_total AnyValue) a.counts b.counts la.counts lb.counts
+    (same_distinct int_cmp int_cmp_total IsAnyValue) a.counts b.counts la.counts lb.counts
     (λ x. same (Count x.0.target x.0.set x.1)) in
     let failed =
     same_table set_cmp set_total set_exact IsMarked IsAnyMark same_marks a.failed b.failed la.failed lb.failed
@@ -81,7 +81,7 @@ same_tables a b la lb same =
     let diags =
     same_table set_cmp set_total set_exact (HasItem int_cmp Contains) (IsLawfulTable int_cmp Contains AreDiags)
     (same_table int_cmp int_cmp_total exact_signed Contains AreDiags
-    (same_distinct (encoding_cmp diag_rec) (encoding_total diag_rec) AnyValue))
+    (same_distinct (encoding_cmp diag_rec) (encoding_total diag_rec) IsAnyValue))
     a.diags b.diags la.diags lb.diags (λ x. same (Diag x.0.target x.0.set x.1.0 x.1.1)) in
     ap (λ c. record a { counts = c }) counts
     ∙ ap (λ f. record a { counts = b.counts; failed = f }) failed
@@ -89,6 +89,6 @@ same_tables a b la lb same =
     ∙ ap (λ d. record b { diags = d }) diags
 
 -- each table is lawful, and each fact in them is one that can be added
-pub record KnowsLawfully (k : Tables) : Type 0 where
-  pub lawful : AreLawful k
-  pub each : (f : Fact) → Knows k f → IsFact f
+pub record IsLawfulKnowledge (k : Tables) : Type 0 where
+  pub lawful : AreLawfulTables k
+  pub each : (f : Fact) → HasFact k f → IsFact f

@@ -3,9 +3,9 @@ ghost use Rattle.std.specs.Prelude.{◌≡◌, ◌++◌, map, IfOk, OnOk};
 ghost use Rattle.std.specs.Map.{keys_of};
 ghost use Rattle.std.specs.List.{filter_map};
 ghost use Rattle.zknow.specs.Tables.Keys.{set_cmp, row_cmp};
-ghost use Rattle.zknow.specs.List.Listing.{ascending, block_of, row_of, positions_at};
-ghost use Rattle.zknow.specs.Tables.Sections.{section, facts_of};
-ghost use Rattle.zknow.specs.Tables.Tables.{AreLawful};
+ghost use Rattle.zknow.specs.List.Listing.{ascending, block_key_of, row_key_of, positions_at};
+ghost use Rattle.zknow.specs.Tables.Sections.{section, table_facts};
+ghost use Rattle.zknow.specs.Tables.Tables.{AreLawfulTables};
 
 use crate::tables::distinct::Distinct;
 use crate::tables::join::{Join, Key};
@@ -35,8 +35,8 @@ fn put_keys<J: Join>(table: &Table<SetKey, J>, out: &mut Vec<SetKey>) -> Result<
 
 /// Returns the keys of the blocks, in order. Returns `AllocError` if no memory is found.
 pub(crate) fn block_keys(alloc: Global, tables: &Tables) -> Result<Vec<SetKey>, AllocError>
-    requires { AreLawful tables.now }
-    ensures { IfOk result (λ keys. keys.items ≡ ascending set_cmp (filter_map block_of (facts_of tables.now))) }
+    requires { AreLawfulTables tables.now }
+    ensures { IfOk result (λ keys. keys.items ≡ ascending set_cmp (filter_map block_key_of (table_facts tables.now))) }
 {
     let mut keys = Vec::new(alloc);
     put_keys(&tables.counts, &mut keys)?;
@@ -62,8 +62,8 @@ pub(crate) fn positions_of(
     target: u32,
     set: u32,
 ) -> Result<Vec<i64>, AllocError>
-    requires { AreLawful tables.now }
-    ensures { IfOk result (λ found. found.items ≡ positions_at target set (facts_of tables.now)) }
+    requires { AreLawfulTables tables.now }
+    ensures { IfOk result (λ found. found.items ≡ positions_at target set (table_facts tables.now)) }
 {
     let mut found = Vec::new(alloc);
     if let Some(rows) = tables.seen.get(&key_of(target, set)) {
@@ -102,8 +102,8 @@ fn put_all_rows(table: &ByNumber<Record>, out: &mut Vec<RowKey>) -> Result<(), A
 
 /// Returns the keys of the rows, in order. Returns `AllocError` if no memory is found.
 pub(crate) fn row_keys(alloc: Global, tables: &Tables) -> Result<Vec<RowKey>, AllocError>
-    requires { AreLawful tables.now }
-    ensures { IfOk result (λ keys. keys.items ≡ ascending row_cmp (filter_map row_of (facts_of tables.now))) }
+    requires { AreLawfulTables tables.now }
+    ensures { IfOk result (λ keys. keys.items ≡ ascending row_cmp (filter_map row_key_of (table_facts tables.now))) }
 {
     let mut keys = Vec::new(alloc);
     put_all_rows(&tables.seen, &mut keys)?;

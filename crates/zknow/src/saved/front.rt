@@ -1,6 +1,6 @@
 //! The element that a file's octets begin with.
 ghost use Rattle.std.specs.Prelude.{◌≡◌, IfOk, IfErr};
-ghost use Rattle.zknow.specs.Saved.Fronts.{FrontElement, FrontValue, IsTaken, IsFrontFault, ShowsFront};
+ghost use Rattle.zknow.specs.Saved.Fronts.{IsFrontElement, IsFrontValue, IsTakenFront, IsFrontFault, IsFrontOf};
 
 use crate::encoding::encode;
 use crate::saved::saving::LONGEST;
@@ -46,7 +46,7 @@ const WINDOW: usize = 256;
 
 /// Returns how much these octets show. Returns `AllocError` if no memory is found.
 fn front_of(alloc: Global, octets: &[u8]) -> Result<Front, AllocError>
-    ensures { IfOk result (ShowsFront octets.now) }
+    ensures { IfOk result (IsFrontOf octets.now) }
 {
     let mut framer = Framer::new(alloc, LONGEST);
     framer.feed(octets)?;
@@ -63,7 +63,7 @@ fn front_of(alloc: Global, octets: &[u8]) -> Result<Front, AllocError>
 /// It reads `WINDOW` octets, then twice as many each time, until they show the element or a fault. If it reads more
 /// than `WINDOW`, these are fewer than twice the octets that show it. It never reads more than `LONGEST`.
 fn front_element(alloc: Global, octets: &[u8]) -> Result<Option<Node>, AllocError>
-    ensures { IfOk result (FrontElement octets.now) }
+    ensures { IfOk result (IsFrontElement octets.now) }
 {
     let limit = octets.len().min(LONGEST as usize);
     let mut size = WINDOW;
@@ -85,7 +85,7 @@ fn front_element(alloc: Global, octets: &[u8]) -> Result<Option<Node>, AllocErro
 /// Returns the value of the element that octets begin with, or `None` if there is none. Returns `AllocError` if no
 /// memory is found.
 fn front_value<T: Tagged>(alloc: Global, octets: &[u8]) -> Result<Option<T>, AllocError>
-    ensures { IfOk result (FrontValue T.place octets.now) }
+    ensures { IfOk result (IsFrontValue T.place octets.now) }
 {
     let Some(node) = front_element(alloc, octets)? else {
         return Ok(None);
@@ -103,7 +103,7 @@ fn front_value<T: Tagged>(alloc: Global, octets: &[u8]) -> Result<Option<T>, All
 /// Returns the value whose canonical element octets begin with, and the length of that element in octets. Returns why
 /// there is none, or `Memory`.
 pub(crate) fn take_front<T: Tagged>(alloc: Global, octets: &[u8]) -> Result<(T, usize), FrontError>
-    ensures taken { IfOk result (λ r. IsTaken T.place octets.now r.0 r.1) }
+    ensures taken { IfOk result (λ r. IsTakenFront T.place octets.now r.0 r.1) }
     ensures fault { IfErr result (IsFrontFault T.place octets.now) }
 {
     let Some(value) = front_value::<T>(alloc, octets)? else {

@@ -2,9 +2,9 @@
 ghost use Rattle.std.specs.Prelude.{◌≡◌, ◌<◌, List, ℕ, length, IfOk, IfErr, OnOk, MatchResult};
 ghost use Rattle.zknow.specs.declared.fact.Fact.{Fact};
 ghost use Rattle.zknow.specs.Saved.Saved.{IsSaved};
-ghost use Rattle.zknow.specs.Saved.Loaded.{IsFault};
+ghost use Rattle.zknow.specs.Saved.Loaded.{IsLoadFault};
 ghost use Rattle.zknow.specs.Saved.Loading.{IsLoadedUpTo, fault_at};
-ghost use Rattle.zknow.specs.Saved.Refusals.{load_word};
+ghost use Rattle.zknow.specs.Saved.Refusals.{load_error_name};
 
 use crate::fact::{Fact, Names};
 use crate::fact_order::is_above;
@@ -32,8 +32,8 @@ pub enum LoadError {
 
 impl LoadError {
     /// Returns the variant's name in ASCII letters. It takes no memory.
-    pub fn word(&self) -> &'static str
-        ensures { result.now ≡ load_word self.now }
+    pub fn name(&self) -> &'static str
+        ensures { result.now ≡ load_error_name self.now }
     {
         match self {
             LoadError::NotKnowledge { .. } => "NotKnowledge",
@@ -81,7 +81,7 @@ impl Loading {
     /// Reads the names. Returns the fault of their element, or `Memory`.
     fn start(alloc: Global, file: &[u8]) -> Result<Loading, LoadError>
         ensures ok { IfOk result (IsLoadedUpTo file.now) }
-        ensures fault { IfErr result (IsFault file.now) }
+        ensures fault { IfErr result (IsLoadFault file.now) }
     {
         match take_front::<SavedNames>(alloc, file) {
             Ok((names, at)) => Ok(Loading {
@@ -101,7 +101,7 @@ impl Loading {
         requires more { self.old.at < length file.now }
         ensures ok { OnOk result (IsLoadedUpTo file.now self.new) }
         ensures further { OnOk result (self.old.at < self.new.at) }
-        ensures fault { IfErr result (IsFault file.now) }
+        ensures fault { IfErr result (IsLoadFault file.now) }
     {
         let (_, rest) = file.split_at(self.at);
         let at = self.count + 1;
@@ -124,7 +124,7 @@ impl Loading {
 /// Reads all elements of a file. Returns the first fault, or `Memory`.
 fn load_all(alloc: Global, file: &[u8]) -> Result<Loading, LoadError>
     ensures ok { IfOk result (λ l. IsSaved l.names l.knowledge file.now) }
-    ensures fault { IfErr result (IsFault file.now) }
+    ensures fault { IfErr result (IsLoadFault file.now) }
 {
     let mut loading = Loading::start(alloc, file)?;
     while loading.at < file.len() {
@@ -140,7 +140,7 @@ fn load_all(alloc: Global, file: &[u8]) -> Result<Loading, LoadError>
 /// from the searches in the tables, its time is proportional to the number of facts and their octets.
 pub fn load(alloc: Global, file: &[u8]) -> Result<(Knowledge, Names), LoadError>
     ensures ok { IfOk result (λ r. IsSaved r.1 r.0 file.now) }
-    ensures fault { IfErr result (IsFault file.now) }
+    ensures fault { IfErr result (IsLoadFault file.now) }
     ensures exact { (names : List (List ℕ)) (facts : List Fact) → IsSaved names facts file.now
         → MatchResult result (λ r. (r.0 ≡ facts) × (r.1 ≡ names)) (λ e. e ≡ LoadError.Memory) }
 {

@@ -1,9 +1,9 @@
 //! The elements of facts in a saved file.
 ghost use Rattle.std.specs.Prelude.{◌≡◌};
-ghost use Rattle.zasn.specs.Answers.{Means, Makes, Puts};
+ghost use Rattle.zasn.specs.Answers.{MeaningResult, BuildResult, BuildStepResult};
 ghost use Rattle.zknow.specs.declared.fact.Fact.TheVariants.{Count, Failed, Seen, Diag};
 ghost use Rattle.zknow.specs.Tables.FactRefs.{fact_of};
-ghost use Rattle.zknow.specs.Saved.SavedFacts.{any_fact, count_parts, diag_parts, failed_parts, in_range, saved_diag, saved_fact, saved_seen, seen_parts};
+ghost use Rattle.zknow.specs.Saved.SavedFacts.{any_fact, count_parts, diag_parts, failed_parts, fact_in_range, saved_diag, saved_fact, saved_seen, seen_parts};
 
 use crate::fact::Fact;
 use crate::saved::natural::Natural;
@@ -206,7 +206,7 @@ fn natural(number: u32) -> Natural
 
 /// Whether the numbers of a fact are in their ranges: a count is at least 0, a position at least 1, a place at least 0.
 fn is_in_range(fact: &FactRef<'_>) -> bool
-    ensures { result ≡ in_range (fact_of fact.now) }
+    ensures { result ≡ fact_in_range (fact_of fact.now) }
 {
     match fact {
         FactRef::Count { count, .. } => *count >= 0,
@@ -218,7 +218,7 @@ fn is_in_range(fact: &FactRef<'_>) -> bool
 
 /// Returns the fact of an element, whatever its numbers. Returns `Misfit` if the element has no fact.
 fn any_fact_in(alloc: Global, node: &Node) -> Result<Fact, PartError>
-    ensures { Means (any_fact.meaning node.now) result }
+    ensures { MeaningResult (any_fact.meaning node.now) result }
 {
     if node.tag == Tag::context(0) {
         let saved: SavedCount = read_within(alloc, node)?;
@@ -240,7 +240,7 @@ fn any_fact_in(alloc: Global, node: &Node) -> Result<Fact, PartError>
 }
 
 fn count_node(alloc: Global, target: u32, set: u32, count: i64) -> Result<Node, BuildError>
-    ensures { Makes (any_fact.spelt (Count target set count)) result }
+    ensures { BuildResult (any_fact.spelling (Count target set count)) result }
 {
     let saved = SavedCount {
         target: natural(target),
@@ -251,7 +251,7 @@ fn count_node(alloc: Global, target: u32, set: u32, count: i64) -> Result<Node, 
 }
 
 fn failed_node(alloc: Global, target: u32, set: u32) -> Result<Node, BuildError>
-    ensures { Makes (any_fact.spelt (Failed target set)) result }
+    ensures { BuildResult (any_fact.spelling (Failed target set)) result }
 {
     let saved = SavedFailed {
         target: natural(target),
@@ -271,7 +271,7 @@ fn put_seen(
     out: &mut PartsBuf,
 ) -> Result<(), BuildError>
     ensures { let saved = saved_seen target.now set.now position.now rec.now
-        in Puts (seen_parts.made saved out.old) result out.new }
+        in BuildStepResult (seen_parts.spelling saved out.old) result out.new }
 {
     out.required(alloc, Tag::context(0), target)?;
     out.required(alloc, Tag::context(1), set)?;
@@ -290,7 +290,7 @@ fn put_diag(
     out: &mut PartsBuf,
 ) -> Result<(), BuildError>
     ensures { let saved = saved_diag target.now set.now place.now diag.now
-        in Puts (diag_parts.made saved out.old) result out.new }
+        in BuildStepResult (diag_parts.spelling saved out.old) result out.new }
 {
     out.required(alloc, Tag::context(0), target)?;
     out.required(alloc, Tag::context(1), set)?;
@@ -305,7 +305,7 @@ fn seen_node(
     position: i64,
     rec: &Record,
 ) -> Result<Node, BuildError>
-    ensures { Makes (any_fact.spelt (Seen target set position rec.now)) result }
+    ensures { BuildResult (any_fact.spelling (Seen target set position rec.now)) result }
 {
     let mut out = PartsBuf::new(alloc);
     put_seen(
@@ -326,7 +326,7 @@ fn diag_node(
     place: i64,
     diag: &DiagRec,
 ) -> Result<Node, BuildError>
-    ensures { Makes (any_fact.spelt (Diag target set place diag.now)) result }
+    ensures { BuildResult (any_fact.spelling (Diag target set place diag.now)) result }
 {
     let mut out = PartsBuf::new(alloc);
     put_diag(
@@ -342,7 +342,7 @@ fn diag_node(
 
 /// Returns the element of a fact, whatever its numbers.
 fn any_fact_node(alloc: Global, fact: &FactRef<'_>) -> Result<Node, BuildError>
-    ensures { Makes (any_fact.spelt (fact_of fact.now)) result }
+    ensures { BuildResult (any_fact.spelling (fact_of fact.now)) result }
 {
     match fact {
         FactRef::Count { target, set, count } => count_node(alloc, *target, *set, *count),
@@ -364,7 +364,7 @@ fn any_fact_node(alloc: Global, fact: &FactRef<'_>) -> Result<Node, BuildError>
 
 /// Returns the element of a fact. It copies no record and no diagnostic.
 pub(crate) fn fact_node(alloc: Global, fact: &FactRef<'_>) -> Result<Node, BuildError>
-    ensures { Makes (saved_fact.spelt (fact_of fact.now)) result }
+    ensures { BuildResult (saved_fact.spelling (fact_of fact.now)) result }
 {
     if !is_in_range(fact) {
         return Err(BuildError::NotSpellable);

@@ -1,7 +1,7 @@
 //! The element of the names of targets in a saved file.
 ghost use Rattle.std.specs.Prelude.{◌≡◌, IfOk};
-ghost use Rattle.zasn.specs.Within.{all_of, list_of, whole_of};
-ghost use Rattle.zasn.specs.Answers.{Means};
+ghost use Rattle.zasn.specs.Within.{all_meanings, list_meaning, whole_of};
+ghost use Rattle.zasn.specs.Answers.{MeaningResult};
 ghost use Rattle.zknow.specs.Saved.SavedFacts.{saved_name, saved_names};
 
 use crate::fact::Names;
@@ -13,7 +13,7 @@ use zber::{Body, Duplicate, Node, Seq, Tag};
 
 /// Returns the name in a primitive element `[0]`. Returns `Misfit` for another element.
 fn name_in(_alloc: Global, node: &Node) -> Result<Bytes, PartError>
-    ensures { Means (whole_of saved_name node.now) result }
+    ensures { MeaningResult (whole_of saved_name node.now) result }
 {
     if node.tag != Tag::context(0) {
         return Err(PartError::Misfit);
@@ -26,7 +26,7 @@ fn name_in(_alloc: Global, node: &Node) -> Result<Bytes, PartError>
 
 /// Returns the names in elements, in order.
 fn names_in(alloc: Global, nodes: &[Node]) -> Result<Names, PartError>
-    ensures { Means (all_of (whole_of saved_name) nodes.now) result }
+    ensures { MeaningResult (all_meanings (whole_of saved_name) nodes.now) result }
 {
     let mut names = Vec::new(alloc);
     for node in nodes {
@@ -38,7 +38,7 @@ fn names_in(alloc: Global, nodes: &[Node]) -> Result<Names, PartError>
 
 /// Returns the names in the elements within a constructed element. Returns `Misfit` if it is primitive.
 fn names_within(alloc: Global, node: &Node) -> Result<Names, PartError>
-    ensures { Means (list_of (whole_of saved_name) node.now) result }
+    ensures { MeaningResult (list_meaning (whole_of saved_name) node.now) result }
 {
     match &node.body {
         Body::Prim(_) => Err(PartError::Misfit),

@@ -4,10 +4,10 @@ ghost use Rattle.std.specs.List.{AllByRecursion};
 ghost use Rattle.zasn.specs.Place.{IsSpellable};
 ghost use Rattle.zknow.specs.Tables.FactRefs.{fact_of};
 ghost use Rattle.zknow.specs.Facts.{IsFact};
-ghost use Rattle.zknow.specs.Saved.Saved.{saved, longest, IsSaved, IsRefused, AreWithin};
+ghost use Rattle.zknow.specs.Saved.Saved.{saved, longest, IsSaved, IsSaveRefusal, AreWithinLimits};
 ghost use Rattle.zknow.specs.Saved.SavedFacts.{saved_fact};
-ghost use Rattle.zknow.specs.Saved.Saving.{Adds, IsSavedUpTo};
-ghost use Rattle.zknow.specs.Saved.Refusals.{save_word};
+ghost use Rattle.zknow.specs.Saved.Saving.{AfterPut, IsSavedUpTo};
+ghost use Rattle.zknow.specs.Saved.Refusals.{save_error_name};
 
 use crate::fact::{Fact, Names};
 use crate::knowledge::Knowledge;
@@ -39,8 +39,8 @@ pub enum SaveError {
 
 impl SaveError {
     /// Returns the variant's name in ASCII letters. It takes no memory.
-    pub fn word(&self) -> &'static str
-        ensures { result.now ≡ save_word self.now }
+    pub fn name(&self) -> &'static str
+        ensures { result.now ≡ save_error_name self.now }
     {
         match self {
             SaveError::TooDeep => "TooDeep",
@@ -71,7 +71,7 @@ pub(crate) struct Saving {
 /// Returns the element of a value. Returns `AllocError` if no memory is found.
 fn element_of<T: Tagged>(alloc: Global, value: &T) -> Result<Node, AllocError>
     requires { IsSpellable T.place value.now }
-    ensures { IfOk result (λ n. T.place.spelt value.now ≡ Some n) }
+    ensures { IfOk result (λ n. T.place.spelling value.now ≡ Some n) }
 {
     match value.to_element(alloc) {
         Ok(node) => Ok(node),
@@ -83,7 +83,7 @@ fn element_of<T: Tagged>(alloc: Global, value: &T) -> Result<Node, AllocError>
 /// Returns the element of a fact. Returns `AllocError` if no memory is found.
 fn element_of_fact(alloc: Global, fact: &FactRef<'_>) -> Result<Node, AllocError>
     requires { IsSpellable saved_fact (fact_of fact.now) }
-    ensures { IfOk result (λ n. saved_fact.spelt (fact_of fact.now) ≡ Some n) }
+    ensures { IfOk result (λ n. saved_fact.spelling (fact_of fact.now) ≡ Some n) }
 {
     match fact_node(alloc, fact) {
         Ok(node) => Ok(node),
@@ -106,7 +106,7 @@ impl Saving {
 
     /// Appends an element, or notes that it is too long. Returns `TooDeep`, or `Memory` if no memory is found.
     fn put<T: Tagged>(&mut self, alloc: Global, node: &Node) -> Result<(), SaveError>
-        ensures { (value : T) → T.place.spelt value ≡ Some node.now → Adds T.place value self.old result self.new }
+        ensures { (value : T) → T.place.spelling value ≡ Some node.now → AfterPut T.place value self.old result self.new }
     {
         match node.encode(alloc, LONGEST, &mut self.octets) {
             Ok(()) => Ok(()),
@@ -124,7 +124,7 @@ impl Saving {
         requires octets { self.old.octets.items ≡ [] }
         requires long { self.old.long ≡ false }
         ensures ok { OnOk result (IsSavedUpTo names.now [] self.new) }
-        ensures err { IfErr result (λ e. (facts : List _) → IsRefused names.now facts e) }
+        ensures err { IfErr result (λ e. (facts : List _) → IsSaveRefusal names.now facts e) }
     {
         let names = SavedNames::of(alloc, names)?;
         let node = element_of(alloc, &names)?;
@@ -137,7 +137,7 @@ impl Saving {
         ensures ok { OnOk result ((names : List (List ℕ)) (facts : List _) → IsSavedUpTo names facts self.old
             → IsSavedUpTo names (facts ++ fact_of fact.now ∷ []) self.new) }
         ensures err { IfErr result (λ e. (names : List (List ℕ)) (facts : List _) → Contains facts (fact_of fact.now)
-            → IsRefused names facts e) }
+            → IsSaveRefusal names facts e) }
     {
         fits(fact);
         let node = element_of_fact(alloc, fact)?;
@@ -149,7 +149,7 @@ impl Saving {
         requires { AllByRecursion IsFact (map fact_of facts.now) }
         ensures ok { OnOk result ((names : List (List ℕ)) → IsSavedUpTo names [] self.old
             → IsSavedUpTo names (map fact_of facts.now) self.new) }
-        ensures err { IfErr result (λ e. (names : List (List ℕ)) → IsRefused names (map fact_of facts.now) e) }
+        ensures err { IfErr result (λ e. (names : List (List ℕ)) → IsSaveRefusal names (map fact_of facts.now) e) }
     {
         for fact in facts {
             self.put_fact(alloc, fact)?;
@@ -165,8 +165,8 @@ fn canonical_octets(
     names: &Names,
 ) -> Result<Vec<u8>, SaveError>
     ensures ok { IfOk result (λ octets. IsSaved names.now knowledge.now octets.items) }
-    ensures within { OnOk result (AreWithin names.now knowledge.now) }
-    ensures refused { IfErr result (IsRefused names.now knowledge.now) }
+    ensures within { OnOk result (AreWithinLimits names.now knowledge.now) }
+    ensures refused { IfErr result (IsSaveRefusal names.now knowledge.now) }
 {
     let facts = knowledge.fact_refs()?;
     knowledge.lawful();
@@ -194,8 +194,8 @@ pub fn save(
 ) -> Result<(), SaveError>
     ensures ok { OnOk result ((file : List ℕ) × (out.new.items ≡ out.old.items ++ file)
         × IsSaved names.now knowledge.now file) }
-    ensures within { OnOk result (AreWithin names.now knowledge.now) }
-    ensures refused { IfErr result (IsRefused names.now knowledge.now) }
+    ensures within { OnOk result (AreWithinLimits names.now knowledge.now) }
+    ensures refused { IfErr result (IsSaveRefusal names.now knowledge.now) }
     ensures err { OnErr result (out.new.items ≡ out.old.items) }
 {
     let octets = canonical_octets(alloc, knowledge, names)?;

@@ -2,7 +2,7 @@
 ghost use Rattle.std.specs.Prelude.{◌≡◌, ◌++◌, map, IfOk, OnOk};
 ghost use Rattle.zknow.specs.Tables.FactRefs.{fact_of};
 ghost use Rattle.zknow.specs.declared.fact.Fact.TheVariants.{Count, Failed};
-ghost use Rattle.zknow.specs.Tables.Sections.{section, marked, numbered, facts_of};
+ghost use Rattle.zknow.specs.Tables.Sections.{section, marked, number_pairs, table_facts};
 
 use crate::tables::distinct::Distinct;
 use crate::tables::encoded_diag::EncodedDiag;
@@ -130,7 +130,7 @@ fn put_numbered<'a, T: Numbered>(
     out: &mut Vec<FactRef<'a>>,
 ) -> Result<(), AllocError>
     ensures { OnOk result (map fact_of out.new.items ≡ map fact_of out.old.items
-        ++ map (λ x. T.fact key x.0 x.1) (numbered values.now)) }
+        ++ map (λ x. T.fact key x.0 x.1) (number_pairs values.now)) }
 {
     for (number, values) in values.iter() {
         put_values(key, number, values.values(), out)?;
@@ -143,7 +143,7 @@ fn put_all_numbered<'a, T: Numbered>(
     out: &mut Vec<FactRef<'a>>,
 ) -> Result<(), AllocError>
     ensures { OnOk result (map fact_of out.new.items ≡ map fact_of out.old.items
-        ++ section numbered (λ e x. T.fact e x.0 x.1) table.now) }
+        ++ section number_pairs (λ e x. T.fact e x.0 x.1) table.now) }
 {
     for (key, values) in table.iter() {
         put_numbered(*key, values, out)?;
@@ -154,7 +154,7 @@ fn put_all_numbered<'a, T: Numbered>(
 /// Returns references to the facts of the tables, in fact order. It copies no record and no diagnostic. Returns
 /// `AllocError` if no memory is found.
 pub(crate) fn facts_in(alloc: Global, tables: &Tables) -> Result<Vec<FactRef<'_>>, AllocError>
-    ensures { IfOk result (λ facts. map fact_of facts.items ≡ facts_of tables.now) }
+    ensures { IfOk result (λ facts. map fact_of facts.items ≡ table_facts tables.now) }
 {
     let mut facts = Vec::new(alloc);
     put_all_counts(&tables.counts, &mut facts)?;

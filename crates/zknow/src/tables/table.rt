@@ -2,7 +2,7 @@
 ghost use Rattle.std.specs.Prelude.{◌≡◌, ◌↔◌, IsTrue, List, [], OnOk};
 ghost use Rattle.std.specs.Option.{option_copied};
 ghost use Rattle.zknow.specs.Tables.Join.{IsUnion, IsPartOfUnion};
-ghost use Rattle.zknow.specs.Tables.Table.{AtKey, HasItem, IsLawfulTable, value_at};
+ghost use Rattle.zknow.specs.Tables.Table.{IsAtKey, HasItem, IsLawfulTable, value_at_key};
 
 use crate::tables::join::{Join, Key};
 use std::alloc::{AllocError, Global};
@@ -43,7 +43,7 @@ impl<K: Key, J: Join> Table<K, J> {
 
     /// Returns the value at a key, or `None` if there is none.
     pub(crate) fn get(&self, key: &K) -> Option<&J>
-        ensures { option_copied result ≡ value_at K.cmp self.now key.now }
+        ensures { option_copied result ≡ value_at_key K.cmp self.now key.now }
     {
         self.map.get(key)
     }
@@ -66,9 +66,9 @@ impl<K: Key, J: Join> Table<K, J> {
     /// Adds an item at a key. Memory is as for `add`.
     pub(crate) fn add_at(&mut self, key: K, item: &J::Item) -> Result<(), AllocError>
         requires { J.can_add item.now }
-        ensures ok { OnOk result (IsUnion (HasItem K.cmp J.holds self.old) (AtKey key (λ x. x ≡ item.now))
+        ensures ok { OnOk result (IsUnion (HasItem K.cmp J.holds self.old) (IsAtKey key (λ x. x ≡ item.now))
             (HasItem K.cmp J.holds self.new)) }
-        ensures part { IsPartOfUnion (HasItem K.cmp J.holds self.old) (AtKey key (λ x. x ≡ item.now))
+        ensures part { IsPartOfUnion (HasItem K.cmp J.holds self.old) (IsAtKey key (λ x. x ≡ item.now))
             (HasItem K.cmp J.holds self.new) }
     {
         if let Some(value) = self.map.get_mut(&key) {
@@ -86,9 +86,9 @@ impl<K: Key, J: Join> Table<K, J> {
     /// Joins a value that has an item into the value at a key. Memory is as for `absorb`.
     fn absorb_at(&mut self, key: K, other: &J) -> Result<(), AllocError>
         requires { (x : J.Item) × J.holds other.now x }
-        ensures ok { OnOk result (IsUnion (HasItem K.cmp J.holds self.old) (AtKey key (J.holds other.now))
+        ensures ok { OnOk result (IsUnion (HasItem K.cmp J.holds self.old) (IsAtKey key (J.holds other.now))
             (HasItem K.cmp J.holds self.new)) }
-        ensures part { IsPartOfUnion (HasItem K.cmp J.holds self.old) (AtKey key (J.holds other.now))
+        ensures part { IsPartOfUnion (HasItem K.cmp J.holds self.old) (IsAtKey key (J.holds other.now))
             (HasItem K.cmp J.holds self.new) }
     {
         if let Some(value) = self.map.get_mut(&key) {
@@ -114,9 +114,9 @@ impl<K: Key, L: Key, J: Join> Table<K, Table<L, J>> {
     ) -> Result<(), AllocError>
         requires { J.can_add item.now }
         ensures ok { OnOk result (IsUnion (HasItem K.cmp (HasItem L.cmp J.holds) self.old)
-            (AtKey outer (AtKey inner.now (λ x. x ≡ item.now))) (HasItem K.cmp (HasItem L.cmp J.holds) self.new)) }
+            (IsAtKey outer (IsAtKey inner.now (λ x. x ≡ item.now))) (HasItem K.cmp (HasItem L.cmp J.holds) self.new)) }
         ensures part { IsPartOfUnion (HasItem K.cmp (HasItem L.cmp J.holds) self.old)
-            (AtKey outer (AtKey inner.now (λ x. x ≡ item.now))) (HasItem K.cmp (HasItem L.cmp J.holds) self.new) }
+            (IsAtKey outer (IsAtKey inner.now (λ x. x ≡ item.now))) (HasItem K.cmp (HasItem L.cmp J.holds) self.new) }
     {
         if let Some(table) = self.map.get_mut(&outer) {
             let added = table.add_at(*inner, item);

@@ -204,7 +204,7 @@ fn field_line(args: &[Token]) -> Result<Line, LineFault>
 
 /// Returns the record syntax of a question: at most 1,000 arcs, or none for `-`.
 #[tactic(auto, unfolding(crate::specs::WorldLines::syntax_of))]
-fn syntax_of(alloc: Global, text: &[u8]) -> Result<Option<Oid>, LineFault>
+pub(crate) fn syntax_of(alloc: Global, text: &[u8]) -> Result<Option<Oid>, LineFault>
     ensures { LineResult (syntax_of text.now) result }
 {
     if text == b"-".as_slice() {

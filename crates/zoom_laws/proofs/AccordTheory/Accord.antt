@@ -19,10 +19,10 @@ use Rattle.zorigin.specs.declared.refusal.Refused.TheVariants as refused
 use Rattle.zorigin.specs.References.{reference_id}
 use Rattle.zorigin.specs.Standings.{Close, Standing, is_open}
 use Rattle.zorigin.specs.Sending.{close_request}
-use Rattle.zorigin.specs.Fitting.{Fits}
-use Rattle.zorigin.specs.Replies.{numbered_as, named, taken_as, judged, against, answered, verdict}
+use Rattle.zorigin.specs.Fitting.{IsFitReply}
+use Rattle.zorigin.specs.Replies.{numbered_as, named, taken_as, judged, against, open_verdict, verdict}
 use Rattle.zorigin.specs.Accepts.{id_of}
-use Rattle.zorigin.specs.Log.{Log, Past, past, operation_of, asked, answers, is_answered, outstanding, opens, opening, is_init_call, is_close_call, state_from, state_of, numbered, standing}
+use Rattle.zorigin.specs.Log.{Log, Past, past, operation_of, asked, is_answer_to, is_answered, outstanding, is_opening, opening, is_init_call, is_close_call, state_from, state_of, by_operation, standing}
 use Rattle.zorigin.proofs.Members.{contained, among, find_in, in_filter}
 use Rattle.zorigin.proofs.Accepting.{looked_up, accepted_so}
 use Rattle.zorigin.proofs.Fittings.{fits_none}
@@ -32,7 +32,7 @@ use Rattle.zorigin.proofs.Orderly.{init_what}
 use Rattle.zorigin.proofs.Proper.{proper}
 use Rattle.ztarget.specs.declared.database.Database.{Database}
 use Rattle.ztarget.specs.declared.settings.TargetSettings.{TargetSettings}
-use Rattle.ztarget.specs.Replies.{Answer, standing_after, owed, reply_of, replies}
+use Rattle.ztarget.specs.Replies.{OwedReply, association_after, owed, reply_of, replies}
 use Rattle.zoom_laws.specs.Accord.{AreTaken, IsConversation, requests, replies_due, IsUnanswered, IsReplyTo, IsTakenAs, TakenLaw, AcceptanceLaw, UnansweredLaw, ApartLaw, OwedReplyLaw, OwedCloseLaw, FittingLaw}
 use Rattle.zoom_laws.proofs.AccordTheory.Members.{in_reverse, any_of, in_flat, flat_in, apart_moved, apart_parts}
 use Rattle.zoom_laws.proofs.AccordTheory.Owing.{Replies, EndsAssociation, reply_id, reply_fits, answer_replies, replying, replies_apart, newest, refused_alone}
@@ -43,39 +43,39 @@ use Rattle.zoom_laws.proofs.AccordTheory.Conversing.{no_close, close_sent, close
 -- ---- verdicts
 
 -- the verdict on a reply that fits is by the operation with its reference id
-weighed : (s : Standing) (q : Asked) (reply : Apdu) → named s (id_of reply) ≡ Some q → Fits q.what reply
-    → answered s reply ≡ Ok (taken_as (record { asked = q; reply = reply }))
+weighed : (s : Standing) (q : Asked) (reply : Apdu) → named s (id_of reply) ≡ Some q → IsFitReply q.what reply
+    → open_verdict s reply ≡ Ok (taken_as (record { asked = q; reply = reply }))
 weighed s q reply e f = by q.what reply refl e f
   where
-    so : (r : Apdu) → named s (id_of r) ≡ Some q → Fits q.what r
+    so : (r : Apdu) → named s (id_of r) ≡ Some q → IsFitReply q.what r
         → against (named s (id_of r)) r ≡ Ok (taken_as (record { asked = q; reply = r }))
     so r n g =
         ap (λ o. against o r) n
         ∙ ap (judged (record { asked = q; reply = r })) (fits_none q.what r g)
 
-    by : (w : What) (r : Apdu) → q.what ≡ w → named s (id_of r) ≡ Some q → Fits q.what r
-        → answered s r ≡ Ok (taken_as (record { asked = q; reply = r }))
+    by : (w : What) (r : Apdu) → q.what ≡ w → named s (id_of r) ≡ Some q → IsFitReply q.what r
+        → open_verdict s r ≡ Ok (taken_as (record { asked = q; reply = r }))
     by w (apdus.InitResponse v) is n g = so (apdus.InitResponse v) n g
     by w (apdus.SearchResponse v) is n g = so (apdus.SearchResponse v) n g
     by w (apdus.PresentResponse v) is n g = so (apdus.PresentResponse v) n g
-    by what.Init (apdus.InitRequest v) is n g = absurd (subst (λ x. Fits x (apdus.InitRequest v)) is g)
-    by what.Search (apdus.InitRequest v) is n g = absurd (subst (λ x. Fits x (apdus.InitRequest v)) is g)
-    by (what.Present ranges) (apdus.InitRequest v) is n g = absurd (subst (λ x. Fits x (apdus.InitRequest v)) is g)
-    by what.Init (apdus.SearchRequest v) is n g = absurd (subst (λ x. Fits x (apdus.SearchRequest v)) is g)
-    by what.Search (apdus.SearchRequest v) is n g = absurd (subst (λ x. Fits x (apdus.SearchRequest v)) is g)
-    by (what.Present ranges) (apdus.SearchRequest v) is n g = absurd (subst (λ x. Fits x (apdus.SearchRequest v)) is g)
-    by what.Init (apdus.PresentRequest v) is n g = absurd (subst (λ x. Fits x (apdus.PresentRequest v)) is g)
-    by what.Search (apdus.PresentRequest v) is n g = absurd (subst (λ x. Fits x (apdus.PresentRequest v)) is g)
+    by what.Init (apdus.InitRequest v) is n g = absurd (subst (λ x. IsFitReply x (apdus.InitRequest v)) is g)
+    by what.Search (apdus.InitRequest v) is n g = absurd (subst (λ x. IsFitReply x (apdus.InitRequest v)) is g)
+    by (what.Present ranges) (apdus.InitRequest v) is n g = absurd (subst (λ x. IsFitReply x (apdus.InitRequest v)) is g)
+    by what.Init (apdus.SearchRequest v) is n g = absurd (subst (λ x. IsFitReply x (apdus.SearchRequest v)) is g)
+    by what.Search (apdus.SearchRequest v) is n g = absurd (subst (λ x. IsFitReply x (apdus.SearchRequest v)) is g)
+    by (what.Present ranges) (apdus.SearchRequest v) is n g = absurd (subst (λ x. IsFitReply x (apdus.SearchRequest v)) is g)
+    by what.Init (apdus.PresentRequest v) is n g = absurd (subst (λ x. IsFitReply x (apdus.PresentRequest v)) is g)
+    by what.Search (apdus.PresentRequest v) is n g = absurd (subst (λ x. IsFitReply x (apdus.PresentRequest v)) is g)
     by (what.Present ranges) (apdus.PresentRequest v) is n g =
-        absurd (subst (λ x. Fits x (apdus.PresentRequest v)) is g)
+        absurd (subst (λ x. IsFitReply x (apdus.PresentRequest v)) is g)
     by w (apdus.Close v) is n g = absurd (no_close q.what v g)
 
-verdict_is : (s : Standing) (reply : Apdu) (x : Result Taken Refused) → is_open s.state ≡ true → answered s reply ≡ x
+verdict_is : (s : Standing) (reply : Apdu) (x : Result Taken Refused) → is_open s.state ≡ true → open_verdict s reply ≡ x
     → verdict s reply ≡ x
 unfolding verdict
-verdict_is s reply x o e = ap (λ b. cond b (answered s reply) (Err refused.WrongState)) o ∙ e
+verdict_is s reply x o e = ap (λ b. cond b (open_verdict s reply) (Err refused.WrongState)) o ∙ e
 
-named_taken : (settings : Settings) (log : Log) (reply : Apdu) (q : Asked) → Fits q.what reply
+named_taken : (settings : Settings) (log : Log) (reply : Apdu) (q : Asked) → IsFitReply q.what reply
     → IsReplyTo settings log reply q
     → IsTakenAs settings log reply (taken_as (record { asked = q; reply = reply }))
 named_taken settings log (apdus.Close c) q f n = absurd (no_close q.what c f)
@@ -87,7 +87,7 @@ named_taken settings log (apdus.PresentRequest v) q f n = (q, n, refl)
 named_taken settings log (apdus.PresentResponse v) q f n = (q, n, refl)
 
 -- only a response to Init fits Init
-pub init_fits : (reply : Apdu) → Fits what.Init reply → (v : InitResponse) × (reply ≡ apdus.InitResponse v)
+pub init_fits : (reply : Apdu) → IsFitReply what.Init reply → (v : InitResponse) × (reply ≡ apdus.InitResponse v)
 init_fits (apdus.InitResponse v) f = (v, refl)
 init_fits (apdus.InitRequest v) f = absurd f
 init_fits (apdus.SearchRequest v) f = absurd f
@@ -111,7 +111,7 @@ module _ (databases : List Database) (target : TargetSettings) (settings : Setti
   -- an owed reply with the reference id of an operation
   fits_named : (reply : Apdu) (d : IsReplyDue databases target settings log reply) (q : Asked)
       → IsIn q (operation_of d.call)
-      → Fits q.what reply × IsReplyTo settings log reply q
+      → IsFitReply q.what reply × IsReplyTo settings log reply q
   fits_named reply d q i = (
     reply_fits target q.what d.request reply (request_asks d.call d.request q d.of_call i) d.replies,
     record {
@@ -152,11 +152,11 @@ module _ (databases : List Database) (target : TargetSettings) (settings : Setti
     accepting : (o : Option Accepted) → opening p ≡ o → (o ≡ None) ⊎ IsAccepting o
     accepting None e = inl refl
     accepting (Some x) e =
-        let found = find_in opens p.accepted x e in
+        let found = find_in is_opening p.accepted x e in
         let there = contained x p.accepted found.0 in
         let a = accepted_so settings log x there in
         let w = init_what x.asked.what found.1 in
-        let v = init_fits x.reply (subst (λ y. Fits y x.reply) w a.fits) in
+        let v = init_fits x.reply (subst (λ y. IsFitReply y x.reply) w a.fits) in
         by x there v.0 v.1 v.0.result refl
       where
         by : (y : Accepted) → Contains p.accepted y → (v : InitResponse) → y.reply ≡ apdus.InitResponse v → (b : Bool)
@@ -177,7 +177,7 @@ module _ (databases : List Database) (target : TargetSettings) (settings : Setti
         by : (b : Bool) → is_answered p q.op ≡ b → is_answered p q.op ≡ false
         by false e = e
         by true e = absurd (
-            let m = any_of (answers q.op) p.accepted e in
+            let m = any_of (is_answer_to q.op) p.accepted e in
             let there = contained m.0 p.accepted m.1 in
             u m.0 there
             (accepted_id databases target settings log k m.0 there
@@ -188,7 +188,7 @@ module _ (databases : List Database) (target : TargetSettings) (settings : Setti
     names q n =
         let still = λ (x : Asked). not (is_answered p x.op) in
         ap (named (standing p)) n.id
-        ∙ ap (numbered_as (map numbered (outstanding p))) (spelled_number q.op)
+        ∙ ap (numbered_as (map by_operation (outstanding p))) (spelled_number q.op)
         ∙ looked_up (outstanding p) q (distinct_filter still (asked p) (proper settings log).distinct)
         (in_filter still (asked p) q (among q (asked p) n.asked) (ap not (waiting q n)))
 
@@ -205,7 +205,7 @@ module _ (databases : List Database) (target : TargetSettings) (settings : Setti
             close_replied target d.request reply
             (close_sent d.call d.request d.of_call (ap call_id close)) d.replies in (
               taken.Closed,
-              verdict_is (standing p) reply (Ok taken.Closed) (taking closed) (ap (answered (standing p)) c.1),
+              verdict_is (standing p) reply (Ok taken.Closed) (taking closed) (ap (open_verdict (standing p)) c.1),
               subst (λ r. IsTakenAs settings log r taken.Closed) (sym c.1) refl,
             )
         by (inr m) =
@@ -251,11 +251,11 @@ module _ (databases : List Database) (target : TargetSettings) (settings : Setti
         reply_id target v.0 x.0 x.2 ∙ request_id c.0 v.0 v.2 ∙ operation_id c.0 q c.2,
       )
 
-  last_close : (before : List Apdu) (v : Apdu) (a : Answer) → v ≡ close_request → owed databases target before v ≡ Ok a
+  last_close : (before : List Apdu) (v : Apdu) (a : OwedReply) → v ≡ close_request → owed databases target before v ≡ Ok a
       → (close : CloseApdu)
       × (replies databases target (v ∷ before) ≡ replies databases target before ++ apdus.Close close ∷ [])
   last_close before v a is e =
-      let s = standing_after databases target before in
+      let s = association_after databases target before in
       let c = close_replied target v a.reply is (answer_replies target databases s.state s.sets v a e) in (
         c.0,
         ap (λ r. replies databases target before ++ reply_of r) e
@@ -277,13 +277,13 @@ module _ (databases : List Database) (target : TargetSettings) (settings : Setti
       (c.0, before, subst (λ rs. replies databases target rs ≡ before ++ apdus.Close c.0 ∷ []) (sym n.1) c.1)
 
   fits : (q : Asked) (reply : Apdu) → Contains (replies_due databases target settings log) reply
-      → IsReplyTo settings log reply q → Fits q.what reply
+      → IsReplyTo settings log reply q → IsFitReply q.what reply
   fits q reply h n = by (call_kind d.call)
     where
       d : IsReplyDue databases target settings log reply
       d = due databases target settings log reply h
 
-      by : (d.call ≡ Close) ⊎ ((r : Asked) × IsIn r (operation_of d.call)) → Fits q.what reply
+      by : (d.call ≡ Close) ⊎ ((r : Asked) × IsIn r (operation_of d.call)) → IsFitReply q.what reply
       by (inl is) =
           let e : Some (reference_id q.op) ≡ None =
           sym n.id ∙ due_id databases target settings log reply d ∙ ap call_id is in
@@ -294,7 +294,7 @@ module _ (databases : List Database) (target : TargetSettings) (settings : Setti
           let same =
           one_asked (asked p) m.0 q (proper settings log).distinct (among m.0 (asked p) f.1.asked)
           (among q (asked p) n.asked) op in
-          subst (λ (x : Asked). Fits x.what reply) same f.0
+          subst (λ (x : Asked). IsFitReply x.what reply) same f.0
 
 pub taken_law : TakenLaw
 taken_law databases target settings log k = are_taken databases target settings log k

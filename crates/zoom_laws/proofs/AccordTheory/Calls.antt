@@ -8,7 +8,7 @@ use Rattle.zplan.specs.declared.range.Range.{Range}
 use Rattle.zorigin.specs.declared.answer.What.TheVariants as what
 use Rattle.zorigin.specs.declared.answer.Asked.{Asked}
 use Rattle.zorigin.specs.declared.state.Searched.{Searched}
-use Rattle.zorigin.specs.References.{reference_id, number_of}
+use Rattle.zorigin.specs.References.{reference_id, operation_number}
 use Rattle.zorigin.specs.Standings.{Call, Init, Search, Present, Close, Standing, search_of}
 use Rattle.zorigin.specs.Sending.{init_request, search_request, present_request, close_request, sent_range, additional, request_of}
 use Rattle.zorigin.specs.Changes.{init_asked}
@@ -61,7 +61,7 @@ pub sent_received : (rs : List Range) → map received_range (map sent_range rs)
 sent_received [] = refl
 sent_received (r ∷ rs) = ap (λ l. r ∷ l) (sent_received rs)
 
-pub others_received : (rs : List Range) → received.additional (additional rs) ≡ rs
+pub others_received : (rs : List Range) → received.received_additional (additional rs) ≡ rs
 others_received [] = refl
 others_received (r ∷ rs) = sent_received (r ∷ rs)
 
@@ -76,7 +76,7 @@ request_asks (Search op set ask) v q h (inl e) =
 request_asks (Search op set ask) v q h (inr none) = absurd none
 request_asks (Present op set ranges) v q h (inl e) =
     let p = present_so h.0 op set ranges v h.1 in
-    let same : positions (p.0 ∷ p.1) ≡ positions (p.0 ∷ received.additional (additional p.1)) =
+    let same : positions (p.0 ∷ p.1) ≡ positions (p.0 ∷ received.received_additional (additional p.1)) =
     ap (λ l. positions (p.0 ∷ l)) (sym (others_received p.1)) in
     subst (λ (x : Asked). Asks x.what v) (sym e)
     (subst (λ l. Asks (what.Present l) v) (sym p.3) (subst (Asks (what.Present (p.0 ∷ p.1))) p.4 same))
@@ -102,7 +102,7 @@ call_kind (Present op set ranges) = inr (_, inl refl)
 call_kind Close = inl refl
 
 pub same_number : (m n : ℕ) → reference_id m ≡ reference_id n → m ≡ n
-same_number m n e = some_same m n (sym (spelled_number m) ∙ ap number_of e ∙ spelled_number n)
+same_number m n e = some_same m n (sym (spelled_number m) ∙ ap operation_number e ∙ spelled_number n)
 
 pub has_self : (n : ℕ) → (n == n) ≡ true
 has_self n = grind (arith, nat_tests)

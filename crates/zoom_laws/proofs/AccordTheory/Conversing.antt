@@ -22,10 +22,10 @@ use Rattle.zorigin.specs.References.{reference_id}
 use Rattle.zorigin.specs.Standings.{Call, Init, Search, Present, Close, is_open}
 use Rattle.zorigin.specs.Sending.{init_request, close_request, request_of}
 use Rattle.zorigin.specs.Calls.{refusal}
-use Rattle.zorigin.specs.Fitting.{Fits}
+use Rattle.zorigin.specs.Fitting.{IsFitReply}
 use Rattle.zorigin.specs.Replies.{verdict}
-use Rattle.zorigin.specs.Accepts.{id_of, Refers}
-use Rattle.zorigin.specs.Log.{Log, Made, Got, Past, past, operation_of, asked, opens, opening, is_init_call, state_of, standing, request_list, admit_unless, after_verdict}
+use Rattle.zorigin.specs.Accepts.{id_of, IsReferenceTo}
+use Rattle.zorigin.specs.Log.{Log, Made, Got, Past, past, operation_of, asked, is_opening, opening, is_init_call, state_of, standing, request_list, admit_unless, after_verdict}
 use Rattle.zorigin.proofs.Members.{contained, among, find_in}
 use Rattle.zorigin.proofs.Accepting.{same_call, stays, accepted_so}
 use Rattle.zorigin.proofs.Orderly.{orderly, sent_request}
@@ -33,9 +33,9 @@ use Rattle.zorigin.proofs.Proper.{not_false}
 use Rattle.ztarget.specs.declared.database.Database.{Database}
 use Rattle.ztarget.specs.declared.settings.TargetSettings.{TargetSettings}
 use Rattle.ztarget.specs.declared.error.TargetError.{TargetError}
-use Rattle.ztarget.specs.Standing.{Terms, Open, Ended, Standing as TargetStanding}
+use Rattle.ztarget.specs.Standing.{Terms, Open, Ended, Association as TargetStanding}
 use Rattle.ztarget.specs.Initialising.{bit, init_response, is_accepted, terms}
-use Rattle.ztarget.specs.Replies.{Answer, answer, answer_at, left_by, standing_after, owed, reply_of, replies}
+use Rattle.ztarget.specs.Replies.{OwedReply, owed_in_state, owed_in_association, next_association, association_after, owed, reply_of, replies}
 use Rattle.zoom_laws.specs.Accord.{AreTaken, IsConversation, requests, replies_due}
 use Rattle.zoom_laws.proofs.AccordTheory.Members.{reverse_push, of_reverse, in_flat}
 use Rattle.zoom_laws.proofs.AccordTheory.Owing.{Replies, reply_id, search_state, answer_replies, replied}
@@ -43,7 +43,7 @@ use Rattle.zoom_laws.proofs.AccordTheory.Calls.{IsRequestOf, request_id, call_id
 use Rattle.zoom_laws.proofs.AccordTheory.Requests.{IsAccepting, ready_past, call_ready, new_id, ComesBetween, Runs, search_between, present_between, are_sent, init_in, same_verdict, fresh_past}
 
 -- a Close answers no operation
-pub no_close : (w : What) (c : CloseApdu) → Fits w (apdus.Close c) → ⊥
+pub no_close : (w : What) (c : CloseApdu) → IsFitReply w (apdus.Close c) → ⊥
 no_close what.Init c h = h
 no_close what.Search c h = h
 no_close (what.Present ranges) c h = h
@@ -56,7 +56,7 @@ close_sent (Present op set ranges) v h e = absurd (cc)
 close_sent Close v h e = let same : close_request ≡ v = (let f = h.1 in cc) in sym same
 
 -- an accepted reply that has a reference id has that of its operation
-id_so : (p : Past) (q : Asked) (o : Option (List ℕ)) → Refers p q o → o ≢ None → o ≡ Some (reference_id q.op)
+id_so : (p : Past) (q : Asked) (o : Option (List ℕ)) → IsReferenceTo p q o → o ≢ None → o ≡ Some (reference_id q.op)
 id_so p q None r n = absurd (n refl)
 id_so p q (Some id) r n = ap (λ i. Some i) r
 
@@ -113,7 +113,7 @@ module _ (databases : List Database) (target : TargetSettings) (settings : Setti
       id_so (past settings a.earlier) x.asked (id_of x.reply) a.refers (λ none.
       let sent = close_sent d.call d.request d.of_call (sym (due_id log x.reply d) ∙ none) in
       let c = close_replied target d.request x.reply sent d.replies in
-      no_close x.asked.what c.0 (subst (Fits x.asked.what) c.1 a.fits))
+      no_close x.asked.what c.0 (subst (IsFitReply x.asked.what) c.1 a.fits))
 
   -- ---- before the last call or reply
 
@@ -182,11 +182,11 @@ module _ (databases : List Database) (target : TargetSettings) (settings : Setti
               (last s.request (owed databases target (requests settings log) s.request) refl i))
         ])
       where
-        last : (v : Apdu) (a : Result Answer TargetError) → owed databases target (requests settings log) v ≡ a
+        last : (v : Apdu) (a : Result OwedReply TargetError) → owed databases target (requests settings log) v ≡ a
             → IsIn x.reply (reply_of a)
             → Replies target v x.reply
         last v (Ok a) e (inl is) =
-            let s = standing_after databases target (requests settings log) in
+            let s = association_after databases target (requests settings log) in
             subst (Replies target v) (sym is) (answer_replies target databases s.state s.sets v a e)
         last v (Ok a) e (inr none) = absurd none
         last v (Err reason) e none = absurd none
@@ -215,7 +215,7 @@ module _ (databases : List Database) (target : TargetSettings) (settings : Setti
   -- ---- the state of the target
 
   init_state : (r : InitRequest) → is_accepted target r.protocol_version ≡ true
-      → (standing_after databases target (apdus.InitRequest r ∷ [])).state ≡ Open (terms target r)
+      → (association_after databases target (apdus.InitRequest r ∷ [])).state ≡ Open (terms target r)
   init_state r h = ap (λ b. cond b (Open (terms target r)) Ended) h
 
   init_accepted : (s : Settings) → target.refuse ≡ false
@@ -223,12 +223,12 @@ module _ (databases : List Database) (target : TargetSettings) (settings : Setti
   init_accepted s f = (_, refl, ap (λ b. not b && true) f)
 
   between_open : (v : Apdu) (s : TargetStanding) (t : Terms) → ComesBetween v → s.state ≡ Open t
-      → (left_by s (answer_at databases target s v)).state ≡ Open t
+      → (next_association s (owed_in_association databases target s v)).state ≡ Open t
   between_open (apdus.SearchRequest r) s t b e =
-      ap (λ q. (left_by s (answer databases target q s.sets (apdus.SearchRequest r))).state) e
+      ap (λ q. (next_association s (owed_in_state databases target q s.sets (apdus.SearchRequest r))).state) e
       ∙ search_state target databases t s.sets r
   between_open (apdus.PresentRequest r) s t b e =
-      ap (λ q. (left_by s (answer databases target q s.sets (apdus.PresentRequest r))).state) e
+      ap (λ q. (next_association s (owed_in_state databases target q s.sets (apdus.PresentRequest r))).state) e
   between_open (apdus.InitRequest r) s t b e = absurd b
   between_open (apdus.InitResponse r) s t b e = absurd b
   between_open (apdus.SearchResponse r) s t b e = absurd b
@@ -237,29 +237,29 @@ module _ (databases : List Database) (target : TargetSettings) (settings : Setti
 
   -- after an accepted Init and requests before Close, the association is open
   runs_open : (received : List Apdu) → target.refuse ≡ false → Runs received
-      → (t : Terms) × ((standing_after databases target received).state ≡ Open t)
+      → (t : Terms) × ((association_after databases target received).state ≡ Open t)
   runs_open [] f r = absurd r
   runs_open (v ∷ vs) f (inl init) =
       let a = init_accepted init.0.0 f in
       let only : v ∷ vs ≡ apdus.InitRequest a.0 ∷ [] = λ i. (init.0.1 ∙ a.1) i ∷ init.1 i in
-      (terms target a.0, ap (λ l. (standing_after databases target l).state) only ∙ init_state a.0 a.2)
+      (terms target a.0, ap (λ l. (association_after databases target l).state) only ∙ init_state a.0 a.2)
   runs_open (v ∷ vs) f (inr more) =
       let m = runs_open vs f more.1 in
-      (m.0, between_open v (standing_after databases target vs) m.0 more.0 m.1)
+      (m.0, between_open v (association_after databases target vs) m.0 more.0 m.1)
 
   -- if the origin's association is accepted, the target accepted it
   pub accepted_open : (log : Log) → IsConversation databases target settings log → IsAccepting (opening (past settings log))
       → target.refuse ≡ false
   accepted_open log k a =
       let p = past settings log in
-      let found = find_in opens p.accepted a.answer a.is in
+      let found = find_in is_opening p.accepted a.answer a.is in
       let d = due log a.answer.reply (k.owed a.answer (contained a.answer p.accepted found.0)) in
       let s = init_sent target d.request a.response (subst (Replies target d.request) a.reply d.replies) in
       not_refused target s.0.protocol_version (sym s.2 ∙ a.result)
 
   open_for : (log : Log) (c : Call) → is_init_call c ≡ false → refusal (standing (past settings log)) c ≡ None
       → IsConversation databases target settings log
-      → (t : Terms) × ((standing_after databases target (requests settings log)).state ≡ Open t)
+      → (t : Terms) × ((association_after databases target (requests settings log)).state ≡ Open t)
   open_for log c n h k =
       let p = past settings log in
       let r = ready_past p (call_ready p c n h) in
@@ -268,16 +268,16 @@ module _ (databases : List Database) (target : TargetSettings) (settings : Setti
 
   -- ---- each request is taken
 
-  owed_open : (received : List Apdu) (v : Apdu) (t : Terms) (a : Answer)
-      → (standing_after databases target received).state ≡ Open t
-      → answer databases target (Open t) (standing_after databases target received).sets v ≡ Ok a
-      → (b : Answer) × (owed databases target received v ≡ Ok b)
+  owed_open : (received : List Apdu) (v : Apdu) (t : Terms) (a : OwedReply)
+      → (association_after databases target received).state ≡ Open t
+      → owed_in_state databases target (Open t) (association_after databases target received).sets v ≡ Ok a
+      → (b : OwedReply) × (owed databases target received v ≡ Ok b)
   owed_open received v t a e h =
-      (a, ap (λ q. answer databases target q (standing_after databases target received).sets v) e ∙ h)
+      (a, ap (λ q. owed_in_state databases target q (association_after databases target received).sets v) e ∙ h)
 
   -- in an open association a search, a request for records or a Close is taken
-  open_takes : (received : List Apdu) (v : Apdu) (t : Terms) → (standing_after databases target received).state ≡ Open t
-      → ComesBetween v ⊎ (v ≡ close_request) → (a : Answer) × (owed databases target received v ≡ Ok a)
+  open_takes : (received : List Apdu) (v : Apdu) (t : Terms) → (association_after databases target received).state ≡ Open t
+      → ComesBetween v ⊎ (v ≡ close_request) → (a : OwedReply) × (owed databases target received v ≡ Ok a)
   open_takes received (apdus.SearchRequest r) t e (inl b) = owed_open received (apdus.SearchRequest r) t _ e refl
   open_takes received (apdus.PresentRequest r) t e (inl b) = owed_open received (apdus.PresentRequest r) t _ e refl
   open_takes received (apdus.InitRequest r) t e (inl b) = absurd b
@@ -286,20 +286,20 @@ module _ (databases : List Database) (target : TargetSettings) (settings : Setti
   open_takes received (apdus.PresentResponse r) t e (inl b) = absurd b
   open_takes received (apdus.Close r) t e (inl b) = absurd b
   open_takes received v t e (inr close) =
-      subst (λ w. (a : Answer) × (owed databases target received w ≡ Ok a)) (sym close)
+      subst (λ w. (a : OwedReply) × (owed databases target received w ≡ Ok a)) (sym close)
       (owed_open received close_request t _ e refl)
 
-  first_takes : (v : Apdu) (s : Settings) → v ≡ init_request s → (a : Answer) × (owed databases target [] v ≡ Ok a)
-  first_takes v s e = subst (λ w. (a : Answer) × (owed databases target [] w ≡ Ok a)) (sym e) (_, refl)
+  first_takes : (v : Apdu) (s : Settings) → v ≡ init_request s → (a : OwedReply) × (owed databases target [] v ≡ Ok a)
+  first_takes v s e = subst (λ w. (a : OwedReply) × (owed databases target [] w ≡ Ok a)) (sym e) (_, refl)
 
   module _ (log : Log) (k : IsConversation databases target settings log) where
     call_taken : (c : Call) (v : Apdu) → refusal (standing (past settings log)) c ≡ None
         → request_of (standing (past settings log)) c ≡ Some v
-        → (a : Answer) × (owed databases target (requests settings log) v ≡ Ok a)
+        → (a : OwedReply) × (owed databases target (requests settings log) v ≡ Ok a)
     call_taken Init v h m =
         let p = past settings log in
         let none = (are_sent settings log).first (fresh_past p h) in
-        subst (λ rs. (a : Answer) × (owed databases target rs v ≡ Ok a)) (sym (ap (λ l. reverse l) none))
+        subst (λ rs. (a : OwedReply) × (owed databases target rs v ≡ Ok a)) (sym (ap (λ l. reverse l) none))
         (first_takes v p.settings (sym (some_same (init_request p.settings) v m)))
     call_taken (Search op set ask) v h m =
         let o = open_for log (Search op set ask) refl h k in

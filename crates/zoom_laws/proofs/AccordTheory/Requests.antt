@@ -23,7 +23,7 @@ use Rattle.zorigin.specs.Calls.{refusal}
 use Rattle.zorigin.specs.Replies.{verdict}
 use Rattle.zorigin.specs.Changes.{force_in}
 use Rattle.zorigin.specs.Laws.{IsOrderly}
-use Rattle.zorigin.specs.Log.{Log, Made, Got, Past, past, operation_of, asked, is_init, opens, opening, is_init_call, is_close_call, state_by, closing_state, state_from, state_of, standing, request_list, admit_unless, after_verdict}
+use Rattle.zorigin.specs.Log.{Log, Made, Got, Past, past, operation_of, asked, is_init, is_opening, opening, is_init_call, is_close_call, state_by, closing_state, state_from, state_of, standing, request_list, admit_unless, after_verdict}
 use Rattle.zorigin.proofs.Members.{contained, among, any_in, find_in}
 use Rattle.zorigin.proofs.Operations.{has}
 use Rattle.zorigin.proofs.Orderly.{orderly, sent_request}
@@ -115,7 +115,7 @@ init_call Close q none h = absurd none
 -- if the association was accepted, Init was called
 pub init_in : (p : Past) → IsOrderly p → (x : Answer) → opening p ≡ Some x → IsIn Init p.admitted
 init_in p ok x e =
-    let found = find_in opens p.accepted x e in
+    let found = find_in is_opening p.accepted x e in
     let there =
     in_flat operation_of p.admitted x.asked
     (among x.asked (asked p) (ok.known x (contained x p.accepted found.0))) in

@@ -11,7 +11,7 @@ use Rattle.zapdu.specs.declared.productions.record.Record.{Record}
 use Rattle.zknow.specs.declared.fact.Fact.{Fact}
 use Rattle.zknow.specs.declared.fact.Fact.TheVariants.{Count, Failed, Seen}
 use Rattle.zplan.specs.Plan as plan
-use Rattle.zplan.specs.Plan.{Operation, Event, Reply, Opens, Finds, Shows, Replies, IsAsked, first, search, replies_in, IsDriven, IsAnsweredWhole, IsServed, IsShown}
+use Rattle.zplan.specs.Plan.{Operation, PlanEvent, Reply, InitReply, SearchReply, PresentReply, Replies, IsPlanned, first, search, replies_in, IsDriven, IsPlanAnswered, HasRecordsForEach, IsShownPosition}
 use Rattle.zplan.specs.Positions.{IsIn, up_to}
 use Rattle.zplan.specs.Laws.{ShownLaws}
 use Rattle.zplan.proofs.Order.{sent_asked, answered_sent}
@@ -23,22 +23,22 @@ use Rattle.zorigin.specs.declared.answer.Answer.{Answer}
 use Rattle.zorigin.specs.Standings.{nothing_in_force}
 use Rattle.zplan.specs.Positions.{first_of}
 use Rattle.zplan.specs.Ranges.{positions, natural}
-use Rattle.zorigin.specs.Facts.{facts_of, facts_by, seen_at, seen_from, told_at}
+use Rattle.zorigin.specs.Facts.{facts_of, facts_by, seen_at, seen_from, diagnostic_facts}
 use Rattle.zorigin.specs.Fitting.{records_in, diagnostics_in}
 use Rattle.zorigin.specs.Sending.{search_request, is_unsendable}
 use Rattle.zorigin.specs.Calls.{refusal, or_unsendable}
 use Rattle.zorigin.specs.Replies.{verdict}
-use Rattle.zorigin.specs.Log.{Log, Got, Past, past, standing, opens, force_after, asked}
+use Rattle.zorigin.specs.Log.{Log, Got, Past, past, standing, is_opening, force_after, asked}
 use Rattle.zorigin.specs.Accepts.{IsAccepted}
 use Rattle.zorigin.specs.Laws.{IsOrderly}
 use Rattle.ztarget.specs.declared.database.Database.{Database}
 use Rattle.ztarget.specs.declared.settings.TargetSettings.{TargetSettings}
-use Rattle.ztarget.specs.Faults.{Reason}
+use Rattle.ztarget.specs.Faults.{Bib1Fault}
 use Rattle.ztarget.specs.Searching.{Found}
 use Rattle.ztarget.specs.Positions.{at_positions}
-use Rattle.ztarget.specs.Showing.{shown, held, in_syntax, size_of, surrogate}
+use Rattle.ztarget.specs.Showing.{shown_record, held, in_syntax, size_of, surrogate}
 use Rattle.ztarget.specs.Faults as faults
-use Rattle.ztarget.specs.Responding.{due_count, records_of}
+use Rattle.ztarget.specs.Responding.{due_count, response_records}
 use Rattle.ztarget.specs.Replies.{replies}
 use Rattle.ztarget.specs.Laws.{KeptSets, WhatFits}
 use Rattle.zoom_questions.specs.declared.question.Question.{Question}
@@ -63,7 +63,7 @@ use Rattle.zoom_laws.proofs.ScheduleTheory.Sets.{set_for, of_set}
 use Rattle.zoom_laws.specs.Catalogue.{entries_for, positions_due, shown_at, found_facts, fault_facts, facts_for_question, catalogue, AreOwed, HasFittingRecords, CanAsk, CatalogueLaw, UnaskedLaw}
 use Rattle.zoom_laws.proofs.CatalogueTheory.Standings.{given, response, search_by, find_in, accepts, refuses, force_of}
 use Rattle.zoom_laws.proofs.CatalogueTheory.Members.{to_map, of_map, length_at, of_seen, to_seen}
-use Rattle.zoom_laws.proofs.CatalogueTheory.Presents.{records_back, none_told, kept_of}
+use Rattle.zoom_laws.proofs.CatalogueTheory.Presents.{records_back, no_diagnostics, kept_of}
 use Rattle.zoom_laws.proofs.CatalogueTheory.Replied.{search_reply, PresentedAt, opened, searched, presented_at, for_opens}
 
 -- ---- operations
@@ -92,37 +92,37 @@ none_due named q (suc m) =
     ∙ ap (λ (b : Bool). if not b || int_lt (pos 0) (pos 0) then 0 else min (suc m) (natural (pos 0))) ge
 
 -- the facts of the answer to the search
-abbrev first_facts : ℕ → List Found → Option Reason → List Fact
+abbrev first_facts : ℕ → List Found → Option Bib1Fault → List Fact
 first_facts c found None = Count c 1 (pos (length found)) ∷ []
 first_facts c found (Some reason) = fault_facts c reason
 
-search_says : (c : ℕ) (offers : TargetSettings) (q : Question) (found : List Found) (o : Option Reason)
+search_reply_facts : (c : ℕ) (offers : TargetSettings) (q : Question) (found : List Found) (o : Option Bib1Fault)
     → facts_by c 1 what.Search (search_reply offers (ask_of q) found o) ≡ first_facts c found o
-search_says c offers q found None =
+search_reply_facts c offers q found None =
     ap (λ n. (Count c 1 (pos (length found)) ∷ [])
     ++ seen_from c 1 (pos 1)
-    (records_in (records_of (held (given offers).size (map (shown (given offers).size q.syntax) (take n found)))))
-    ++ told_at c 1 (pos 0)
-    (diagnostics_in (records_of
-    (held (given offers).size (map (shown (given offers).size q.syntax) (take n found))))))
+    (records_in (response_records (held (given offers).size (map (shown_record (given offers).size q.syntax) (take n found)))))
+    ++ diagnostic_facts c 1 (pos 0)
+    (diagnostics_in (response_records
+    (held (given offers).size (map (shown_record (given offers).size q.syntax) (take n found))))))
     (none_due offers.named q (length found))
-search_says c offers q found (Some reason) = refl
+search_reply_facts c offers q found (Some reason) = refl
 
 -- its reply in the plan
-abbrev count_of : List Found → Option Reason → Option ℕ
+abbrev count_of : List Found → Option Bib1Fault → Option ℕ
 count_of found None = Some (length found)
 count_of found (Some reason) = None
 
-search_counts : (q : Question) (p : Past) (offers : TargetSettings) (found : List Found) (o : Option Reason)
+search_counts : (q : Question) (p : Past) (offers : TargetSettings) (found : List Found) (o : Option Bib1Fault)
     → can_present p ≡ true
-    → reply_for (ask_of q) p (search_reply offers (ask_of q) found o) ≡ Finds (count_of found o)
-search_counts q p offers found None e = ap (λ b. Finds (counted (true && b) (pos (length found)))) e
+    → reply_for (ask_of q) p (search_reply offers (ask_of q) found o) ≡ SearchReply (count_of found o)
+search_counts q p offers found None e = ap (λ b. SearchReply (counted (true && b) (pos (length found)))) e
 search_counts q p offers found (Some reason) e = refl
 
 -- ---- a record that fits is shown as it is
 
 shown_so : (size : ℕ) (asked : Option (List ℕ)) (f : Found) → size_of (in_syntax asked f) ≤ size
-    → shown size asked f ≡ in_syntax asked f
+    → shown_record size asked f ≡ in_syntax asked f
 shown_so size asked f h =
     let t : nat_le (size_of (in_syntax asked f)) size ≡ true = grind (arith, nat_tests) in
     ap (λ (b : Bool). if b then in_syntax asked f else surrogate f.database (faults.fault 17 [])) t
@@ -147,7 +147,7 @@ module _ (orderly : (s : Settings) (l : Log) → IsOrderly (past s l))
     (talks : (x : Answer) → IsIn x (past settings log).accepted
     → IsIn x.reply (replies databases offers (requests settings log)))
     (shows_laws : ShownLaws) (fits : WhatFits) (complete : complete_in (past settings log) ≡ true) (c : ℕ) where
-  abbrev ask_here : List Event
+  abbrev ask_here : List PlanEvent
   ask_here = events_of (ask_of q) settings log
 
   abbrev wanted : List ℕ
@@ -159,26 +159,26 @@ module _ (orderly : (s : Settings) (l : Log) → IsOrderly (past s l))
   abbrev entries : List Found
   entries = entries_for q databases
 
-  abbrev fault : Option Reason
+  abbrev fault : Option Bib1Fault
   fault = faults.match_fault databases q.databases q.query
 
   plan_driven : IsDriven wanted s.step ask_here
   plan_driven = driven (ask_of q) settings wanted s.step orderly log k.driven
 
-  whole : IsAnsweredWhole wanted s.step ask_here
+  whole : IsPlanAnswered wanted s.step ask_here
   whole = complete_whole (ask_of q) wanted s.step settings orderly log k.driven complete
 
   came_at : (a : Operation) (r : Reply) → answers_in a ≡ Some r → CameFrom (ask_of q) wanted s.step settings log a r
   came_at a r e = came (ask_of q) wanted s.step settings orderly log k.driven a r e
 
   accepted_asked : (x : Answer) → IsIn x (past settings log).accepted
-      → IsAsked wanted s.step answers_in (operation_for x.asked.what)
+      → IsPlanned wanted s.step answers_in (operation_for x.asked.what)
   accepted_asked x i =
       let r = is_replied (ask_of q) settings log x i in
       sent_asked wanted s.step ask_here plan_driven (operation_for x.asked.what)
       (answered_sent wanted s.step ask_here plan_driven (operation_for x.asked.what) r.0 r.1)
 
-  asked_accepted : (a : Operation) → IsAsked wanted s.step answers_in a
+  asked_accepted : (a : Operation) → IsPlanned wanted s.step answers_in a
       → (x : Answer) × IsIn x (past settings log).accepted × (operation_for x.asked.what ≡ a)
   asked_accepted a i = let r = whole a i in replied (ask_of q) settings log a r.0 r.1
 
@@ -203,7 +203,7 @@ module _ (orderly : (s : Settings) (l : Log) → IsOrderly (past s l))
   -- ---- Init
 
   init_opens : (other : Settings) × (sent : List Apdu)
-      × (answers_in plan.Init ≡ Some (Opens ((response offers settings).result
+      × (answers_in plan.Init ≡ Some (InitReply ((response offers settings).result
       && can_search (ask_of q)
       (opened_past other sent (reply_with offers settings (response offers settings).result))) true))
   init_opens =
@@ -219,21 +219,21 @@ module _ (orderly : (s : Settings) (l : Log) → IsOrderly (past s l))
             ∙ ap (λ z. reply_for (ask_of q) (opened_past p.settings p.sent z) z) reply),
       )
 
-  init_refused : offers.refuse ≡ true → answers_in plan.Init ≡ Some (Opens false true)
+  init_refused : offers.refuse ≡ true → answers_in plan.Init ≡ Some (InitReply false true)
   init_refused e =
       let o = init_opens in
-      o.2 ∙ ap (λ b. Some (Opens
+      o.2 ∙ ap (λ b. Some (InitReply
       (b && can_search (ask_of q) (opened_past o.0 o.1 (reply_with offers settings b))) true))
       (refuses offers settings e)
 
   init_accepted : offers.refuse ≡ false → (b : Bool) → is_unsendable (search_request offers.named 1 1 (ask_of q)) ≡ b
-      → answers_in plan.Init ≡ Some (Opens (not b) true)
+      → answers_in plan.Init ≡ Some (InitReply (not b) true)
   init_accepted e b can =
       let o = init_opens in
-      o.2 ∙ ap (λ t. Some (Opens
+      o.2 ∙ ap (λ t. Some (InitReply
       (t && can_search (ask_of q) (opened_past o.0 o.1 (reply_with offers settings t))) true))
       (accepts offers settings e)
-      ∙ ap (λ t. Some (Opens (true && t) true)) (can_ask q offers settings o.0 o.1 b can)
+      ∙ ap (λ t. Some (InitReply (true && t) true)) (can_ask q offers settings o.0 o.1 b can)
 
   -- ---- the search
 
@@ -244,21 +244,21 @@ module _ (orderly : (s : Settings) (l : Log) → IsOrderly (past s l))
       let p = past settings f.earlier in
       let events = events_of (ask_of q) settings f.earlier in
       let before = driven (ask_of q) settings wanted s.step orderly f.earlier f.driven in
-      let asks = subst (IsAsked wanted s.step (replies_in events)) is
+      let asks = subst (IsPlanned wanted s.step (replies_in events)) is
       (sent_asked wanted s.step events before a f.sent) in
       let o = opened_of wanted s.step (replies_in events) asks in
-      let b = replied (ask_of q) settings f.earlier plan.Init (Opens true o.0) o.1 in
+      let b = replied (ask_of q) settings f.earlier plan.Init (InitReply true o.0) o.1 in
       let there = kept_reply p (verdict (standing p) f.reply) b.0 b.1 in
       let y = find_there (past settings (Got f.reply ∷ f.earlier)).accepted b.0 there (opens_for b.0 b.2) in
-      let at = find_in opens (past settings (Got f.reply ∷ f.earlier)).accepted y.0 y.1 in
+      let at = find_in is_opening (past settings (Got f.reply ∷ f.earlier)).accepted y.0 y.1 in
       let reply = opened orderly accepting sets_kept databases offers q s settings log d k talks y.0
       (f.within y.0 at.0) at.1 in
       ap (λ z. (force_after z).present) y.1
       ∙ ap (λ z. (force_after (Some (record { asked = y.0.asked; reply = z }))).present) reply
       ∙ ap (λ (b : Bool). (if b then force_of offers else nothing_in_force).present) (accepts offers settings e)
 
-  search_counted : offers.refuse ≡ false → IsAsked wanted s.step answers_in plan.Search
-      → answers_in plan.Search ≡ Some (Finds (count_of entries fault))
+  search_counted : offers.refuse ≡ false → IsPlanned wanted s.step answers_in plan.Search
+      → answers_in plan.Search ≡ Some (SearchReply (count_of entries fault))
   search_counted e i =
       let r = whole plan.Search i in
       let f = came_at plan.Search r.0 r.1 in
@@ -268,23 +268,23 @@ module _ (orderly : (s : Settings) (l : Log) → IsOrderly (past s l))
 
   -- ---- the Presents
 
-  present_shows : (l : List ℕ) → IsAsked wanted s.step answers_in (plan.Present l)
-      → answers_in (plan.Present l) ≡ Some (Shows (length (kept l)))
+  present_shows : (l : List ℕ) → IsPlanned wanted s.step answers_in (plan.Present l)
+      → answers_in (plan.Present l) ≡ Some (PresentReply (length (kept l)))
   present_shows l i =
       let r = whole (plan.Present l) i in
       let f = came_at (plan.Present l) r.0 r.1 in
       let p = past settings (Got f.reply ∷ f.earlier) in
       r.1 ∙ ap Some (f.says ∙ ap (reply_for (ask_of q) p) (present_replied f.answer f.there l f.for).reply
-      ∙ ap (λ z. Shows (length z)) (records_back (kept l)))
+      ∙ ap (λ z. PresentReply (length z)) (records_back (kept l)))
 
-  served : IsServed wanted s.step answers_in
+  served : HasRecordsForEach wanted s.step answers_in
   served l i =
       let x = asked_accepted (plan.Present l) i in
       let r = present_replied x.0 x.1 l x.2 in
-      let due = map (shown (given offers).size q.syntax) (at_positions entries l) in
+      let due = map (shown_record (given offers).size q.syntax) (at_positions entries l) in
       let h = fits (given offers).size due in
       let size : length due ≡ length l =
-      length-map (at_positions entries l) (shown (given offers).size q.syntax) ∙ length_at entries l r.within in
+      length-map (at_positions entries l) (shown_record (given offers).size q.syntax) ∙ length_at entries l r.within in
       let parts : length due ≡ length (kept l) + length h.left = ap length h.whole ∙ length-append (kept l) h.left in
       let some = h.first (omega (arith, size, r.some)) in
       (length (kept l), present_shows l i, omega (arith, some), omega (arith, size, parts))
@@ -308,7 +308,7 @@ module _ (orderly : (s : Settings) (l : Log) → IsOrderly (past s l))
   search_facts_are x i e =
       let w = for_search x.asked.what e in
       let set : x.asked.set ≡ 1 = set_is x i ∙ ap set_for w in
-      (λ j. facts_by c (set j) (w j) (search_replied x i e j)) ∙ search_says c offers q entries fault
+      (λ j. facts_by c (set j) (w j) (search_replied x i e j)) ∙ search_reply_facts c offers q entries fault
 
   present_facts_are : (x : Answer) → IsIn x (past settings log).accepted → (l : List ℕ)
       → operation_for x.asked.what ≡ plan.Present l
@@ -318,8 +318,8 @@ module _ (orderly : (s : Settings) (l : Log) → IsOrderly (past s l))
       let set : x.asked.set ≡ 1 = set_is x i ∙ ap set_for w.1 in
       let r = present_replied x i l e in
       (λ j. facts_by c (set j) (w.1 j) (r.reply j))
-      ∙ (λ j. seen_at c 1 (w.2 j) (records_back (kept l) j) ++ told_at c 1 (pos (first_of (w.2 j)))
-      (none_told (kept l) j))
+      ∙ (λ j. seen_at c 1 (w.2 j) (records_back (kept l) j) ++ diagnostic_facts c 1 (pos (first_of (w.2 j)))
+      (no_diagnostics (kept l) j))
       ∙ append-nil (seen_at c 1 l (kept l))
 
   abbrev IsKnown : Fact → Type 0
@@ -341,7 +341,7 @@ module _ (orderly : (s : Settings) (l : Log) → IsOrderly (past s l))
           elim (init_replied wanted s.step answers_in (operation_for known.0.asked.what)
           (accepted_asked known.0 known.1)) [
             | inl op ↦ subst (IsIn f) (says known.0 known.1 op) known.2
-            | inr other ↦ absurd (let z : Some (Opens false true) ≡ Some (Opens true other.0) =
+            | inr other ↦ absurd (let z : Some (InitReply false true) ≡ Some (InitReply true other.0) =
                 sym (init_refused e) ∙ other.1 in cc)
           ]
 
@@ -359,7 +359,7 @@ module _ (orderly : (s : Settings) (l : Log) → IsOrderly (past s l))
       (accepted_asked known.0 known.1)) [
         | inl op ↦ subst (IsIn f) (init_facts_are known.0 known.1 op
             ∙ ap (λ (b : Bool). if b then [] else Failed c 0 ∷ []) (accepts offers settings e)) known.2
-        | inr other ↦ let z : Some (Opens false true) ≡ Some (Opens true other.0) =
+        | inr other ↦ let z : Some (InitReply false true) ≡ Some (InitReply true other.0) =
             sym (init_accepted e true cannot) ∙ other.1 in cc
       ]
 
@@ -367,7 +367,7 @@ module _ (orderly : (s : Settings) (l : Log) → IsOrderly (past s l))
 
   module _ (e : offers.refuse ≡ false) (can : is_unsendable (search_request offers.named 1 1 (ask_of q)) ≡ false)
       (small : HasFittingRecords q databases offers) where
-    asks_search : IsAsked wanted s.step answers_in plan.Search
+    asks_search : IsPlanned wanted s.step answers_in plan.Search
     asks_search = search true first (init_accepted e false can)
 
     nothing_of_init : (x : Answer) (f : Fact) → IsIn x (past settings log).accepted
@@ -377,22 +377,22 @@ module _ (orderly : (s : Settings) (l : Log) → IsOrderly (past s l))
         subst (IsIn f) (init_facts_are x i op
         ∙ ap (λ (b : Bool). if b then [] else Failed c 0 ∷ []) (accepts offers settings e)) there
 
-    count_is : fault ≡ None → answers_in plan.Search ≡ Some (Finds (Some (length entries)))
-    count_is none = search_counted e asks_search ∙ ap (λ o. Some (Finds (count_of entries o))) none
+    count_is : fault ≡ None → answers_in plan.Search ≡ Some (SearchReply (Some (length entries)))
+    count_is none = search_counted e asks_search ∙ ap (λ o. Some (SearchReply (count_of entries o))) none
 
-    from_search : (o : Option Reason) → fault ≡ o → (x : Answer) (f : Fact) → IsIn x (past settings log).accepted
+    from_search : (o : Option Bib1Fault) → fault ≡ o → (x : Answer) (f : Fact) → IsIn x (past settings log).accepted
         → operation_for x.asked.what ≡ plan.Search → IsIn f (facts_of c x) → IsIn f (first_facts c entries o)
     from_search o is x f i op there = subst (IsIn f) (search_facts_are x i op ∙ ap (first_facts c entries) is) there
 
-    to_search : (o : Option Reason) → fault ≡ o → (f : Fact) → IsIn f (first_facts c entries o) → IsKnown f
-    to_search o is f i =
+    owed_to_search : (o : Option Bib1Fault) → fault ≡ o → (f : Fact) → IsIn f (first_facts c entries o) → IsKnown f
+    owed_to_search o is f i =
         let x = asked_accepted plan.Search asks_search in
         (x.0, x.1, subst (IsIn f) (sym (search_facts_are x.0 x.1 x.2 ∙ ap (first_facts c entries) is)) i)
 
     held_whole : (l : List ℕ)
-        → (left : List Record) × (map (shown (given offers).size q.syntax) (at_positions entries l) ≡ kept l ++ left)
+        → (left : List Record) × (map (shown_record (given offers).size q.syntax) (at_positions entries l) ≡ kept l ++ left)
     held_whole l = let h =
-        fits (given offers).size (map (shown (given offers).size q.syntax) (at_positions entries l)) in
+        fits (given offers).size (map (shown_record (given offers).size q.syntax) (at_positions entries l)) in
         (h.left, h.whole)
 
     -- a record at a position that is due
@@ -401,10 +401,10 @@ module _ (orderly : (s : Settings) (l : Log) → IsOrderly (past s l))
     from_present none x f i l op there =
         let r = present_replied x i l op in
         let h = held_whole l in
-        let seen = of_seen entries (shown (given offers).size q.syntax) c l (kept l) h.0 r.within h.1 f
+        let seen = of_seen entries (shown_record (given offers).size q.syntax) c l (kept l) h.0 r.within h.1 f
         (subst (IsIn f) (present_facts_are x i l op) there) in
-        let asks = subst (IsAsked wanted s.step answers_in) op (accepted_asked x i) in
-        let shows : IsShown wanted s.step answers_in seen.0 = record {
+        let asks = subst (IsPlanned wanted s.step answers_in) op (accepted_asked x i) in
+        let shows : IsShownPosition wanted s.step answers_in seen.0 = record {
           list = l;
           shows = length (kept l);
           asked = asks;
@@ -420,22 +420,22 @@ module _ (orderly : (s : Settings) (l : Log) → IsOrderly (past s l))
         (to_map (λ y. Seen c 1 (pos seen.0) (in_syntax q.syntax y))
         (at_positions entries (seen.0 ∷ [])) seen.1 seen.3)))
 
-    to_present : fault ≡ None → (f : Fact) → IsIn f (flat_map (shown_at c q entries) (positions_due q entries))
+    owed_to_present : fault ≡ None → (f : Fact) → IsIn f (flat_map (shown_at c q entries) (positions_due q entries))
         → IsKnown f
-    to_present none f i =
+    owed_to_present none f i =
         let at = in_flat (shown_at c q entries) (positions_due q entries) f i in
         let y = of_map (λ z. Seen c 1 (pos at.0) (in_syntax q.syntax z)) (at_positions entries (at.0 ∷ [])) f at.2 in
         let shows = shows_laws.all wanted s.step answers_in k.steps served (length entries) at.0 asks_search
         (count_is none) at.1 in
         let l = shows.list in
-        let says : Some (Shows (length (kept l))) ≡ Some (Shows shows.shows) =
+        let says : Some (PresentReply (length (kept l))) ≡ Some (PresentReply shows.shows) =
         sym (present_shows l shows.asked) ∙ shows.answered in
         let number : shows.shows ≡ length (kept l) = cc in
         let x = asked_accepted (plan.Present l) shows.asked in
         let r = present_replied x.0 x.1 l x.2 in
         let h = held_whole l in
         let among_kept = subst (λ n. IsIn at.0 (take n l)) number shows.among in
-        let seen = to_seen entries (shown (given offers).size q.syntax) c l
+        let seen = to_seen entries (shown_record (given offers).size q.syntax) c l
         (kept l) h.0 r.within h.1 at.0 y.0 among_kept y.1 in
         let as_it_is = shown_so (given offers).size q.syntax y.0 (small at.0 y.0 at.1 y.1) in (
           x.0,
@@ -444,7 +444,7 @@ module _ (orderly : (s : Settings) (l : Log) → IsOrderly (past s l))
               (subst (λ z. IsIn z (seen_at c 1 l (kept l))) (ap (Seen c 1 (pos at.0)) as_it_is ∙ sym y.2) seen),
         )
 
-    found_so : (o : Option Reason) → fault ≡ o → (f : Fact)
+    found_so : (o : Option Bib1Fault) → fault ≡ o → (f : Fact)
         → (IsKnown f → IsIn f (facts_for_question c q entries o)) × (IsIn f (facts_for_question c q entries o) → IsKnown f)
     found_so None is f = (λ known. there known.0 known.1 known.2 known.0.asked.what refl, back)
       where
@@ -460,10 +460,10 @@ module _ (orderly : (s : Settings) (l : Log) → IsOrderly (past s l))
         there x i at (what.Present ranges) w = from_present is x f i (positions ranges) (ap operation_for w) at
 
         back : IsIn f (found_facts c q entries) → IsKnown f
-        back (inl z) = to_search None is f (inl z)
-        back (inr z) = to_present is f z
+        back (inl z) = owed_to_search None is f (inl z)
+        back (inr z) = owed_to_present is f z
     found_so (Some reason) is f =
-        (λ known. there known.0 known.1 known.2 known.0.asked.what refl, λ i. to_search (Some reason) is f i)
+        (λ known. there known.0 known.1 known.2 known.0.asked.what refl, λ i. owed_to_search (Some reason) is f i)
       where
         there : (x : Answer) → IsIn x (past settings log).accepted → IsIn f (facts_of c x) → (w : What)
             → x.asked.what ≡ w

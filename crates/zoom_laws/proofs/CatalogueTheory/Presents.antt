@@ -9,18 +9,18 @@ use Rattle.std.proofs.lemmas.List.Folds.{list_any-append}
 use Rattle.zapdu.specs.declared.productions.record.Record.{Record}
 use Rattle.zplan.specs.declared.range.Range.{Range}
 use Rattle.zorigin.specs.declared.state.Searched.{Searched}
-use Rattle.zorigin.specs.Ranges.{is_past, are_ranges, follow, last_of}
+use Rattle.zorigin.specs.Ranges.{is_past, are_ranges, are_ranges_after, last_of}
 use Rattle.zplan.specs.Ranges.{positions, positions_of, natural}
 use Rattle.zorigin.specs.Sending.{additional, composition, present_value}
 use Rattle.zorigin.specs.Fitting.{records_in, diagnostics_in}
 use Rattle.zorigin.proofs.Ranges.{follows, follow_first, natural_low, low_positions}
 use Rattle.ztarget.specs.declared.settings.TargetSettings.{TargetSettings}
-use Rattle.ztarget.specs.Faults.{Reason, first_of}
+use Rattle.ztarget.specs.Faults.{Bib1Fault, first_of_faults}
 use Rattle.ztarget.specs.Faults as faults
 use Rattle.ztarget.specs.Searching.{Found}
 use Rattle.ztarget.specs.Positions.{ranges_of, are_in_set, is_in_set, at_positions}
-use Rattle.ztarget.specs.Showing.{shown, held}
-use Rattle.ztarget.specs.Responding.{presented, present_unless, present_response, present_fault, composition_fault, range_fault, ranges_fault, records_of}
+use Rattle.ztarget.specs.Showing.{shown_record, held}
+use Rattle.ztarget.specs.Responding.{presented, present_unless, present_response, present_fault, composition_fault, range_fault, ranges_fault, response_records}
 use Rattle.zoom_laws.proofs.AccordTheory.Calls.{sent_received}
 use Rattle.zoom_laws.proofs.CatalogueTheory.Members.{AreWithin}
 use Rattle.zoom_laws.proofs.CatalogueTheory.Standings.{given}
@@ -56,7 +56,7 @@ run_end n s (suc (suc k)) lo h =
 in_set_of : (s k n : ℕ) → 1 ≤ s → 1 ≤ k → s + k ≤ n + 1 → is_in_set s k n ≡ true
 in_set_of s k n a b c = grind (arith, nat_tests)
 
-pub all_in_set : (n : ℕ) (last : ℤ) (ranges : List Range) → follow last ranges ≡ true
+pub all_in_set : (n : ℕ) (last : ℤ) (ranges : List Range) → are_ranges_after last ranges ≡ true
     → is_past (pos n) (positions ranges) ≡ false
     → are_in_set n ranges ≡ true
 all_in_set n last [] f h = refl
@@ -75,7 +75,7 @@ all_in_set n last (r ∷ rs) f h =
 
 -- the records that a response holds
 abbrev pub kept_of : TargetSettings → Option (List ℕ) → List Found → List ℕ → List Record
-kept_of offers syntax found l = held (given offers).size (map (shown (given offers).size syntax) (at_positions found l))
+kept_of offers syntax found l = held (given offers).size (map (shown_record (given offers).size syntax) (at_positions found l))
 
 module _ (offers : TargetSettings) (named : Bool) (op : ℕ) (r : Range) (rs : List Range) (s : Searched) where
   ranges_free : (o : List Range) → ranges_fault true (additional o) ≡ None
@@ -91,12 +91,12 @@ module _ (offers : TargetSettings) (named : Bool) (op : ℕ) (r : Range) (rs : L
   no_fault n ranges past =
       let set = ap (are_in_set n) (same_ranges named op r rs s)
       ∙ all_in_set n (pos 0) (r ∷ rs) (follows (r ∷ rs) ranges) past in
-      ap (λ o. first_of o (first_of (composition_fault (composition s.elements))
+      ap (λ o. first_of_faults o (first_of_faults (composition_fault (composition s.elements))
       (range_fault n (ranges_of (present_value named op r rs s))))) (ranges_free rs)
-      ∙ ap (λ o. first_of o (range_fault n (ranges_of (present_value named op r rs s)))) (composition_free s.elements)
+      ∙ ap (λ o. first_of_faults o (range_fault n (ranges_of (present_value named op r rs s)))) (composition_free s.elements)
       ∙ ap (λ (b : Bool). if b then None else Some (why)) set
     where
-      why : Reason
+      why : Bib1Fault
       why = faults.fault 13 []
 
   pub presents : (found : List Found) → are_ranges (r ∷ rs) ≡ true
@@ -115,10 +115,10 @@ pub all_within : (n : ℕ) (ranges : List Range) → are_ranges ranges ≡ true 
 all_within n ranges a h = within_by n (positions ranges) (low_positions (pos 0) ranges (follows ranges a)) h
 
 -- the records that are kept are those of the response
-pub records_back : (kept : List Record) → records_in (records_of kept) ≡ kept
+pub records_back : (kept : List Record) → records_in (response_records kept) ≡ kept
 records_back [] = refl
 records_back (x ∷ xs) = refl
 
-pub none_told : (kept : List Record) → diagnostics_in (records_of kept) ≡ []
-none_told [] = refl
-none_told (x ∷ xs) = refl
+pub no_diagnostics : (kept : List Record) → diagnostics_in (response_records kept) ≡ []
+no_diagnostics [] = refl
+no_diagnostics (x ∷ xs) = refl

@@ -25,29 +25,29 @@ use Rattle.zorigin.specs.declared.answer.What.TheVariants as what
 use Rattle.zorigin.specs.declared.answer.Asked.{Asked}
 use Rattle.zorigin.specs.declared.answer.Answer.{Answer}
 use Rattle.zorigin.specs.declared.refusal.CallRefused.{CallRefused}
-use Rattle.zorigin.specs.References.{reference_id, number_of}
+use Rattle.zorigin.specs.References.{reference_id, operation_number}
 use Rattle.zorigin.specs.Changes.{present_asked, unanswered, outcome_in}
 use Rattle.zorigin.specs.Standings.{Call, Init, Search, Present, Close, Standing, is_ready, is_found, search_of}
-use Rattle.zorigin.specs.Fitting.{Fits, first_row}
+use Rattle.zorigin.specs.Fitting.{IsFitReply, first_row}
 use Rattle.zorigin.specs.Ranges.{are_ranges, is_past}
 use Rattle.zplan.specs.Ranges.{positions, natural}
 use Rattle.zorigin.specs.Sending.{init_value, init_request, search_request, present_value, present_request}
 use Rattle.zorigin.specs.Calls.{refusal, or_unsendable, unsendable, early_rows, early_refusal, past_outcome, past_count, is_unready}
 use Rattle.zorigin.specs.Replies.{verdict}
-use Rattle.zorigin.specs.Log.{Log, Made, Got, past, standing, state_of, opens, is_init, asked, answers, operation_of, search_in, filed, with_outcome, outcome_by, op_of, admit_unless}
-use Rattle.zorigin.specs.Accepts.{id_of, Refers, IsAccepted}
+use Rattle.zorigin.specs.Log.{Log, Made, Got, past, standing, state_of, is_opening, is_init, asked, is_answer_to, operation_of, search_in, by_set, with_outcome, outcome_by, op_of, admit_unless}
+use Rattle.zorigin.specs.Accepts.{id_of, IsReferenceTo, IsAccepted}
 use Rattle.zorigin.specs.Laws.{IsOrderly}
 use Rattle.zorigin.proofs.Proper.{free, ready_if}
 use Rattle.zorigin.proofs.Ids.{spelled_number}
 use Rattle.zorigin.proofs.Ranges.{follows, follow_first, natural_low}
 use Rattle.ztarget.specs.declared.database.Database.{Database}
 use Rattle.ztarget.specs.declared.settings.TargetSettings.{TargetSettings}
-use Rattle.ztarget.specs.Faults.{Reason}
+use Rattle.ztarget.specs.Faults.{Bib1Fault}
 use Rattle.ztarget.specs.Searching.{Found}
 use Rattle.ztarget.specs.Standing as target
 use Rattle.ztarget.specs.Standing.{Terms, Open, NamedSet}
 use Rattle.ztarget.specs.Responding.{search_found, search_failed, presented, present_response}
-use Rattle.ztarget.specs.Replies.{replies, standing_after, to_search, to_search_unless, to_present}
+use Rattle.ztarget.specs.Replies.{replies, association_after, owed_to_search, owed_to_search_unless, owed_to_present}
 use Rattle.ztarget.specs.Replies as targets
 use Rattle.ztarget.specs.Laws.{KeptSets}
 use Rattle.zoom_questions.specs.declared.question.Question.{Question}
@@ -62,14 +62,14 @@ use Rattle.zoom_laws.specs.Accord.{requests}
 use Rattle.zoom_laws.proofs.AccordTheory.Accord.{init_fits}
 use Rattle.zoom_laws.proofs.CatalogueTheory.Owing.{IsAnswer, answered, Replies, kind}
 use Rattle.zoom_laws.proofs.CatalogueTheory.Sent.{IsOwed, owes, IsRequest, is_request}
-use Rattle.zoom_laws.proofs.CatalogueTheory.Standings.{search_by, given, response, is_search_call, find_in, IsReady, ready, StandsIn, stands, OpenedSo, same_fault}
+use Rattle.zoom_laws.proofs.CatalogueTheory.Standings.{search_by, given, response, is_search_call, find_in, IsReady, ready, IsSubstring, stands, OpenedSo, same_fault}
 use Rattle.zoom_laws.proofs.CatalogueTheory.Standings as standings
 use Rattle.zoom_laws.proofs.CatalogueTheory.Members.{AreWithin}
 use Rattle.zoom_laws.proofs.CatalogueTheory.Presents.{kept_of, presents, all_within}
 
 -- ---- what fits
 
-search_fits : (x : Apdu) → Fits what.Search x → (w : SearchResponse) × (x ≡ apdus.SearchResponse w)
+search_fits : (x : Apdu) → IsFitReply what.Search x → (w : SearchResponse) × (x ≡ apdus.SearchResponse w)
 search_fits (apdus.SearchResponse w) f = (w, refl)
 search_fits (apdus.InitRequest w) f = absurd f
 search_fits (apdus.InitResponse w) f = absurd f
@@ -78,7 +78,7 @@ search_fits (apdus.PresentRequest w) f = absurd f
 search_fits (apdus.PresentResponse w) f = absurd f
 search_fits (apdus.Close w) f = absurd f
 
-present_fits : (ranges : List Range) (x : Apdu) → Fits (what.Present ranges) x
+present_fits : (ranges : List Range) (x : Apdu) → IsFitReply (what.Present ranges) x
     → (w : PresentResponse) × (x ≡ apdus.PresentResponse w)
 present_fits ranges (apdus.PresentResponse w) f = (w, refl)
 present_fits ranges (apdus.InitRequest w) f = absurd f
@@ -180,13 +180,13 @@ all_ask e settings (Got reply ∷ log) s =
 
 -- the entries kept of the search with set 1
 looked : (ask : Ask) (acc : List Answer) (calls : List Call) (s : Searched) → AllAsk ask calls
-    → search_of (map filed (map (with_outcome acc) (flat_map search_in calls))) 1 ≡ Some s
+    → search_of (map by_set (map (with_outcome acc) (flat_map search_in calls))) 1 ≡ Some s
     → (s ≡ with_outcome acc (unanswered 1 1 ask)) × (list_any is_search_call calls ≡ true)
 looked ask acc [] s a h = absurd cc
 looked ask acc (Init ∷ calls) s a h = looked ask acc calls s a h
 looked ask acc (Search op set x ∷ calls) s a h =
     let test : nat_eq 1 set ≡ true = ap (nat_eq 1) a.0.1 in
-    let rest = lookup (nat_eq 1) (map filed (map (with_outcome acc) (flat_map search_in calls))) in
+    let rest = lookup (nat_eq 1) (map by_set (map (with_outcome acc) (flat_map search_in calls))) in
     let g : Some (with_outcome acc (unanswered op set x)) ≡ Some s =
     sym (ap (λ b. cond b (Some (with_outcome acc (unanswered op set x))) rest) test) ∙ h in
     let f : with_outcome acc (unanswered op set x) ≡ s = cc in
@@ -235,7 +235,7 @@ one_asked (z ∷ qs) a b d (inr i) (inl y) e =
 
 same_id : (m n : ℕ) → reference_id m ≡ reference_id n → m ≡ n
 same_id m n e =
-    let f : Some m ≡ Some n = sym (spelled_number m) ∙ ap number_of e ∙ spelled_number n in
+    let f : Some m ≡ Some n = sym (spelled_number m) ∙ ap operation_number e ∙ spelled_number n in
     cc
 
 same_ranges_of : (a b : List Range) → what.Present a ≡ what.Present b → a ≡ b
@@ -256,19 +256,19 @@ open_is a b e = cc
 -- ---- the replies
 
 -- a target's reply to the question's search
-abbrev pub search_reply : TargetSettings → Ask → List Found → Option Reason → Apdu
+abbrev pub search_reply : TargetSettings → Ask → List Found → Option Bib1Fault → Apdu
 search_reply offers ask found None =
     apdus.SearchResponse (search_found (given offers).size (search_by offers.named ask) found)
 search_reply offers ask found (Some reason) = apdus.SearchResponse (search_failed (search_by offers.named ask) reason)
 
-search_by_fault : (offers : TargetSettings) (ask : Ask) (sets : List NamedSet) (found : List Found) (o : Option Reason)
-    → (to_search_unless (given offers) sets (search_by offers.named ask) found o).reply
+search_by_fault : (offers : TargetSettings) (ask : Ask) (sets : List NamedSet) (found : List Found) (o : Option Bib1Fault)
+    → (owed_to_search_unless (given offers) sets (search_by offers.named ask) found o).reply
     ≡ search_reply offers ask found o
 search_by_fault offers ask sets found None = refl
 search_by_fault offers ask sets found (Some reason) = refl
 
 -- a search that found something had no fault
-found_count : (offers : TargetSettings) (ask : Ask) (found : List Found) (o : Option Reason)
+found_count : (offers : TargetSettings) (ask : Ask) (found : List Found) (o : Option Bib1Fault)
     → is_found (outcome_in (search_reply offers ask found o)) ≡ true
     → (o ≡ None) × (outcome_in (search_reply offers ask found o) ≡ Some (outcomes.Found (pos (length found))))
 found_count offers ask found None e = (refl, refl)
@@ -288,8 +288,8 @@ module _ (orderly : (s : Settings) (l : Log) → IsOrderly (past s l))
   owed_to x i = owes databases offers (errand_of s q) settings log k.steered k.driven x.reply (talks x i)
 
   -- the state of the target before the request
-  abbrev before : (r : Apdu) → Owed r → target.Standing
-  before r o = standing_after databases offers (requests settings o.2.earlier)
+  abbrev before : (r : Apdu) → Owed r → target.Association
+  before r o = association_after databases offers (requests settings o.2.earlier)
 
   given_to : (r : Apdu) (o : Owed r) → IsAnswer databases offers (before r o).state (before r o).sets o.0 o.1
   given_to r o = answered databases offers (before r o).state (before r o).sets o.0 o.1 o.2.answer
@@ -301,7 +301,7 @@ module _ (orderly : (s : Settings) (l : Log) → IsOrderly (past s l))
   requested : (r : Apdu) (o : Owed r) → IsRequest (standing (past settings o.2.earlier)) o.2.call o.0
   requested r o = is_request (standing (past settings o.2.earlier)) o.2.call o.0 o.2.request
 
-  fit : (x : Answer) → IsIn x (past settings log).accepted → Fits x.asked.what x.reply
+  fit : (x : Answer) → IsIn x (past settings log).accepted → IsFitReply x.asked.what x.reply
   fit x i = (accepts settings log x (contained x (past settings log).accepted i)).fits
 
   -- ---- to Init
@@ -315,19 +315,19 @@ module _ (orderly : (s : Settings) (l : Log) → IsOrderly (past s l))
       let v_is : o.0 ≡ apdus.InitRequest (init_value settings) =
       sent ∙ ap init_request (past_settings settings o.2.earlier) in
       let g = subst (λ z. IsAnswer databases offers (before r o).state (before r o).sets z o.1) v_is (given_to r o) in
-      o.3 ∙ ap (λ (b : targets.Answer). b.reply) g.1
+      o.3 ∙ ap (λ (b : targets.OwedReply). b.reply) g.1
 
-  pub opened : (x : Answer) → IsIn x (past settings log).accepted → opens x ≡ true
+  pub opened : (x : Answer) → IsIn x (past settings log).accepted → is_opening x ≡ true
       → x.reply ≡ apdus.InitResponse (response offers settings)
   opened x i is =
-      let f = subst (λ w. Fits w x.reply) (for_opens x.asked.what is) (fit x i) in
+      let f = subst (λ w. IsFitReply w x.reply) (for_opens x.asked.what is) (fit x i) in
       let w = init_fits x.reply f in
       init_owed x.reply (owed_to x i) w.0 w.1
 
   opened_before : (r : Apdu) (o : Owed r) → OpenedSo databases offers settings (ask_of q) o.2.earlier
   opened_before r o x i is = opened x (o.2.within x i) is
 
-  stood : (r : Apdu) (o : Owed r) → StandsIn databases offers settings (ask_of q) (past settings o.2.earlier)
+  stood : (r : Apdu) (o : Owed r) → IsSubstring databases offers settings (ask_of q) (past settings o.2.earlier)
   stood r o = stands databases offers settings (ask_of q) orderly sets_kept
       (errand_of s q) refl o.2.earlier o.2.steered (opened_before r o)
 
@@ -340,7 +340,7 @@ module _ (orderly : (s : Settings) (l : Log) → IsOrderly (past s l))
   abbrev pub found_here : List Found
   found_here = standings.found databases offers settings (ask_of q)
 
-  abbrev pub fault_here : Option Reason
+  abbrev pub fault_here : Option Bib1Fault
   fault_here = standings.fault databases offers settings (ask_of q)
 
   search_owed : (r : Apdu) (o : Owed r) (w : SearchResponse) → r ≡ apdus.SearchResponse w
@@ -359,16 +359,16 @@ module _ (orderly : (s : Settings) (l : Log) → IsOrderly (past s l))
       let state : t.state ≡ Open (given offers) = (stood r o).state ∙ is_open.stands in
       let g = subst (λ z. IsAnswer databases offers t.state t.sets z o.1) v_is (given_to r o) in
       let terms = open_is g.0 (given offers) (sym g.1 ∙ state) in
-      o.3 ∙ ap (λ (b : targets.Answer). b.reply) g.2
-      ∙ ap (λ z. (to_search databases z t.sets (search_by offers.named (ask_of q))).reply) terms
-      ∙ ap (λ f. (to_search_unless (given offers) t.sets (search_by offers.named (ask_of q)) found_here f).reply)
+      o.3 ∙ ap (λ (b : targets.OwedReply). b.reply) g.2
+      ∙ ap (λ z. (owed_to_search databases z t.sets (search_by offers.named (ask_of q))).reply) terms
+      ∙ ap (λ f. (owed_to_search_unless (given offers) t.sets (search_by offers.named (ask_of q)) found_here f).reply)
       (same_fault databases offers settings (ask_of q) t.sets)
       ∙ search_by_fault offers (ask_of q) t.sets found_here fault_here
 
   pub searched : (x : Answer) → IsIn x (past settings log).accepted → operation_for x.asked.what ≡ plan.Search
       → x.reply ≡ search_reply offers (ask_of q) found_here fault_here
   searched x i e =
-      let f = subst (λ w. Fits w x.reply) (for_searches x.asked.what e) (fit x i) in
+      let f = subst (λ w. IsFitReply w x.reply) (for_searches x.asked.what e) (fit x i) in
       let w = search_fits x.reply f in
       search_owed x.reply (owed_to x i) w.0 w.1
     where
@@ -411,10 +411,10 @@ module _ (orderly : (s : Settings) (l : Log) → IsOrderly (past s l))
       let one = with_outcome p.accepted (unanswered 1 1 (ask_of q)) in
       let unready : not (is_found kept.outcome) ≡ false =
       ap (λ z. is_unready z) (sym sent.4) ∙ rows.1.1.1.1.1.0 in
-      let was_found : is_found (outcome_by (find (answers 1) p.accepted)) ≡ true =
+      let was_found : is_found (outcome_by (find (is_answer_to 1) p.accepted)) ≡ true =
       ap (λ (z : Searched). is_found z.outcome) (sym look.0) ∙ ready_if (is_found kept.outcome) unready in
-      let y = found_by (find (answers 1) p.accepted) was_found in
-      let y_in = o.2.within y.0 (find_in (answers 1) p.accepted y.0 y.1).0 in
+      let y = found_by (find (is_answer_to 1) p.accepted) was_found in
+      let y_in = o.2.within y.0 (find_in (is_answer_to 1) p.accepted y.0 y.1).0 in
       let y_w = found_fits y.0.reply y.2 in
       let y_reply = search_owed y.0.reply (owed_to y.0 y_in) y_w.0 y_w.1 in
       let count = found_count offers (ask_of q) found_here fault_here
@@ -438,8 +438,8 @@ module _ (orderly : (s : Settings) (l : Log) → IsOrderly (past s l))
         op = c.0;
         ranges = c.2;
         value = present_value offers.named c.0 first others one;
-        reply = o.3 ∙ ap (λ (b : targets.Answer). b.reply) g.2
-            ∙ ap (λ z. (to_present z t.sets (present_value offers.named c.0 first others one)).reply) terms
+        reply = o.3 ∙ ap (λ (b : targets.OwedReply). b.reply) g.2
+            ∙ ap (λ z. (owed_to_present z t.sets (present_value offers.named c.0 first others one)).reply) terms
             ∙ ap (λ z. apdus.PresentResponse
             (presented (given offers) (present_value offers.named c.0 first others one) z)) set
             ∙ ap apdus.PresentResponse (presents offers offers.named c.0 first others one found_here good_all past_all)
@@ -473,13 +473,13 @@ module _ (orderly : (s : Settings) (l : Log) → IsOrderly (past s l))
     where
       answer : (ranges : List Range) → x.asked.what ≡ what.Present ranges → positions ranges ≡ l → PresentedAt l x.reply
       answer ranges is at =
-          let f = subst (λ w. Fits w x.reply) is (fit x i) in
+          let f = subst (λ w. IsFitReply w x.reply) is (fit x i) in
           let w = present_fits ranges x.reply f in
           let r = present_owed x.reply (owed_to x i) w.0 w.1 in
           let a = accepts settings log x (contained x (past settings log).accepted i) in
           let named : id_of x.reply ≡ Some (reference_id r.op) = ap id_of r.reply ∙ r.id in
           let id : reference_id r.op ≡ reference_id x.asked.op =
-          subst (λ z. Refers (past settings a.earlier) x.asked z) named a.refers in
+          subst (λ z. IsReferenceTo (past settings a.earlier) x.asked z) named a.refers in
           let there = among x.asked (asked (past settings log))
           ((orderly settings log).known x (contained x (past settings log).accepted i)) in
           let same = one_asked (asked (past settings log)) (present_asked r.op 1 r.ranges) x.asked

@@ -74,7 +74,7 @@ is_request s Close v e = some_is close_request v e
 
 module _ (databases : List Database) (offers : TargetSettings) (e : Errand) (settings : Settings) where
   -- The call was made and admitted in the log, and after the requests before it the target owed this to its request.
-  pub record SentAt (log : Log) (v : Apdu) (a : target.Answer) : Type 0 where
+  pub record SentAt (log : Log) (v : Apdu) (a : target.OwedReply) : Type 0 where
     pub earlier : Log
     pub call : Call
     pub admitted : refusal (standing (past settings earlier)) call ≡ None
@@ -88,7 +88,7 @@ module _ (databases : List Database) (offers : TargetSettings) (e : Errand) (set
     pub within : (x : Answer) → IsIn x (past settings earlier).accepted → IsIn x (past settings log).accepted
 
   abbrev pub IsOwed : Log → Apdu → Type 0
-  IsOwed log r = (v : Apdu) × (a : target.Answer) × SentAt log v a × (r ≡ a.reply)
+  IsOwed log r = (v : Apdu) × (a : target.OwedReply) × SentAt log v a × (r ≡ a.reply)
 
   later : (log more : Log) (r : Apdu)
       → ((q : Asked) → IsIn q (asked (past settings log)) → IsIn q (asked (past settings more)))
@@ -113,8 +113,8 @@ module _ (databases : List Database) (offers : TargetSettings) (e : Errand) (set
     o.3,
   )
 
-  one_reply : (r : Apdu) (o : Result target.Answer TargetError) → IsIn r (reply_of o)
-      → (a : target.Answer) × (o ≡ Ok a) × (r ≡ a.reply)
+  one_reply : (r : Apdu) (o : Result target.OwedReply TargetError) → IsIn r (reply_of o)
+      → (a : target.OwedReply) × (o ≡ Ok a) × (r ≡ a.reply)
   one_reply r (Ok a) (inl is) = (a, refl, is)
   one_reply r (Ok a) (inr i) = absurd i
   one_reply r (Err error) i = absurd i

@@ -26,18 +26,18 @@ use Rattle.zorigin.specs.Standings.{Call, Init, Search, Present, Close, is_fresh
 use Rattle.zorigin.specs.Sending.{init_value, init_request, search_value, search_request, present_value, set_name, close_value}
 use Rattle.zorigin.specs.Calls.{refusal}
 use Rattle.zorigin.specs.Replies.{verdict}
-use Rattle.zorigin.specs.Log.{Log, Made, Got, Past, past, standing, state_of, state_from, state_by, closing_state, opening, opens, is_init, force_after, asked, operation_of, is_close_call, is_init_call, admit_unless}
+use Rattle.zorigin.specs.Log.{Log, Made, Got, Past, past, standing, state_of, state_from, state_by, closing_state, opening, is_opening, is_init, force_after, asked, operation_of, is_close_call, is_init_call, admit_unless}
 use Rattle.zorigin.specs.Laws.{IsOrderly}
 use Rattle.zorigin.proofs.Proper.{IsProper, free, proper, ready_if}
 use Rattle.ztarget.specs.declared.database.Database.{Database}
 use Rattle.ztarget.specs.declared.settings.TargetSettings.{TargetSettings}
-use Rattle.ztarget.specs.Faults.{Reason, match_fault, first_of}
+use Rattle.ztarget.specs.Faults.{Bib1Fault, match_fault, first_of_faults}
 use Rattle.ztarget.specs.Faults as faults
 use Rattle.ztarget.specs.Searching.{Found, result_set}
-use Rattle.ztarget.specs.Standing.{Terms, State, Fresh, Open, Ended, NamedSet, Standing, set_named, put_set}
+use Rattle.ztarget.specs.Standing.{Terms, State, Fresh, Open, Ended, NamedSet, Association, set_named, put_set}
 use Rattle.ztarget.specs.Initialising.{init_response, terms}
 use Rattle.ztarget.specs.Responding.{search_fault, name_fault, kept_fault}
-use Rattle.ztarget.specs.Replies.{answer, answer_at, left_by, standing_after, to_search_unless, kept_as, after_init}
+use Rattle.ztarget.specs.Replies.{owed_in_state, owed_in_association, next_association, association_after, owed_to_search_unless, kept_as, after_init}
 use Rattle.ztarget.specs.Laws.{KeptSets}
 use Rattle.zoom_pool.specs.Steering.{Errand, IsSteered, IsSteeredCall}
 use Rattle.zorigin.proofs.Members.{among, contained}
@@ -205,7 +205,7 @@ module _ (databases : List Database) (offers : TargetSettings) (settings : Setti
   abbrev pub found : List Found
   found = result_set databases ask.databases ask.query.root
 
-  abbrev pub fault : Option Reason
+  abbrev pub fault : Option Bib1Fault
   fault = match_fault databases ask.databases ask.query
 
   name_free : (named : Bool) → name_fault named (set_name named 1) ≡ None
@@ -213,7 +213,7 @@ module _ (databases : List Database) (offers : TargetSettings) (settings : Setti
   name_free false =
       ap (λ (b : Bool). if b then None else Some (why)) ((bytes_eq-Decides (codes "default") (codes "default")).1 refl)
     where
-      why : Reason
+      why : Bib1Fault
       why = faults.fault 22 (codes "default")
 
   kept_free : (name : List ℕ) (o : Option (List Found)) → kept_fault true name o ≡ None
@@ -224,16 +224,16 @@ module _ (databases : List Database) (offers : TargetSettings) (settings : Setti
   pub same_fault : (sets : List NamedSet)
       → search_fault databases sets (given offers) (search_by offers.named ask) (Rpn ask.query) ≡ fault
   same_fault sets =
-      ap (λ o. first_of o (first_of
+      ap (λ o. first_of_faults o (first_of_faults
       (kept_fault true (set_name offers.named 1) (set_named sets (set_name offers.named 1))) fault))
       (name_free offers.named)
-      ∙ ap (λ o. first_of o fault) (kept_free (set_name offers.named 1) (set_named sets (set_name offers.named 1)))
+      ∙ ap (λ o. first_of_faults o fault) (kept_free (set_name offers.named 1) (set_named sets (set_name offers.named 1)))
 
-  abbrev pub target_at : Past → Standing
-  target_at p = standing_after databases offers (reverse p.sent)
+  abbrev pub target_at : Past → Association
+  target_at p = association_after databases offers (reverse p.sent)
 
   -- The state of the target after the requests that were sent, and its result set after the search.
-  pub record StandsIn (p : Past) : Type 0 where
+  pub record IsSubstring (p : Past) : Type 0 where
     pub state : (target_at p).state
         ≡ expected offers settings (list_any is_init_call p.admitted) (list_any is_close_call p.admitted)
     pub sets : fault ≡ None → list_any is_search_call p.admitted ≡ true
@@ -241,7 +241,7 @@ module _ (databases : List Database) (offers : TargetSettings) (settings : Setti
 
   -- what is known of the answer to Init
   abbrev pub OpenedSo : Log → Type 0
-  OpenedSo log = (x : Answer) → IsIn x (past settings log).accepted → opens x ≡ true
+  OpenedSo log = (x : Answer) → IsIn x (past settings log).accepted → is_opening x ≡ true
       → x.reply ≡ apdus.InitResponse (response offers settings)
 
   module _ (orderly : (s : Settings) (l : Log) → IsOrderly (past s l)) where
@@ -275,7 +275,7 @@ module _ (databases : List Database) (offers : TargetSettings) (settings : Setti
             → IsReady log
         by k =
             let x = k.1 in
-            let at = find_in opens p.accepted x k.2 in
+            let at = find_in is_opening p.accepted x k.2 in
             let reply = opened x at.0 at.1 in
             let result = result_of (response offers settings).result
             (subst (λ r. is_ready (state_by r) ≡ true) reply k.3) in
@@ -291,10 +291,10 @@ module _ (databases : List Database) (offers : TargetSettings) (settings : Setti
 
     -- ---- one more call
 
-    none_opens : (xs : List Answer) → find opens xs ≡ None → list_any opens xs ≡ true → ⊥
+    none_opens : (xs : List Answer) → find is_opening xs ≡ None → list_any is_opening xs ≡ true → ⊥
     none_opens [] f h = cc
     none_opens (x ∷ xs) f h =
-        elim (opens x) as (λ b. cond b (Some x) (find opens xs) ≡ None → b || list_any opens xs ≡ true → ⊥) [
+        elim (is_opening x) as (λ b. cond b (Some x) (find is_opening xs) ≡ None → b || list_any is_opening xs ≡ true → ⊥) [
           | true ↦ λ g k. cc
           | false ↦ λ g k. none_opens xs g k
         ] f h
@@ -303,52 +303,52 @@ module _ (databases : List Database) (offers : TargetSettings) (settings : Setti
     unclosed p true is ok none = absurd (none_opens p.accepted none (ok.closing is))
     unclosed p false is ok none = refl
 
-    init_leaves : (s : Standing) (r : InitRequest) → s.state ≡ Fresh
-        → left_by s (answer_at databases offers s (apdus.InitRequest r))
+    init_leaves : (s : Association) (r : InitRequest) → s.state ≡ Fresh
+        → next_association s (owed_in_association databases offers s (apdus.InitRequest r))
         ≡ record { state = after_init offers r; sets = s.sets }
-    init_leaves s r e = ap (λ state. left_by s (answer databases offers state s.sets (apdus.InitRequest r))) e
+    init_leaves s r e = ap (λ state. next_association s (owed_in_state databases offers state s.sets (apdus.InitRequest r))) e
 
-    close_ends : (s : Standing) (c : CloseApdu)
-        → (left_by s (answer_at databases offers s (apdus.Close c))).state ≡ Ended
+    close_ends : (s : Association) (c : CloseApdu)
+        → (next_association s (owed_in_association databases offers s (apdus.Close c))).state ≡ Ended
     close_ends s c = by s.state refl
       where
         by : (state : State) → s.state ≡ state
-            → (left_by s (answer databases offers state s.sets (apdus.Close c))).state ≡ Ended
+            → (next_association s (owed_in_state databases offers state s.sets (apdus.Close c))).state ≡ Ended
         by Fresh f = refl
         by (Open t) f = refl
         by Ended f = f
 
-    close_keeps : (s : Standing) (c : CloseApdu)
-        → (left_by s (answer_at databases offers s (apdus.Close c))).sets ≡ s.sets
+    close_keeps : (s : Association) (c : CloseApdu)
+        → (next_association s (owed_in_association databases offers s (apdus.Close c))).sets ≡ s.sets
     close_keeps s c = by s.state
       where
-        by : (state : State) → (left_by s (answer databases offers state s.sets (apdus.Close c))).sets ≡ s.sets
+        by : (state : State) → (next_association s (owed_in_state databases offers state s.sets (apdus.Close c))).sets ≡ s.sets
         by Fresh = refl
         by (Open t) = refl
         by Ended = refl
 
-    search_sets : (s : Standing) → s.state ≡ Open (given offers) → fault ≡ None
-        → (left_by s (answer_at databases offers s (apdus.SearchRequest (search_by offers.named ask)))).sets
+    search_sets : (s : Association) → s.state ≡ Open (given offers) → fault ≡ None
+        → (next_association s (owed_in_association databases offers s (apdus.SearchRequest (search_by offers.named ask)))).sets
         ≡ put_set s.sets (kept_as (search_by offers.named ask) found)
     search_sets s e none =
-        ap (λ state. (left_by s
-        (answer databases offers state s.sets (apdus.SearchRequest (search_by offers.named ask)))).sets) e
-        ∙ ap (λ o. (to_search_unless (given offers) s.sets (search_by offers.named ask) found o).standing.sets)
+        ap (λ state. (next_association s
+        (owed_in_state databases offers state s.sets (apdus.SearchRequest (search_by offers.named ask)))).sets) e
+        ∙ ap (λ o. (owed_to_search_unless (given offers) s.sets (search_by offers.named ask) found o).association.sets)
         (same_fault s.sets ∙ none)
 
     module _ (sets_kept : KeptSets) (e : Errand) (is : e.ask ≡ ask) where
       abbrev LeavesSo : Past → Call → Apdu → Type 0
       LeavesSo p call v =
-          ((left_by (target_at p) (answer_at databases offers (target_at p) v)).state
+          ((next_association (target_at p) (owed_in_association databases offers (target_at p) v)).state
           ≡ expected offers settings (list_any is_init_call (p.admitted ++ call ∷ []))
           (list_any is_close_call (p.admitted ++ call ∷ [])))
           × (fault ≡ None → list_any is_search_call (p.admitted ++ call ∷ []) ≡ true
-          → set_named (left_by (target_at p) (answer_at databases offers (target_at p) v)).sets
+          → set_named (next_association (target_at p) (owed_in_association databases offers (target_at p) v)).sets
           (set_name offers.named 1) ≡ Some found)
 
       made : (log : Log) → OpenedSo log → (call : Call) (v : Apdu) → refusal (standing (past settings log)) call ≡ None
           → IsRequest (standing (past settings log)) call v → IsSteeredCall e settings log None call
-          → StandsIn (past settings log) → LeavesSo (past settings log) call v
+          → IsSubstring (past settings log) → LeavesSo (past settings log) call v
       made log opened Init v admits request steering s =
           let p = past settings log in
           let v_is : v ≡ apdus.InitRequest (init_value settings) =
@@ -364,8 +364,8 @@ module _ (databases : List Database) (offers : TargetSettings) (settings : Setti
           let closing = other_last is_close_call p.admitted Init refl ∙ shut in
           let same = other_last is_search_call p.admitted Init refl in
           subst (LeavesSo p Init) (sym v_is) (
-            ap (λ (t : Standing). t.state) leaves ∙ sym (λ i. expected offers settings (begun i) (closing i)),
-            λ none h. ap (λ (t : Standing). set_named t.sets (set_name offers.named 1)) leaves
+            ap (λ (t : Association). t.state) leaves ∙ sym (λ i. expected offers settings (begun i) (closing i)),
+            λ none h. ap (λ (t : Association). set_named t.sets (set_name offers.named 1)) leaves
                 ∙ s.sets none (sym same ∙ h),
           )
       made log opened (Search op set a) v admits request steering s =
@@ -394,8 +394,8 @@ module _ (databases : List Database) (offers : TargetSettings) (settings : Setti
           let closing = other_last is_close_call p.admitted call refl in
           let same = other_last is_search_call p.admitted call refl in
           subst (LeavesSo p call) (sym request.5) (
-            ap (λ (t : Standing). t.state) leaves ∙ s.state ∙ sym (λ i. expected offers settings (begun i) (closing i)),
-            λ none h. ap (λ (t : Standing). set_named t.sets (set_name offers.named 1)) leaves
+            ap (λ (t : Association). t.state) leaves ∙ s.state ∙ sym (λ i. expected offers settings (begun i) (closing i)),
+            λ none h. ap (λ (t : Association). set_named t.sets (set_name offers.named 1)) leaves
                 ∙ s.sets none (sym same ∙ h),
           )
       made log opened Close v admits request steering s =
@@ -409,7 +409,7 @@ module _ (databases : List Database) (offers : TargetSettings) (settings : Setti
                 ∙ s.sets none (sym same ∙ h),
           )
 
-      pub stands : (log : Log) → IsSteered e settings log → OpenedSo log → StandsIn (past settings log)
+      pub stands : (log : Log) → IsSteered e settings log → OpenedSo log → IsSubstring (past settings log)
       stands [] s opened = record { state = refl; sets = λ none h. absurd cc }
       stands (Made call ∷ log) s opened =
           by (refusal (standing p) call) refl s.0
@@ -419,7 +419,7 @@ module _ (databases : List Database) (offers : TargetSettings) (settings : Setti
           p = past settings log
 
           by : (r : Option CallRefused) → refusal (standing p) call ≡ r → IsSteeredCall e settings log r call
-              → StandsIn p → StandsIn (admit_unless p call r)
+              → IsSubstring p → IsSubstring (admit_unless p call r)
           by (Some reason) admits steering s' = s'
           by None admits steering s' =
               let sends = sent_request (standing p) call admits in
@@ -428,8 +428,8 @@ module _ (databases : List Database) (offers : TargetSettings) (settings : Setti
               let m = made log old call v admits (is_request (standing p) call v sends.made) steering s' in
               let sent = one_more p call v sends.made in
               record {
-                state = ap (λ l. (standing_after databases offers l).state) sent ∙ m.0;
-                sets = λ none h. ap (λ l. set_named (standing_after databases offers l).sets
+                state = ap (λ l. (association_after databases offers l).state) sent ∙ m.0;
+                sets = λ none h. ap (λ l. set_named (association_after databases offers l).sets
                     (set_name offers.named 1)) sent ∙ m.1 none h;
               }
       stands (Got reply ∷ log) s opened =
@@ -439,9 +439,9 @@ module _ (databases : List Database) (offers : TargetSettings) (settings : Setti
           let sent = (same_verdict p v).1 in
           let calls = same_admitted p v in
           record {
-            state = ap (λ l. (standing_after databases offers (reverse l)).state) sent ∙ old.state
+            state = ap (λ l. (association_after databases offers (reverse l)).state) sent ∙ old.state
                 ∙ sym (ap (λ l. expected offers settings (list_any is_init_call l) (list_any is_close_call l)) calls);
-            sets = λ none h. ap (λ l. set_named (standing_after databases offers (reverse l)).sets
+            sets = λ none h. ap (λ l. set_named (association_after databases offers (reverse l)).sets
                 (set_name offers.named 1)) sent
                 ∙ old.sets none (sym (ap (λ l. list_any is_search_call l) calls) ∙ h);
           }

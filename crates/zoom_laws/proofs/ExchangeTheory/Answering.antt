@@ -1,6 +1,6 @@
 -- If no reply is waited for, each request was answered.
 use Rattle.std.proofs.Common.{◌≡◌, ◌⊎◌, inl, inr, Bool, true, false, cond, not, List, [], ◌∷◌, ◌++◌, filter, Option, None, Some, Result, Ok, Err, refl, sym, ap, subst, ◌∙◌, true≢false}
-use Rattle.zplan.specs.Plan.{Operation, Event, Reply, same, asked_in, replies_in}
+use Rattle.zplan.specs.Plan.{Operation, PlanEvent, Reply, same, asked_in, replies_in}
 use Rattle.zplan.proofs.Order.{same_self}
 use Rattle.zplan.specs.Positions.{IsIn}
 use Rattle.zplan.proofs.Cuts.{in_left, in_right, in_either}
@@ -16,7 +16,7 @@ use Rattle.zorigin.specs.Standings.{Call, Init, Search, Present, Close, is_open}
 use Rattle.zorigin.specs.Calls.{refusal}
 use Rattle.zorigin.specs.Replies.{verdict}
 use Rattle.zorigin.specs.Changes.{init_asked, search_asked, present_asked}
-use Rattle.zorigin.specs.Log.{Log, Made, Got, Past, past, standing, state_of, asked, operation_of, answers, is_answered, outstanding, admit_unless, after_verdict}
+use Rattle.zorigin.specs.Log.{Log, Made, Got, Past, past, standing, state_of, asked, operation_of, is_answer_to, is_answered, outstanding, admit_unless, after_verdict}
 use Rattle.zorigin.proofs.Members.{contained, among}
 use Rattle.zorigin.proofs.Operations.{same_op}
 use Rattle.zorigin.proofs.Orderly.{orderly}
@@ -45,7 +45,7 @@ for_newest : (p : Past) (call : Call) (q : Asked) (a : Operation) → IsIn q (op
 for_newest p call q a i e =
     (q, subst (IsIn q) (sym (asked_more p call)) (in_right q (asked p) (operation_of call) i), e)
 
-for_call : (p : Past) (call : Call) (events : List Event) (a : Operation)
+for_call : (p : Past) (call : Call) (events : List PlanEvent) (a : Operation)
     → (IsIn a (asked_in events) → IsFor p a) → IsIn a (asked_in (plan_of call ∷ events))
     → IsFor (admit_unless p call None) a
 for_call p Init events a older (inl e) = for_newest p Init init_asked a (inl refl) (sym e)
@@ -79,10 +79,10 @@ module _ (ask : Ask) (settings : Settings) where
   -- ---- each accepted APDU is a reply
 
   -- it has a reply
-  abbrev HasReply : List Event → Operation → Type 0
+  abbrev HasReply : List PlanEvent → Operation → Type 0
   HasReply events a = replies_in events a ≡ None → ⊥
 
-  reply_more : (p q : Past) (x : Answer) (events : List Event)
+  reply_more : (p q : Past) (x : Answer) (events : List PlanEvent)
       → ((y : Answer) → IsIn y p.accepted → HasReply events (operation_for y.asked.what)) → (y : Answer)
       → IsIn y (p.accepted ++ x ∷ [])
       → HasReply (answer_event ask q (Some x) events) (operation_for y.asked.what)
@@ -108,7 +108,7 @@ module _ (ask : Ask) (settings : Settings) where
           λ none. no_some (sym (ap (λ b. cond b (Some r) (replies_in events a)) t) ∙ none)
       by (inr (inr none)) = absurd none
 
-  reply_verdict : (p q : Past) (v : Result Taken Refused) (events : List Event)
+  reply_verdict : (p q : Past) (v : Result Taken Refused) (events : List PlanEvent)
       → ((y : Answer) → IsIn y p.accepted → HasReply events (operation_for y.asked.what)) → (y : Answer)
       → IsIn y (after_verdict p v).accepted
       → HasReply (got_event ask q v events) (operation_for y.asked.what)
@@ -159,7 +159,7 @@ all_answered ask settings log none a i =
     let q = known_sent ask settings log a i in
     let t = not_false (is_answered p q.0.op)
     (none_left (λ (z : Asked). not (is_answered p z.op)) (asked p) none q.0 q.1) in
-    let x = any_of (answers q.0.op) p.accepted t in
+    let x = any_of (is_answer_to q.0.op) p.accepted t in
     let o = orderly settings log in
     let there = among x.0.asked (asked p) (o.known x.0 (contained x.0 p.accepted x.1)) in
     let same = same_asked (asked p) x.0.asked q.0 o.operations there q.1 (same_op x.0.asked.op q.0.op x.2) in

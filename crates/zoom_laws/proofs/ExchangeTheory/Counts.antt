@@ -16,7 +16,7 @@ use Rattle.zorigin.specs.Log.{Log, Made, Got, Past, past, standing, asked, opera
 use Rattle.ztarget.specs.declared.database.Database.{Database}
 use Rattle.ztarget.specs.declared.settings.TargetSettings.{TargetSettings}
 use Rattle.ztarget.specs.declared.error.TargetError.{TargetError}
-use Rattle.ztarget.specs.Replies.{Answer, owed, reply_of, replies}
+use Rattle.ztarget.specs.Replies.{OwedReply, owed, reply_of, replies}
 use Rattle.zoom_questions.specs.declared.question.Question.{Question}
 use Rattle.zoom_pool.specs.Transcripts.{past_of}
 use Rattle.zoom_pool.specs.Hosts.{replies_to}
@@ -36,7 +36,7 @@ use Rattle.zoom_laws.proofs.ExchangeTheory.Sounds.{due}
 
 -- ---- replies
 
-few_of : (r : Result Answer TargetError) → length (reply_of r) ≤ 1
+few_of : (r : Result OwedReply TargetError) → length (reply_of r) ≤ 1
 few_of (Ok a) = omega arith
 few_of (Err e) = omega arith
 

@@ -2,7 +2,7 @@
 use Rattle.std.proofs.Common.{◌≡◌, ◌≢◌, inl, inr, ℕ, ◌<◌, ◌≤◌, Bool, true, false, List, [], ◌∷◌, length, slice_get, Some, refl, sym, ap, subst, ◌∙◌, arith, true≢false}
 use Rattle.std.specs.Prelude.{pos}
 use Rattle.zplan.specs.Plan as plan
-use Rattle.zplan.specs.Plan.{Operation, Event, Sends, Closes, first, search, IsDue, IsDriven, IsNext, asked_in, outstanding_in, start_of, number}
+use Rattle.zplan.specs.Plan.{Operation, PlanEvent, RequestSent, CloseSent, first, search, IsDue, IsDriven, IsNextEvent, asked_in, outstanding_in, start_of, number}
 use Rattle.zplan.specs.Positions.{IsIn, up_to}
 use Rattle.zplan.specs.Agenda.{Agenda, IsAgenda, whole_agenda}
 use Rattle.zplan.specs.Laws.{NextLaws, AgendaLaws}
@@ -44,7 +44,7 @@ module _ (next : NextLaws) (agendas : AgendaLaws) (laws : DrivenLaws) (e : Erran
   abbrev p : Past
   p = past settings log
 
-  abbrev events : List Event
+  abbrev events : List PlanEvent
   events = events_at e settings log
 
   abbrev room : ℕ
@@ -57,7 +57,7 @@ module _ (next : NextLaws) (agendas : AgendaLaws) (laws : DrivenLaws) (e : Erran
   some_room = room_some e.window p k.room
 
   module _ (may : may_call (state_of p) ≡ true) (none : (call : Call) → IsNextCall e settings log call → ⊥) where
-    no_close : IsNext e.wanted e.step room events Closes → ⊥
+    no_close : IsNextEvent e.wanted e.step room events CloseSent → ⊥
     no_close n = none Close (record { stands = may; of = tt; numbered = tt; next = n })
 
     no_init : events ≡ [] → ⊥
@@ -67,7 +67,7 @@ module _ (next : NextLaws) (agendas : AgendaLaws) (laws : DrivenLaws) (e : Erran
           stands = may;
           of = tt;
           numbered = tt;
-          next = subst (λ ev. IsNext e.wanted e.step room ev (Sends plan.Init)) (sym is)
+          next = subst (λ ev. IsNextEvent e.wanted e.step room ev (RequestSent plan.Init)) (sym is)
               ((first, λ i. i), some_room, least);
         })
 
@@ -81,7 +81,7 @@ module _ (next : NextLaws) (agendas : AgendaLaws) (laws : DrivenLaws) (e : Erran
           stands = may;
           of = (refl, refl);
           numbered = refl;
-          next = subst (λ ev. IsNext e.wanted e.step room ev (Sends plan.Search)) (sym is)
+          next = subst (λ ev. IsNextEvent e.wanted e.step room ev (RequestSent plan.Search)) (sym is)
               ((search three first refl, unasked), some_room, least);
         })
 
@@ -90,20 +90,20 @@ module _ (next : NextLaws) (agendas : AgendaLaws) (laws : DrivenLaws) (e : Erran
     no_skip three is =
         let idle = none_due e.wanted e.step (opened_events false three) (inl refl) (λ t q. absurd (cc))
         (λ c q. absurd (cc)) (λ l m q. absurd (cc)) in
-        no_close (subst (λ ev. IsNext e.wanted e.step room ev Closes) (sym is) (idle, refl))
+        no_close (subst (λ ev. IsNextEvent e.wanted e.step room ev CloseSent) (sym is) (idle, refl))
 
     no_opened : (can three : Bool) → events ≡ opened_events can three → ⊥
     no_opened true three is = no_search three is
     no_opened false three is = no_skip three is
 
-    no_present : (l : List ℕ) → IsNext e.wanted e.step room events (Sends (plan.Present l)) → ⊥
+    no_present : (l : List ℕ) → IsNextEvent e.wanted e.step room events (RequestSent (plan.Present l)) → ⊥
     no_present l n =
         let ranges = ranges_of l in
         none (Present (number (plan.Present (positions ranges))) 1 ranges) (record {
           stands = may;
           of = refl;
           numbered = refl;
-          next = subst (λ z. IsNext e.wanted e.step room events (Sends (plan.Present z))) (sym (positions_of l)) n;
+          next = subst (λ z. IsNextEvent e.wanted e.step room events (RequestSent (plan.Present z))) (sym (positions_of l)) n;
         })
 
     -- in a schedule in which nothing waits

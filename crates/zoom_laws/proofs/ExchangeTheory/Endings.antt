@@ -15,10 +15,10 @@ use Rattle.zplan.proofs.Cuts.{in_left, in_right}
 use Rattle.zorigin.specs.declared.settings.Settings.{Settings}
 use Rattle.zorigin.specs.declared.answer.Answer.{Answer}
 use Rattle.zorigin.specs.declared.answer.Asked.{Asked}
-use Rattle.zorigin.specs.References.{reference_id, number_of}
+use Rattle.zorigin.specs.References.{reference_id, operation_number}
 use Rattle.zorigin.specs.Changes.{init_asked}
 use Rattle.zorigin.specs.Standings.{Call, Init, Close}
-use Rattle.zorigin.specs.Accepts.{id_of, Refers, IsAccepted}
+use Rattle.zorigin.specs.Accepts.{id_of, IsReferenceTo, IsAccepted}
 use Rattle.zorigin.specs.Sending.{encoding_of}
 use Rattle.zorigin.specs.Log.{Log, past, state_of, asked, op_of, operation_of, is_answered, outstanding, opening, is_init, is_close_call, is_init_call}
 use Rattle.zorigin.proofs.Members.{contained, among}
@@ -74,7 +74,7 @@ same_asked (q ∷ qs) a b d (inr i) (inl g) e =
 same_asked (q ∷ qs) a b d (inr i) (inr j) e = same_asked qs a b d.1 i j e
 
 same_number : (m n : ℕ) → reference_id m ≡ reference_id n → m ≡ n
-same_number m n e = some_is (sym (spelled_number m) ∙ ap number_of e ∙ spelled_number n)
+same_number m n e = some_is (sym (spelled_number m) ∙ ap operation_number e ∙ spelled_number n)
   where
     some_is : {a b : ℕ} → Some a ≡ Some b → a ≡ b
     some_is f = cc
@@ -84,8 +84,8 @@ answers_it : (settings : Settings) (log : Log) (a : Answer) (op : ℕ) → IsAcc
     → id_of a.reply ≡ Some (reference_id op)
     → a.asked.op ≡ op
 answers_it settings log a op i e =
-    let refers : Refers (past settings i.earlier) a.asked (Some (reference_id op)) =
-    subst (λ z. Refers (past settings i.earlier) a.asked z) e i.refers in
+    let refers : IsReferenceTo (past settings i.earlier) a.asked (Some (reference_id op)) =
+    subst (λ z. IsReferenceTo (past settings i.earlier) a.asked z) e i.refers in
     sym (same_number op a.asked.op refers)
 
 module _ (holdings : Holdings) (settings : Settings) (events : List Event) (p : Transcript) (host_events : List HostEvent)

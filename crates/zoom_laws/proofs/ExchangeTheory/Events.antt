@@ -2,14 +2,14 @@
 use Rattle.std.proofs.Common.{◌≡◌, ◌⊎◌, inl, inr, ℕ, Bool, true, false, List, [], ◌∷◌, ◌++◌, Some, Result, Ok, Err, refl, sym, ap, subst, ◌∙◌, true≢false, remove, arith}
 use Rattle.std.proofs.lemmas.List.{append_cancel_left}
 use Rattle.zber.specs.Elements.{Element}
-use Rattle.zber.specs.Spelling.{Begins}
+use Rattle.zber.specs.Spelling.{HasFirstMessage}
 use Rattle.zber.specs.Unfinished.{IsUnfinished}
 use Rattle.zber.proofs.OneOutcome.{one_message, message_or_fault}
 use Rattle.zapdu.specs.declared.apdu.Apdu.{Apdu}
 use Rattle.zapdu.specs.Writes.{Writes}
 use Rattle.zapdu.proofs.Decoding.{one_value}
 use Rattle.ztarget.specs.declared.error.TargetError.{TargetError}
-use Rattle.ztarget.specs.Replies.{Answer}
+use Rattle.ztarget.specs.Replies.{OwedReply}
 use Rattle.zoom_pool.specs.Inputs.{Input, AlreadyStopped, Message, Foreign, Fault, Rest, Nothing, AreInput}
 use Rattle.zber.specs.declared.framer.TheConstants.{MESSAGE_LIMIT}
 use Rattle.zoom_pool.specs.Hosts.{Holdings, AreReceived, nothing, message, IsStopping, IsHostRest, HasReceived, HostEvent, HostFed, HostFedPart, Released, Lost, HostHandedOut, HostTranscript, ArePutLast, FeedStep, IsReleasable, ReleaseStep, LossStep, IsIgnored, IsHostTranscript, owed_by, replies_to}
@@ -17,7 +17,7 @@ use Rattle.zoom_pool.proofs.Uniqueness.{none_begins}
 use Rattle.zoom_laws.specs.Exchange.{fed_to, ArePlain}
 use Rattle.zoom_laws.proofs.ExchangeTheory.Framing.{written_foreign}
 
-pub no_both : {a : Answer} {error : TargetError} {r : Result Answer TargetError} → r ≡ Ok a → r ≡ Err error → ⊥
+pub no_both : {a : OwedReply} {error : TargetError} {r : Result OwedReply TargetError} → r ≡ Ok a → r ≡ Err error → ⊥
 no_both p q = cc (p, q)
 
 -- ---- the messages, from the first
@@ -26,13 +26,13 @@ no_both p q = cc (p, q)
 -- rest.
 data Follows (holdings : Holdings) : List Apdu → List ℕ → List Apdu → List ℕ → Type 0 where
   here : {received : List Apdu} {xs : List ℕ} → Follows holdings received xs received xs
-  after : {received now : List Apdu} {xs rest last : List ℕ} {e : Element} {by : Answer} {v : Apdu}
-      → Begins MESSAGE_LIMIT xs e rest → Writes v e → owed_by holdings received v ≡ Ok by
+  after : {received now : List Apdu} {xs rest last : List ℕ} {e : Element} {by : OwedReply} {v : Apdu}
+      → HasFirstMessage MESSAGE_LIMIT xs e rest → Writes v e → owed_by holdings received v ≡ Ok by
       → Follows holdings (v ∷ received) rest now last → Follows holdings received xs now last
 
-follows_more : {holdings : Holdings} {received now : List Apdu} {xs rest last : List ℕ} {e : Element} {by : Answer}
+follows_more : {holdings : Holdings} {received now : List Apdu} {xs rest last : List ℕ} {e : Element} {by : OwedReply}
     {v : Apdu}
-    → Follows holdings received xs now rest → Begins MESSAGE_LIMIT rest e last → Writes v e → owed_by holdings now v ≡ Ok by
+    → Follows holdings received xs now rest → HasFirstMessage MESSAGE_LIMIT rest e last → Writes v e → owed_by holdings now v ≡ Ok by
     → Follows holdings received xs (v ∷ now) last
 follows_more here b w t = after b w t here
 follows_more (after c x s f) b w t = after c x s (follows_more f b w t)
@@ -44,9 +44,9 @@ from_first nothing = here
 from_first (message r b w t) = follows_more (from_first r) b w t
 
 -- what stops a serving end is no message that it takes
-stops_none : (holdings : Holdings) (received : List Apdu) (xs rest : List ℕ) (e : Element) (v : Apdu) (by : Answer)
+stops_none : (holdings : Holdings) (received : List Apdu) (xs rest : List ℕ) (e : Element) (v : Apdu) (by : OwedReply)
     (input : Input)
-    → Begins MESSAGE_LIMIT xs e rest → Writes v e → owed_by holdings received v ≡ Ok by → AreInput xs input
+    → HasFirstMessage MESSAGE_LIMIT xs e rest → Writes v e → owed_by holdings received v ≡ Ok by → AreInput xs input
     → IsStopping holdings received input → ⊥
 stops_none holdings received xs rest e v by AlreadyStopped b w t m s = s
 stops_none holdings received xs rest e v by (Message u) b w t m s =
@@ -60,9 +60,9 @@ stops_none holdings received xs rest e v by (Fault kind at) b w t m s = message_
 stops_none holdings received xs rest e v by (Rest n) b w t m s = s
 stops_none holdings received xs rest e v by Nothing b w t m s = s
 
-goes_on : (holdings : Holdings) (received : List Apdu) (xs rest : List ℕ) (e : Element) (v : Apdu) (by : Answer)
+goes_on : (holdings : Holdings) (received : List Apdu) (xs rest : List ℕ) (e : Element) (v : Apdu) (by : OwedReply)
     (b : Bool)
-    → IsHostRest holdings received xs b → Begins MESSAGE_LIMIT xs e rest → Writes v e → owed_by holdings received v ≡ Ok by → ⊥
+    → IsHostRest holdings received xs b → HasFirstMessage MESSAGE_LIMIT xs e rest → Writes v e → owed_by holdings received v ≡ Ok by → ⊥
 goes_on holdings received xs rest e v by false u b w t = u.no_message e rest b
 goes_on holdings received xs rest e v by true u b w t = stops_none holdings received xs rest e v by u.0 b w t u.1 u.2
 
@@ -97,7 +97,7 @@ one_follows {holdings} b c (after {received = r} {xs = xs} {rest = rest} {e = e}
     (subst (λ z. IsHostRest holdings z xs c) (sym p) (subst (λ z. IsHostRest holdings s z c) (sym q) y)) g w t)
 one_follows {holdings} b c (after {received = r} {xs = xs} {rest = rest} {e = e} {v = v} g w t f)
     (after {received = s} {xs = ys} {rest = other} {e = d} {v = u} h k i j) p q x y =
-    let same = one_message MESSAGE_LIMIT ys e d rest other (subst (λ z. Begins MESSAGE_LIMIT z e rest) q g) h in
+    let same = one_message MESSAGE_LIMIT ys e d rest other (subst (λ z. HasFirstMessage MESSAGE_LIMIT z e rest) q g) h in
     let value : v ≡ u = one_value v u d (subst (λ z. Writes v z) same.0 w) k in
     one_follows b c f j (ap (λ z. z ∷ r) value ∙ ap (λ z. u ∷ z) p) same.1 x y
 
@@ -118,8 +118,8 @@ module _ (holdings : Holdings) where
       (sym x.owed ∙ ap (λ z. replies_to holdings z) e ∙ y.owed) in
       x.last ∙ ap (λ z. pending ++ z) same ∙ sym y.last
 
-  one_heard : (piece : List ℕ) (p r s : HostTranscript) → FeedStep holdings piece p r → FeedStep holdings piece p s → r ≡ s
-  one_heard piece p r s x y =
+  one_transcript_of : (piece : List ℕ) (p r s : HostTranscript) → FeedStep holdings piece p r → FeedStep holdings piece p s → r ≡ s
+  one_transcript_of piece p r s x y =
       let same = one_received holdings
       (p.stream ++ piece) r.received s.received r.stopped s.stopped x.received y.received in
       let put =
@@ -133,7 +133,7 @@ module _ (holdings : Holdings) where
   one_piece piece p q r s e (inl x) (inl y) = x.1 ∙ e ∙ sym y.1
   one_piece piece p q r s e (inl x) (inr y) = absurd (true≢false (sym x.0 ∙ ap (λ z. z.stopped) e ∙ y.going))
   one_piece piece p q r s e (inr x) (inl y) = absurd (true≢false (sym y.0 ∙ ap (λ z. z.stopped) (sym e) ∙ x.going))
-  one_piece piece p q r s e (inr x) (inr y) = one_heard piece p r s x (subst (λ z. FeedStep holdings piece z s) (sym e) y)
+  one_piece piece p q r s e (inr x) (inr y) = one_transcript_of piece p r s x (subst (λ z. FeedStep holdings piece z s) (sym e) y)
 
   one_due : (pending : List Apdu) (k : ℕ) (a b : Apdu) → IsReleasable pending k a → IsReleasable pending k b → a ≡ b
   one_due pending k a b x y = some_is (sym x.there ∙ y.there)

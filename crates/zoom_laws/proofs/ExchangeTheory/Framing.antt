@@ -4,9 +4,9 @@ use Rattle.std.specs.List.{flat_map}
 use Rattle.std.proofs.lemmas.List.{reverse-append}
 use Rattle.zber.specs.declared.fault.FaultKind.{FaultKind}
 use Rattle.zber.specs.Elements.{Element}
-use Rattle.zber.specs.Spelling.{Begins}
-use Rattle.zber.specs.Shown.{Shows}
-use Rattle.zber.specs.Laws.{Gave, nothing, one}
+use Rattle.zber.specs.Spelling.{HasFirstMessage}
+use Rattle.zber.specs.Shown.{HasFault}
+use Rattle.zber.specs.Laws.{AreMessages, nothing, one}
 use Rattle.zber.proofs.OneOutcome.{one_message, message_or_fault}
 use Rattle.zber.proofs.Stays.{fault_stays}
 use Rattle.zapdu.specs.declared.apdu.Apdu.{Apdu}
@@ -34,13 +34,13 @@ pub record IsNext (vs : List Apdu) (e : Element) (rest : List ℕ) : Type 0 wher
   pub read : AreReadBack others
 
 pub next_is : (vs : List Apdu) (xs rest : List ℕ) (e : Element) → AreReadBack vs → xs ≡ flat_map encoding_of vs
-    → Begins MESSAGE_LIMIT xs e rest → IsNext vs e rest
-next_is [] xs rest e all is b = absurd (none_begins e rest (subst (λ z. Begins MESSAGE_LIMIT z e rest) is b))
+    → HasFirstMessage MESSAGE_LIMIT xs e rest → IsNext vs e rest
+next_is [] xs rest e all is b = absurd (none_begins e rest (subst (λ z. HasFirstMessage MESSAGE_LIMIT z e rest) is b))
 next_is (v ∷ vs) xs rest e all is b =
     let mine : IsReadBack (sent_of v) = all.0 in
     let behind = flat_map encoding_of vs in
     let same = one_message MESSAGE_LIMIT (encoding_of v ++ behind) e mine.element rest behind
-    (subst (λ z. Begins MESSAGE_LIMIT z e rest) is b) (mine.framed behind) in
+    (subst (λ z. HasFirstMessage MESSAGE_LIMIT z e rest) is b) (mine.framed behind) in
     record {
       first = v;
       others = vs;
@@ -62,7 +62,7 @@ pub record IsCut (vs : List Apdu) (es : List Element) (rest : List ℕ) : Type 0
   pub read : AreReadBack others
 
 pub cut_by : {xs rest : List ℕ} {es : List Element} (vs : List Apdu) → AreReadBack vs → xs ≡ flat_map encoding_of vs
-    → Gave MESSAGE_LIMIT xs es rest → IsCut vs es rest
+    → AreMessages MESSAGE_LIMIT xs es rest → IsCut vs es rest
 cut_by vs all is nothing = record { front = []; others = vs; are = refl; count = refl; rest_is = is; read = all }
 cut_by vs all is (one {xs = xs} {rest = rest} {e = e} {es = es} b g) =
     let n = next_is vs xs rest e all is b in
@@ -127,13 +127,13 @@ written_foreign v e (decode.Malformed kind at) w f = f.0 v w
 written_foreign v e decode.Memory w f = f
 
 no_fault : (vs : List Apdu) (xs : List ℕ) (kind : FaultKind) (at : ℕ) → AreReadBack vs → xs ≡ flat_map encoding_of vs
-    → Shows MESSAGE_LIMIT xs kind at → ⊥
+    → HasFault MESSAGE_LIMIT xs kind at → ⊥
 no_fault [] xs kind at all is f = absurd (omega (arith, f.some, ap length is))
 no_fault (v ∷ vs) xs kind at all is f =
     let mine : IsReadBack (sent_of v) = all.0 in
     let behind = flat_map encoding_of vs in
     message_or_fault MESSAGE_LIMIT (encoding_of v ++ behind) mine.element behind kind at (mine.framed behind)
-    (subst (λ z. Shows MESSAGE_LIMIT z kind at) is f)
+    (subst (λ z. HasFault MESSAGE_LIMIT z kind at) is f)
 
 pub input_is : (vs : List Apdu) (rest more : List ℕ) (input : Input) → AreReadBack vs → rest ++ more ≡ flat_map encoding_of vs
     → AreInput rest input → IsInputOf vs input
@@ -153,9 +153,9 @@ input_is vs rest more Nothing all is m = tt
 
 -- if encodings begin with no message, there are none
 pub all_taken : (vs : List Apdu) (xs : List ℕ) → AreReadBack vs → xs ≡ flat_map encoding_of vs
-    → ((e : Element) (rest : List ℕ) → Begins MESSAGE_LIMIT xs e rest → ⊥) → vs ≡ []
+    → ((e : Element) (rest : List ℕ) → HasFirstMessage MESSAGE_LIMIT xs e rest → ⊥) → vs ≡ []
 all_taken [] xs all is none = refl
 all_taken (v ∷ vs) xs all is none =
     let mine : IsReadBack (sent_of v) = all.0 in
     let behind = flat_map encoding_of vs in
-    absurd (none mine.element behind (subst (λ z. Begins MESSAGE_LIMIT z mine.element behind) (sym is) (mine.framed behind)))
+    absurd (none mine.element behind (subst (λ z. HasFirstMessage MESSAGE_LIMIT z mine.element behind) (sym is) (mine.framed behind)))

@@ -19,7 +19,7 @@ use Rattle.zorigin.specs.declared.refusal.Refused.TheVariants as refused
 use Rattle.zorigin.specs.declared.state.Searched.{Searched}
 use Rattle.zorigin.specs.Standings.{Call, Init, Search, Present, Close, Standing, is_open, search_of}
 use Rattle.zorigin.specs.Calls.{refusal}
-use Rattle.zorigin.specs.Replies.{verdict, answered, against, judged, named, taken_by}
+use Rattle.zorigin.specs.Replies.{verdict, open_verdict, against, judged, named, taken_by}
 use Rattle.zorigin.specs.Sending.{request_of, present_request}
 use Rattle.zorigin.specs.Fitting.{fault_of}
 use Rattle.zorigin.specs.Log.{Log, Made, Got, Past, past, standing, state_of, request_list, admit_unless, after_verdict, is_close_call}
@@ -62,7 +62,7 @@ against_open : (o : Option Asked) (reply : Apdu) → against o reply ≡ Ok take
 against_open None reply e = absurd (cc)
 against_open (Some asked) reply e = judged_open (record { asked = asked; reply = reply }) (fault_of asked.what reply) e
 
-answered_close : (s : Standing) (reply : Apdu) → answered s reply ≡ Ok taken.Closed → (c : CloseApdu) ×
+answered_close : (s : Standing) (reply : Apdu) → open_verdict s reply ≡ Ok taken.Closed → (c : CloseApdu) ×
     (reply ≡ apdus.Close c)
 answered_close s (apdus.InitRequest v) e = absurd (cc)
 answered_close s (apdus.InitResponse v) e = absurd (against_open (named s v.reference_id) (apdus.InitResponse v) e)
@@ -77,7 +77,7 @@ verdict_close : (s : Standing) (reply : Apdu) → verdict s reply ≡ Ok taken.C
     (reply ≡ apdus.Close c)
 unfolding verdict
 verdict_close s reply e =
-    elim (is_open s.state) as (λ b. cond b (answered s reply) (Err refused.WrongState) ≡ Ok taken.Closed →
+    elim (is_open s.state) as (λ b. cond b (open_verdict s reply) (Err refused.WrongState) ≡ Ok taken.Closed →
     (c : CloseApdu) × (reply ≡ apdus.Close c)) [
       | true ↦ answered_close s reply
       | false ↦ λ f. absurd (cc)

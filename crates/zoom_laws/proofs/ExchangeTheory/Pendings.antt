@@ -7,7 +7,7 @@ use Rattle.zplan.proofs.Cuts.{in_left, in_either}
 use Rattle.zapdu.specs.declared.apdu.Apdu.{Apdu}
 use Rattle.zapdu.specs.declared.apdu.Apdu.TheVariants as apdus
 use Rattle.zapdu.specs.declared.productions.close.Close.{Close}
-use Rattle.ztarget.specs.Receiving.{may_go}
+use Rattle.ztarget.specs.Receiving.{is_releasable}
 use Rattle.zoom_pool.specs.Hosts.{Holdings, HostEvent, HostFed, HostFedPart, Released, Lost, HostHandedOut, HostTranscript, IsHostTranscript, empty_host_transcript, replies_to, ArePutLast, FeedStep, IsIgnored, ReleaseStep}
 use Rattle.zoom_laws.proofs.ExchangeTheory.Parts.{IsPart, part_append, part_remove, part_in, last_cut, there_in}
 
@@ -18,7 +18,7 @@ none_put : {x : Apdu} {xs : List Apdu} → [] ≡ x ∷ xs → ⊥
 none_put e = cc
 
 -- if a Close may be released, nothing else is pending
-one_left : (pending : List Apdu) (k : ℕ) (c : Close) → may_go (slice_get pending k) (length pending) ≡ true
+one_left : (pending : List Apdu) (k : ℕ) (c : Close) → is_releasable (slice_get pending k) (length pending) ≡ true
     → slice_get pending k ≡ Some (apdus.Close c)
     → remove pending k ≡ []
 one_left [] k c may e = absurd (no_some e)
@@ -26,7 +26,7 @@ one_left (v ∷ []) zero c may e = refl
 one_left (v ∷ []) (suc k) c may e = absurd (no_some e)
 one_left (v ∷ w ∷ vs) k c may e =
     let more : (length (v ∷ w ∷ vs) == 1) ≡ false = grind (arith, nat_tests) in
-    absurd (true≢false (sym may ∙ ap (λ o. may_go o (length (v ∷ w ∷ vs))) e ∙ more))
+    absurd (true≢false (sym may ∙ ap (λ o. is_releasable o (length (v ∷ w ∷ vs))) e ∙ more))
 
 -- A Close was sent: the replies sent since, and those pending, are owed behind it.
 pub record Follows (owed : List Apdu) (c : Close) (since pending : List Apdu) : Type 0 where

@@ -11,10 +11,10 @@ use Rattle.zorigin.proofs.Members.{contained, among}
 use Rattle.ztarget.specs.declared.database.Database.{Database}
 use Rattle.ztarget.specs.declared.settings.TargetSettings.{TargetSettings}
 use Rattle.ztarget.specs.declared.error.TargetError.{TargetError}
-use Rattle.ztarget.specs.Faults.{Reason}
+use Rattle.ztarget.specs.Faults.{Bib1Fault}
 use Rattle.ztarget.specs.Searching.{Found}
 use Rattle.ztarget.specs.Standing.{Terms, State, Fresh, Open, Ended, NamedSet}
-use Rattle.ztarget.specs.Replies.{Answer, answer, to_search_unless, owed, reply_of, replies, standing_after}
+use Rattle.ztarget.specs.Replies.{OwedReply, owed_in_state, owed_to_search_unless, owed, reply_of, replies, association_after}
 use Rattle.zoom_laws.proofs.ExchangeTheory.Logs.{none_in}
 
 -- ---- a Close
@@ -23,26 +23,26 @@ use Rattle.zoom_laws.proofs.ExchangeTheory.Logs.{none_in}
 abbrev pub Answers : Apdu → Close → Type 0
 Answers v c = (d : Close) × (v ≡ apdus.Close d) × (c.reference_id ≡ d.reference_id)
 
-abbrev okay : Answer → Result Answer TargetError
+abbrev okay : OwedReply → Result OwedReply TargetError
 okay a = Ok a
 
-same_answer : (a b : Answer) → okay a ≡ okay b → a ≡ b
+same_answer : (a b : OwedReply) → okay a ≡ okay b → a ≡ b
 same_answer a b e = cc
 
-search_none : (terms : Terms) (sets : List NamedSet) (r : SearchRequest) (found : List Found) (o : Option Reason)
+search_none : (terms : Terms) (sets : List NamedSet) (r : SearchRequest) (found : List Found) (o : Option Bib1Fault)
     (c : Close)
-    → (to_search_unless terms sets r found o).reply ≡ apdus.Close c → ⊥
+    → (owed_to_search_unless terms sets r found o).reply ≡ apdus.Close c → ⊥
 search_none terms sets r found None c e = absurd (cc)
 search_none terms sets r found (Some reason) c e = absurd (cc)
 
 -- a reply that is no Close
-module _ (x a : Answer) (c : Close) (e : okay x ≡ okay a) (q : a.reply ≡ apdus.Close c) where
+module _ (x a : OwedReply) (c : Close) (e : okay x ≡ okay a) (q : a.reply ≡ apdus.Close c) where
   other : x.reply ≡ apdus.Close c
-  other = ap (λ (z : Answer). z.reply) (same_answer x a e) ∙ q
+  other = ap (λ (z : OwedReply). z.reply) (same_answer x a e) ∙ q
 
 answer_close : (databases : List Database) (settings : TargetSettings) (state : State) (sets : List NamedSet)
-    (v : Apdu) (a : Answer) (c : Close)
-    → answer databases settings state sets v ≡ Ok a → a.reply ≡ apdus.Close c → Answers v c
+    (v : Apdu) (a : OwedReply) (c : Close)
+    → owed_in_state databases settings state sets v ≡ Ok a → a.reply ≡ apdus.Close c → Answers v c
 answer_close databases settings state sets (apdus.InitResponse r) a c e q = absurd (cc)
 answer_close databases settings state sets (apdus.SearchResponse r) a c e q = absurd (cc)
 answer_close databases settings state sets (apdus.PresentResponse r) a c e q = absurd (cc)
@@ -68,11 +68,11 @@ answer_close databases settings Ended sets (apdus.PresentRequest r) a c e q = ab
 answer_close databases settings Ended sets (apdus.Close d) a c e q = absurd (cc)
 
 close_of : (databases : List Database) (settings : TargetSettings) (received : List Apdu) (v : Apdu) (c : Close)
-    (r : Result Answer TargetError)
+    (r : Result OwedReply TargetError)
     → owed databases settings received v ≡ r → Contains (reply_of r) (apdus.Close c) → Answers v c
 close_of databases settings received v c (Err e) q i = absurd (none_in (apdus.Close c) i)
 close_of databases settings received v c (Ok a) q i =
-    let s = standing_after databases settings received in
+    let s = association_after databases settings received in
     elim (among (apdus.Close c) (a.reply ∷ []) i) [
       | inl e ↦ answer_close databases settings s.state s.sets v a c q (sym e)
       | inr f ↦ absurd f

@@ -18,8 +18,8 @@ use Rattle.zorigin.specs.declared.state.State.{State as OriginState}
 use Rattle.zorigin.specs.declared.state.State.TheVariants as origins
 use Rattle.zorigin.specs.Standings.{Call, Init, Search, Present, Close, ready}
 use Rattle.zorigin.specs.Changes.{force_in}
-use Rattle.zorigin.specs.Fitting.{Fits}
-use Rattle.zorigin.specs.Log.{state_from, state_by, closing_state, opens, is_init, is_init_call, answers}
+use Rattle.zorigin.specs.Fitting.{IsFitReply}
+use Rattle.zorigin.specs.Log.{state_from, state_by, closing_state, is_opening, is_init, is_init_call, is_answer_to}
 use Rattle.zoom_pool.specs.declared.state.State.TheVariants as states
 use Rattle.zoom_pool.specs.States.{state_as, is_stopped}
 use Rattle.zoom_pool.specs.Steering.{is_rejection}
@@ -64,7 +64,7 @@ stopped_so None false closing false None e s = absurd (true≢false (sym s))
 stopped_so None false closing begun (Some a) e s = inr (a, refl, stops_by closing a.reply s)
 
 -- a response to Init that rejects the association
-pub rejecting : (w : What) (reply : Apdu) → is_init w ≡ true → Fits w reply → Rejects reply
+pub rejecting : (w : What) (reply : Apdu) → is_init w ≡ true → IsFitReply w reply → Rejects reply
     → (v : InitResponse) × (reply ≡ apdus.InitResponse v) × (v.result ≡ false)
 rejecting what.Init (apdus.InitRequest v) i f r = absurd f
 rejecting what.Init (apdus.InitResponse v) i f r = (v, refl, r)
@@ -76,16 +76,16 @@ rejecting what.Init (apdus.Close v) i f r = absurd f
 rejecting what.Search reply i f r = absurd (true≢false (sym i))
 rejecting (what.Present ranges) reply i f r = absurd (true≢false (sym i))
 
-pub rejected : (w : What) (reply : Apdu) → is_init w ≡ true → Fits w reply → Rejects reply → is_rejection reply ≡ true
+pub rejected : (w : What) (reply : Apdu) → is_init w ≡ true → IsFitReply w reply → Rejects reply → is_rejection reply ≡ true
 rejected w reply i f r =
     let x = rejecting w reply i f r in
     subst (λ z. is_rejection z ≡ true) (sym x.1) (ap not x.2)
 
 -- a Close fits no operation
-pub fits_no_close : (w : What) (reply : Apdu) → Fits w reply → (c : CloseApdu) → reply ≡ apdus.Close c → ⊥
-fits_no_close w reply f c e = by w (subst (λ z. Fits w z) e f)
+pub fits_no_close : (w : What) (reply : Apdu) → IsFitReply w reply → (c : CloseApdu) → reply ≡ apdus.Close c → ⊥
+fits_no_close w reply f c e = by w (subst (λ z. IsFitReply w z) e f)
   where
-    by : (u : What) → Fits u (apdus.Close c) → ⊥
+    by : (u : What) → IsFitReply u (apdus.Close c) → ⊥
     by what.Init h = h
     by what.Search h = h
     by (what.Present ranges) h = h
@@ -165,23 +165,23 @@ closing_so None false false begun (Some a) e = absurd (by_closing a.reply e)
 
 -- ---- lists
 
-pub found_in : (xs : List Answer) (a : Answer) → find opens xs ≡ Some a → IsIn a xs × (opens a ≡ true)
+pub found_in : (xs : List Answer) (a : Answer) → find is_opening xs ≡ Some a → IsIn a xs × (is_opening a ≡ true)
 found_in [] a e = absurd (cc)
 found_in (x ∷ xs) a e =
-    elim (opens x) as (λ b. opens x ≡ b → cond b (Some x) (find opens xs) ≡ Some a → IsIn a (x ∷ xs) ×
-    (opens a ≡ true)) [
-      | true ↦ λ t f. (let same : x ≡ a = cc in (inl (sym same), ap opens (sym same) ∙ t))
+    elim (is_opening x) as (λ b. is_opening x ≡ b → cond b (Some x) (find is_opening xs) ≡ Some a → IsIn a (x ∷ xs) ×
+    (is_opening a ≡ true)) [
+      | true ↦ λ t f. (let same : x ≡ a = cc in (inl (sym same), ap is_opening (sym same) ∙ t))
       | false ↦ λ t f. (let more = found_in xs a f in (inr more.0, more.1))
     ] refl e
 
-pub opened_by : (xs : List Answer) (a : Answer) → IsIn a xs → opens a ≡ true → find opens xs ≡ None → ⊥
+pub opened_by : (xs : List Answer) (a : Answer) → IsIn a xs → is_opening a ≡ true → find is_opening xs ≡ None → ⊥
 opened_by [] a i o e = absurd i
 opened_by (x ∷ xs) a (inl s) o e =
-    let t : opens x ≡ true = ap opens (sym s) ∙ o in
-    no_some (sym (ap (λ b. cond b (Some x) (find opens xs)) t) ∙ e)
+    let t : is_opening x ≡ true = ap is_opening (sym s) ∙ o in
+    no_some (sym (ap (λ b. cond b (Some x) (find is_opening xs)) t) ∙ e)
 opened_by (x ∷ xs) a (inr i) o e =
     let later = opened_by xs a i o in
-    elim (opens x) as (λ b. cond b (Some x) (find opens xs) ≡ None → ⊥) [
+    elim (is_opening x) as (λ b. cond b (Some x) (find is_opening xs) ≡ None → ⊥) [
       | true ↦ λ f. no_some f
       | false ↦
           λ f. later f
@@ -200,11 +200,11 @@ filter_none u (q ∷ qs) h =
     ap (λ b. cond b (q ∷ filter u qs) (filter u qs)) (h q (inl refl)) ∙ filter_none u qs (λ x i. h x (inr i))
 
 pub answered_in : (op : ℕ) (xs : List Answer) (a : Answer) → IsIn a xs → a.asked.op ≡ op → list_any
-    (answers op) xs ≡ true
+    (is_answer_to op) xs ≡ true
 answered_in op [] a i e = absurd i
 answered_in op (x ∷ xs) a (inl s) e =
     let same : x.asked.op ≡ op = ap (λ (z : Answer). z.asked.op) (sym s) ∙ e in
-    let t : answers op x ≡ true = grind (arith, nat_tests) in
-    ap (λ b. b || list_any (answers op) xs) t
-answered_in op (x ∷ xs) a (inr i) e = ap (λ b. answers op x || b) (answered_in op xs a i e)
-    ∙ or_right (answers op x) true refl
+    let t : is_answer_to op x ≡ true = grind (arith, nat_tests) in
+    ap (λ b. b || list_any (is_answer_to op) xs) t
+answered_in op (x ∷ xs) a (inr i) e = ap (λ b. is_answer_to op x || b) (answered_in op xs a i e)
+    ∙ or_right (is_answer_to op x) true refl

@@ -248,12 +248,12 @@ module _ (holdings : Holdings) (settings : Settings) (events : List Event) (p : 
         let m = input_is c.others h.rest rest h.behind.0 c.read c.rest_is h.behind.1 in
         absurd (stops_not c.others h.behind.0 (reversed_cut (past_of p).sent received (h.rest ++ rest) c) m h.behind.2)
 
-  heard_on : (laws : AccordLaws) (piece rest : List ℕ) (later : HostState) → s.to ≡ piece ++ rest
+  transcript_on : (laws : AccordLaws) (piece rest : List ℕ) (later : HostState) → s.to ≡ piece ++ rest
       → (a : HostAfter holdings (HostFed piece ∷ host_events) later) → IsIgnored s.served.served a.served
       ⊎ FeedStep holdings piece s.served.served a.served
       → IsSoundExchange holdings settings events p (HostFed piece ∷ host_events) later
-  heard_on laws piece rest later cut a (inl x) = absurd (true≢false (sym x.0 ∙ s.serving))
-  heard_on laws piece rest later cut a (inr x) =
+  transcript_on laws piece rest later cut a (inl x) = absurd (true≢false (sym x.0 ∙ s.serving))
+  transcript_on laws piece rest later cut a (inr x) =
       let put : a.served.sent ≡ s.served.served.sent = ap (λ z. z.sent) x.is in
       record {
         transcript = s.transcript;
@@ -284,7 +284,7 @@ released holdings settings events p host_events host later k s a =
 pub host_fed : AccordLaws → HostFedLaw
 host_fed laws holdings settings events p host_events host later piece rest s cut a =
     let same = same_served holdings settings events p host_events host s a.happened.0 a.happened.1 in
-    heard_on holdings settings events p host_events host s laws piece rest later cut a
+    transcript_on holdings settings events p host_events host s laws piece rest later cut a
     (subst (λ z. IsIgnored z a.served ⊎ FeedStep holdings piece z a.served) same a.happened.2)
 
 -- ---- what the connection takes
@@ -375,8 +375,8 @@ module _ (holdings : Holdings) (settings : Settings) (events : List Event) (p : 
         } in
         subst (λ z. IsSoundExchange holdings settings (Took ∷ events) z host_events host) (sym took) now
 
-  met_next : (rest : List ℕ) (input : Input) → IsBehind p.stream p.taken rest → AreInput rest input → IsInputOf s.coming input
-  met_next rest input b a =
+  input_next : (rest : List ℕ) (input : Input) → IsBehind p.stream p.taken rest → AreInput rest input → IsInputOf s.coming input
+  input_next rest input b a =
       let c = coming_is holdings settings events p host_events host s rest b in
       input_is s.coming rest (s.from ++ host.waiting) input c.read c.are a
 
@@ -384,10 +384,10 @@ module _ (holdings : Holdings) (settings : Settings) (events : List Event) (p : 
       (after_take p input) host_events host
   took laws AlreadyStopped m = took_none AlreadyStopped m refl
   took laws (Message v) m =
-      let n = met_next m.1 (Message v) m.2 m.3 in
+      let n = input_next m.1 (Message v) m.2 m.3 in
       took_reply laws v n.0 n.1 m (accepts laws v n.0 n.1 m.0)
-  took laws (Foreign error) m = absurd (met_next m.1 (Foreign error) m.2 m.3)
-  took laws (Fault kind at) m = absurd (met_next m.1 (Fault kind at) m.2 m.3)
+  took laws (Foreign error) m = absurd (input_next m.1 (Foreign error) m.2 m.3)
+  took laws (Fault kind at) m = absurd (input_next m.1 (Fault kind at) m.2 m.3)
   took laws (Rest n) m = took_none (Rest n) m (ap (λ b. cond b (after_stop p (truncated n)) p) s.goes_on)
   took laws Nothing m = took_none Nothing m (ap (λ b. cond b (end_by p) p) s.goes_on)
 

@@ -36,16 +36,16 @@ took_message : (p : Transcript) (v : Apdu) (r : Result Taken Refused) → verdic
 took_message p v (Ok x) e h = λ s. ((x, e), h s)
 took_message p v (Err reason) e h = λ s. absurd (no_some s)
 
-took_met : (p : Transcript) (input : Input) → HasTakenAll p → HasTakenAll (after_take p input)
-took_met p AlreadyStopped h = h
-took_met p (Message v) h = took_message p v (verdict (standing (past_of p)) v) refl h
-took_met p (Foreign error) h = λ s. absurd (no_some s)
-took_met p (Fault kind at) h = λ s. absurd (no_some s)
-took_met p (Rest n) h = elim p.ended as (λ b. HasTakenAll (cond b (after_stop p (truncated n)) p)) [
+took_input : (p : Transcript) (input : Input) → HasTakenAll p → HasTakenAll (after_take p input)
+took_input p AlreadyStopped h = h
+took_input p (Message v) h = took_message p v (verdict (standing (past_of p)) v) refl h
+took_input p (Foreign error) h = λ s. absurd (no_some s)
+took_input p (Fault kind at) h = λ s. absurd (no_some s)
+took_input p (Rest n) h = elim p.ended as (λ b. HasTakenAll (cond b (after_stop p (truncated n)) p)) [
   | true ↦ λ s. absurd (no_some s)
   | false ↦ h
 ]
-took_met p Nothing h = elim p.ended as (λ b. HasTakenAll (cond b (end_by p) p)) [
+took_input p Nothing h = elim p.ended as (λ b. HasTakenAll (cond b (end_by p) p)) [
   | true ↦ λ s. absurd (no_some s)
   | false ↦ h
 ]
@@ -59,7 +59,7 @@ took_all settings (Fed piece ∷ events) p h = subst HasTakenAll (sym h.2)
     (took_piece h.0 piece (took_all settings events h.0 h.1))
 took_all settings (Took ∷ events) p h =
     let x = h.2 in
-    subst HasTakenAll (sym x.2) (took_met h.0 x.0 (took_all settings events h.0 h.1))
+    subst HasTakenAll (sym x.2) (took_input h.0 x.0 (took_all settings events h.0 h.1))
 took_all settings (InputEnded ∷ events) p h = subst HasTakenAll (sym h.2) (took_all settings events h.0 h.1)
 took_all settings (HandedOut octets ∷ events) p h = subst HasTakenAll (sym h.2) (took_all settings events h.0 h.1)
 took_all settings (Stopped reason ∷ events) p h = subst HasTakenAll (sym h.2) (λ s. absurd (no_some s))
@@ -69,8 +69,8 @@ took_all settings (Stopped reason ∷ events) p h = subst HasTakenAll (sym h.2) 
 abbrev HasRest : Transcript → Type 0
 HasRest p = p.stop ≡ None → (rest : List ℕ) × IsBehind p.stream p.taken rest
 
-rest_silence : (settings : Settings) → HasRest (empty_transcript settings)
-rest_silence settings s = ([], record { messages = []; gave = nothing; count = refl })
+rest_empty : (settings : Settings) → HasRest (empty_transcript settings)
+rest_empty settings s = ([], record { messages = []; gave = nothing; count = refl })
 
 rest_call : (p : Transcript) (call : Call) → HasRest p → HasRest (after_call p call)
 rest_call p call h = elim (is_some p.stop) as
@@ -110,29 +110,29 @@ rest_message p v rest b m (Ok x) = λ s.
     )
 rest_message p v rest b m (Err reason) = λ s. absurd (no_some s)
 
-rest_met : (p : Transcript) (input : Input) → NextInput p input → HasRest p → HasRest (after_take p input)
-rest_met p AlreadyStopped m h = h
-rest_met p (Message v) m h = rest_message p v m.1 m.2 m.3 (verdict (standing (past_of p)) v)
-rest_met p (Foreign error) m h = λ s. absurd (no_some s)
-rest_met p (Fault kind at) m h = λ s. absurd (no_some s)
-rest_met p (Rest n) m h = elim p.ended as (λ b. HasRest (cond b (after_stop p (truncated n)) p)) [
+rest_input : (p : Transcript) (input : Input) → NextInput p input → HasRest p → HasRest (after_take p input)
+rest_input p AlreadyStopped m h = h
+rest_input p (Message v) m h = rest_message p v m.1 m.2 m.3 (verdict (standing (past_of p)) v)
+rest_input p (Foreign error) m h = λ s. absurd (no_some s)
+rest_input p (Fault kind at) m h = λ s. absurd (no_some s)
+rest_input p (Rest n) m h = elim p.ended as (λ b. HasRest (cond b (after_stop p (truncated n)) p)) [
   | true ↦ λ s. absurd (no_some s)
   | false ↦ h
 ]
-rest_met p Nothing m h = elim p.ended as (λ b. HasRest (cond b (end_by p) p)) [
+rest_input p Nothing m h = elim p.ended as (λ b. HasRest (cond b (end_by p) p)) [
   | true ↦ λ s. absurd (no_some s)
   | false ↦ h
 ]
 
 pub rest_behind : (settings : Settings) (events : List Event) (p : Transcript) → IsTranscript settings events p → HasRest p
-rest_behind settings [] p h = subst HasRest (sym h) (rest_silence settings)
+rest_behind settings [] p h = subst HasRest (sym h) (rest_empty settings)
 rest_behind settings (Called call ∷ events) p h = subst HasRest (sym h.2)
     (rest_call h.0 call (rest_behind settings events h.0 h.1))
 rest_behind settings (Fed piece ∷ events) p h = subst HasRest (sym h.2)
     (rest_piece h.0 piece (rest_behind settings events h.0 h.1))
 rest_behind settings (Took ∷ events) p h =
     let x = h.2 in
-    subst HasRest (sym x.2) (rest_met h.0 x.0 x.1 (rest_behind settings events h.0 h.1))
+    subst HasRest (sym x.2) (rest_input h.0 x.0 x.1 (rest_behind settings events h.0 h.1))
 rest_behind settings (InputEnded ∷ events) p h = subst HasRest (sym h.2) (rest_behind settings events h.0 h.1)
 rest_behind settings (HandedOut octets ∷ events) p h = subst HasRest (sym h.2) (rest_behind settings events h.0 h.1)
 rest_behind settings (Stopped reason ∷ events) p h = subst HasRest (sym h.2) (λ s. absurd (no_some s))

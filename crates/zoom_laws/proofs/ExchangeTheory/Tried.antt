@@ -2,7 +2,7 @@
 use Rattle.std.proofs.Common.{◌≡◌, inl, true, false, List, [], refl, sym, ap, ◌∙◌, true≢false}
 use Rattle.std.specs.Prelude.{◌||◌}
 use Rattle.std.specs.List.{list_any}
-use Rattle.zplan.specs.Plan.{Event}
+use Rattle.zplan.specs.Plan.{PlanEvent}
 use Rattle.zorigin.specs.declared.settings.Settings.{Settings}
 use Rattle.zorigin.specs.Log.{Log, past, opening, is_close_call}
 use Rattle.zoom_pool.specs.declared.phase.Phase.{Phase}
@@ -18,7 +18,7 @@ use Rattle.zoom_laws.specs.Exchange.{TriedLaw}
 module _ (e : Errand) (settings : Settings) (log : Log)
     (closes : list_any is_close_call (past settings log).admitted ≡ true) where
   -- Close is one of the events
-  not_yet : (events : List Event) → events_of e.ask settings log ≡ events → closes_in events ≡ false → ⊥
+  not_yet : (events : List PlanEvent) → events_of e.ask settings log ≡ events → closes_in events ≡ false → ⊥
   not_yet events is f = true≢false (sym closes ∙ closing_known e.ask settings log ∙ ap closes_in is ∙ f)
 
   tried_at : (ph : Phase) → is_rejected (opening (past settings log)) ≡ false → IsAtPhase e settings log ph

@@ -6,7 +6,7 @@ use Rattle.std.proofs.lemmas.Bool.{or_cases}
 use Rattle.std.proofs.lemmas.Bool.Decides.{nat_tests}
 use Rattle.std.proofs.lemmas.Map.Keys.{IsDistinct-head, IsDistinct-tail}
 use Rattle.zplan.specs.Plan as plan
-use Rattle.zplan.specs.Plan.{Operation, Event, Receives, Reply, Opens, same, number, replies_in, WasRefused, IsAnsweredWhole, IsComplete}
+use Rattle.zplan.specs.Plan.{Operation, PlanEvent, ReplyAccepted, Reply, InitReply, same, number, replies_in, WasRefused, IsPlanAnswered, IsComplete}
 use Rattle.zplan.specs.Positions.{IsIn}
 use Rattle.zplan.proofs.Cuts.{in_either}
 use Rattle.zplan.proofs.Order.{same_self, complete_whole as whole_of}
@@ -23,7 +23,7 @@ use Rattle.zorigin.specs.Changes.{force_in}
 use Rattle.zorigin.specs.Standings.{Call, is_open}
 use Rattle.zorigin.specs.Calls.{refusal}
 use Rattle.zorigin.specs.Replies.{verdict}
-use Rattle.zorigin.specs.Log.{Log, Made, Got, Past, past, standing, state_of, opening, opens, asked, is_close_call, admit_unless, after_verdict}
+use Rattle.zorigin.specs.Log.{Log, Made, Got, Past, past, standing, state_of, opening, is_opening, asked, is_close_call, admit_unless, after_verdict}
 use Rattle.zorigin.specs.Laws.{IsOrderly, answered_op}
 use Rattle.zoom_pool.specs.Driving.{operation_for, reply_for, can_search, got_event, made_event, events_of, IsDrivenLog}
 use Rattle.zoom_pool.specs.Steering.{is_rejected, is_rejection, complete_in}
@@ -35,34 +35,34 @@ use Rattle.zoom_laws.proofs.ScheduleTheory.Same.{for_opens}
 
 -- ---- each accepted answer
 
-abbrev Replied : List Event → Answer → Type 0
+abbrev Replied : List PlanEvent → Answer → Type 0
 Replied events x = (r : Reply) × (replies_in events (operation_for x.asked.what) ≡ Some r)
 
 module _ (ask : Ask) (settings : Settings) where
   -- a reply stays, whatever is received later
-  still : (op : Operation) (r : Reply) (events : List Event) (x : Answer) → Replied events x → Replied (Receives op r ∷ events) x
+  still : (op : Operation) (r : Reply) (events : List PlanEvent) (x : Answer) → Replied events x → Replied (ReplyAccepted op r ∷ events) x
   still op r events x s =
       elim (same op (operation_for x.asked.what)) as
       (λ b. (u : Reply) × (cond b (Some r) (replies_in events (operation_for x.asked.what)) ≡ Some u))
       [ true ↦ (r, refl) | false ↦ s ]
 
-  here : (r : Reply) (events : List Event) (x : Answer) → Replied (Receives (operation_for x.asked.what) r ∷ events) x
+  here : (r : Reply) (events : List PlanEvent) (x : Answer) → Replied (ReplyAccepted (operation_for x.asked.what) r ∷ events) x
   here r events x =
       (r, ap (λ b. cond b (Some r) (replies_in events (operation_for x.asked.what))) (same_self (operation_for x.asked.what)))
 
-  last : (p : Past) (y : Answer) (events : List Event) (r : Reply) (x : Answer)
+  last : (p : Past) (y : Answer) (events : List PlanEvent) (r : Reply) (x : Answer)
       → (IsIn x p.accepted → Replied events x) → IsIn x (p.accepted ++ y ∷ [])
-      → Replied (Receives (operation_for y.asked.what) r ∷ events) x
+      → Replied (ReplyAccepted (operation_for y.asked.what) r ∷ events) x
   last p y events r x old i = elim (in_either x p.accepted (y ∷ []) i) [
     | inl j ↦ still (operation_for y.asked.what) r events x (old j)
     | inr j ↦ now j
   ]
     where
-      now : IsIn x (y ∷ []) → Replied (Receives (operation_for y.asked.what) r ∷ events) x
-      now (inl e) = subst (λ z. Replied (Receives (operation_for z.asked.what) r ∷ events) x) e (here r events x)
+      now : IsIn x (y ∷ []) → Replied (ReplyAccepted (operation_for y.asked.what) r ∷ events) x
+      now (inl e) = subst (λ z. Replied (ReplyAccepted (operation_for z.asked.what) r ∷ events) x) e (here r events x)
       now (inr none) = absurd none
 
-  got : (q p : Past) (v : Result Taken Refused) (events : List Event) (x : Answer)
+  got : (q p : Past) (v : Result Taken Refused) (events : List PlanEvent) (x : Answer)
       → (IsIn x p.accepted → Replied events x) → IsIn x (after_verdict p v).accepted → Replied (got_event ask q v events) x
   got q p (Ok (taken.Opened y)) events x old i = last p y events (reply_for ask q y.reply) x old i
   got q p (Ok (taken.Rejected y)) events x old i = last p y events (reply_for ask q y.reply) x old i
@@ -72,7 +72,7 @@ module _ (ask : Ask) (settings : Settings) where
       old (elim (is_open (state_of p)) as (λ b. IsIn x (cond b (record p { fault = Some reason }) p).accepted → IsIn x p.accepted)
       [ true ↦ λ j. j | false ↦ λ j. j ] i)
 
-  made : (p : Past) (call : Call) (r : Option CallRefused) (events : List Event) (x : Answer)
+  made : (p : Past) (call : Call) (r : Option CallRefused) (events : List PlanEvent) (x : Answer)
       → (IsIn x p.accepted → Replied events x) → IsIn x (admit_unless p call r).accepted → Replied (made_event r call events) x
   made p call (Some r) events x old i = old i
   made p call None events x old i =
@@ -115,24 +115,24 @@ one_answer (z ∷ xs) x y d (inr i) (inl b) e =
 -- ---- a complete connection
 
 -- the first opening reply is one of them
-find_in : (xs : List Answer) (x : Answer) → find opens xs ≡ Some x → IsIn x xs × (opens x ≡ true)
+find_in : (xs : List Answer) (x : Answer) → find is_opening xs ≡ Some x → IsIn x xs × (is_opening x ≡ true)
 find_in [] x e = absurd cc
 find_in (z ∷ xs) x e =
-    elim (opens z) as (λ b. opens z ≡ b → cond b (Some z) (find opens xs) ≡ Some x → IsIn x (z ∷ xs) × (opens x ≡ true)) [
+    elim (is_opening z) as (λ b. is_opening z ≡ b → cond b (Some z) (find is_opening xs) ≡ Some x → IsIn x (z ∷ xs) × (is_opening x ≡ true)) [
       | true ↦ λ is f.
           let same : z ≡ x = cc in
-          (subst (λ y. IsIn y (z ∷ xs)) same (inl refl), subst (λ y. opens y ≡ true) same is)
+          (subst (λ y. IsIn y (z ∷ xs)) same (inl refl), subst (λ y. is_opening y ≡ true) same is)
       | false ↦ λ is f. let r = find_in xs x f in (inr r.0, r.1)
     ] refl e
 
 module _ (ask : Ask) (wanted : List ℕ) (step : ℕ) (settings : Settings)
     (orderly : (s : Settings) (l : Log) → IsOrderly (past s l)) where
   -- a rejected association opened nothing
-  opens_nothing : (p : Past) (x : Apdu) → is_rejection x ≡ true → (three : Bool) × (reply_for ask p x ≡ Opens false three)
+  opens_nothing : (p : Past) (x : Apdu) → is_rejection x ≡ true → (three : Bool) × (reply_for ask p x ≡ InitReply false three)
   opens_nothing p (apdus.InitResponse v) refused = by v.result refused
     where
       by : (b : Bool) → not b ≡ true
-          → (three : Bool) × (Opens (b && can_search ask p) (force_in v).v3 ≡ Opens false three)
+          → (three : Bool) × (InitReply (b && can_search ask p) (force_in v).v3 ≡ InitReply false three)
       by true k = absurd cc
       by false k = ((force_in v).v3, refl)
   opens_nothing p (apdus.InitRequest v) refused = absurd cc
@@ -159,7 +159,7 @@ module _ (ask : Ask) (wanted : List ℕ) (step : ℕ) (settings : Settings)
           (subst (λ z. is_rejection z.reply ≡ true) (sym same) refused) in
           (o.0, first ∙ ap (λ z. Some z) (c.says ∙ o.1))
         where
-          there : IsIn x p.accepted × (opens x ≡ true)
+          there : IsIn x p.accepted × (is_opening x ≡ true)
           there = find_in p.accepted x is
 
           op : operation_for x.asked.what ≡ plan.Init
@@ -190,5 +190,5 @@ module _ (ask : Ask) (wanted : List ℕ) (step : ℕ) (settings : Settings)
 
   -- each operation that is asked was answered
   pub complete_whole : (log : Log) → IsDrivenLog ask wanted step settings log → complete_in (past settings log) ≡ true
-      → IsAnsweredWhole wanted step (events_of ask settings log)
+      → IsPlanAnswered wanted step (events_of ask settings log)
   complete_whole log d e = whole_of wanted step (events_of ask settings log) (complete_by log d e)

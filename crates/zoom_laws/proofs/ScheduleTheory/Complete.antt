@@ -4,7 +4,7 @@ use Rattle.std.specs.Prelude.{◌||◌}
 use Rattle.std.specs.List.{list_any}
 use Rattle.std.proofs.lemmas.Bool.{or_cases}
 use Rattle.std.proofs.lemmas.List.Folds.{list_any-append}
-use Rattle.zplan.specs.Plan.{Event, HasClosed}
+use Rattle.zplan.specs.Plan.{PlanEvent, HasClosed}
 use Rattle.zorigin.specs.declared.settings.Settings.{Settings}
 use Rattle.zorigin.specs.declared.settings.Ask.{Ask}
 use Rattle.zorigin.specs.declared.answer.Taken.{Taken}
@@ -28,7 +28,7 @@ same_admitted p (Err r) =
     [ true ↦ refl | false ↦ refl ]
 
 module _ (ask : Ask) (settings : Settings) where
-  got_closed : (p : Past) (v : Result Taken Refused) (events : List Event) → HasClosed events
+  got_closed : (p : Past) (v : Result Taken Refused) (events : List PlanEvent) → HasClosed events
       → HasClosed (got_event ask p v events)
   got_closed p (Ok (taken.Opened x)) events h = h
   got_closed p (Ok (taken.Rejected x)) events h = h
@@ -36,13 +36,13 @@ module _ (ask : Ask) (settings : Settings) where
   got_closed p (Ok taken.Closed) events h = h
   got_closed p (Err reason) events h = h
 
-  call_closed : (call : Call) (events : List Event) → HasClosed events → HasClosed (plan_of call ∷ events)
+  call_closed : (call : Call) (events : List PlanEvent) → HasClosed events → HasClosed (plan_of call ∷ events)
   call_closed Init events h = h
   call_closed (Search op set a) events h = h
   call_closed (Present op set ranges) events h = h
   call_closed Close events h = tt
 
-  close_closed : (call : Call) (events : List Event) → is_close_call call ≡ true → HasClosed (plan_of call ∷ events)
+  close_closed : (call : Call) (events : List PlanEvent) → is_close_call call ≡ true → HasClosed (plan_of call ∷ events)
   close_closed Close events is = tt
   close_closed Init events is = absurd cc
   close_closed (Search op set a) events is = absurd cc

@@ -3,7 +3,7 @@ use Rattle.std.proofs.Common.{◌≡◌, ◌⊎◌, inl, inr, ℕ, Bool, true, f
 use Rattle.std.specs.Prelude.{Contains}
 use Rattle.std.specs.List.{find}
 use Rattle.zplan.specs.Plan as plan
-use Rattle.zplan.specs.Plan.{Operation, Receives, Reply, Opens, same, replies_in, IsAsked, first, search, cut, rest, IsDriven}
+use Rattle.zplan.specs.Plan.{Operation, ReplyAccepted, Reply, InitReply, same, replies_in, IsPlanned, first, search, cut, rest, IsDriven}
 use Rattle.zplan.specs.Positions.{IsIn}
 use Rattle.zplan.proofs.Order.{sent_asked}
 use Rattle.zapdu.specs.declared.apdu.Apdu.{Apdu}
@@ -19,8 +19,8 @@ use Rattle.zorigin.specs.Changes.{init_asked}
 use Rattle.zorigin.specs.Standings.{Call, Init, Search, Present, Close, is_open, Standing}
 use Rattle.zorigin.specs.Calls.{refusal}
 use Rattle.zorigin.specs.declared.refusal.Refused.TheVariants as refused
-use Rattle.zorigin.specs.Replies.{verdict, answered}
-use Rattle.zorigin.specs.Log.{Log, Made, Got, Past, past, standing, state_of, state_from, opens, force_after, asked, admit_unless, accept, after_verdict}
+use Rattle.zorigin.specs.Replies.{verdict, open_verdict}
+use Rattle.zorigin.specs.Log.{Log, Made, Got, Past, past, standing, state_of, state_from, is_opening, force_after, asked, admit_unless, accept, after_verdict}
 use Rattle.zorigin.specs.Laws.{IsOrderly}
 use Rattle.zoom_pool.specs.Transcripts.{answer_in}
 use Rattle.zoom_pool.specs.Driving.{plan_of, operation_for, reply_for, can_search, got_event, made_event, events_of, IsDueCall, IsDueEvent, IsDrivenLog}
@@ -33,19 +33,19 @@ use Rattle.zoom_laws.proofs.ScheduleTheory.Replies.{CameFrom}
 
 module _ (wanted : List ℕ) (step : ℕ) where
   -- other operations are asked only after Init was answered
-  pub init_replied : (replies : plan.Replies) (a : Operation) → IsAsked wanted step replies a
-      → (a ≡ plan.Init) ⊎ ((three : Bool) × (replies plan.Init ≡ Some (Opens true three)))
+  pub init_replied : (replies : plan.Replies) (a : Operation) → IsPlanned wanted step replies a
+      → (a ≡ plan.Init) ⊎ ((three : Bool) × (replies plan.Init ≡ Some (InitReply true three)))
   init_replied replies plan.Init first = inl refl
   init_replied replies plan.Search (search three i h) = inr (three, h)
   init_replied replies (plan.Present l) (cut three count i m b o h lt x) = inr (three, o)
   init_replied replies (plan.Present l) (rest m k b h lo hi) =
       elim (init_replied replies (plan.Present m) b) [ inl e ↦ absurd cc | inr e ↦ inr e ]
 
-  only_init : (replies : plan.Replies) (a : Operation) → replies plan.Init ≡ None → IsAsked wanted step replies a
+  only_init : (replies : plan.Replies) (a : Operation) → replies plan.Init ≡ None → IsPlanned wanted step replies a
       → a ≡ plan.Init
   only_init replies a none is = elim (init_replied replies a is) [
     | inl e ↦ e
-    | inr e ↦ absurd (let x : None ≡ Some (Opens true e.0) = sym none ∙ e.1 in cc)
+    | inr e ↦ absurd (let x : None ≡ Some (InitReply true e.0) = sym none ∙ e.1 in cc)
   ]
 
   -- only Init can have been called, and nothing was accepted
@@ -92,8 +92,8 @@ module _ (wanted : List ℕ) (step : ℕ) where
         q = past settings (Got reply ∷ log)
 
         -- only Init can be answered
-        never : (op : Operation) (r : Reply) → IsDriven wanted step (Receives op r ∷ events_of ask settings log)
-            → replies_in (Receives op r ∷ events_of ask settings log) plan.Init ≡ None → ⊥
+        never : (op : Operation) (r : Reply) → IsDriven wanted step (ReplyAccepted op r ∷ events_of ask settings log)
+            → replies_in (ReplyAccepted op r ∷ events_of ask settings log) plan.Init ≡ None → ⊥
         never op r g n =
             elim (same op plan.Init) as
             (λ b. same op plan.Init ≡ b → cond b (Some r) (replies_in (events_of ask settings log) plan.Init) ≡ None → ⊥) [
@@ -176,7 +176,7 @@ shows_same x y e = shows_plain x ∙ ap shows_after e ∙ sym (shows_plain y)
 pub was_open : (s : Standing) (reply : Apdu) (t : Taken) → verdict s reply ≡ Ok t → is_open s.state ≡ true
 unfolding verdict
 was_open s reply t e =
-    elim (is_open s.state) as (λ b. cond b (answered s reply) (Err refused.WrongState) ≡ Ok t → b ≡ true) [
+    elim (is_open s.state) as (λ b. cond b (open_verdict s reply) (Err refused.WrongState) ≡ Ok t → b ≡ true) [
       | true ↦ λ k. refl
       | false ↦ λ k. absurd cc
     ] e
@@ -235,7 +235,7 @@ module _ (ask : Ask) (wanted : List ℕ) (step : ℕ) (settings : Settings)
 
       stands : is_open (state_from p.fault p.closed false true None) ≡ true
       stands =
-          subst (λ l. is_open (state_from p.fault p.closed false true (find opens l)) ≡ true) e.accepted
+          subst (λ l. is_open (state_from p.fault p.closed false true (find is_opening l)) ≡ true) e.accepted
           (subst (λ l. is_open (state_of (record p { admitted = l })) ≡ true) called
           (was_open (standing p) c.reply c.taken c.judged))
 

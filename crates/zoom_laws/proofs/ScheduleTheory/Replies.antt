@@ -1,6 +1,6 @@
 -- The origin of each reply of a log.
 use Rattle.std.proofs.Common.{◌≡◌, ℕ, true, false, cond, List, [], ◌∷◌, ◌++◌, Option, None, Some, Result, Ok, Err, refl, sym, subst, ◌∙◌}
-use Rattle.zplan.specs.Plan.{Operation, Receives, Reply, same, asked_in, replies_in, IsDriven}
+use Rattle.zplan.specs.Plan.{Operation, ReplyAccepted, Reply, same, asked_in, replies_in, IsDriven}
 use Rattle.zplan.specs.Positions.{IsIn}
 use Rattle.zplan.proofs.Order.{same_is}
 use Rattle.zapdu.specs.declared.apdu.Apdu.{Apdu}
@@ -133,8 +133,8 @@ module _ (ask : Ask) (wanted : List ℕ) (step : ℕ) (settings : Settings)
       }
 
       either : Before → (t : Taken) (x : Answer) → verdict (standing p) reply ≡ Ok t → answer_in t ≡ Some x
-          → IsDriven wanted step (Receives (operation_for x.asked.what) (reply_for ask q x.reply) ∷ events_of ask settings log)
-          → replies_in (Receives (operation_for x.asked.what) (reply_for ask q x.reply) ∷ events_of ask settings log) a ≡ Some r
+          → IsDriven wanted step (ReplyAccepted (operation_for x.asked.what) (reply_for ask q x.reply) ∷ events_of ask settings log)
+          → replies_in (ReplyAccepted (operation_for x.asked.what) (reply_for ask q x.reply) ∷ events_of ask settings log) a ≡ Some r
           → CameFrom ask wanted step settings (Got reply ∷ log) a r
       either old t x is by g f =
           elim (same (operation_for x.asked.what) a) as

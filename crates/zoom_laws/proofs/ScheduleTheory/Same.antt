@@ -3,7 +3,7 @@ use Rattle.std.proofs.Common.{◌≡◌, inl, inr, ℕ, Bool, true, false, cond,
 use Rattle.std.specs.Prelude.{◌&&◌, Contains}
 use Rattle.std.specs.List.{find}
 use Rattle.zplan.specs.Plan as plan
-use Rattle.zplan.specs.Plan.{Operation, Reply, Opens, Finds, Shows, replies_in, Agree}
+use Rattle.zplan.specs.Plan.{Operation, Reply, InitReply, SearchReply, PresentReply, replies_in, AreCompatible}
 use Rattle.zplan.specs.Positions.{IsIn}
 use Rattle.zplan.proofs.Order.{sent_asked}
 use Rattle.zapdu.specs.declared.apdu.Apdu.{Apdu}
@@ -14,10 +14,10 @@ use Rattle.zorigin.specs.declared.answer.What.{What}
 use Rattle.zorigin.specs.declared.answer.What.TheVariants as what
 use Rattle.zorigin.specs.declared.answer.Answer.{Answer}
 use Rattle.zorigin.specs.Replies.{verdict}
-use Rattle.zorigin.specs.Fitting.{Fits, records_in}
+use Rattle.zorigin.specs.Fitting.{IsFitReply, records_in}
 use Rattle.zorigin.specs.Accepts.{IsAccepted}
 use Rattle.zorigin.specs.Changes.{force_in}
-use Rattle.zorigin.specs.Log.{Log, Got, Past, past, standing, opening, opens, is_init, force_after}
+use Rattle.zorigin.specs.Log.{Log, Got, Past, past, standing, opening, is_opening, is_init, force_after}
 use Rattle.zorigin.specs.Laws.{IsOrderly}
 use Rattle.zoom_pool.specs.Driving.{operation_for, reply_for, can_search, can_present, counted, events_of, IsDrivenLog}
 use Rattle.zoom_pool.specs.Laws.{plain}
@@ -29,10 +29,10 @@ use Rattle.zoom_laws.proofs.ScheduleTheory.Openings.{init_replied, at_opening, s
 -- ---- a reply, by what is in force
 
 abbrev reply_by : Bool → Bool → Apdu → Reply
-reply_by search present (apdus.InitResponse v) = Opens (v.result && search) (force_in v).v3
-reply_by search present (apdus.SearchResponse v) = Finds (counted (v.search_status && present) v.result_count)
-reply_by search present (apdus.PresentResponse v) = Shows (length (records_in v.records))
-reply_by search present _ = Shows 0
+reply_by search present (apdus.InitResponse v) = InitReply (v.result && search) (force_in v).v3
+reply_by search present (apdus.SearchResponse v) = SearchReply (counted (v.search_status && present) v.result_count)
+reply_by search present (apdus.PresentResponse v) = PresentReply (length (records_in v.records))
+reply_by search present _ = PresentReply 0
 
 by_reply : (ask : Ask) (p : Past) (x : Apdu) → reply_for ask p x ≡ reply_by (can_search ask p) (can_present p) x
 by_reply ask p (apdus.InitRequest v) = refl
@@ -56,7 +56,7 @@ by_same : (c d : Bool) (x y : Apdu) → plain x ≡ plain y → reply_by c d x �
 by_same c d x y e = by_plain c d x ∙ ap (reply_by c d) e ∙ sym (by_plain c d y)
 
 -- whether searches can be sent does not matter for a reply to a search or to a Present
-by_fit : (w : What) (x : Apdu) (b c d : Bool) → Fits w x → operation_for w ≡ plan.Search → reply_by b d x ≡ reply_by c d x
+by_fit : (w : What) (x : Apdu) (b c d : Bool) → IsFitReply w x → operation_for w ≡ plan.Search → reply_by b d x ≡ reply_by c d x
 by_fit what.Init x b c d f e = absurd cc
 by_fit what.Search (apdus.SearchResponse v) b c d f e = refl
 by_fit what.Search (apdus.InitRequest v) b c d f e = absurd f
@@ -67,7 +67,7 @@ by_fit what.Search (apdus.PresentResponse v) b c d f e = absurd f
 by_fit what.Search (apdus.Close v) b c d f e = absurd f
 by_fit (what.Present ranges) x b c d f e = absurd cc
 
-by_fit_present : (w : What) (x : Apdu) (l : List ℕ) (a b c d : Bool) → Fits w x → operation_for w ≡ plan.Present l
+by_fit_present : (w : What) (x : Apdu) (l : List ℕ) (a b c d : Bool) → IsFitReply w x → operation_for w ≡ plan.Present l
     → reply_by a b x ≡ reply_by c d x
 by_fit_present what.Init x l a b c d f e = absurd cc
 by_fit_present what.Search x l a b c d f e = absurd cc
@@ -81,7 +81,7 @@ by_fit_present (what.Present ranges) (apdus.Close v) l a b c d f e = absurd f
 
 -- ---- the answer to Init
 
-pub opens_for : (x : Answer) → operation_for x.asked.what ≡ plan.Init → opens x ≡ true
+pub opens_for : (x : Answer) → operation_for x.asked.what ≡ plan.Init → is_opening x ≡ true
 opens_for x e = by x.asked.what e
   where
     by : (w : What) → operation_for w ≡ plan.Init → is_init w ≡ true
@@ -89,7 +89,7 @@ opens_for x e = by x.asked.what e
     by what.Search f = absurd cc
     by (what.Present ranges) f = absurd cc
 
-pub for_opens : (x : Answer) → opens x ≡ true → operation_for x.asked.what ≡ plan.Init
+pub for_opens : (x : Answer) → is_opening x ≡ true → operation_for x.asked.what ≡ plan.Init
 for_opens x e = by x.asked.what e
   where
     by : (w : What) → is_init w ≡ true → operation_for w ≡ plan.Init
@@ -98,21 +98,21 @@ for_opens x e = by x.asked.what e
     by (what.Present ranges) f = absurd cc
 
 -- the first of them
-pub find_there : (xs : List Answer) (x : Answer) → IsIn x xs → opens x ≡ true
-    → (y : Answer) × (find opens xs ≡ Some y) × IsIn y xs × (opens y ≡ true)
+pub find_there : (xs : List Answer) (x : Answer) → IsIn x xs → is_opening x ≡ true
+    → (y : Answer) × (find is_opening xs ≡ Some y) × IsIn y xs × (is_opening y ≡ true)
 find_there [] x i o = absurd i
-find_there (z ∷ xs) x i o = by (λ j. find_there xs x j o) (opens z) refl
+find_there (z ∷ xs) x i o = by (λ j. find_there xs x j o) (is_opening z) refl
   where
-    more : IsIn x (z ∷ xs) → opens z ≡ false → IsIn x xs
-    more (inl e) is = absurd (let t : true ≡ false = sym o ∙ ap opens e ∙ is in cc)
+    more : IsIn x (z ∷ xs) → is_opening z ≡ false → IsIn x xs
+    more (inl e) is = absurd (let t : true ≡ false = sym o ∙ ap is_opening e ∙ is in cc)
     more (inr j) is = j
 
-    by : (IsIn x xs → (y : Answer) × (find opens xs ≡ Some y) × IsIn y xs × (opens y ≡ true)) → (b : Bool) → opens z ≡ b
-        → (y : Answer) × (find opens (z ∷ xs) ≡ Some y) × IsIn y (z ∷ xs) × (opens y ≡ true)
-    by later true is = (z, ap (λ t. cond t (Some z) (find opens xs)) is, inl refl, is)
+    by : (IsIn x xs → (y : Answer) × (find is_opening xs ≡ Some y) × IsIn y xs × (is_opening y ≡ true)) → (b : Bool) → is_opening z ≡ b
+        → (y : Answer) × (find is_opening (z ∷ xs) ≡ Some y) × IsIn y (z ∷ xs) × (is_opening y ≡ true)
+    by later true is = (z, ap (λ t. cond t (Some z) (find is_opening xs)) is, inl refl, is)
     by later false is =
         let r = later (more i is) in
-        (r.0, ap (λ t. cond t (Some z) (find opens xs)) is ∙ r.1, inr r.2, r.3)
+        (r.0, ap (λ t. cond t (Some z) (find is_opening xs)) is ∙ r.1, inr r.2, r.3)
 
 -- ---- one connection
 
@@ -127,12 +127,12 @@ module _ (ask : Ask) (wanted : List ℕ) (step : ℕ)
   opened_then settings log a r c other =
       let events = events_of ask settings c.earlier in
       let d = driven ask settings wanted step orderly c.earlier c.driven in
-      let three : (t : Bool) × (replies_in events plan.Init ≡ Some (Opens true t)) =
+      let three : (t : Bool) × (replies_in events plan.Init ≡ Some (InitReply true t)) =
       elim (init_replied wanted step (replies_in events) a (sent_asked wanted step events d a c.sent)) [
         | inl e ↦ absurd (other e)
         | inr t ↦ t
       ] in
-      let b = replied ask settings c.earlier plan.Init (Opens true three.0) three.1 in
+      let b = replied ask settings c.earlier plan.Init (InitReply true three.0) three.1 in
       let p = past settings c.earlier in
       let f = find_there (past settings (Got c.reply ∷ c.earlier)).accepted b.0
       (kept_reply p (verdict (standing p) c.reply) b.0 b.1) (opens_for b.0 b.2) in
@@ -144,7 +144,7 @@ module _ (ask : Ask) (wanted : List ℕ) (step : ℕ)
       → can_present (past settings (Got c.reply ∷ c.earlier)) ≡ shows_after x.reply
   shows_then settings log a r c x is = ap (λ o. (force_after o).present) is
 
-  fit : (settings : Settings) (log : Log) (x : Answer) → IsIn x (past settings log).accepted → Fits x.asked.what x.reply
+  fit : (settings : Settings) (log : Log) (x : Answer) → IsIn x (past settings log).accepted → IsFitReply x.asked.what x.reply
   fit settings log x i = (accepts settings log x (contained x (past settings log).accepted i)).fits
 
   -- ---- two connections
@@ -191,7 +191,7 @@ module _ (ask : Ask) (wanted : List ℕ) (step : ℕ)
         (fit other that l.answer l.there) l.for
 
     -- equal operations had replies that decide the same
-    pub agree : Agree (replies_in (events_of ask one this)) (replies_in (events_of ask other that))
+    pub agree : AreCompatible (replies_in (events_of ask one this)) (replies_in (events_of ask other that))
     agree a r s f g =
         let k = came ask wanted step one orderly this d a r f in
         let l = came ask wanted step other orderly that e a s g in

@@ -24,7 +24,7 @@ use Rattle.zoom_pool.specs.History.{History, events_on, accepted, facts_at}
 use Rattle.zoom_pool.specs.Metas.{MetaLinks, MetaAfter, settings_of}
 use Rattle.zorigin.proofs.Members.{among, contained}
 use Rattle.zoom_pool.proofs.Drivings.{replied, driven}
-use Rattle.zoom_pool.proofs.Metas.{heard_at}
+use Rattle.zoom_pool.proofs.Metas.{transcript_at}
 use Rattle.zoom_pool.proofs.MetaLaws.{driver_of}
 use Rattle.zoom_pool.proofs.Orders.{from_answer, of_answer}
 use Rattle.zoom_laws.specs.Schedules.{IsCompleteTranscript, HasExactAnswers, AskedLaw, HaveEqualReplies, AreAnsweredAlike, SameListLaw}
@@ -129,9 +129,9 @@ module _ (orderly : (s : Settings) (l : Log) → IsOrderly (past s l))
             × ((f : Fact) → Contains (facts_at c (a.pool.transcript c)) f → Contains (facts_at c (b.pool.transcript c)) f)
         by (inl lt) =
             let q = question_at questions c lt in
-            let mine = heard_at (settings_of s) g a.pool.transcript one.pool.connections c a.pool.stands
+            let mine = transcript_at (settings_of s) g a.pool.transcript one.pool.connections c a.pool.stands
             (subst (λ n. c < n) (sym a.size) lt) in
-            let theirs = heard_at (settings_of t) h b.pool.transcript other.pool.connections c b.pool.stands
+            let theirs = transcript_at (settings_of t) h b.pool.transcript other.pool.connections c b.pool.stands
             (subst (λ n. c < n) (sym b.size) lt) in
             let k = knows questions s g one c q.0 (a.pool.transcript c) a q.1 mine in
             let l = knows questions t h other c q.0 (b.pool.transcript c) b q.1 theirs in (

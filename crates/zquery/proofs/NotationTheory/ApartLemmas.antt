@@ -15,7 +15,7 @@ use Rattle.std.specs.Ordering.{is_eq, ordering_then, nat_cmp, int_cmp, int_eq}
 use Rattle.std.specs.Str.{bytes_eq}
 use Rattle.zquery_rpn.specs.declared.query.Attr.{Attr}
 use Rattle.zquery.specs.InForce.{same_set, alike}
-use Rattle.zquery.specs.Notation.Apart.{Key, key_cmp, is_key_of, AreKeysOf}
+use Rattle.zquery.specs.Notation.Apart.{Key, attr_key_cmp, is_key_of, AreAttrKeys}
 use Rattle.zquery.specs.Notation.Printing.{plain_attr, plain_attrs}
 
 both_eq : (a b : Ordering) → is_eq (ordering_then a b) ≡ is_eq a && is_eq b
@@ -52,7 +52,7 @@ or_cond true a = refl
 or_cond false a = refl
 
 module _ (k : Key) (a : Attr) (set : option_map (λ s. s.now) k.0 ≡ a.attr_set) (kind : k.1 ≡ a.kind) where
-  key_is : (q : Key) → is_at (key_cmp k) q ≡ is_key_of q a
+  key_is : (q : Key) → is_at (attr_key_cmp k) q ≡ is_key_of q a
   key_is q =
       let other : Option (List ℕ) = option_map (λ s. s.now) q.0 in
       let sets : is_eq (option_cmp (λ a b. slice_cmp nat_cmp a.now b.now) k.0 q.0) ≡ same_set other a.attr_set =
@@ -67,16 +67,16 @@ module _ (k : Key) (a : Attr) (set : option_map (λ s. s.now) k.0 ≡ a.attr_set
       ∙ ap (λ z. list_any (λ b. same_set a.attr_set b.attr_set && int_eq z b.kind) others) kind
 
   -- whether the key is new
-  pub apart_keys : (seen : BTreeSet Key) (others : List Attr) (added : Bool) → added ≡ not (contains key_cmp seen k)
-      → AreKeysOf seen others → added ≡ not (list_any (alike a) others)
+  pub apart_keys : (seen : BTreeSet Key) (others : List Attr) (added : Bool) → added ≡ not (contains attr_key_cmp seen k)
+      → AreAttrKeys seen others → added ≡ not (list_any (alike a) others)
   apart_keys seen others added is keys = is ∙ ap not (keys k ∙ key_alike others)
 
   -- and one more
   pub more_keys : (old new : BTreeSet Key) (others : List Attr)
-      → ((q : Key) → contains key_cmp new q ≡ cond (is_at (key_cmp k) q) true (contains key_cmp old q))
-      → AreKeysOf old others → AreKeysOf new (a ∷ others)
+      → ((q : Key) → contains attr_key_cmp new q ≡ cond (is_at (attr_key_cmp k) q) true (contains attr_key_cmp old q))
+      → AreAttrKeys old others → AreAttrKeys new (a ∷ others)
   more_keys old new others updates keys q =
-      updates q ∙ ap (λ b. cond b true (contains key_cmp old q)) (key_is q) ∙ or_cond (is_key_of q a) (contains key_cmp old q)
+      updates q ∙ ap (λ b. cond b true (contains attr_key_cmp old q)) (key_is q) ∙ or_cond (is_key_of q a) (contains attr_key_cmp old q)
       ∙ ap (λ b. is_key_of q a || b) (keys q)
 
 -- ---- from the last attribute on

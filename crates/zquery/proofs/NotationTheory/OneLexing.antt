@@ -2,7 +2,7 @@
 use Rattle.std.proofs.Common.{◌≡◌, refl, sym, ◌∙◌, ap, subst, ℕ, ◌+◌, List, [], ◌∷◌, ◌++◌, Bool, true, false, not, ◌==◌, ◌||◌, ◌⊎◌, inl, inr, map, length, if◌then◌else◌, append_assoc, append-nil, arith}
 use Rattle.std.proofs.lemmas.Bool.{true≢false}
 use Rattle.zquery.specs.declared.notation.token.Token.{Token}
-use Rattle.zquery.specs.Notation.Tokens.{is_white, AllAre, piece, ArePieces, spelled, IsQuoted, StaysOpen, Ends, IsWord, IsWritten, IsNext, TokensThen, AllWhite, OpensAt, AreTokens, IsOpenAt}
+use Rattle.zquery.specs.Notation.Tokens.{is_white, AllAre, piece, ArePieces, spelled, IsQuoted, IsUnclosed, IsTokenEnd, IsUnquoted, IsTokenText, IsNextToken, TokensThen, AllWhite, IsOpenQuote, AreTokens, IsOpenAt}
 
 head-is : {X : Type 0} (x y : X) (xs ys : List X) → x ∷ xs ≡ y ∷ ys → x ≡ y
 head-is x y xs ys h = cc
@@ -15,15 +15,15 @@ not-itself true h = true≢false h
 not-itself false h = true≢false (sym h)
 
 -- the octets are none, or begin with one of the other kind
-abbrev Stops : Bool → List ℕ → Type 0
-Stops v [] = Unit {0}
-Stops v (b ∷ bs) = is_white b ≡ not v
+abbrev IsRunEnd : Bool → List ℕ → Type 0
+IsRunEnd v [] = Unit {0}
+IsRunEnd v (b ∷ bs) = is_white b ≡ not v
 
 clash-kind : (v : Bool) (b c : ℕ) → b ≡ c → is_white b ≡ not v → is_white c ≡ v → ⊥
 clash-kind v b c e g h = not-itself v (sym h ∙ ap is_white (sym e) ∙ g)
 
 -- octets of one kind, and those behind them, can be split in one way
-split-kind : (v : Bool) (xs ys r s : List ℕ) → AllAre is_white v xs → AllAre is_white v ys → Stops v r → Stops v s → xs ++ r ≡ ys ++ s → (xs ≡ ys) × (r ≡ s)
+split-kind : (v : Bool) (xs ys r s : List ℕ) → AllAre is_white v xs → AllAre is_white v ys → IsRunEnd v r → IsRunEnd v s → xs ++ r ≡ ys ++ s → (xs ≡ ys) × (r ≡ s)
 split-kind v [] [] r s h k f g e = (refl, e)
 split-kind v [] (y ∷ ys) [] s h k f g e = absurd (Prim.cc e)
 split-kind v [] (y ∷ ys) (b ∷ r) s h k f g e = absurd (clash-kind v b y (head-is b y r (ys ++ s) e) f k.0)
@@ -98,17 +98,17 @@ white-quote = refl
 closing : (text lead after : List ℕ) (w : IsQuoted text lead) → lead ++ after ≡ 34 ∷ (spelled w.pieces ++ 34 ∷ after)
 closing text lead after w = ap (λ (z : List ℕ). z ++ after) w.whole ∙ ap (λ (z : List ℕ). 34 ∷ z) (append_assoc (spelled w.pieces) (34 ∷ []) after)
 
-word-front : (text after : List ℕ) → IsWord text → (b : ℕ) × ((bs : List ℕ) × (text ++ after ≡ b ∷ bs) × ((b == 34) ≡ false) × (is_white b ≡ false))
+word-front : (text after : List ℕ) → IsUnquoted text → (b : ℕ) × ((bs : List ℕ) × (text ++ after ≡ b ∷ bs) × ((b == 34) ≡ false) × (is_white b ≡ false))
 word-front [] after h = absurd h
 word-front (b ∷ bs) after h = (b, (bs ++ after, refl, h.0, h.1.0))
 
-quote-word : (text after bs : List ℕ) → IsWord text → text ++ after ≡ 34 ∷ bs → ⊥
+quote-word : (text after bs : List ℕ) → IsUnquoted text → text ++ after ≡ 34 ∷ bs → ⊥
 quote-word text after bs h e =
     let f = word-front text after h in
     let same : f.0 ≡ 34 = head-is f.0 34 f.1.0 bs (sym f.1.1 ∙ e) in
     true≢false (sym (ap (λ (c : ℕ). c == 34) same) ∙ f.1.2)
 
-black : (q : Bool) (text lead after : List ℕ) → IsWritten q text lead after → (b : ℕ) × ((bs : List ℕ) × (lead ++ after ≡ b ∷ bs) × (is_white b ≡ false))
+black : (q : Bool) (text lead after : List ℕ) → IsTokenText q text lead after → (b : ℕ) × ((bs : List ℕ) × (lead ++ after ≡ b ∷ bs) × (is_white b ≡ false))
 black true text lead after w = (34, (spelled w.pieces ++ 34 ∷ after, closing text lead after w, white-quote))
 black false text lead after w =
     let f = word-front text after w.1 in
@@ -120,15 +120,15 @@ record SameToken (q q' : Bool) (text text' lead lead' after after' : List ℕ) :
   leads : lead ≡ lead'
   rests : after ≡ after'
 
-ends-stop : (after : List ℕ) → Ends after → Stops false after
+ends-stop : (after : List ℕ) → IsTokenEnd after → IsRunEnd false after
 ends-stop [] h = tt
 ends-stop (b ∷ bs) h = h
 
-word-all : (text : List ℕ) → IsWord text → AllAre is_white false text
+word-all : (text : List ℕ) → IsUnquoted text → AllAre is_white false text
 word-all [] h = absurd h
 word-all (b ∷ bs) h = h.1
 
-one-written : (q q' : Bool) (text text' lead lead' after after' : List ℕ) → IsWritten q text lead after → IsWritten q' text' lead' after' → lead ++ after ≡ lead' ++ after' → SameToken q q' text text' lead lead' after after'
+one-written : (q q' : Bool) (text text' lead lead' after after' : List ℕ) → IsTokenText q text lead after → IsTokenText q' text' lead' after' → lead ++ after ≡ lead' ++ after' → SameToken q q' text text' lead lead' after after'
 one-written true true text text' lead lead' after after' w v e =
     let inside = tail-is 34 34 (spelled w.pieces ++ 34 ∷ after) (spelled v.pieces ++ 34 ∷ after') (sym (closing text lead after w) ∙ e ∙ closing text' lead' after' v) in
     let same = one-quoting w.pieces v.pieces after after' w.lawful v.lawful inside in
@@ -147,10 +147,10 @@ one-written false false text text' lead lead' after after' w v e =
     (ap (λ (z : List ℕ). z ++ after) (sym w.0) ∙ e ∙ ap (λ (z : List ℕ). z ++ after') v.0) in
     record { quotes = refl; texts = same.0; leads = w.0 ∙ same.0 ∙ sym v.0; rests = same.1 }
 
-stops-black : (r : List ℕ) (b : ℕ) (bs : List ℕ) → r ≡ b ∷ bs → is_white b ≡ false → Stops true r
-stops-black r b bs e h = subst (λ (z : List ℕ). Stops true z) (sym e) h
+stops-black : (r : List ℕ) (b : ℕ) (bs : List ℕ) → r ≡ b ∷ bs → is_white b ≡ false → IsRunEnd true r
+stops-black r b bs e h = subst (λ (z : List ℕ). IsRunEnd true z) (sym e) h
 
-next-stops : (t : Token) (at : ℕ) (xs gap lead after : List ℕ) → IsNext t at xs gap lead after → Stops true (lead ++ after)
+next-stops : (t : Token) (at : ℕ) (xs gap lead after : List ℕ) → IsNextToken t at xs gap lead after → IsRunEnd true (lead ++ after)
 next-stops t at xs gap lead after n = let f = black t.quoted t.text lead after n.written in stops-black (lead ++ after) f.0 f.1.0 f.1.1 f.1.2
 
 record SameNext (t u : Token) (gap gap' lead lead' after after' : List ℕ) : Type 0 where
@@ -162,7 +162,7 @@ record SameNext (t u : Token) (gap gap' lead lead' after after' : List ℕ) : Ty
 same-token : (t u : Token) → t.at ≡ u.at → t.quoted ≡ u.quoted → t.text ≡ u.text → t ≡ u
 same-token t u a q x = ap (λ (n : ℕ). record t { at = n }) a ∙ ap (λ (b : Bool). record u { quoted = b; text = t.text }) q ∙ ap (λ (z : List ℕ). record u { text = z }) x
 
-one-next : (t u : Token) (at : ℕ) (xs gap gap' lead lead' after after' : List ℕ) → IsNext t at xs gap lead after → IsNext u at xs gap' lead' after' → SameNext t u gap gap' lead lead' after after'
+one-next : (t u : Token) (at : ℕ) (xs gap gap' lead lead' after after' : List ℕ) → IsNextToken t at xs gap lead after → IsNextToken u at xs gap' lead' after' → SameNext t u gap gap' lead lead' after after'
 one-next t u at xs gap gap' lead lead' after after' n m =
     let cut = split-kind true gap gap' (lead ++ after) (lead' ++ after') n.white m.white (next-stops t at xs gap lead after n) (next-stops u at xs gap' lead' after' m) (sym n.whole ∙ m.whole) in
     let same = one-written t.quoted u.quoted t.text u.text lead lead' after after' n.written m.written cut.1 in
@@ -183,37 +183,37 @@ not-white xs gap r b bs e f h w =
     let all : AllAre is_white true (b ∷ bs) = all-behind gap (b ∷ bs) (subst (λ (z : List ℕ). AllAre is_white true z) (e ∙ ap (λ (z : List ℕ). gap ++ z) f) w) in
     true≢false (sym all.0 ∙ h)
 
-pub white-no-token : (at : ℕ) (xs : List ℕ) → AllWhite at xs → (t : Token) (gap lead after : List ℕ) → IsNext t at xs gap lead after → ⊥
+pub white-no-token : (at : ℕ) (xs : List ℕ) → AllWhite at xs → (t : Token) (gap lead after : List ℕ) → IsNextToken t at xs gap lead after → ⊥
 white-no-token at xs w t gap lead after n = let f = black t.quoted t.text lead after n.written in not-white xs gap (lead ++ after) f.0 f.1.0 n.whole f.1.1 f.1.2 w
 
-pub white-not-open : (place at : ℕ) (xs : List ℕ) → AllWhite at xs → OpensAt place at xs → ⊥
+pub white-not-open : (place at : ℕ) (xs : List ℕ) → AllWhite at xs → IsOpenQuote place at xs → ⊥
 white-not-open place at xs w o = not-white xs o.gap (34 ∷ o.behind) 34 o.behind o.whole refl white-quote w
 
-closed-open : (xs : List (ℕ × Bool)) (after behind : List ℕ) → ArePieces xs → StaysOpen behind → spelled xs ++ 34 ∷ after ≡ behind → ⊥
+closed-open : (xs : List (ℕ × Bool)) (after behind : List ℕ) → ArePieces xs → IsUnclosed behind → spelled xs ++ 34 ∷ after ≡ behind → ⊥
 closed-open xs after behind h o e = elim o.whole [
   | inl f ↦ closed-not-open xs o.pieces after [] h o.lawful (inl refl) (e ∙ f ∙ sym (append-nil (spelled o.pieces)))
   | inr f ↦ closed-not-open xs o.pieces after (92 ∷ []) h o.lawful (inr refl) (e ∙ f)
 ]
 
-written-open : (q : Bool) (text lead after behind : List ℕ) → IsWritten q text lead after → StaysOpen behind → lead ++ after ≡ 34 ∷ behind → ⊥
+written-open : (q : Bool) (text lead after behind : List ℕ) → IsTokenText q text lead after → IsUnclosed behind → lead ++ after ≡ 34 ∷ behind → ⊥
 written-open true text lead after behind w o e =
     closed-open w.pieces after behind w.lawful o (tail-is 34 34 (spelled w.pieces ++ 34 ∷ after) behind (sym (closing text lead after w) ∙ e))
 written-open false text lead after behind w o e = quote-word text after behind w.1 (ap (λ (z : List ℕ). z ++ after) (sym w.0) ∙ e)
 
-pub open-no-token : (place at : ℕ) (xs : List ℕ) → OpensAt place at xs → (t : Token) (gap lead after : List ℕ) → IsNext t at xs gap lead after → ⊥
+pub open-no-token : (place at : ℕ) (xs : List ℕ) → IsOpenQuote place at xs → (t : Token) (gap lead after : List ℕ) → IsNextToken t at xs gap lead after → ⊥
 open-no-token place at xs o t gap lead after n =
     let cut = split-kind true gap o.gap (lead ++ after) (34 ∷ o.behind) n.white o.white (next-stops t at xs gap lead after n) white-quote (sym n.whole ∙ o.whole) in
     written-open t.quoted t.text lead after o.behind n.written o.stays cut.1
 
-pub one-open : (p q at : ℕ) (xs : List ℕ) → OpensAt p at xs → OpensAt q at xs → p ≡ q
+pub one-open : (p q at : ℕ) (xs : List ℕ) → IsOpenQuote p at xs → IsOpenQuote q at xs → p ≡ q
 one-open p q at xs o n =
     let cut = split-kind true o.gap n.gap (34 ∷ o.behind) (34 ∷ n.behind) o.white n.white white-quote white-quote (sym o.whole ∙ n.whole) in
     o.is ∙ ap (λ (z : List ℕ). at + length z) cut.0 ∙ sym n.is
 
 -- Two readings have the same tokens and the same end.
 module _ (A B : ℕ → List ℕ → Type 0) (C : Type 0)
-    (no_a : (at : ℕ) (xs : List ℕ) → A at xs → (t : Token) (gap lead after : List ℕ) → IsNext t at xs gap lead after → ⊥)
-    (no_b : (at : ℕ) (xs : List ℕ) → B at xs → (t : Token) (gap lead after : List ℕ) → IsNext t at xs gap lead after → ⊥)
+    (no_a : (at : ℕ) (xs : List ℕ) → A at xs → (t : Token) (gap lead after : List ℕ) → IsNextToken t at xs gap lead after → ⊥)
+    (no_b : (at : ℕ) (xs : List ℕ) → B at xs → (t : Token) (gap lead after : List ℕ) → IsNextToken t at xs gap lead after → ⊥)
     (ends : (at : ℕ) (xs : List ℕ) → A at xs → B at xs → C) where
   both : (ts us : List Token) (at : ℕ) (xs : List ℕ) → TokensThen A ts at xs → TokensThen B us at xs → (ts ≡ us) × C
   both [] [] at xs a b = (refl, ends at xs a b)
@@ -231,7 +231,7 @@ pub one-list : (text : List ℕ) (ts us : List Token) → AreTokens ts text → 
 one-list text ts us a b = (both AllWhite AllWhite (Unit {0}) white-no-token white-no-token (λ at xs w v. tt) ts us 0 text a b).0
 
 pub tokens-or-open : (text : List ℕ) (ts : List Token) (place : ℕ) → AreTokens ts text → IsOpenAt place text → ⊥
-tokens-or-open text ts place a o = (both AllWhite (OpensAt place) ⊥ white-no-token (open-no-token place) (white-not-open place) ts o.0 0 text a o.1).1
+tokens-or-open text ts place a o = (both AllWhite (IsOpenQuote place) ⊥ white-no-token (open-no-token place) (white-not-open place) ts o.0 0 text a o.1).1
 
 pub one-open-quote : (text : List ℕ) (p q : ℕ) → IsOpenAt p text → IsOpenAt q text → p ≡ q
-one-open-quote text p q a b = (both (OpensAt p) (OpensAt q) (p ≡ q) (open-no-token p) (open-no-token q) (one-open p q) a.0 b.0 0 text a.1 b.1).1
+one-open-quote text p q a b = (both (IsOpenQuote p) (IsOpenQuote q) (p ≡ q) (open-no-token p) (open-no-token q) (one-open p q) a.0 b.0 0 text a.1 b.1).1

@@ -11,7 +11,7 @@ use Rattle.std.proofs.lemmas.Bool.{and_parts, and_from, cond-false, true≢false
 use Rattle.std.proofs.lemmas.Int.{ints}
 use Rattle.std.proofs.Math.Seq.{take-append_seam, drop-append-add}
 use Rattle.std.proofs.lemmas.Fmt.{decimal_is_IsNumeral}
-use Rattle.zquery.specs.Notation.Numbers.{is_numeral, number_of, integer_of, has_minus, positive, negative}
+use Rattle.zquery.specs.Notation.Numbers.{is_numeral, number_of_text, integer_of, has_minus, positive, negative}
 use Rattle.zquery.specs.Notation.Values.{is_equals, most, pair_of, numbers_of}
 use Rattle.zquery.proofs.NotationTheory.NumberLemmas.{own, some-number}
 
@@ -23,7 +23,7 @@ numeral-from : (ds : List ℕ) → list_all is_ascii_digit ds ≡ true → 0 < l
 numeral-from [] h k = absurd (omega arith)
 numeral-from (d ∷ ds) h k = and_from _ _ (search rules) h
 
-pub number-decimal : (max n : ℕ) → n < 2 ^ 64 → n ≤ max → number_of max (decimal n) ≡ Some n
+pub number-decimal : (max n : ℕ) → n < 2 ^ 64 → n ≤ max → number_of_text max (decimal n) ≡ Some n
 number-decimal max n h l =
     let d = decimal-digits n h in
     some-number max (decimal n) (numeral-from (decimal n) d.0 d.1) (omega (arith, d.2)) ∙ ap (λ (k : ℕ). Some k) d.2
@@ -60,7 +60,7 @@ numbers-decimal a b h k =
     let at : position_or_len is_equals (decimal a ++ 61 ∷ decimal b) ≡ length (decimal a) = digit-no-equals (decimal a) (decimal b) d.0 in
     let front : before_first is_equals (decimal a ++ 61 ∷ decimal b) ≡ decimal a = ap (λ (n : ℕ). take n (decimal a ++ 61 ∷ decimal b)) at ∙ take-append_seam (decimal a) (61 ∷ decimal b) in
     let back : after_first is_equals (decimal a ++ 61 ∷ decimal b) ≡ decimal b = ap (λ (n : ℕ). drop (n + 1) (decimal a ++ 61 ∷ decimal b)) at ∙ drop-append-add (decimal a) (61 ∷ decimal b) 1 in
-    ap (λ (xs : List ℕ). pair_of (number_of most xs) (number_of most (after_first is_equals (decimal a ++ 61 ∷ decimal b)))) front
-    ∙ ap (λ (xs : List ℕ). pair_of (number_of most (decimal a)) (number_of most xs)) back
-    ∙ ap (λ (o : Option ℕ). pair_of o (number_of most (decimal b))) (number-decimal most a (omega arith) h)
+    ap (λ (xs : List ℕ). pair_of (number_of_text most xs) (number_of_text most (after_first is_equals (decimal a ++ 61 ∷ decimal b)))) front
+    ∙ ap (λ (xs : List ℕ). pair_of (number_of_text most (decimal a)) (number_of_text most xs)) back
+    ∙ ap (λ (o : Option ℕ). pair_of o (number_of_text most (decimal b))) (number-decimal most a (omega arith) h)
     ∙ ap (λ (o : Option ℕ). pair_of (Some a) o) (number-decimal most b (omega arith) k)

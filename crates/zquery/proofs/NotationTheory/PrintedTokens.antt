@@ -2,14 +2,14 @@
 use Rattle.std.proofs.Common.{◌≡◌, refl, sym, ◌∙◌, ap, subst, ℕ, ◌+◌, List, [], ◌∷◌, ◌++◌, Bool, true, false, ◌==◌, ◌||◌, ◌⊎◌, inl, inr, map, length, arith, append_assoc, append-nil, length-append}
 use Rattle.std.specs.List.{flat_map}
 use Rattle.zquery.specs.declared.notation.token.Token.{Token}
-use Rattle.zquery.specs.Notation.Tokens.{is_white, ArePieces, spelled, IsQuoted, IsWord, IsWritten, TokensThen, AllWhite, AreTokens}
+use Rattle.zquery.specs.Notation.Tokens.{is_white, ArePieces, spelled, IsQuoted, IsUnquoted, IsTokenText, TokensThen, AllWhite, AreTokens}
 use Rattle.zquery.specs.Notation.Printing.{escaped, in_quotes}
 
 -- from this place on, the text has these tokens, and then those of the octets behind it
-pub record Lexes (at : ℕ) (text : List ℕ) (ts : List Token) : Type 0 where
+pub record HasTokens (at : ℕ) (text : List ℕ) (ts : List Token) : Type 0 where
   pub lexed : (us : List Token) (tail : List ℕ) → TokensThen AllWhite us (at + length text) tail → TokensThen AllWhite (ts ++ us) at (text ++ tail)
 
-pub lex-both : (at : ℕ) (a b : List ℕ) (ts us : List Token) → Lexes at a ts → Lexes (at + length a) b us → Lexes at (a ++ b) (ts ++ us)
+pub lex-both : (at : ℕ) (a b : List ℕ) (ts us : List Token) → HasTokens at a ts → HasTokens (at + length a) b us → HasTokens at (a ++ b) (ts ++ us)
 lex-both at a b ts us f g = record {
   lexed = λ more tail h.
       let place : at + length (a ++ b) ≡ (at + length a) + length b = omega (arith, length-append a b) in
@@ -38,11 +38,11 @@ white-first (u ∷ us) at tail (gap, (lead, (after, n, rest))) =
       ),
     )
 
-pub lex-space : (at : ℕ) → Lexes at (32 ∷ []) []
+pub lex-space : (at : ℕ) → HasTokens at (32 ∷ []) []
 lex-space at = record { lexed = λ us tail h. white-first us at tail h }
 
 -- a token first, and others behind it
-lex-token : (t : Token) (at : ℕ) (lead after : List ℕ) (us : List Token) → t.at ≡ at → IsWritten t.quoted t.text lead after → TokensThen AllWhite us (at + length lead) after → TokensThen AllWhite (t ∷ us) at (lead ++ after)
+lex-token : (t : Token) (at : ℕ) (lead after : List ℕ) (us : List Token) → t.at ≡ at → IsTokenText t.quoted t.text lead after → TokensThen AllWhite us (at + length lead) after → TokensThen AllWhite (t ∷ us) at (lead ++ after)
 lex-token t at lead after us p w h =
     ([], (lead, (after, record { white = tt; place = p ∙ omega arith; written = w; whole = refl }, subst (λ (k : ℕ). TokensThen AllWhite us (k + length lead) after) (omega arith) h)))
 
@@ -53,7 +53,7 @@ abbrev pub quoted_at : ℕ → List ℕ → Token
 quoted_at at text = record { at = at; quoted = true; text = text }
 
 -- a token without quotes, with a space behind it
-pub lex-word : (at : ℕ) (w : List ℕ) → IsWord w → Lexes at (w ++ 32 ∷ []) (word_at at w ∷ [])
+pub lex-word : (at : ℕ) (w : List ℕ) → IsUnquoted w → HasTokens at (w ++ 32 ∷ []) (word_at at w ∷ [])
 lex-word at w h = record {
   lexed = λ us tail f.
       let place : at + length (w ++ 32 ∷ []) ≡ (at + length w) + 1 = omega (arith, length-append w (32 ∷ [])) in
@@ -93,11 +93,11 @@ quoted-is text = record {
   whole = ap (λ (z : List ℕ). 34 ∷ (z ++ 34 ∷ [])) (spelled-escapes text);
 }
 
-pub lex-quoted : (at : ℕ) (text : List ℕ) → Lexes at (in_quotes text) (quoted_at at text ∷ [])
+pub lex-quoted : (at : ℕ) (text : List ℕ) → HasTokens at (in_quotes text) (quoted_at at text ∷ [])
 lex-quoted at text = record { lexed = λ us tail f. lex-token (quoted_at at text) at (in_quotes text) tail us refl (quoted-is text) f }
 
 -- the whole text
-pub lex-whole : (text : List ℕ) (ts : List Token) → Lexes 0 text ts → AreTokens ts text
+pub lex-whole : (text : List ℕ) (ts : List Token) → HasTokens 0 text ts → AreTokens ts text
 lex-whole text ts l =
     subst (λ (z : List ℕ). TokensThen AllWhite ts 0 z) (append-nil text)
     (subst (λ (z : List Token). TokensThen AllWhite z 0 (text ++ [])) (append-nil ts) (l.lexed [] [] tt))

@@ -11,8 +11,8 @@ use Rattle.zber.specs.Dotted.{numeral, dotted, behind}
 use Rattle.zber.specs.Oids.{IsOid}
 use Rattle.zber.proofs.DottedReading.{dotted_plain, dotted_cons, others}
 use Rattle.zber.proofs.NumeralLemmas.{numeral_is}
-use Rattle.zquery.specs.Notation.Tokens.{is_white, AllAre, IsWord}
-use Rattle.zquery.specs.Notation.Sets.{bib1, is_bib1, oid_of, set_of}
+use Rattle.zquery.specs.Notation.Tokens.{is_white, AllAre, IsUnquoted}
+use Rattle.zquery.specs.Notation.Sets.{bib1, is_bib1, oid_of_text, set_of}
 use Rattle.zquery.specs.Notation.Values.{is_equals, has_equals, most}
 use Rattle.zquery.proofs.NotationTheory.PrintedNumbers.{decimal-digits}
 use Rattle.zquery.proofs.NotationTheory.SetLemmas.{oid-found, oid-named}
@@ -34,7 +34,7 @@ all-black : (bs : List ℕ) → AllAbove bs → AllAre is_white false bs
 all-black [] h = tt
 all-black (b ∷ bs) h = (black-above b h.0, all-black bs h.1)
 
-pub word-above : (bs : List ℕ) → 0 < length bs → AllAbove bs → IsWord bs
+pub word-above : (bs : List ℕ) → 0 < length bs → AllAbove bs → IsUnquoted bs
 word-above [] s h = absurd (omega arith)
 word-above (b ∷ bs) s h = (ne_eqb b 34 (λ e. omega (arith, h.0)), all-black (b ∷ bs) h)
 
@@ -43,7 +43,7 @@ above-of [] h = tt
 above-of (b ∷ bs) h = let parts = and_parts (nat_lt 34 b) (list_all (λ b. nat_lt 34 b) bs) h in (ltb-true 34 b parts.0, above-of bs parts.1)
 
 -- a token without quotes, given octet by octet
-pub word-of : (w : List ℕ) → 0 < length w → list_all (λ b. nat_lt 34 b) w ≡ true → IsWord w
+pub word-of : (w : List ℕ) → 0 < length w → list_all (λ b. nat_lt 34 b) w ≡ true → IsUnquoted w
 word-of w s h = word-above w s (above-of w h)
 
 pub above-append : (xs ys : List ℕ) → AllAbove xs → AllAbove ys → AllAbove (xs ++ ys)
@@ -57,7 +57,7 @@ above-digits (d ∷ ds) h =
     (omega (arith, leb-true 48 d (and_parts _ _ parts.0).0), above-digits ds parts.1)
 
 -- the numbers of an attribute
-pub numbers-word : (m n : ℕ) → m ≤ most → n ≤ most → IsWord (decimal m ++ 61 ∷ decimal n)
+pub numbers-word : (m n : ℕ) → m ≤ most → n ≤ most → IsUnquoted (decimal m ++ 61 ∷ decimal n)
 numbers-word m n h k =
     let a = decimal-digits m (omega arith) in
     let b = decimal-digits n (omega arith) in
@@ -98,7 +98,7 @@ some-dotted : (ns : List ℕ) → IsOid ns → 0 < length (dotted ns)
 some-dotted [] h = absurd h.root
 some-dotted (n ∷ ns) h = omega (arith, (numeral_is n).some, ap length (dotted_cons n ns), length-append (numeral n) (behind (others ns)))
 
-pub dotted-word : (ns : List ℕ) → IsOid ns → IsWord (dotted ns)
+pub dotted-word : (ns : List ℕ) → IsOid ns → IsUnquoted (dotted ns)
 dotted-word ns h = word-above (dotted ns) (some-dotted ns h) (above-dotted (dotted ns) (dotted_plain ns))
 
 lower-low : (x : ℕ) → x ≤ 57 → to_ascii_lowercase x ≤ 57
@@ -118,13 +118,13 @@ dotted-set ns h = cond-false _ _ _ (not-bib1 (dotted ns) (some-dotted ns h) (dot
 some-is : (x y : List ℕ) → Some x ≡ Some y → x ≡ y
 some-is x y h = cc
 
-named-by : (text set : List ℕ) (b : Bool) → is_bib1 text ≡ b → (if b then Some bib1 else oid_of text) ≡ Some set → ((is_bib1 text ≡ true) × (set ≡ bib1)) ⊎ ((text ≡ dotted set) × IsOid set)
+named-by : (text set : List ℕ) (b : Bool) → is_bib1 text ≡ b → (if b then Some bib1 else oid_of_text text) ≡ Some set → ((is_bib1 text ≡ true) × (set ≡ bib1)) ⊎ ((text ≡ dotted set) × IsOid set)
 named-by text set true e h = let same : bib1 ≡ set = some-is bib1 set h in inl (e, sym same)
 named-by text set false e h = inr (oid-named text set h)
 
-pub set-names : SetNames
+pub set-is_own_set : SetNames
 unfolding set_of
-set-names text set = (
+set-is_own_set text set = (
   (λ h. named-by text set (is_bib1 text) refl h),
   (λ h. elim h [
     | inl p ↦ cond-true _ _ _ p.0 ∙ ap (λ (s : List ℕ). Some s) (sym p.1)

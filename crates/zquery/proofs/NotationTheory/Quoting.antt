@@ -6,7 +6,7 @@ use Rattle.std.proofs.lemmas.Grind.{flat_map-append}
 use Rattle.zquery.specs.Notation.Tokens.{piece, ArePieces, spelled}
 
 -- the octets are pieces, and then what is left
-pub record Quotes (octets text left : List ℕ) : Type 0 where
+pub record QuotedPieces (octets text left : List ℕ) : Type 0 where
   pub pieces : List (ℕ × Bool)
   pub lawful : ArePieces pieces
   pub text_is : text ≡ map (λ x. x.0) pieces
@@ -16,7 +16,7 @@ pieces-append : (xs : List (ℕ × Bool)) (x : ℕ × Bool) → ArePieces xs →
 pieces-append [] x h f = (f, tt)
 pieces-append (y ∷ xs) x h f = (h.0, pieces-append xs x h.1 f)
 
-one-more : (octets text left after : List ℕ) (x : ℕ × Bool) (text' : List ℕ) → Quotes octets text left → left ≡ piece x ++ after → ((x.1 ≡ true) ⊎ (((x.0 == 34) || (x.0 == 92)) ≡ false)) → text' ≡ text ++ x.0 ∷ [] → Quotes octets text' after
+one-more : (octets text left after : List ℕ) (x : ℕ × Bool) (text' : List ℕ) → QuotedPieces octets text left → left ≡ piece x ++ after → ((x.1 ≡ true) ⊎ (((x.0 == 34) || (x.0 == 92)) ≡ false)) → text' ≡ text ++ x.0 ∷ [] → QuotedPieces octets text' after
 one-more octets text left after x text' q e f t = record {
   pieces = q.pieces ++ x ∷ [];
   lawful = pieces-append q.pieces x q.lawful f;
@@ -25,10 +25,10 @@ one-more octets text left after x text' q e f t = record {
       ∙ ap (λ (z : List ℕ). z ++ after) (ap (λ (z : List ℕ). spelled q.pieces ++ z) (sym (append-nil (piece x))) ∙ sym (flat_map-append piece q.pieces (x ∷ [])));
 }
 
-pub quotes-escaped : (octets text left after : List ℕ) (c : ℕ) (text' : List ℕ) → Quotes octets text left → left ≡ 92 ∷ c ∷ after → text' ≡ text ++ c ∷ [] → Quotes octets text' after
+pub quotes-escaped : (octets text left after : List ℕ) (c : ℕ) (text' : List ℕ) → QuotedPieces octets text left → left ≡ 92 ∷ c ∷ after → text' ≡ text ++ c ∷ [] → QuotedPieces octets text' after
 quotes-escaped octets text left after c text' q e t = one-more octets text left after (c, true) text' q e (inl refl) t
 
-pub quotes-plain : (octets text left after : List ℕ) (b : ℕ) (text' : List ℕ) → Quotes octets text left → left ≡ b ∷ after → ((b == 34) || (b == 92)) ≡ false → text' ≡ text ++ b ∷ [] → Quotes octets text' after
+pub quotes-plain : (octets text left after : List ℕ) (b : ℕ) (text' : List ℕ) → QuotedPieces octets text left → left ≡ b ∷ after → ((b == 34) || (b == 92)) ≡ false → text' ≡ text ++ b ∷ [] → QuotedPieces octets text' after
 quotes-plain octets text left after b text' q e f t = one-more octets text left after (b, false) text' q e (inr f) t
 
 not-true : (v : Bool) → (v ≡ true → ⊥) → v ≡ false

@@ -11,12 +11,12 @@ use Rattle.zber.specs.declared.oid.OidError.{OidError}
 use Rattle.zber.specs.declared.oid.OidError.TheVariants.{OidText, OidArc, OidTooShort, OidFirst, Memory}
 use Rattle.zber.specs.Dotted.{numeral, dotted}
 use Rattle.zber.specs.Oids.{IsOid, HasRoot, is_oid}
-use Rattle.zber.specs.OidAnswers.{FromDotted, HasNoRoot}
+use Rattle.zber.specs.OidAnswers.{DottedResult, HasNoRoot}
 use Rattle.zber.proofs.DottedLemmas.{printed}
 use Rattle.zber.proofs.DottedReading.{dotted_apart, IsPlain, plain_digits}
 use Rattle.zber.proofs.NumeralLemmas.{numeral_is}
 use Rattle.zber.proofs.OidTest.{is_oid_pass, is_oid_from_pass}
-use Rattle.zquery.specs.Notation.Sets.{is_dot, arcs_in, oid_of}
+use Rattle.zquery.specs.Notation.Sets.{is_dot, dotted_numbers, oid_of_text}
 
 abbrev IsSmall : ℕ → Type 0
 IsSmall n = n < 2 ^ 32
@@ -50,17 +50,17 @@ values : (ns : List ℕ) → All (λ n. n < 2 ^ 32) ns → map (digits_value 10)
 values [] h = refl
 values (n ∷ ns) h = ap (λ (m : ℕ). m ∷ map (digits_value 10) (map numeral ns)) (value-numeral n (All-head IsSmall n ns h)) ∙ ap (λ (ms : List ℕ). n ∷ ms) (values ns (All-tail IsSmall n ns h))
 
-arcs-back : (ns : List ℕ) → IsOid ns → arcs_in (dotted ns) ≡ ns
+arcs-back : (ns : List ℕ) → IsOid ns → dotted_numbers (dotted ns) ≡ ns
 arcs-back [] h = absurd h.root
 arcs-back (n ∷ ns) h = ap (map (digits_value 10)) (pieces ns (numeral n) (plain-numeral n)) ∙ values (n ∷ ns) h.fits
 
 -- what a text is of
-pub oid-found : (text o : List ℕ) → text ≡ dotted o → IsOid o → oid_of text ≡ Some o
-unfolding oid_of
+pub oid-found : (text o : List ℕ) → text ≡ dotted o → IsOid o → oid_of_text text ≡ Some o
+unfolding oid_of_text
 oid-found text o e h =
-    let arcs : arcs_in text ≡ o = ap arcs_in e ∙ arcs-back o h in
-    let test : (is_oid (arcs_in text) && bytes_eq (dotted (arcs_in text)) text) ≡ true =
-    and_from _ _ (ap is_oid arcs ∙ is_oid_pass o h) ((bytes_eq-Decides (dotted (arcs_in text)) text).1 (ap dotted arcs ∙ sym e)) in
+    let arcs : dotted_numbers text ≡ o = ap dotted_numbers e ∙ arcs-back o h in
+    let test : (is_oid (dotted_numbers text) && bytes_eq (dotted (dotted_numbers text)) text) ≡ true =
+    and_from _ _ (ap is_oid arcs ∙ is_oid_pass o h) ((bytes_eq-Decides (dotted (dotted_numbers text)) text).1 (ap dotted arcs ∙ sym e)) in
     cond-true _ _ _ test ∙ ap (λ (ns : List ℕ). Some ns) arcs
 
 by-test : (text ns o : List ℕ) (b c : Bool) → is_oid ns ≡ b → bytes_eq (dotted ns) text ≡ c → (if b && c then Some ns else None) ≡ Some o → (text ≡ dotted o) × IsOid o
@@ -70,11 +70,11 @@ by-test text ns o true true g h e =
 by-test text ns o true false g h e = absurd (Prim.cc e)
 by-test text ns o false c g h e = absurd (Prim.cc e)
 
-pub oid-named : (text o : List ℕ) → oid_of text ≡ Some o → (text ≡ dotted o) × IsOid o
-unfolding oid_of
-oid-named text o e = by-test text (arcs_in text) o (is_oid (arcs_in text)) (bytes_eq (dotted (arcs_in text)) text) refl refl e
+pub oid-named : (text o : List ℕ) → oid_of_text text ≡ Some o → (text ≡ dotted o) × IsOid o
+unfolding oid_of_text
+oid-named text o e = by-test text (dotted_numbers text) o (is_oid (dotted_numbers text)) (bytes_eq (dotted (dotted_numbers text)) text) refl refl e
 
-none-when : (text : List ℕ) (r : Option (List ℕ)) → oid_of text ≡ r → ((o : List ℕ) → text ≡ dotted o → IsOid o → ⊥) → r ≡ None
+none-when : (text : List ℕ) (r : Option (List ℕ)) → oid_of_text text ≡ r → ((o : List ℕ) → text ≡ dotted o → IsOid o → ⊥) → r ≡ None
 none-when text None e h = refl
 none-when text (Some o) e h = let n = oid-named text o e in absurd (h o n.0 n.1)
 
@@ -92,9 +92,9 @@ no-root (a ∷ b ∷ ns) h (inl g) = omega (arith, h.0)
 no-root (a ∷ b ∷ ns) h (inr p) = let low : b < 40 = h.1 p.0 in omega (arith, p.1)
 
 -- if reading returns an error, and memory was found, the text is that of no object identifier
-pub no-oid : (text : List ℕ) (e : OidError) → (e ≡ Memory → ⊥) → FromDotted text (Err e) → oid_of text ≡ None
-no-oid text OidText m f = none-when text (oid_of text) refl (λ o e h. f o (some-arc o h) e)
-no-oid text OidArc m (ns, e, any) = none-when text (oid_of text) refl (λ o d h. low-high ns (subst (λ (z : List ℕ). All (λ n. n < 2 ^ 32) z) (dotted_apart o ns (sym d ∙ e)) h.fits) any)
-no-oid text OidTooShort m (n, i) = none-when text (oid_of text) refl (λ o d h. let r : HasRoot (n ∷ []) = subst HasRoot (dotted_apart o (n ∷ []) (sym d ∙ i.0)) h.root in r)
-no-oid text OidFirst m (ns, i, r) = none-when text (oid_of text) refl (λ o d h. no-root ns (subst HasRoot (dotted_apart o ns (sym d ∙ i.0)) h.root) r)
+pub no-oid : (text : List ℕ) (e : OidError) → (e ≡ Memory → ⊥) → DottedResult text (Err e) → oid_of_text text ≡ None
+no-oid text OidText m f = none-when text (oid_of_text text) refl (λ o e h. f o (some-arc o h) e)
+no-oid text OidArc m (ns, e, any) = none-when text (oid_of_text text) refl (λ o d h. low-high ns (subst (λ (z : List ℕ). All (λ n. n < 2 ^ 32) z) (dotted_apart o ns (sym d ∙ e)) h.fits) any)
+no-oid text OidTooShort m (n, i) = none-when text (oid_of_text text) refl (λ o d h. let r : HasRoot (n ∷ []) = subst HasRoot (dotted_apart o (n ∷ []) (sym d ∙ i.0)) h.root in r)
+no-oid text OidFirst m (ns, i, r) = none-when text (oid_of_text text) refl (λ o d h. no-root ns (subst HasRoot (dotted_apart o ns (sym d ∙ i.0)) h.root) r)
 no-oid text Memory m f = absurd (m refl)

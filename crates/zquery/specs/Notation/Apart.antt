@@ -15,13 +15,13 @@ abbrev pub Key : Type 0
 Key = Option (Bor (List ℕ)) × ℤ
 
 -- the order of keys: by set, then by type
-abbrev pub key_cmp : Key → Key → Ordering
-key_cmp x y = ordering_then (option_cmp (λ a b. slice_cmp nat_cmp a.now b.now) x.0 y.0) (int_cmp x.1 y.1)
+abbrev pub attr_key_cmp : Key → Key → Ordering
+attr_key_cmp x y = ordering_then (option_cmp (λ a b. slice_cmp nat_cmp a.now b.now) x.0 y.0) (int_cmp x.1 y.1)
 
 -- the key is the set and type of the attribute
 abbrev pub is_key_of : Key → Attr → Bool
 is_key_of q a = same_set (option_map (λ s. s.now) q.0) a.attr_set && int_eq q.1 a.kind
 
 -- the keys are exactly those of the attributes
-abbrev pub AreKeysOf : BTreeSet Key → List Attr → Type 0
-AreKeysOf keys attrs = (q : Key) → contains key_cmp keys q ≡ list_any (is_key_of q) attrs
+abbrev pub AreAttrKeys : BTreeSet Key → List Attr → Type 0
+AreAttrKeys keys attrs = (q : Key) → contains attr_key_cmp keys q ≡ list_any (is_key_of q) attrs

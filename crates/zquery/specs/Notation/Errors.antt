@@ -4,15 +4,15 @@ use Rattle.zquery.specs.declared.notation.error.PqfErrorKind.{PqfErrorKind}
 use Rattle.zquery.specs.declared.notation.error.PqfErrorKind.TheVariants as kind
 
 -- the variant's name
-abbrev pub kind_word : PqfErrorKind → List ℕ
-kind_word kind.OpenQuote = codes "OpenQuote"
-kind_word kind.Empty = codes "Empty"
-kind_word kind.UnknownWord = codes "UnknownWord"
-kind_word kind.MissingOperand = codes "MissingOperand"
-kind_word kind.BadAttribute = codes "BadAttribute"
-kind_word kind.UnknownSet = codes "UnknownSet"
-kind_word kind.BadTermType = codes "BadTermType"
-kind_word kind.BadNumber = codes "BadNumber"
-kind_word kind.TooDeep = codes "TooDeep"
-kind_word kind.Trailing = codes "Trailing"
-kind_word kind.Memory = codes "Memory"
+abbrev pub pqf_kind_name : PqfErrorKind → List ℕ
+pqf_kind_name kind.OpenQuote = codes "OpenQuote"
+pqf_kind_name kind.Empty = codes "Empty"
+pqf_kind_name kind.UnknownWord = codes "UnknownWord"
+pqf_kind_name kind.MissingOperand = codes "MissingOperand"
+pqf_kind_name kind.BadAttribute = codes "BadAttribute"
+pqf_kind_name kind.UnknownSet = codes "UnknownSet"
+pqf_kind_name kind.BadTermType = codes "BadTermType"
+pqf_kind_name kind.BadNumber = codes "BadNumber"
+pqf_kind_name kind.TooDeep = codes "TooDeep"
+pqf_kind_name kind.Trailing = codes "Trailing"
+pqf_kind_name kind.Memory = codes "Memory"

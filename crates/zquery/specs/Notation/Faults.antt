@@ -12,6 +12,6 @@ abbrev pub missing : ℕ → PqfError
 missing len = record { at = len; kind = kind.MissingOperand }
 
 -- if the result is an error, it is this one, unless no memory was found
-abbrev pub Refuses : {X : Type 0} → Option PqfError → Result X PqfError → Type 0
-Refuses f (Ok x) = Unit {0}
-Refuses f (Err e) = (e ≡ memory) ⊎ (f ≡ Some e)
+abbrev pub IsFaultResult : {X : Type 0} → Option PqfError → Result X PqfError → Type 0
+IsFaultResult f (Ok x) = Unit {0}
+IsFaultResult f (Err e) = (e ≡ memory) ⊎ (f ≡ Some e)

@@ -2,7 +2,7 @@
 use Rattle.std.specs.Prelude.{◌≡◌, ℕ, ◌+◌, pos, List, [], ◌∷◌, ◌++◌, true, false, Option, Some, None, if◌then◌else◌, map}
 use Rattle.std.specs.Str.{bytes_eq}
 use Rattle.zquery.specs.declared.notation.token.Token.{Token}
-use Rattle.zquery.specs.declared.notation.word.Word.TheVariants.{AttrSet, Attribute, Op, NamedSet, TypeOfTerm, Plain}
+use Rattle.zquery.specs.declared.notation.word.TokenKind.TheVariants.{AttrSet, Attribute, Op, NamedSet, TypeOfTerm, Plain}
 use Rattle.zquery_rpn.specs.declared.operator.Operator.{Operator}
 use Rattle.zquery.specs.declared.notation.word.TermKind.{TermKind}
 use Rattle.zquery.specs.declared.notation.word.TermKind.TheVariants.{GeneralTerm}
@@ -10,9 +10,9 @@ use Rattle.zquery_rpn.specs.declared.query.Attr.{Attr}
 use Rattle.zquery_rpn.specs.declared.query.AttrValue.TheVariants.{Number}
 use Rattle.zquery_rpn.specs.declared.query.TermValue.{TermValue}
 use Rattle.zquery_rpn.specs.Trees.{Tree, OfTerm, OfSet, OfSetAttrs, Of, RpnQuery}
-use Rattle.zquery.specs.Notation.Words.{word}
+use Rattle.zquery.specs.Notation.Words.{token_kind}
 use Rattle.zquery.specs.Notation.Sets.{bib1, set_of}
-use Rattle.zquery.specs.Notation.Values.{numbers_of, has_equals, kind_of, value_of}
+use Rattle.zquery.specs.Notation.Values.{numbers_of, has_equals, term_kind_of, value_of}
 use Rattle.zquery.specs.InForce.{in_force}
 
 -- The cases of the grammar, with their tokens: a term; `@set name`; `@attr type=value q`; `@attr set type=value q`;
@@ -26,16 +26,16 @@ pub data Phrase : Type 0 where
   Joined : Token → Phrase → Phrase → Phrase
 
 -- a token with the level on which it is an operand or operator; 0 if it is neither
-pub record Placed : Type 0 where
+pub record PlacedToken : Type 0 where
   pub token : Token
   pub level : ℕ
 
 -- the token on this level
-abbrev pub on : ℕ → Token → Placed
+abbrev pub on : ℕ → Token → PlacedToken
 on n t = record { token = t; level = n }
 
 -- the tokens of a phrase on this level, each with its level
-abbrev pub placed : ℕ → Phrase → List Placed
+abbrev pub placed : ℕ → Phrase → List PlacedToken
 placed n (One t) = on n t ∷ []
 placed n (Named t u) = on n t ∷ on 0 u ∷ []
 placed n (Attributed t u p) = on 0 t ∷ on 0 u ∷ placed n p
@@ -58,22 +58,22 @@ attr set n = record { attr_set = set; kind = pos n.0; value = Number (pos n.1) }
 
 -- The phrase stands for the tree. The query has this set; the attributes above the phrase, outermost first, and the
 -- type of term are given.
-abbrev pub Reads : List ℕ → List Attr → TermKind → Phrase → Tree → Type 0
-Reads own xs k (One t) q =
-    (word t ≡ Plain) × ((v : TermValue) × (value_of k t.text ≡ Some v) × (q ≡ OfTerm (in_force xs) v))
-Reads own xs k (Named t u) q = (word t ≡ NamedSet) × (q ≡ set_tree u.text (in_force xs))
-Reads own xs k (Attributed t u p) q =
-    (word t ≡ Attribute) × (has_equals u.text ≡ true)
-    × ((n : ℕ × ℕ) × (numbers_of u.text ≡ Some n) × Reads own (xs ++ attr None n ∷ []) k p q)
-Reads own xs k (InSet t u w p) q =
-    (word t ≡ Attribute) × (has_equals u.text ≡ false)
+abbrev pub IsPhraseOf : List ℕ → List Attr → TermKind → Phrase → Tree → Type 0
+IsPhraseOf own xs k (One t) q =
+    (token_kind t ≡ Plain) × ((v : TermValue) × (value_of k t.text ≡ Some v) × (q ≡ OfTerm (in_force xs) v))
+IsPhraseOf own xs k (Named t u) q = (token_kind t ≡ NamedSet) × (q ≡ set_tree u.text (in_force xs))
+IsPhraseOf own xs k (Attributed t u p) q =
+    (token_kind t ≡ Attribute) × (has_equals u.text ≡ true)
+    × ((n : ℕ × ℕ) × (numbers_of u.text ≡ Some n) × IsPhraseOf own (xs ++ attr None n ∷ []) k p q)
+IsPhraseOf own xs k (InSet t u w p) q =
+    (token_kind t ≡ Attribute) × (has_equals u.text ≡ false)
     × ((set : List ℕ) × (set_of u.text ≡ Some set)
-    × ((n : ℕ × ℕ) × (numbers_of w.text ≡ Some n) × Reads own (xs ++ attr (kept_set own set) n ∷ []) k p q))
-Reads own xs k (Typed t u p) q =
-    (word t ≡ TypeOfTerm) × ((m : TermKind) × (kind_of u.text ≡ Some m) × Reads own xs m p q)
-Reads own xs k (Joined t p r) q =
-    (o : Operator) × (word t ≡ Op o)
-    × ((a : Tree) × Reads own xs k p a × ((b : Tree) × Reads own xs k r b × (q ≡ Of o a b)))
+    × ((n : ℕ × ℕ) × (numbers_of w.text ≡ Some n) × IsPhraseOf own (xs ++ attr (kept_set own set) n ∷ []) k p q))
+IsPhraseOf own xs k (Typed t u p) q =
+    (token_kind t ≡ TypeOfTerm) × ((m : TermKind) × (term_kind_of u.text ≡ Some m) × IsPhraseOf own xs m p q)
+IsPhraseOf own xs k (Joined t p r) q =
+    (o : Operator) × (token_kind t ≡ Op o)
+    × ((a : Tree) × IsPhraseOf own xs k p a × ((b : Tree) × IsPhraseOf own xs k r b × (q ≡ Of o a b)))
 
 -- a whole query: a phrase, or `@attrset set` and a phrase
 pub data Whole : Type 0 where
@@ -81,21 +81,21 @@ pub data Whole : Type 0 where
   InAttrSet : Token → Token → Phrase → Whole
 
 -- the tokens of a whole query, each with its level
-abbrev pub whole_placed : Whole → List Placed
+abbrev pub whole_placed : Whole → List PlacedToken
 whole_placed (Bare p) = placed 1 p
 whole_placed (InAttrSet t u p) = on 0 t ∷ on 0 u ∷ placed 1 p
 
 -- the whole query has this set and this tree
-abbrev pub ReadsWhole : Whole → List ℕ → Tree → Type 0
-ReadsWhole (Bare p) own q = (own ≡ bib1) × Reads own [] GeneralTerm p q
-ReadsWhole (InAttrSet t u p) own q = (word t ≡ AttrSet) × (set_of u.text ≡ Some own) × Reads own [] GeneralTerm p q
+abbrev pub IsWholeOf : Whole → List ℕ → Tree → Type 0
+IsWholeOf (Bare p) own q = (own ≡ bib1) × IsPhraseOf own [] GeneralTerm p q
+IsWholeOf (InAttrSet t u p) own q = (token_kind t ≡ AttrSet) × (set_of u.text ≡ Some own) × IsPhraseOf own [] GeneralTerm p q
 
 -- the tokens without their levels
-abbrev pub tokens_in : List Placed → List Token
+abbrev pub tokens_in : List PlacedToken → List Token
 tokens_in ps = map (λ p. p.token) ps
 
 -- the tokens stand for the query
 pub record IsQuery (ts : List Token) (q : RpnQuery) : Type 0 where
   pub whole : Whole
-  pub reads : ReadsWhole whole q.attr_set q.root
+  pub reads : IsWholeOf whole q.attr_set q.root
   pub tokens : tokens_in (whole_placed whole) ≡ ts

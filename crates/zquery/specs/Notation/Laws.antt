@@ -10,10 +10,10 @@ use Rattle.zquery.specs.Notation.Sets.{bib1, is_bib1, set_of}
 use Rattle.zquery_rpn.specs.Trees.{RpnQuery, height}
 use Rattle.zquery.specs.Notation.Tokens.{AreTokens, IsOpenAt}
 use Rattle.zquery.specs.Notation.Grammar.{IsQuery}
-use Rattle.zquery.specs.Notation.Table.{refusal}
+use Rattle.zquery.specs.Notation.Table.{tokens_fault}
 use Rattle.zquery.specs.Notation.Fronts.{IsFirstFault, IsBelowLevels}
-use Rattle.zquery.specs.Notation.Texts.{IsText, IsFault}
-use Rattle.zquery.specs.Lawful.{IsLawful}
+use Rattle.zquery.specs.Notation.Texts.{IsText, IsTextFault}
+use Rattle.zquery.specs.Lawful.{IsLawfulQuery}
 use Rattle.zquery.specs.Notation.Printing.{printable, query_text}
 use Rattle.zquery_rpn.specs.Element.Type1.{WritesQuery}
 
@@ -35,27 +35,27 @@ OneQuery = (ts : List Token) (q r : RpnQuery) → IsQuery ts q → IsQuery ts r 
 
 -- tokens that stand for a query of height 32 at most are not refused
 abbrev pub NoneRefused : Type 0
-NoneRefused = (len : ℕ) (ts : List Token) (q : RpnQuery) → IsQuery ts q → height q.root ≤ 32 → refusal len ts ≡ None
+NoneRefused = (len : ℕ) (ts : List Token) (q : RpnQuery) → IsQuery ts q → height q.root ≤ 32 → tokens_fault len ts ≡ None
 
 -- an error is at the first token with which the tokens stop being the beginning of a query, or at the end
 abbrev pub FirstFault : Type 0
-FirstFault = (len : ℕ) (ts : List Token) (e : PqfError) → refusal len ts ≡ Some e → IsFirstFault len ts e
+FirstFault = (len : ℕ) (ts : List Token) (e : PqfError) → tokens_fault len ts ≡ Some e → IsFirstFault len ts e
 
 -- an error is `TooDeep` exactly if only the level of its token is wrong
 abbrev pub TooDeepAlone : Type 0
-TooDeepAlone = (len : ℕ) (ts : List Token) (e : PqfError) → refusal len ts ≡ Some e
+TooDeepAlone = (len : ℕ) (ts : List Token) (e : PqfError) → tokens_fault len ts ≡ Some e
     → (e.kind ≡ kind.TooDeep) ↔ IsBelowLevels ts e
 
 -- A text stands for one query at most and has one error at most. It has none if it stands for a query of height 32 at
 -- most.
-pub record OneAnswer : Type 0 where
+pub record OneQueryOrFault : Type 0 where
   pub one_query : (text : List ℕ) (q r : RpnQuery) → IsText text q → IsText text r → q ≡ r
-  pub one_fault : (text : List ℕ) (e f : PqfError) → IsFault text e → IsFault text f → e ≡ f
-  pub either : (text : List ℕ) (q : RpnQuery) (e : PqfError) → IsText text q → height q.root ≤ 32 → IsFault text e → ⊥
+  pub one_fault : (text : List ℕ) (e f : PqfError) → IsTextFault text e → IsTextFault text f → e ≡ f
+  pub either : (text : List ℕ) (q : RpnQuery) (e : PqfError) → IsText text q → height q.root ≤ 32 → IsTextFault text e → ⊥
 
 -- the text that is printed for a lawful query stands for this query
 abbrev pub PrintedReads : Type 0
-PrintedReads = (q : RpnQuery) → IsLawful q → printable q ≡ true → IsText (query_text q) q
+PrintedReads = (q : RpnQuery) → IsLawfulQuery q → printable q ≡ true → IsText (query_text q) q
 
 -- if a text stands for a query of height 32 at most, the query can be printed
 abbrev pub TextPrintable : Type 0

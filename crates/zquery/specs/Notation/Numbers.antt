@@ -10,8 +10,8 @@ abbrev pub is_numeral : List ℕ → Bool
 is_numeral text = not (length text == 0) && list_all is_ascii_digit text
 
 -- the number that the text writes, if the text is digits and the number is at most `most`
-unfoldable pub number_of : ℕ → List ℕ → Option ℕ
-number_of most text =
+unfoldable pub number_of_text : ℕ → List ℕ → Option ℕ
+number_of_text most text =
     if is_numeral text && nat_le (digits_value 10 text) most then Some (digits_value 10 text) else None
 
 abbrev pub positive : ℕ → ℤ
@@ -28,5 +28,5 @@ has_minus (b ∷ bs) = b == 45
 -- the number that digits write, with or without a minus before them, if it is of 64 bits
 unfoldable pub integer_of : List ℕ → Option ℤ
 integer_of text =
-    if has_minus text then option_map negative (number_of (2 ^ 63) (drop 1 text))
-    else option_map positive (number_of (2 ^ 63 - 1) text)
+    if has_minus text then option_map negative (number_of_text (2 ^ 63) (drop 1 text))
+    else option_map positive (number_of_text (2 ^ 63 - 1) text)

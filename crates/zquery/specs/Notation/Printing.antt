@@ -13,7 +13,7 @@ use Rattle.zquery_rpn.specs.declared.operator.Operator.{Operator}
 use Rattle.zquery_rpn.specs.declared.operator.Operator.TheVariants.{And, Or, Not}
 use Rattle.zquery.specs.InForce.{alike}
 use Rattle.zquery.specs.Notation.Sets.{bib1}
-use Rattle.zquery_rpn.specs.Trees.{Tree, OfTerm, OfSet, OfSetAttrs, Of, Near, RpnQuery, height}
+use Rattle.zquery_rpn.specs.Trees.{Tree, OfTerm, OfSet, OfSetAttrs, Of, OfProx, RpnQuery, height}
 use Rattle.zquery.specs.Notation.Values.{most}
 
 -- an octet in quotes: a quote and a backslash have a backslash before them
@@ -53,7 +53,7 @@ tree_text (OfTerm xs v) = flat_map attr_text xs ++ term_text v
 tree_text (OfSet name) = codes "@set " ++ in_quotes name
 tree_text (OfSetAttrs name xs) = flat_map attr_text xs ++ (codes "@set " ++ in_quotes name)
 tree_text (Of o a b) = operator_text o ++ (tree_text a ++ (codes " " ++ tree_text b))
-tree_text (Near e a b) = []
+tree_text (OfProx e a b) = []
 
 -- `@attrset` and the query's set, unless this is bib-1
 abbrev pub opening_text : List ℕ → List ℕ
@@ -63,22 +63,22 @@ abbrev pub query_text : RpnQuery → List ℕ
 query_text q = opening_text q.attr_set ++ tree_text q.root
 
 -- the number can be the type or the value of an attribute
-abbrev pub in_range : ℤ → Bool
-in_range (pos n) = nat_le n most
-in_range (negsuc n) = false
+abbrev pub is_attr_number : ℤ → Bool
+is_attr_number (pos n) = nat_le n most
+is_attr_number (negsuc n) = false
 
 abbrev pub plain_value : AttrValue → Bool
-plain_value (Number n) = in_range n
+plain_value (Number n) = is_attr_number n
 plain_value (Complex e) = false
 
 -- an attribute's set is the query's own
-abbrev pub names : List ℕ → Option (List ℕ) → Bool
-names own None = false
-names own (Some set) = bytes_eq own set
+abbrev pub is_own_set : List ℕ → Option (List ℕ) → Bool
+is_own_set own None = false
+is_own_set own (Some set) = bytes_eq own set
 
 -- the attribute has a text
 abbrev pub plain_attr : List ℕ → Attr → Bool
-plain_attr own a = not (names own a.attr_set) && (in_range a.kind && plain_value a.value)
+plain_attr own a = not (is_own_set own a.attr_set) && (is_attr_number a.kind && plain_value a.value)
 
 -- each attribute has a text, and no two have the same set and type
 abbrev pub plain_attrs : List ℕ → List Attr → Bool
@@ -96,7 +96,7 @@ plain_tree own (OfSet name) = true
 plain_tree own (OfSetAttrs name []) = false
 plain_tree own (OfSetAttrs name (a ∷ xs)) = plain_attrs own (a ∷ xs)
 plain_tree own (Of o a b) = plain_tree own a && plain_tree own b
-plain_tree own (Near e a b) = false
+plain_tree own (OfProx e a b) = false
 
 -- the query has a text
 abbrev pub printable : RpnQuery → Bool

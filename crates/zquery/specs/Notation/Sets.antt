@@ -19,13 +19,13 @@ abbrev pub is_dot : ℕ → Bool
 is_dot b = b == 46
 
 -- the numbers between dots
-abbrev pub arcs_in : List ℕ → List ℕ
-arcs_in text = map (digits_value 10) (slice_split is_dot text)
+abbrev pub dotted_numbers : List ℕ → List ℕ
+dotted_numbers text = map (digits_value 10) (slice_split is_dot text)
 
 -- the object identifier whose arcs, in decimal with dots between them, are the text
-unfoldable pub oid_of : List ℕ → Option (List ℕ)
-oid_of text = if is_oid (arcs_in text) && bytes_eq (dotted (arcs_in text)) text then Some (arcs_in text) else None
+unfoldable pub oid_of_text : List ℕ → Option (List ℕ)
+oid_of_text text = if is_oid (dotted_numbers text) && bytes_eq (dotted (dotted_numbers text)) text then Some (dotted_numbers text) else None
 
 -- the set of this name
 unfoldable pub set_of : List ℕ → Option (List ℕ)
-set_of text = if is_bib1 text then Some bib1 else oid_of text
+set_of text = if is_bib1 text then Some bib1 else oid_of_text text

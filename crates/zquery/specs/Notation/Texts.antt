@@ -6,14 +6,14 @@ use Rattle.zquery.specs.declared.notation.error.PqfErrorKind.TheVariants as kind
 use Rattle.zquery_rpn.specs.Trees.{RpnQuery}
 use Rattle.zquery.specs.Notation.Tokens.{AreTokens, IsOpenAt}
 use Rattle.zquery.specs.Notation.Grammar.{IsQuery}
-use Rattle.zquery.specs.Notation.Table.{refusal}
+use Rattle.zquery.specs.Notation.Table.{tokens_fault}
 
 -- the text's tokens stand for the query
 abbrev pub IsText : List ℕ → RpnQuery → Type 0
 IsText text q = (ts : List Token) × AreTokens ts text × IsQuery ts q
 
 -- the error is at a quote that no quote closes, or is that of the text's tokens
-abbrev pub IsFault : List ℕ → PqfError → Type 0
-IsFault text e =
+abbrev pub IsTextFault : List ℕ → PqfError → Type 0
+IsTextFault text e =
     ((e.kind ≡ kind.OpenQuote) × IsOpenAt e.at text)
-    ⊎ ((ts : List Token) × AreTokens ts text × (refusal (length text) ts ≡ Some e))
+    ⊎ ((ts : List Token) × AreTokens ts text × (tokens_fault (length text) ts ≡ Some e))

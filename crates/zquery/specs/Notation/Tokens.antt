@@ -33,31 +33,31 @@ pub record IsQuoted (text octets : List ℕ) : Type 0 where
   pub whole : octets ≡ 34 ∷ (spelled pieces ++ 34 ∷ [])
 
 -- these octets come behind a quote, and no quote closes it
-pub record StaysOpen (octets : List ℕ) : Type 0 where
+pub record IsUnclosed (octets : List ℕ) : Type 0 where
   pub pieces : List (ℕ × Bool)
   pub lawful : ArePieces pieces
   pub whole : (octets ≡ spelled pieces) ⊎ (octets ≡ spelled pieces ++ 92 ∷ [])
 
 -- the octets are none, or begin with white space
-abbrev pub Ends : List ℕ → Type 0
-Ends [] = Unit {0}
-Ends (b ∷ bs) = is_white b ≡ true
+abbrev pub IsTokenEnd : List ℕ → Type 0
+IsTokenEnd [] = Unit {0}
+IsTokenEnd (b ∷ bs) = is_white b ≡ true
 
 -- the octets are a token without quotes: one octet or more, no white space, and no quote first
-abbrev pub IsWord : List ℕ → Type 0
-IsWord [] = ⊥
-IsWord (b ∷ bs) = ((b == 34) ≡ false) × AllAre is_white false (b ∷ bs)
+abbrev pub IsUnquoted : List ℕ → Type 0
+IsUnquoted [] = ⊥
+IsUnquoted (b ∷ bs) = ((b == 34) ≡ false) × AllAre is_white false (b ∷ bs)
 
 -- the octets are a token of this text, in quotes or not, and the octets `after` come behind them
-abbrev pub IsWritten : Bool → List ℕ → List ℕ → List ℕ → Type 0
-IsWritten true text octets after = IsQuoted text octets
-IsWritten false text octets after = (octets ≡ text) × IsWord text × Ends after
+abbrev pub IsTokenText : Bool → List ℕ → List ℕ → List ℕ → Type 0
+IsTokenText true text octets after = IsQuoted text octets
+IsTokenText false text octets after = (octets ≡ text) × IsUnquoted text × IsTokenEnd after
 
 -- from the place `at` on, the octets are white space `gap`, this token, of the octets `lead`, and then others
-pub record IsNext (t : Token) (at : ℕ) (octets gap lead after : List ℕ) : Type 0 where
+pub record IsNextToken (t : Token) (at : ℕ) (octets gap lead after : List ℕ) : Type 0 where
   pub white : AllAre is_white true gap
   pub place : t.at ≡ at + length gap
-  pub written : IsWritten t.quoted t.text lead after
+  pub written : IsTokenText t.quoted t.text lead after
   pub whole : octets ≡ gap ++ (lead ++ after)
 
 -- from the place `at` on, the octets have these tokens, and `Rest` holds of the place and the octets behind them
@@ -65,7 +65,7 @@ abbrev pub TokensThen : (ℕ → List ℕ → Type 0) → List Token → ℕ →
 TokensThen Rest [] at octets = Rest at octets
 TokensThen Rest (t ∷ ts) at octets =
     (gap : List ℕ) × ((lead : List ℕ)
-    × ((after : List ℕ) × IsNext t at octets gap lead after
+    × ((after : List ℕ) × IsNextToken t at octets gap lead after
     × TokensThen Rest ts (at + length gap + length lead) after))
 
 -- all octets are white space
@@ -73,13 +73,13 @@ abbrev pub AllWhite : ℕ → List ℕ → Type 0
 AllWhite at octets = AllAre is_white true octets
 
 -- behind white space there is a quote at this place, and no quote closes it
-pub record OpensAt (place at : ℕ) (octets : List ℕ) : Type 0 where
+pub record IsOpenQuote (place at : ℕ) (octets : List ℕ) : Type 0 where
   pub gap : List ℕ
   pub behind : List ℕ
   pub white : AllAre is_white true gap
   pub whole : octets ≡ gap ++ 34 ∷ behind
   pub is : place ≡ at + length gap
-  pub stays : StaysOpen behind
+  pub stays : IsUnclosed behind
 
 -- these are the tokens of the text
 abbrev pub AreTokens : List Token → List ℕ → Type 0
@@ -87,4 +87,4 @@ AreTokens ts text = TokensThen AllWhite ts 0 text
 
 -- at this place of the text there is a quote that no quote closes
 abbrev pub IsOpenAt : ℕ → List ℕ → Type 0
-IsOpenAt place text = (front : List Token) × TokensThen (OpensAt place) front 0 text
+IsOpenAt place text = (front : List Token) × TokensThen (IsOpenQuote place) front 0 text

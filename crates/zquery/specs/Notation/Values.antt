@@ -7,7 +7,7 @@ use Rattle.zquery.specs.declared.notation.word.TermKind.{TermKind}
 use Rattle.zquery.specs.declared.notation.word.TermKind.TheVariants.{GeneralTerm, NumericTerm, TextTerm}
 use Rattle.zquery_rpn.specs.declared.query.TermValue.{TermValue}
 use Rattle.zquery_rpn.specs.declared.query.TermValue.TheVariants.{General, Numeric, Text}
-use Rattle.zquery.specs.Notation.Numbers.{number_of, integer_of}
+use Rattle.zquery.specs.Notation.Numbers.{number_of_text, integer_of}
 
 abbrev pub is_equals : ℕ → Bool
 is_equals b = b == 61
@@ -28,11 +28,11 @@ pair_of None o = None
 
 -- the type and the value of an attribute: the numbers before and behind the first equals sign
 unfoldable pub numbers_of : List ℕ → Option (ℕ × ℕ)
-numbers_of text = pair_of (number_of most (before_first is_equals text)) (number_of most (after_first is_equals text))
+numbers_of text = pair_of (number_of_text most (before_first is_equals text)) (number_of_text most (after_first is_equals text))
 
 -- the type of term of this name
-unfoldable pub kind_of : List ℕ → Option TermKind
-kind_of text =
+unfoldable pub term_kind_of : List ℕ → Option TermKind
+term_kind_of text =
     if bytes_eq text (codes "general") then Some GeneralTerm else
     if bytes_eq text (codes "numeric") then Some NumericTerm else
     if bytes_eq text (codes "string") then Some TextTerm else None

@@ -3,13 +3,13 @@ use Rattle.std.specs.Prelude.{codes, nat_eq, if◌then◌else◌}
 use Rattle.std.specs.Str.{bytes_eq}
 use Rattle.std.specs.List.{starts_with}
 use Rattle.zquery.specs.declared.notation.token.Token.{Token}
-use Rattle.zquery.specs.declared.notation.word.Word.{Word}
-use Rattle.zquery.specs.declared.notation.word.Word.TheVariants.{AttrSet, Attribute, Op, NamedSet, TypeOfTerm, Unknown, Plain}
+use Rattle.zquery.specs.declared.notation.word.TokenKind.{TokenKind}
+use Rattle.zquery.specs.declared.notation.word.TokenKind.TheVariants.{AttrSet, Attribute, Op, NamedSet, TypeOfTerm, Unknown, Plain}
 use Rattle.zquery_rpn.specs.declared.operator.Operator.TheVariants.{And, Or, Not}
 
 -- A token in quotes is a term. Any other that begins with `@` is a keyword of the notation, or unknown.
-unfoldable pub word : Token → Word
-word t =
+unfoldable pub token_kind : Token → TokenKind
+token_kind t =
     if t.quoted then Plain else
     if bytes_eq t.text (codes "@attrset") then AttrSet else
     if bytes_eq t.text (codes "@attr") then Attribute else

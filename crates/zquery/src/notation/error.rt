@@ -1,7 +1,7 @@
 // Why a text is no query, and why a query has no text.
 ghost use Rattle.std.specs.Prelude.{◌≡◌};
 ghost use Rattle.zquery.specs.declared.notation.error.PqfErrorKind.TheVariants as kind;
-ghost use Rattle.zquery.specs.Notation.Errors.{kind_word};
+ghost use Rattle.zquery.specs.Notation.Errors.{pqf_kind_name};
 
 use std::alloc::{AllocError, AllocFailed};
 use thiserror::Error;
@@ -46,8 +46,8 @@ pub enum PqfErrorKind {
 
 impl PqfErrorKind {
     /// Returns the variant's name, for example `OpenQuote`.
-    pub fn word(self) -> &'static str
-        ensures { result.now ≡ kind_word self }
+    pub fn name(self) -> &'static str
+        ensures { result.now ≡ pqf_kind_name self }
     {
         match self {
             PqfErrorKind::OpenQuote => "OpenQuote",

@@ -2,8 +2,8 @@
 ghost use Rattle.std.specs.Prelude.{◌≡◌, ◌∷◌, [], List, Option, Some, None, IfOk, IfErr, IfSome, IfNone, MatchOption, ◌⊎◌};
 ghost use Rattle.zquery.specs.declared.notation.token.Token.{Token};
 ghost use Rattle.zquery.specs.declared.notation.error.PqfErrorKind.TheVariants as kind;
-ghost use Rattle.zquery.specs.Notation.Tokens.{is_white, StaysOpen, AreTokens, IsOpenAt};
-ghost use Rattle.zquery.specs.Notation.Lexing.{Closes, WordFront};
+ghost use Rattle.zquery.specs.Notation.Tokens.{is_white, IsUnclosed, AreTokens, IsOpenAt};
+ghost use Rattle.zquery.specs.Notation.Lexing.{QuotedFront, UnquotedFront};
 ghost use Rattle.zquery.specs.Notation.Faults.{memory};
 
 use crate::notation::error::{PqfError, PqfErrorKind};
@@ -31,8 +31,8 @@ fn split_first(octets: &[u8]) -> Option<(u8, &[u8])>
 /// Parses a text in quotes, from behind its first quote. Returns the text and the octets behind the closing quote, or
 /// `None` if no quote closes it. Returns `AllocError` if no memory is found.
 fn quoted_text(alloc: Global, octets: &[u8]) -> Result<Option<(Vec<u8>, &[u8])>, AllocError>
-    ensures { IfOk result (λ found. MatchOption found (StaysOpen octets.now)
-        (λ x. Closes octets.now x.0.items x.1.now)) }
+    ensures { IfOk result (λ found. MatchOption found (IsUnclosed octets.now)
+        (λ x. QuotedFront octets.now x.0.items x.1.now)) }
 {
     let mut text = Vec::new(alloc);
     let mut left = octets;
@@ -57,7 +57,7 @@ fn quoted_text(alloc: Global, octets: &[u8]) -> Result<Option<(Vec<u8>, &[u8])>,
 /// Parses a token without quotes. Returns the octets before white space, and the others. Returns `AllocError` if no
 /// memory is found.
 fn word_text(alloc: Global, octets: &[u8]) -> Result<(Vec<u8>, &[u8]), AllocError>
-    ensures { IfOk result (λ x. WordFront octets.now x.0.items x.1.now) }
+    ensures { IfOk result (λ x. UnquotedFront octets.now x.0.items x.1.now) }
 {
     let mut text = Vec::new(alloc);
     let mut left = octets;

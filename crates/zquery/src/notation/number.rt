@@ -2,7 +2,7 @@
 ghost use Rattle.std.specs.Prelude.{◌≡◌, ◌≤◌, ◌^◌, drop, true, false, IfSome, IfNone};
 ghost use Rattle.std.specs.Char.{is_ascii_digit};
 ghost use Rattle.std.specs.List.{list_all};
-ghost use Rattle.zquery.specs.Notation.Numbers.{is_numeral, has_minus, number_of, integer_of, negative};
+ghost use Rattle.zquery.specs.Notation.Numbers.{is_numeral, has_minus, number_of_text, integer_of, negative};
 
 fn are_digits(text: &[u8]) -> bool
     ensures { result ≡ list_all is_ascii_digit text.now }
@@ -20,7 +20,7 @@ fn is_numeral(text: &[u8]) -> bool
 /// Parses a text of decimal digits as a number. Returns `None` if the number is above `most`, if the text is empty, or
 /// if it has other octets. It takes no memory.
 pub fn number(text: &[u8], most: u64) -> Option<u64>
-    ensures value { result ≡ number_of most text.now }
+    ensures value { result ≡ number_of_text most text.now }
     ensures small { IfSome result (λ n. n ≤ most) }
 {
     if !is_numeral(text) {

@@ -3,16 +3,16 @@ ghost use Rattle.std.specs.Prelude.{◌≡◌, ℕ, ◌≤◌, length, [], ◌�
 ghost use Rattle.zquery_rpn.specs.declared.query.Attr.{Attr};
 ghost use Rattle.zquery_rpn.specs.declared.query.TermValue.{TermValue};
 ghost use Rattle.zquery.specs.declared.notation.token.Token.{Token};
-ghost use Rattle.zquery.specs.declared.notation.word.Word.TheVariants.{Plain};
+ghost use Rattle.zquery.specs.declared.notation.word.TokenKind.TheVariants.{Plain};
 ghost use Rattle.zquery.specs.Notation.Values.{most, value_of};
 ghost use Rattle.zquery.specs.InForce.{in_force};
 ghost use Rattle.zquery_rpn.specs.Trees.{OfTerm, Of, height};
-ghost use Rattle.zquery_rpn.specs.QueryTrees.{seen};
+ghost use Rattle.zquery_rpn.specs.QueryTrees.{rpn_tree};
 ghost use Rattle.zquery.specs.Notation.Grammar.{attr, set_tree, IsQuery};
-ghost use Rattle.zquery.specs.Notation.Table.{Expected, Operand, walk, fault, below_limit, operand, error_at, refusal};
-ghost use Rattle.zquery.specs.Notation.Faults.{memory, missing, Refuses};
-ghost use Rattle.zquery.specs.Notation.Reading.{Takes, numbers_at, attribute_at, kind_at, own_at, opened_at, NoPrefix, Leads, IsRead};
-ghost use Rattle.zquery.specs.Notation.Texts.{IsText, IsFault};
+ghost use Rattle.zquery.specs.Notation.Table.{Expected, Operand, expected_after, fault_left, below_limit, operand, error_at, tokens_fault};
+ghost use Rattle.zquery.specs.Notation.Faults.{memory, missing, IsFaultResult};
+ghost use Rattle.zquery.specs.Notation.Reading.{IsReadResult, numbers_at, attribute_at, term_kind_at, own_at, query_set_at, NoPrefix, ArePrefixes, IsReadPhrase};
+ghost use Rattle.zquery.specs.Notation.Texts.{IsText, IsTextFault};
 
 use crate::attribute::{put, set_unless_own};
 use crate::notation::cursor::Cursor;
@@ -20,7 +20,7 @@ use crate::notation::error::{PqfError, PqfErrorKind};
 use crate::notation::lexer::tokens;
 use crate::notation::token::Token;
 use crate::notation::value::{bib_1, has_equals, kind, numbers, set_named, value};
-use crate::notation::word::{TermKind, Word, word_of};
+use crate::notation::word::{TermKind, TokenKind, kind_of_token};
 use bytes::Bytes;
 use std::alloc::{AllocError, Global};
 use zber::{Oid, Seq};
@@ -62,7 +62,7 @@ fn attribute_in(
     end: usize,
     attr_set: Option<Oid>,
 ) -> Result<Attr, PqfError>
-    ensures gives { Takes (numbers_at end attr_set cursor.old) result cursor.new }
+    ensures read { IsReadResult (numbers_at end attr_set cursor.old) result cursor.new }
     ensures shorter { length cursor.new ≤ length cursor.old }
 {
     let Some(token) = cursor.next() else {
@@ -81,7 +81,7 @@ fn next_attribute(
     end: usize,
     own: &Oid,
 ) -> Result<Attr, PqfError>
-    ensures gives { Takes (attribute_at end own.now cursor.old) result cursor.new }
+    ensures read { IsReadResult (attribute_at end own.now cursor.old) result cursor.new }
     ensures shorter { length cursor.new ≤ length cursor.old }
 {
     let Some(token) = cursor.first() else {
@@ -101,7 +101,7 @@ fn next_attribute(
 
 /// Parses the type of term behind `@term`; `end` is the text's length.
 fn next_kind(cursor: &mut Cursor<'_>, end: usize) -> Result<TermKind, PqfError>
-    ensures gives { Takes (kind_at end cursor.old) result cursor.new }
+    ensures read { IsReadResult (term_kind_at end cursor.old) result cursor.new }
     ensures shorter { length cursor.new ≤ length cursor.old }
 {
     let Some(token) = cursor.next() else {
@@ -124,25 +124,25 @@ fn prefixes(
     kind: TermKind,
 ) -> Result<TermKind, PqfError>
     ensures ok { IfOk result (λ k. (xs : List Attr) → attrs.old.items ≡ in_force xs
-        → Leads own.now xs kind cursor.old attrs.new.items k cursor.new) }
-    ensures walks { IfOk result (λ k. (deep : ℕ → Bool) (n : ℕ) (rest : List Expected)
-        → walk deep cursor.old (Operand kind n ∷ rest) ≡ walk deep cursor.new (Operand k n ∷ rest)) }
+        → ArePrefixes own.now xs kind cursor.old attrs.new.items k cursor.new) }
+    ensures expected { IfOk result (λ k. (deep : ℕ → Bool) (n : ℕ) (rest : List Expected)
+        → expected_after deep cursor.old (Operand kind n ∷ rest) ≡ expected_after deep cursor.new (Operand k n ∷ rest)) }
     ensures stops { OnOk result (NoPrefix cursor.new) }
     ensures err { (deep : ℕ → Bool) (n : ℕ) (rest : List Expected)
-        → Refuses (fault end (walk deep cursor.old (Operand kind n ∷ rest))) result }
+        → IsFaultResult (fault_left end (expected_after deep cursor.old (Operand kind n ∷ rest))) result }
 {
     let mut kind = kind;
     loop {
         let Some(token) = cursor.first() else {
             return Ok(kind);
         };
-        match word_of(token) {
-            Word::Attribute => {
+        match kind_of_token(token) {
+            TokenKind::Attribute => {
                 cursor.skip();
                 let attr = next_attribute(alloc, cursor, end, own)?;
                 put(attrs, attr)?;
             }
-            Word::TypeOfTerm => {
+            TokenKind::TypeOfTerm => {
                 cursor.skip();
                 kind = next_kind(cursor, end)?;
             }
@@ -153,7 +153,7 @@ fn prefixes(
 
 fn term_of(token: &Token, attrs: Vec<Attr>, kind: TermKind, level: u32) -> Result<Rpn, PqfError>
     ensures ok { IfOk result (λ r. (level ≤ 32)
-        × ((v : TermValue) × (value_of kind token.now.text ≡ Some v) × (seen r ≡ OfTerm attrs.items v))) }
+        × ((v : TermValue) × (value_of kind token.now.text ≡ Some v) × (rpn_tree r ≡ OfTerm attrs.items v))) }
     ensures err { IfErr result (λ e. (e ≡ memory) ⊎ ((e ≡ error_at token.now e.kind)
         × (operand below_limit kind level token.now.text Plain ≡ Err e.kind))) }
 {
@@ -172,7 +172,7 @@ fn term_of(token: &Token, attrs: Vec<Attr>, kind: TermKind, level: u32) -> Resul
 }
 
 fn set_of(name: &Bytes, attrs: Vec<Attr>) -> Result<Rpn, AllocError>
-    ensures { IfOk result (λ r. seen r ≡ set_tree name.now attrs.items) }
+    ensures { IfOk result (λ r. rpn_tree r ≡ set_tree name.now attrs.items) }
 {
     let name = name.clone()?;
     if attrs.is_empty() {
@@ -186,7 +186,7 @@ fn set_of(name: &Bytes, attrs: Vec<Attr>) -> Result<Rpn, AllocError>
 }
 
 fn join(operator: Operator, left: Box<Rpn>, right: Box<Rpn>) -> Rpn
-    ensures { seen result ≡ Of operator (seen left.value) (seen right.value) }
+    ensures { rpn_tree result ≡ Of operator (rpn_tree left.value) (rpn_tree right.value) }
 {
     match operator {
         Operator::And => Rpn::And(left, right),
@@ -216,19 +216,19 @@ fn query(
 ) -> Result<Rpn, PqfError>
     requires { level ≤ 33 }
     ensures ok { IfOk result (λ r. (xs : List Attr) → outer.now ≡ in_force xs
-        → IsRead own.now xs kind level cursor.old cursor.new (seen r)) }
-    ensures walks { OnOk result ((rest : List Expected)
-        → walk below_limit cursor.old (Operand kind level ∷ rest) ≡ walk below_limit cursor.new rest) }
+        → IsReadPhrase own.now xs kind level cursor.old cursor.new (rpn_tree r)) }
+    ensures expected { OnOk result ((rest : List Expected)
+        → expected_after below_limit cursor.old (Operand kind level ∷ rest) ≡ expected_after below_limit cursor.new rest) }
     ensures err { (rest : List Expected)
-        → Refuses (fault end (walk below_limit cursor.old (Operand kind level ∷ rest))) result }
+        → IsFaultResult (fault_left end (expected_after below_limit cursor.old (Operand kind level ∷ rest))) result }
 {
     let mut attrs = copies(alloc, outer)?;
     let kind = prefixes(alloc, cursor, end, own, &mut attrs, kind)?;
     let Some(token) = cursor.next() else {
         return Err(missing_at(end));
     };
-    match word_of(token) {
-        Word::Op(operator) => {
+    match kind_of_token(token) {
+        TokenKind::Op(operator) => {
             if level > DEEPEST {
                 return Err(error_of(token, PqfErrorKind::TooDeep));
             }
@@ -238,7 +238,7 @@ fn query(
             let right = box_tree(alloc, second)?;
             Ok(join(operator, left, right))
         }
-        Word::NamedSet => {
+        TokenKind::NamedSet => {
             if level > DEEPEST {
                 return Err(error_of(token, PqfErrorKind::TooDeep));
             }
@@ -248,7 +248,7 @@ fn query(
             let set = set_of(&name.text, attrs)?;
             Ok(set)
         }
-        Word::Plain => {
+        TokenKind::Plain => {
             let term = term_of(token, attrs, kind, level)?;
             Ok(term)
         }
@@ -258,7 +258,7 @@ fn query(
 
 /// Parses the set behind `@attrset`; `end` is the text's length.
 fn own_set(alloc: Global, cursor: &mut Cursor<'_>, end: usize) -> Result<Oid, PqfError>
-    ensures { Takes (own_at end cursor.old) result cursor.new }
+    ensures { IsReadResult (own_at end cursor.old) result cursor.new }
 {
     let Some(token) = cursor.next() else {
         return Err(missing_at(end));
@@ -271,10 +271,10 @@ fn own_set(alloc: Global, cursor: &mut Cursor<'_>, end: usize) -> Result<Oid, Pq
 
 /// Parses the query's set: the one behind `@attrset` if this is the first token, and bib-1 otherwise.
 fn query_set(alloc: Global, cursor: &mut Cursor<'_>, end: usize) -> Result<Oid, PqfError>
-    ensures { Takes (opened_at end cursor.old) result cursor.new }
+    ensures { IsReadResult (query_set_at end cursor.old) result cursor.new }
 {
     if let Some(first) = cursor.first() {
-        if word_of(first) == Word::AttrSet {
+        if kind_of_token(first) == TokenKind::AttrSet {
             cursor.skip();
             return own_set(alloc, cursor, end);
         }
@@ -285,7 +285,7 @@ fn query_set(alloc: Global, cursor: &mut Cursor<'_>, end: usize) -> Result<Oid, 
 /// Parses the tokens of a text as the query that they stand for; `end` is the text's length.
 fn parse_tokens(alloc: Global, tokens: &[Token], end: usize) -> Result<Query, PqfError>
     ensures ok { IfOk result (λ q. IsQuery tokens.now q × (height q.root ≤ 32)) }
-    ensures err { Refuses (refusal end tokens.now) result }
+    ensures err { IsFaultResult (tokens_fault end tokens.now) result }
 {
     let mut cursor = Cursor::new(tokens);
     let Some(_) = cursor.first() else {
@@ -321,7 +321,7 @@ fn parse_tokens(alloc: Global, tokens: &[Token], end: usize) -> Result<Query, Pq
 /// `PqfErrorKind` says. Returns `Memory` if no memory is found.
 pub fn parse_pqf(alloc: Global, text: &[u8]) -> Result<Query, PqfError>
     ensures ok { IfOk result (λ q. IsText text.now q × (height q.root ≤ 32)) }
-    ensures err { IfErr result (λ e. (e ≡ memory) ⊎ IsFault text.now e) }
+    ensures err { IfErr result (λ e. (e ≡ memory) ⊎ IsTextFault text.now e) }
 {
     let found = match tokens(alloc, text) {
         Ok(found) => found,

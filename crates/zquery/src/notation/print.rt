@@ -4,7 +4,7 @@ ghost use Rattle.std.specs.Fmt.{signed_decimal};
 ghost use Rattle.std.specs.List.{flat_map};
 ghost use Rattle.zber.specs.Oids.{IsOid};
 ghost use Rattle.zquery.specs.declared.notation.print.PrintError.TheVariants.{NotPrintable, Memory};
-ghost use Rattle.zquery_rpn.specs.QueryTrees.{seen};
+ghost use Rattle.zquery_rpn.specs.QueryTrees.{rpn_tree};
 ghost use Rattle.zquery.specs.Notation.Texts.{IsText};
 ghost use Rattle.zquery.specs.Notation.Printing.{escaped, in_quotes, set_text, value_text, attr_text, term_text, operator_text, tree_text, opening_text, query_text, printable};
 
@@ -155,7 +155,7 @@ fn put_both(
 ) -> Result<(), AllocError>
     ensures { OnOk result (out.new.items ≡ out.old.items
         ++ (operator_text operator
-        ++ (tree_text (seen left.now) ++ (codes " " ++ tree_text (seen right.now))))) }
+        ++ (tree_text (rpn_tree left.now) ++ (codes " " ++ tree_text (rpn_tree right.now))))) }
 {
     put_operator(out, operator)?;
     put_tree(alloc, out, left)?;
@@ -166,7 +166,7 @@ fn put_both(
 /// Appends the text of a tree. It recurs down the tree, whose height is small.
 #[cycle(put)]
 fn put_tree(alloc: Global, out: &mut Vec<u8>, rpn: &Rpn) -> Result<(), AllocError>
-    ensures { OnOk result (out.new.items ≡ out.old.items ++ tree_text (seen rpn.now)) }
+    ensures { OnOk result (out.new.items ≡ out.old.items ++ tree_text (rpn_tree rpn.now)) }
 {
     match rpn {
         Rpn::Term { attrs, term } => {

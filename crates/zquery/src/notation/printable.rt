@@ -5,10 +5,10 @@ ghost use Rattle.std.specs.Option.{option_map};
 ghost use Rattle.zquery_rpn.specs.declared.query.Attr.{Attr};
 ghost use Rattle.zquery.specs.InForce.{alike};
 ghost use Rattle.zquery_rpn.specs.Trees.{height};
-ghost use Rattle.zquery_rpn.specs.QueryTrees.{seen};
-ghost use Rattle.zquery.specs.Notation.Printing.{in_range, names, plain_value, plain_attr, plain_attrs, plain_term, plain_tree, printable};
-ghost use Rattle.zquery.specs.Notation.Apart.{AreKeysOf};
-ghost use Rattle.zquery.specs.Lawful.{IsLawfulSet, AreLawful, IsLawfulTerm, IsLawfulTree};
+ghost use Rattle.zquery_rpn.specs.QueryTrees.{rpn_tree};
+ghost use Rattle.zquery.specs.Notation.Printing.{is_attr_number, is_own_set, plain_value, plain_attr, plain_attrs, plain_term, plain_tree, printable};
+ghost use Rattle.zquery.specs.Notation.Apart.{AreAttrKeys};
+ghost use Rattle.zquery.specs.Lawful.{IsLawfulSet, AreLawfulAttrs, IsLawfulTerm, IsLawfulTree};
 
 use std::alloc::{AllocError, Global};
 use std::collections::BTreeSet;
@@ -19,15 +19,15 @@ use zquery_rpn::{Attr, AttrValue, Query, Rpn, TermValue};
 const HIGHEST: u32 = 32;
 
 /// Whether the number can be the type or the value of an attribute: it is at least 0 and at most 2,147,483,647.
-fn in_range(number: i64) -> bool
-    ensures { result ≡ in_range number }
+fn is_attr_number(number: i64) -> bool
+    ensures { result ≡ is_attr_number number }
 {
     0 <= number && number <= 2_147_483_647
 }
 
 /// Whether an attribute's set is the query's own.
-fn names(own: &Oid, set: &Option<Oid>) -> bool
-    ensures value { result ≡ names own.now set.now }
+fn is_own_set(own: &Oid, set: &Option<Oid>) -> bool
+    ensures value { result ≡ is_own_set own.now set.now }
     ensures lawful { IsLawfulSet set.now }
 {
     match set {
@@ -41,7 +41,7 @@ fn is_plain_value(value: &AttrValue) -> bool
     ensures { result ≡ plain_value value.now }
 {
     match value {
-        AttrValue::Number(number) => in_range(*number),
+        AttrValue::Number(number) => is_attr_number(*number),
         AttrValue::Complex(_) => false,
     }
 }
@@ -51,7 +51,7 @@ fn is_plain(own: &Oid, attr: &Attr) -> bool
     ensures value { result ≡ plain_attr own.now attr.now }
     ensures lawful { IsLawfulSet attr.now.attr_set }
 {
-    !names(own, &attr.attr_set) && in_range(attr.kind) && is_plain_value(&attr.value)
+    !is_own_set(own, &attr.attr_set) && is_attr_number(attr.kind) && is_plain_value(&attr.value)
 }
 
 /// Returns the set and the type of an attribute.
@@ -72,10 +72,10 @@ fn put_apart<'a>(
     attr: &'a Attr,
     seen: &mut BTreeSet<(Option<&'a [u32]>, i64), Global>,
 ) -> Result<bool, AllocError>
-    ensures apart { (others : List Attr) → AreKeysOf seen.old others
+    ensures apart { (others : List Attr) → AreAttrKeys seen.old others
         → IfOk result (λ apart. apart ≡ not (list_any (alike attr.now) others)) }
-    ensures keys { (others : List Attr) → AreKeysOf seen.old others
-        → OnOk result (AreKeysOf seen.new (attr.now ∷ others)) }
+    ensures keys { (others : List Attr) → AreAttrKeys seen.old others
+        → OnOk result (AreAttrKeys seen.new (attr.now ∷ others)) }
 {
     Ok(seen.insert(set_and_type(attr))?)
 }
@@ -84,7 +84,7 @@ fn put_apart<'a>(
 /// `AllocError` if no memory is found.
 fn are_plain(alloc: Global, own: &Oid, attrs: &[Attr]) -> Result<bool, AllocError>
     ensures value { IfOk result (λ plain. plain ≡ plain_attrs own.now attrs.now) }
-    ensures lawful { IfOk result (λ plain. plain ≡ true → AreLawful attrs.now) }
+    ensures lawful { IfOk result (λ plain. plain ≡ true → AreLawfulAttrs attrs.now) }
 {
     let mut seen = BTreeSet::new(alloc);
     let mut left = attrs;
@@ -114,7 +114,7 @@ fn is_plain_term(term: &TermValue) -> bool
 
 /// Whether the tree's height is at most `room`. It goes down `room` levels at most.
 fn fits(rpn: &Rpn, room: u32) -> bool
-    ensures { result ≡ nat_le (height (seen rpn.now)) room }
+    ensures { result ≡ nat_le (height (rpn_tree rpn.now)) room }
 {
     if room == 0 {
         return false;
@@ -130,8 +130,8 @@ fn fits(rpn: &Rpn, room: u32) -> bool
 
 /// Whether the notation has a text for each part of the tree. Returns `AllocError` if no memory is found.
 fn is_plain_tree(alloc: Global, own: &Oid, rpn: &Rpn) -> Result<bool, AllocError>
-    ensures value { IfOk result (λ plain. plain ≡ plain_tree own.now (seen rpn.now)) }
-    ensures lawful { IfOk result (λ plain. plain ≡ true → IsLawfulTree (seen rpn.now)) }
+    ensures value { IfOk result (λ plain. plain ≡ plain_tree own.now (rpn_tree rpn.now)) }
+    ensures lawful { IfOk result (λ plain. plain ≡ true → IsLawfulTree (rpn_tree rpn.now)) }
 {
     match rpn {
         Rpn::Term { attrs, term } => {

@@ -1,7 +1,7 @@
 // What the tokens within a query's parts mean.
 ghost use Rattle.std.specs.Prelude.{◌≡◌, ◌≤◌, IfOk, IfSome, position};
-ghost use Rattle.zquery.specs.Notation.Values.{is_equals, has_equals, most, numbers_of, kind_of, value_of};
-ghost use Rattle.zquery.specs.Notation.Sets.{bib1, oid_of, set_of};
+ghost use Rattle.zquery.specs.Notation.Values.{is_equals, has_equals, most, numbers_of, term_kind_of, value_of};
+ghost use Rattle.zquery.specs.Notation.Sets.{bib1, oid_of_text, set_of};
 
 use crate::notation::number::{integer, number};
 use crate::notation::word::TermKind;
@@ -58,7 +58,7 @@ pub(crate) fn bib_1(alloc: Global) -> Result<Oid, AllocError>
 /// Returns the object identifier whose arcs, in decimal with dots between them, are the text. Returns `None` for any
 /// other text, and `AllocError` if no memory is found.
 pub fn oid_named(alloc: Global, text: &[u8]) -> Result<Option<Oid>, AllocError>
-    ensures { IfOk result (λ o. o ≡ oid_of text.now) }
+    ensures { IfOk result (λ o. o ≡ oid_of_text text.now) }
 {
     match Oid::parse_dotted(alloc, text) {
         Ok(oid) => Ok(Some(oid)),
@@ -80,9 +80,9 @@ pub(crate) fn set_named(alloc: Global, text: &[u8]) -> Result<Option<Oid>, Alloc
 }
 
 /// Returns the type of term of this name: `general`, `numeric` or `string`. Returns `None` for any other text.
-#[tactic(auto, unfolding(crate::specs::Notation::Values::kind_of))]
+#[tactic(auto, unfolding(crate::specs::Notation::Values::term_kind_of))]
 pub(crate) fn kind(text: &[u8]) -> Option<TermKind>
-    ensures { result ≡ kind_of text.now }
+    ensures { result ≡ term_kind_of text.now }
 {
     if text == b"general".as_slice() {
         Some(TermKind::GeneralTerm)

@@ -1,6 +1,6 @@
 // What each token is.
 ghost use Rattle.std.specs.Prelude.{◌≡◌};
-ghost use Rattle.zquery.specs.Notation.Words.{word};
+ghost use Rattle.zquery.specs.Notation.Words.{token_kind};
 
 use crate::notation::token::Token;
 use zquery_rpn::Operator;
@@ -15,7 +15,7 @@ pub(crate) enum TermKind {
 
 /// What a token is where a query is expected.
 #[derive(Clone, Copy, Debug, PartialEq, Eq)]
-pub(crate) enum Word {
+pub(crate) enum TokenKind {
     AttrSet,
     Attribute,
     Op(Operator),
@@ -25,30 +25,30 @@ pub(crate) enum Word {
     Plain,
 }
 
-#[tactic(auto, unfolding(crate::specs::Notation::Words::word))]
-pub(crate) fn word_of(token: &Token) -> Word
-    ensures { result ≡ word token.now }
+#[tactic(auto, unfolding(crate::specs::Notation::Words::token_kind))]
+pub(crate) fn kind_of_token(token: &Token) -> TokenKind
+    ensures { result ≡ token_kind token.now }
 {
     let text = token.text.as_slice();
     if token.quoted {
-        Word::Plain
+        TokenKind::Plain
     } else if text == b"@attrset".as_slice() {
-        Word::AttrSet
+        TokenKind::AttrSet
     } else if text == b"@attr".as_slice() {
-        Word::Attribute
+        TokenKind::Attribute
     } else if text == b"@and".as_slice() {
-        Word::Op(Operator::And)
+        TokenKind::Op(Operator::And)
     } else if text == b"@or".as_slice() {
-        Word::Op(Operator::Or)
+        TokenKind::Op(Operator::Or)
     } else if text == b"@not".as_slice() {
-        Word::Op(Operator::Not)
+        TokenKind::Op(Operator::Not)
     } else if text == b"@set".as_slice() {
-        Word::NamedSet
+        TokenKind::NamedSet
     } else if text == b"@term".as_slice() {
-        Word::TypeOfTerm
+        TokenKind::TypeOfTerm
     } else if text.starts_with(b"@".as_slice()) {
-        Word::Unknown
+        TokenKind::Unknown
     } else {
-        Word::Plain
+        TokenKind::Plain
     }
 }

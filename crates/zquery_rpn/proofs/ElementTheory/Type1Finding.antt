@@ -9,54 +9,54 @@ use Rattle.zasn.specs.Place.{Place}
 use Rattle.zasn.specs.Within.{whole_of}
 use Rattle.zasn_tables.proofs.Readings.{same_tag-true, or_left, one_tag}
 use Rattle.zasn.specs.Places.{oid}
-use Rattle.zquery_rpn.specs.Trees.{Tree, OfTerm, OfSet, OfSetAttrs, Of, Near, RpnQuery}
+use Rattle.zquery_rpn.specs.Trees.{Tree, OfTerm, OfSet, OfSetAttrs, Of, OfProx, RpnQuery}
 use Rattle.zquery_rpn.specs.Element.Operands.{Operand, AttrTerm, ResultSet, ResultAttr}
-use Rattle.zquery_rpn.specs.declared.element.operator.Joint.TheVariants.{Logical, Proximity}
+use Rattle.zquery_rpn.specs.declared.element.operator.Joint.TheVariants.{Logical, ProxOperator}
 use Rattle.zquery_rpn.specs.declared.element.operator.Joint.{Joint}
 use Rattle.zquery_rpn.specs.Element.Operators.{operator}
 use Rattle.zquery_rpn.specs.Element.Type1.{first, op, WritesTree, WritesQuery}
-use Rattle.zquery_rpn.specs.Element.Type1Reading.{of_operand, of_joint, joined, joined_of, tree_in, trees, tree_of, says, query_from, query_in, query_of}
+use Rattle.zquery_rpn.specs.Element.Type1Reading.{of_operand, of_joint, joined_tree, joined_tree_of, tree_in, trees, tree_of, tree_and_element, query_from, query_in, query_of}
 
 pub some_is : {A : Type 0} (x y : A) (o : Option A) → o ≡ Some x → o ≡ Some y → x ≡ y
 some_is x y o e f = let g : Some x ≡ Some y = sym e ∙ f in cc
 
 -- two structures and an operator
-abbrev pub Both : Tree → Tree → Joint → List Element → Type 0
-Both a b o ns = first (WritesTree a) (first (WritesTree b) (required operator.stands o ended)) ns
+abbrev pub AreJoinedParts : Tree → Tree → Joint → List Element → Type 0
+AreJoinedParts a b o ns = first (WritesTree a) (first (WritesTree b) (required operator.writes o ended)) ns
 
 -- ---- an element with a place's tags, read whole
 
-pub whole_finds : {A : Type 0} (p : Place A) (x : A) (n : Element) → p.stands x n → whole_of p n ≡ Some x
+pub whole_finds : {A : Type 0} (p : Place A) (x : A) (n : Element) → p.writes x n → whole_of p n ≡ Some x
 whole_finds p x n h = rw (p.begins x n h, p.finds x n h) refl
 
-pub whole_reads : {A : Type 0} (p : Place A) (x : A) (n : Element) → whole_of p n ≡ Some x → p.stands x n
+pub whole_reads : {A : Type 0} (p : Place A) (x : A) (n : Element) → whole_of p n ≡ Some x → p.writes x n
 whole_reads p x n e = by_test (among (tag_of n) p.tags) refl e
   where
-    by_test : (b : Bool) → among (tag_of n) p.tags ≡ b → cond b (p.meaning n) None ≡ Some x → p.stands x n
+    by_test : (b : Bool) → among (tag_of n) p.tags ≡ b → cond b (p.meaning n) None ≡ Some x → p.writes x n
     by_test true is e = p.reads x n is e
     by_test false is e = absurd cc
 
 -- ---- elements beside the structures that they say
 
-pub trees-elements : (f : Forest) → trees f ≡ map says (elements f)
+pub trees-elements : (f : Forest) → trees f ≡ map tree_and_element (elements f)
 trees-elements end = refl
 trees-elements (leaf t bs rest) = ap (λ (xs : List (Option Tree × Element)). (None, Primitive t bs) ∷ xs) (trees-elements rest)
 trees-elements (branch t f rest) = ap (λ (xs : List (Option Tree × Element)). (tree_in t f (trees f), Constructed t f) ∷ xs) (trees-elements rest)
 
 -- ---- what stands is found
 
-finds_operand : (o : Operand) (n : Element) → op.stands o n → tree_of n ≡ Some (of_operand o)
+finds_operand : (o : Operand) (n : Element) → op.writes o n → tree_of n ≡ Some (of_operand o)
 finds_operand o (Primitive t bs) h = absurd h
 finds_operand o (Constructed t f) h = rw (h.0, op.finds o (Constructed t f) h) refl
 
-finds_both : (a b : Tree) (o : Joint) (ns : List Element) → ((n : Element) → WritesTree a n → tree_of n ≡ Some a) → ((n : Element) → WritesTree b n → tree_of n ≡ Some b) → Both a b o ns → joined_of (map says ns) ≡ Some (of_joint o a b)
+finds_both : (a b : Tree) (o : Joint) (ns : List Element) → ((n : Element) → WritesTree a n → tree_of n ≡ Some a) → ((n : Element) → WritesTree b n → tree_of n ≡ Some b) → AreJoinedParts a b o ns → joined_tree_of (map tree_and_element ns) ≡ Some (of_joint o a b)
 finds_both a b o [] fa fb h = absurd h
 finds_both a b o (x ∷ []) fa fb h = absurd h.1
 finds_both a b o (x ∷ y ∷ []) fa fb h = absurd h.1.1
 finds_both a b o (x ∷ y ∷ z ∷ []) fa fb h = rw (fa x h.0, fb y h.1.0, whole_finds operator o z h.1.1.0) refl
 finds_both a b o (x ∷ y ∷ z ∷ w ∷ ws) fa fb h = absurd h.1.1.1
 
-finds_joined : (a b : Tree) (o : Joint) (n : Element) → ((n : Element) → WritesTree a n → tree_of n ≡ Some a) → ((n : Element) → WritesTree b n → tree_of n ≡ Some b) → sequence (context 1) (Both a b o) n → tree_of n ≡ Some (of_joint o a b)
+finds_joined : (a b : Tree) (o : Joint) (n : Element) → ((n : Element) → WritesTree a n → tree_of n ≡ Some a) → ((n : Element) → WritesTree b n → tree_of n ≡ Some b) → sequence (context 1) (AreJoinedParts a b o) n → tree_of n ≡ Some (of_joint o a b)
 finds_joined a b o (Primitive t bs) fa fb h = absurd h
 finds_joined a b o (Constructed t f) fa fb h = rw (h.0, trees-elements f) (finds_both a b o (elements f) fa fb h.1)
 
@@ -65,36 +65,36 @@ finds_tree (OfTerm xs v) n h = finds_operand (AttrTerm (xs, v)) n h
 finds_tree (OfSet name) n h = finds_operand (ResultSet name) n h
 finds_tree (OfSetAttrs name xs) n h = finds_operand (ResultAttr (name, xs)) n h
 finds_tree (Of o a b) n h = finds_joined a b (Logical o) n (λ m k. finds_tree a m k) (λ m k. finds_tree b m k) h
-finds_tree (Near e a b) n h = finds_joined a b (Proximity e) n (λ m k. finds_tree a m k) (λ m k. finds_tree b m k) h
+finds_tree (OfProx e a b) n h = finds_joined a b (ProxOperator e) n (λ m k. finds_tree a m k) (λ m k. finds_tree b m k) h
 
 -- ---- what is found stands
 
-pub writes_operand : (o : Operand) (n : Element) → op.stands o n → WritesTree (of_operand o) n
+pub writes_operand : (o : Operand) (n : Element) → op.writes o n → WritesTree (of_operand o) n
 writes_operand (AttrTerm p) n h = h
 writes_operand (ResultSet name) n h = h
 writes_operand (ResultAttr p) n h = h
 
-pub writes_joint : (o : Joint) (a b : Tree) (n : Element) → sequence (context 1) (Both a b o) n → WritesTree (of_joint o a b) n
+pub writes_joint : (o : Joint) (a b : Tree) (n : Element) → sequence (context 1) (AreJoinedParts a b o) n → WritesTree (of_joint o a b) n
 writes_joint (Logical o) a b n h = h
-writes_joint (Proximity m) a b n h = h
+writes_joint (ProxOperator m) a b n h = h
 
-abbrev Sound : List Element → Type 0
-Sound [] = Unit {0}
-Sound (n ∷ ns) = ((q : Tree) → tree_of n ≡ Some q → WritesTree q n) × Sound ns
+abbrev AreReadElements : List Element → Type 0
+AreReadElements [] = Unit {0}
+AreReadElements (n ∷ ns) = ((q : Tree) → tree_of n ≡ Some q → WritesTree q n) × AreReadElements ns
 
 reads_operand : (q : Tree) (n : Element) (o : Option Operand) → among (tag_of n) op.tags ≡ true → op.meaning n ≡ o → option_map of_operand o ≡ Some q → WritesTree q n
 reads_operand q n None there e f = absurd cc
 reads_operand q n (Some o) there e f = subst (λ (p : Tree). WritesTree p n) (some_is (of_operand o) q (Some (of_operand o)) refl f) (writes_operand o n (op.reads o n there e))
 
 -- the elements of some two structures with an operator, which make this one
-record AreOf (q : Tree) (ns : List Element) : Type 0 where
+record AreTreeParts (q : Tree) (ns : List Element) : Type 0 where
   left : Tree
   right : Tree
   joint : Joint
   is : of_joint joint left right ≡ q
-  both : Both left right joint ns
+  both : AreJoinedParts left right joint ns
 
-reads_options : (q : Tree) (x y z : Element) (a b : Option Tree) (o : Option Joint) → Sound (x ∷ y ∷ z ∷ []) → tree_of x ≡ a → tree_of y ≡ b → whole_of operator z ≡ o → joined a b o ≡ Some q → AreOf q (x ∷ y ∷ z ∷ [])
+reads_options : (q : Tree) (x y z : Element) (a b : Option Tree) (o : Option Joint) → AreReadElements (x ∷ y ∷ z ∷ []) → tree_of x ≡ a → tree_of y ≡ b → whole_of operator z ≡ o → joined_tree a b o ≡ Some q → AreTreeParts q (x ∷ y ∷ z ∷ [])
 reads_options q x y z None b o s ea eb eo e = absurd cc
 reads_options q x y z (Some a) None o s ea eb eo e = absurd cc
 reads_options q x y z (Some a) (Some b) None s ea eb eo e = absurd cc
@@ -107,24 +107,24 @@ reads_options q x y z (Some a) (Some b) (Some o) s ea eb eo e =
       both = (s.0 a ea, (s.1.0 b eb, (whole_reads operator o z eo, tt)));
     }
 
-reads_both : (q : Tree) (ns : List Element) → Sound ns → joined_of (map says ns) ≡ Some q → AreOf q ns
+reads_both : (q : Tree) (ns : List Element) → AreReadElements ns → joined_tree_of (map tree_and_element ns) ≡ Some q → AreTreeParts q ns
 reads_both q [] s e = absurd cc
 reads_both q (x ∷ []) s e = absurd cc
 reads_both q (x ∷ y ∷ []) s e = absurd cc
 reads_both q (x ∷ y ∷ z ∷ []) s e = reads_options q x y z (tree_of x) (tree_of y) (whole_of operator z) s refl refl refl e
 reads_both q (x ∷ y ∷ z ∷ w ∷ ws) s e = absurd cc
 
-reads_constructed : (t : AsnTag) (f : Forest) (q : Tree) → Sound (elements f) → tree_in t f (trees f) ≡ Some q → WritesTree q (Constructed t f)
+reads_constructed : (t : AsnTag) (f : Forest) (q : Tree) → AreReadElements (elements f) → tree_in t f (trees f) ≡ Some q → WritesTree q (Constructed t f)
 reads_constructed t f q s e = by_tag (same_tag t (context 0)) (same_tag t (context 1)) refl refl (rw (trees-elements f) at e)
   where
-    by_tag : (b c : Bool) → same_tag t (context 0) ≡ b → same_tag t (context 1) ≡ c → cond b (option_map of_operand (op.meaning (Constructed t f))) (cond c (joined_of (map says (elements f))) None) ≡ Some q → WritesTree q (Constructed t f)
+    by_tag : (b c : Bool) → same_tag t (context 0) ≡ b → same_tag t (context 1) ≡ c → cond b (option_map of_operand (op.meaning (Constructed t f))) (cond c (joined_tree_of (map tree_and_element (elements f))) None) ≡ Some q → WritesTree q (Constructed t f)
     by_tag true c is _ e = reads_operand q (Constructed t f) (op.meaning (Constructed t f)) (or_left (same_tag t (context 0)) false is) refl e
     by_tag false true _ is e =
         let h = reads_both q (elements f) s e in
         subst (λ (p : Tree). WritesTree p (Constructed t f)) h.is (writes_joint h.joint h.left h.right (Constructed t f) (same_tag-true t (context 1) is, h.both))
     by_tag false false _ _ e = absurd cc
 
-reads_run : (f : Forest) → Sound (elements f)
+reads_run : (f : Forest) → AreReadElements (elements f)
 reads_run end = tt
 reads_run (leaf t bs rest) = ((λ q e. absurd cc), reads_run rest)
 reads_run (branch t f rest) = ((λ q e. reads_constructed t f q (reads_run f) e), reads_run rest)
@@ -136,7 +136,7 @@ reads_tree q (Constructed t f) e = reads_constructed t f q (reads_run f) e
 -- ---- queries
 
 abbrev pub Parts : RpnQuery → List Element → Type 0
-Parts q ns = required (oid (universal 6)).stands q.attr_set (required WritesTree q.root ended) ns
+Parts q ns = required (oid (universal 6)).writes q.attr_set (required WritesTree q.root ended) ns
 
 finds_parts : (q : RpnQuery) (ns : List Element) → Parts q ns → query_in ns ≡ Some q
 finds_parts q [] h = absurd h

@@ -9,7 +9,7 @@ use Rattle.zasn.specs.Reading.{option_map}
 use Rattle.zasn.specs.Within.{around, sequence_of}
 use Rattle.zquery_rpn.specs.Trees.{RpnQuery}
 use Rattle.zquery_rpn.specs.Element.Type1.{WritesQuery}
-use Rattle.zquery_rpn.specs.Element.Type1Reading.{query_of, query_spelt}
+use Rattle.zquery_rpn.specs.Element.Type1Reading.{query_of, query_spelling}
 
 -- the element stands for a type-1 query, or is another query, which is kept and has any tag but [1]
 abbrev pub WritesAny : RpnQuery ⊎ Element → Element → Type 0
@@ -44,10 +44,10 @@ query_within n = sequence_of any_query_at n
 -- ---- writing
 
 -- the element of a query
-abbrev pub any_spelt : RpnQuery ⊎ Element → Option Element
-any_spelt (inl q) = query_spelt q
-any_spelt (inr m) = if same_tag (tag_of m) (context 1) then None else Some m
+abbrev pub any_query_spelling : RpnQuery ⊎ Element → Option Element
+any_query_spelling (inl q) = query_spelling q
+any_query_spelling (inr m) = if same_tag (tag_of m) (context 1) then None else Some m
 
 -- the same, within an element with this tag
-abbrev pub within_spelt : AsnTag → RpnQuery ⊎ Element → Option Element
-within_spelt tag v = around tag (option_map (λ n. n ∷ []) (any_spelt v))
+abbrev pub within_spelling : AsnTag → RpnQuery ⊎ Element → Option Element
+within_spelling tag v = around tag (option_map (λ n. n ∷ []) (any_query_spelling v))

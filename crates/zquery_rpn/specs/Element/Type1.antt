@@ -5,9 +5,9 @@ use Rattle.zber.specs.Elements.{Element}
 use Rattle.zasn.specs.Standing.{required, ended, sequence}
 use Rattle.zasn.specs.Place.{Place}
 use Rattle.zasn.specs.Places.{oid, explicit}
-use Rattle.zquery_rpn.specs.Trees.{Tree, OfTerm, OfSet, OfSetAttrs, Of, Near, RpnQuery}
+use Rattle.zquery_rpn.specs.Trees.{Tree, OfTerm, OfSet, OfSetAttrs, Of, OfProx, RpnQuery}
 use Rattle.zquery_rpn.specs.Element.Operands.{Operand, AttrTerm, ResultSet, ResultAttr, operand}
-use Rattle.zquery_rpn.specs.declared.element.operator.Joint.TheVariants.{Logical, Proximity}
+use Rattle.zquery_rpn.specs.declared.element.operator.Joint.TheVariants.{Logical, ProxOperator}
 use Rattle.zquery_rpn.specs.Element.Operators.{operator}
 
 -- `P` holds of the first element, and `rest` of the others
@@ -21,20 +21,20 @@ op = explicit (context 0) operand
 
 -- RPNStructure: op, or rpnRpnOp [1] IMPLICIT SEQUENCE of two structures and an operator
 abbrev pub WritesTree : Tree → Element → Type 0
-WritesTree (OfTerm xs v) n = op.stands (AttrTerm (xs, v)) n
-WritesTree (OfSet name) n = op.stands (ResultSet name) n
-WritesTree (OfSetAttrs name xs) n = op.stands (ResultAttr (name, xs)) n
+WritesTree (OfTerm xs v) n = op.writes (AttrTerm (xs, v)) n
+WritesTree (OfSet name) n = op.writes (ResultSet name) n
+WritesTree (OfSetAttrs name xs) n = op.writes (ResultAttr (name, xs)) n
 WritesTree (Of o a b) n =
-    sequence (context 1) (first (WritesTree a) (first (WritesTree b) (required operator.stands (Logical o) ended))) n
-WritesTree (Near m a b) n =
-    sequence (context 1) (first (WritesTree a) (first (WritesTree b) (required operator.stands (Proximity m) ended))) n
+    sequence (context 1) (first (WritesTree a) (first (WritesTree b) (required operator.writes (Logical o) ended))) n
+WritesTree (OfProx m a b) n =
+    sequence (context 1) (first (WritesTree a) (first (WritesTree b) (required operator.writes (ProxOperator m) ended))) n
 
 -- type-1 [1] IMPLICIT RPNQuery: attributeSet OBJECT IDENTIFIER, rpn RPNStructure
 abbrev pub WritesQuery : RpnQuery → Element → Type 0
 WritesQuery q n =
-    sequence (context 1) (required (oid (universal 6)).stands q.attr_set (required WritesTree q.root ended)) n
+    sequence (context 1) (required (oid (universal 6)).writes q.attr_set (required WritesTree q.root ended)) n
 
 -- the type-1 query that the element stands for; none if it stands for none
-abbrev pub IsQueryOf : Element → Option RpnQuery → Type 0
-IsQueryOf n (Some q) = WritesQuery q n
-IsQueryOf n None = (q : RpnQuery) → WritesQuery q n → ⊥
+abbrev pub IsQueryOfElement : Element → Option RpnQuery → Type 0
+IsQueryOfElement n (Some q) = WritesQuery q n
+IsQueryOfElement n None = (q : RpnQuery) → WritesQuery q n → ⊥

@@ -9,10 +9,10 @@ use Rattle.zasn.specs.Places.{oid}
 use Rattle.zasn.specs.declared.error.PartError.{PartError}
 use Rattle.zasn.specs.declared.error.PartError.TheVariants.{Misfit, Memory}
 use Rattle.zquery_rpn.specs.declared.query.Rpn.{Rpn}
-use Rattle.zquery_rpn.specs.Trees.{Tree, OfTerm, OfSet, OfSetAttrs, Of, Near, RpnQuery}
-use Rattle.zquery_rpn.specs.QueryTrees.{seen}
+use Rattle.zquery_rpn.specs.Trees.{Tree, OfTerm, OfSet, OfSetAttrs, Of, OfProx, RpnQuery}
+use Rattle.zquery_rpn.specs.QueryTrees.{rpn_tree}
 use Rattle.zquery_rpn.specs.Element.Operands.{Operand, AttrTerm, ResultSet, ResultAttr}
-use Rattle.zquery_rpn.specs.declared.element.operator.Joint.TheVariants.{Logical, Proximity}
+use Rattle.zquery_rpn.specs.declared.element.operator.Joint.TheVariants.{Logical, ProxOperator}
 use Rattle.zquery_rpn.specs.declared.element.operator.Joint.{Joint}
 use Rattle.zquery_rpn.specs.Element.Operators.{operator}
 use Rattle.zquery_rpn.specs.Element.Type1.{op}
@@ -26,30 +26,30 @@ of_operand (ResultAttr p) = OfSetAttrs p.0 p.1
 -- the tree of an operator and two trees
 abbrev pub of_joint : Joint → Tree → Tree → Tree
 of_joint (Logical o) a b = Of o a b
-of_joint (Proximity m) a b = Near m a b
+of_joint (ProxOperator m) a b = OfProx m a b
 
 -- ---- reading
 
 -- the tree of all three parts, or none
-abbrev pub joined : Option Tree → Option Tree → Option Joint → Option Tree
-joined (Some a) (Some b) (Some o) = Some (of_joint o a b)
-joined (Some a) (Some b) None = None
-joined (Some a) None o = None
-joined None b o = None
+abbrev pub joined_tree : Option Tree → Option Tree → Option Joint → Option Tree
+joined_tree (Some a) (Some b) (Some o) = Some (of_joint o a b)
+joined_tree (Some a) (Some b) None = None
+joined_tree (Some a) None o = None
+joined_tree None b o = None
 
 -- the tree of two structures and an operator, and of nothing else
-abbrev pub joined_of : List (Option Tree × Element) → Option Tree
-joined_of [] = None
-joined_of (x ∷ []) = None
-joined_of (x ∷ y ∷ []) = None
-joined_of (x ∷ y ∷ z ∷ []) = joined x.0 y.0 (whole_of operator z.1)
-joined_of (x ∷ y ∷ z ∷ w ∷ ws) = None
+abbrev pub joined_tree_of : List (Option Tree × Element) → Option Tree
+joined_tree_of [] = None
+joined_tree_of (x ∷ []) = None
+joined_tree_of (x ∷ y ∷ []) = None
+joined_tree_of (x ∷ y ∷ z ∷ []) = joined_tree x.0 y.0 (whole_of operator z.1)
+joined_tree_of (x ∷ y ∷ z ∷ w ∷ ws) = None
 
 -- the tree of a constructed element, from its tag, the elements within, and these elements with their trees
 abbrev pub tree_in : AsnTag → Forest → List (Option Tree × Element) → Option Tree
 tree_in t f xs =
     if same_tag t (context 0) then option_map of_operand (op.meaning (Constructed t f)) else
-    if same_tag t (context 1) then joined_of xs else None
+    if same_tag t (context 1) then joined_tree_of xs else None
 
 -- the elements of a run, each with its tree, if it has one
 abbrev pub trees : Forest → List (Option Tree × Element)
@@ -63,8 +63,8 @@ tree_of (Primitive t bs) = None
 tree_of (Constructed t f) = tree_in t f (trees f)
 
 -- an element with its tree, if it has one
-abbrev pub says : Element → Option Tree × Element
-says e = (tree_of e, e)
+abbrev pub tree_and_element : Element → Option Tree × Element
+tree_and_element e = (tree_of e, e)
 
 -- the query of a default set and a tree, if there are both
 abbrev pub query_from : Option (List ℕ) → Option Tree → Option RpnQuery
@@ -103,21 +103,21 @@ three (Some n) None k = None
 three None m k = None
 
 -- the element that stands for a tree
-abbrev pub tree_spelt : Tree → Option Element
-tree_spelt (OfTerm xs v) = op.spelt (AttrTerm (xs, v))
-tree_spelt (OfSet name) = op.spelt (ResultSet name)
-tree_spelt (OfSetAttrs name xs) = op.spelt (ResultAttr (name, xs))
-tree_spelt (Of o a b) = around (context 1) (three (tree_spelt a) (tree_spelt b) (operator.spelt (Logical o)))
-tree_spelt (Near m a b) = around (context 1) (three (tree_spelt a) (tree_spelt b) (operator.spelt (Proximity m)))
+abbrev pub tree_spelling : Tree → Option Element
+tree_spelling (OfTerm xs v) = op.spelling (AttrTerm (xs, v))
+tree_spelling (OfSet name) = op.spelling (ResultSet name)
+tree_spelling (OfSetAttrs name xs) = op.spelling (ResultAttr (name, xs))
+tree_spelling (Of o a b) = around (context 1) (three (tree_spelling a) (tree_spelling b) (operator.spelling (Logical o)))
+tree_spelling (OfProx m a b) = around (context 1) (three (tree_spelling a) (tree_spelling b) (operator.spelling (ProxOperator m)))
 
 -- the element that stands for a query
-abbrev pub query_spelt : RpnQuery → Option Element
-query_spelt q = around (context 1) (two ((oid (universal 6)).spelt q.attr_set) (tree_spelt q.root))
+abbrev pub query_spelling : RpnQuery → Option Element
+query_spelling q = around (context 1) (two ((oid (universal 6)).spelling q.attr_set) (tree_spelling q.root))
 
 -- ---- what readers return
 
 -- the result is this tree, or `Misfit` if there is none, unless no memory was found
-abbrev pub MeansTree : Option Tree → Result Rpn PartError → Type 0
-MeansTree meaning (Ok r) = meaning ≡ Some (seen r)
-MeansTree meaning (Err Misfit) = meaning ≡ None
-MeansTree meaning (Err Memory) = Unit {0}
+abbrev pub IsTreeResult : Option Tree → Result Rpn PartError → Type 0
+IsTreeResult meaning (Ok r) = meaning ≡ Some (rpn_tree r)
+IsTreeResult meaning (Err Misfit) = meaning ≡ None
+IsTreeResult meaning (Err Memory) = Unit {0}

@@ -7,13 +7,13 @@ ghost use Rattle.zasn.specs.Reading.{option_map};
 ghost use Rattle.zasn.specs.Table.{Elements};
 ghost use Rattle.zber.specs.Tags.{same_tag};
 ghost use Rattle.zasn.specs.Within.{found, sequence_of, whole_of};
-ghost use Rattle.zasn.specs.Answers.{Means};
+ghost use Rattle.zasn.specs.Answers.{MeaningResult};
 ghost use Rattle.zasn.specs.Places.{alone, oid};
 ghost use Rattle.zquery_rpn.specs.Element.Operands.{attributes_term_parts, operand, set_attributes_parts};
 ghost use Rattle.zquery_rpn.specs.Element.Operators.{operator};
-ghost use Rattle.zquery_rpn.specs.Element.Type1.{IsQueryOf};
-ghost use Rattle.zquery_rpn.specs.Element.Type1Reading.{MeansTree, joined_of, says, of_joint, of_operand, query_at, query_in, query_of, tree_of};
-ghost use Rattle.zquery_rpn.specs.QueryTrees.{seen};
+ghost use Rattle.zquery_rpn.specs.Element.Type1.{IsQueryOfElement};
+ghost use Rattle.zquery_rpn.specs.Element.Type1Reading.{IsTreeResult, joined_tree_of, tree_and_element, of_joint, of_operand, query_at, query_in, query_of, tree_of};
+ghost use Rattle.zquery_rpn.specs.QueryTrees.{rpn_tree};
 
 use crate::element::operator::Joint;
 use crate::operator::Operator;
@@ -33,7 +33,7 @@ fn has_tag(node: &Node, number: u32) -> bool
 /// Reads an element of any tag as an AttributesPlusTerm.
 #[tactic(auto, unfolding(crate::specs::Element::Operands::attributes_term_parts))]
 fn attributes_term(alloc: Global, node: &Node) -> Result<(Seq<Attr>, TermValue), PartError>
-    ensures { Means (sequence_of attributes_term_parts.at node.now) result }
+    ensures { MeaningResult (sequence_of attributes_term_parts.at node.now) result }
 {
     match &node.body {
         Body::Prim(_) => Err(PartError::Misfit),
@@ -50,7 +50,7 @@ fn attributes_term(alloc: Global, node: &Node) -> Result<(Seq<Attr>, TermValue),
 /// Reads an element of any tag as a ResultSetPlusAttributes.
 #[tactic(auto, unfolding(crate::specs::Element::Operands::set_attributes_parts))]
 fn set_attributes(alloc: Global, node: &Node) -> Result<(Bytes, Seq<Attr>), PartError>
-    ensures { Means (sequence_of set_attributes_parts.at node.now) result }
+    ensures { MeaningResult (sequence_of set_attributes_parts.at node.now) result }
 {
     match &node.body {
         Body::Prim(_) => Err(PartError::Misfit),
@@ -67,7 +67,7 @@ fn set_attributes(alloc: Global, node: &Node) -> Result<(Bytes, Seq<Attr>), Part
 /// Reads an element as an operand (Operand).
 #[tactic(auto, unfolding(crate::specs::Element::Operands::operand))]
 fn operand(alloc: Global, node: &Node) -> Result<Rpn, PartError>
-    ensures { MeansTree (option_map of_operand (whole_of operand node.now)) result }
+    ensures { IsTreeResult (option_map of_operand (whole_of operand node.now)) result }
 {
     if node.tag == Tag::context(102) {
         let (attrs, term) = attributes_term(alloc, node)?;
@@ -86,7 +86,7 @@ fn operand(alloc: Global, node: &Node) -> Result<Rpn, PartError>
 
 /// Reads one element, and no more, as an operand.
 fn only_operand(alloc: Global, nodes: &[Node]) -> Result<Rpn, PartError>
-    ensures { MeansTree (option_map of_operand (found ((alone operand).at nodes.now))) result }
+    ensures { IsTreeResult (option_map of_operand (found ((alone operand).at nodes.now))) result }
 {
     match nodes {
         [only] => operand(alloc, only),
@@ -96,7 +96,7 @@ fn only_operand(alloc: Global, nodes: &[Node]) -> Result<Rpn, PartError>
 
 /// Reads an element as an operator (Operator).
 fn operator(alloc: Global, node: &Node) -> Result<Joint, PartError>
-    ensures { Means (whole_of operator node.now) result }
+    ensures { MeaningResult (whole_of operator node.now) result }
 {
     if node.tag != Tag::context(46) {
         return Err(PartError::Misfit);
@@ -106,20 +106,20 @@ fn operator(alloc: Global, node: &Node) -> Result<Joint, PartError>
 
 /// Returns the structure of an operator and two structures.
 fn join(joint: Joint, left: Box<Rpn>, right: Box<Rpn>) -> Rpn
-    ensures { seen result ≡ of_joint joint (seen left.value) (seen right.value) }
+    ensures { rpn_tree result ≡ of_joint joint (rpn_tree left.value) (rpn_tree right.value) }
 {
     match joint {
         Joint::Logical(Operator::And) => Rpn::And(left, right),
         Joint::Logical(Operator::Or) => Rpn::Or(left, right),
         Joint::Logical(Operator::Not) => Rpn::Not(left, right),
-        Joint::Proximity(operator) => Rpn::Prox(operator, left, right),
+        Joint::ProxOperator(operator) => Rpn::Prox(operator, left, right),
     }
 }
 
 /// Reads two structures and an operator (rpnRpnOp).
 #[cycle(structure)]
 fn rpn_rpn_op(alloc: Global, nodes: &[Node]) -> Result<Rpn, PartError>
-    ensures { MeansTree (joined_of (map says nodes.now)) result }
+    ensures { IsTreeResult (joined_tree_of (map tree_and_element nodes.now)) result }
 {
     match nodes {
         [left, right, last] => {
@@ -135,7 +135,7 @@ fn rpn_rpn_op(alloc: Global, nodes: &[Node]) -> Result<Rpn, PartError>
 /// Reads an element as an operand, or as two structures with an operator (RPNStructure).
 #[cycle(structure)]
 fn structure(alloc: Global, node: &Node) -> Result<Rpn, PartError>
-    ensures { MeansTree (tree_of node.now) result }
+    ensures { IsTreeResult (tree_of node.now) result }
 {
     match &node.body {
         Body::Prim(_) => Err(PartError::Misfit),
@@ -153,7 +153,7 @@ fn structure(alloc: Global, node: &Node) -> Result<Rpn, PartError>
 
 /// Reads an element as the default attribute set.
 fn set(alloc: Global, node: &Node) -> Result<Oid, PartError>
-    ensures { Means (whole_of (oid (universal 6)) node.now) result }
+    ensures { MeaningResult (whole_of (oid (universal 6)) node.now) result }
 {
     if node.tag != Tag::universal(6) {
         return Err(PartError::Misfit);
@@ -163,7 +163,7 @@ fn set(alloc: Global, node: &Node) -> Result<Oid, PartError>
 
 /// Reads two elements as an object identifier and a structure.
 fn query_in(alloc: Global, nodes: &[Node]) -> Result<Query, PartError>
-    ensures { Means (query_in nodes.now) result }
+    ensures { MeaningResult (query_in nodes.now) result }
 {
     match nodes {
         [attr_set, root] => {
@@ -177,7 +177,7 @@ fn query_in(alloc: Global, nodes: &[Node]) -> Result<Query, PartError>
 
 /// Reads an element of any tag as a query.
 fn query(alloc: Global, node: &Node) -> Result<Query, PartError>
-    ensures { Means (query_of node.now) result }
+    ensures { MeaningResult (query_of node.now) result }
 {
     match &node.body {
         Body::Prim(_) => Err(PartError::Misfit),
@@ -203,7 +203,7 @@ fn query_at(alloc: Global, node: &Node) -> Result<Option<Query>, AllocError>
 ///
 /// Returns `None` if it stands for none, and `AllocError` if no memory is found.
 pub fn from_node(alloc: Global, node: &Node) -> Result<Option<Query>, AllocError>
-    ensures read { IfOk result (IsQueryOf node.now) }
+    ensures read { IfOk result (IsQueryOfElement node.now) }
     ensures meant { IfOk result (λ o. o ≡ query_at node.now) }
 {
     query_at(alloc, node)

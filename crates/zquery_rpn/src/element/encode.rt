@@ -3,12 +3,12 @@ ghost use Rattle.std.specs.Prelude.{[], ◌∷◌, Some};
 ghost use Rattle.zber.specs.AsnTags.{context};
 ghost use Rattle.zasn.specs.Within.{around};
 ghost use Rattle.zasn.specs.Place.{Place};
-ghost use Rattle.zasn.specs.Answers.{IsWritten, Makes};
+ghost use Rattle.zasn.specs.Answers.{WritingResult, BuildResult};
 ghost use Rattle.zquery_rpn.specs.Element.Operands.{AttrTerm, ResultAttr};
 ghost use Rattle.zquery_rpn.specs.Element.Operators.{operator};
 ghost use Rattle.zquery_rpn.specs.Element.Type1.{op, WritesQuery};
-ghost use Rattle.zquery_rpn.specs.Element.Type1Reading.{query_spelt, three, tree_spelt};
-ghost use Rattle.zquery_rpn.specs.QueryTrees.{seen};
+ghost use Rattle.zquery_rpn.specs.Element.Type1Reading.{query_spelling, three, tree_spelling};
+ghost use Rattle.zquery_rpn.specs.QueryTrees.{rpn_tree};
 ghost use Rattle.zquery_rpn.specs.declared.element.operator.Joint.TheVariants.{Logical};
 
 use crate::element::operator::Joint;
@@ -22,7 +22,7 @@ use zber::{Node, Seq, Tag};
 /// Builds the operand of a term with its attributes.
 #[tactic(auto, unfolding(crate::specs::Element::Operands::operand, crate::specs::Element::Operands::attributes_term_parts))]
 fn attr_term(alloc: Global, attrs: &Seq<Attr>, term: &TermValue) -> Result<Node, BuildError>
-    ensures { Makes (op.spelt (AttrTerm (attrs.now, term.now))) result }
+    ensures { BuildResult (op.spelling (AttrTerm (attrs.now, term.now))) result }
 {
     let mut out = PartsBuf::new(alloc);
     out.required(alloc, Tag::context(44), attrs)?;
@@ -33,7 +33,7 @@ fn attr_term(alloc: Global, attrs: &Seq<Attr>, term: &TermValue) -> Result<Node,
 /// Builds the operand of a result set with its attributes.
 #[tactic(auto, unfolding(crate::specs::Element::Operands::operand, crate::specs::Element::Operands::set_attributes_parts))]
 fn result_attr(alloc: Global, name: &Bytes, attrs: &Seq<Attr>) -> Result<Node, BuildError>
-    ensures { Makes (op.spelt (ResultAttr (name.now, attrs.now))) result }
+    ensures { BuildResult (op.spelling (ResultAttr (name.now, attrs.now))) result }
 {
     let mut out = PartsBuf::new(alloc);
     out.required(alloc, Tag::context(31), name)?;
@@ -43,7 +43,7 @@ fn result_attr(alloc: Global, name: &Bytes, attrs: &Seq<Attr>) -> Result<Node, B
 
 /// Builds the operator and, or or and-not.
 fn logical(alloc: Global, kind: Operator) -> Result<Node, BuildError>
-    ensures { Makes (operator.spelt (Logical kind)) result }
+    ensures { BuildResult (operator.spelling (Logical kind)) result }
 {
     write_alone_tagged(alloc, &Joint::Logical(kind), Tag::context(46))
 }
@@ -51,8 +51,8 @@ fn logical(alloc: Global, kind: Operator) -> Result<Node, BuildError>
 /// Builds two structures, with the operator's element behind them (rpnRpnOp).
 #[cycle(structure)]
 fn rpn_rpn_op(alloc: Global, left: &Rpn, right: &Rpn, operator: Node) -> Result<Node, BuildError>
-    ensures { Makes (around (context 1)
-        (three (tree_spelt (seen left.now)) (tree_spelt (seen right.now)) (Some operator))) result }
+    ensures { BuildResult (around (context 1)
+        (three (tree_spelling (rpn_tree left.now)) (tree_spelling (rpn_tree right.now)) (Some operator))) result }
 {
     let mut out = PartsBuf::new(alloc);
     out.push(structure(alloc, left)?)?;
@@ -65,7 +65,7 @@ fn rpn_rpn_op(alloc: Global, left: &Rpn, right: &Rpn, operator: Node) -> Result<
 #[cycle(structure)]
 #[tactic(auto, unfolding(crate::specs::Element::Operands::operand, crate::specs::Element::Operators::joint))]
 fn structure(alloc: Global, rpn: &Rpn) -> Result<Node, BuildError>
-    ensures { Makes (tree_spelt (seen rpn.now)) result }
+    ensures { BuildResult (tree_spelling (rpn_tree rpn.now)) result }
 {
     match rpn {
         Rpn::Term { attrs, term } => attr_term(alloc, attrs, term),
@@ -83,7 +83,7 @@ fn structure(alloc: Global, rpn: &Rpn) -> Result<Node, BuildError>
 
 /// Builds the element of a query (RPNQuery).
 fn write_query(alloc: Global, query: &Query) -> Result<Node, BuildError>
-    ensures { Makes (query_spelt query.now) result }
+    ensures { BuildResult (query_spelling query.now) result }
 {
     let mut out = PartsBuf::new(alloc);
     out.required(alloc, Tag::universal(6), &query.attr_set)?;
@@ -97,8 +97,8 @@ fn write_query(alloc: Global, query: &Query) -> Result<Node, BuildError>
 /// complex value must be constructed with the tag `[224]`. A term kept as its element must have one of the tags `[217]`
 /// to `[221]`. A proximity operator must be constructed with the tag `[3]`. Returns `Memory` if no memory is found.
 pub fn to_node(alloc: Global, query: &Query) -> Result<Node, BuildError>
-    ensures written { IsWritten (WritesQuery query.now) result }
-    ensures spelled { Makes (query_spelt query.now) result }
+    ensures written { WritingResult (WritesQuery query.now) result }
+    ensures spelled { BuildResult (query_spelling query.now) result }
 {
     write_query(alloc, query)
 }

@@ -10,7 +10,7 @@ use zber::{Node, Tag};
 #[derive(Drop)]
 pub(crate) enum Joint {
     Logical(Operator),
-    Proximity(Node),
+    ProxOperator(Node),
 }
 
 #[tactic(auto, unfolding(crate::specs::Element::Operators::joint))]
@@ -39,7 +39,7 @@ impl Tagged for Joint {
         }
         if node.tag == Tag::context(3) {
             let proximity = Node::of_node(alloc, node)?;
-            return Ok(Joint::Proximity(proximity));
+            return Ok(Joint::ProxOperator(proximity));
         }
         Err(PartError::Misfit)
     }
@@ -49,7 +49,7 @@ impl Tagged for Joint {
             Joint::Logical(Operator::And) => Ok(Node::of_null(Tag::context(0))),
             Joint::Logical(Operator::Or) => Ok(Node::of_null(Tag::context(1))),
             Joint::Logical(Operator::Not) => Ok(Node::of_null(Tag::context(2))),
-            Joint::Proximity(proximity) => proximity.to_node(alloc, Tag::context(3)),
+            Joint::ProxOperator(proximity) => proximity.to_node(alloc, Tag::context(3)),
         }
     }
 }

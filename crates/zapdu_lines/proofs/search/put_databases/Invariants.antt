@@ -1,7 +1,7 @@
 -- the lines of the databases so far
 use Rattle.std.proofs.Common.{◌≡◌, ◌++◌, take}
-use Rattle.zapdu_lines.specs.Searches.{database_lines}
+use Rattle.zapdu_lines.specs.Searches.{searched_database_lines}
 use Rattle.zapdu_lines.proofs.search.put_databases.Given as goal
 
 abbrev pub invariant-loop-name : goal.invariant-loop-name
-invariant-loop-name l = l.text.items ≡ l.initial.text.items ++ database_lines (take l.name-index l.names)
+invariant-loop-name l = l.text.items ≡ l.initial.text.items ++ searched_database_lines (take l.name-index l.names)

@@ -1,13 +1,13 @@
 use Rattle.std.proofs.Common.{ℕ, Bool, length, ◌+◌, ◌<◌, pos, ap, sym, ◌∙◌, arith}
 use Rattle.std.proofs.lemmas.List.Sums.{count_by_more_yes, count_by_more_no}
 use Rattle.zknow.specs.declared.tables.keys.RowKey.{RowKey}
-use Rattle.zknow_records.specs.Records.{is_conflict, records_in}
+use Rattle.zknow_records.specs.Records.{is_conflict, row_records}
 use Rattle.zknow_records.proofs.taken.count_conflicts.Goals as goal
 use Rattle.zknow_records.proofs.taken.count_conflicts.Goals.{then-is_conflict, else-is_conflict}
 
 pub loop-row-preserved : goal.loop-row-preserved
 loop-row-preserved c =
-    let test : RowKey → Bool = λ k. is_conflict (records_in c.args.knowledge.now k) in
+    let test : RowKey → Bool = λ k. is_conflict (row_records c.args.knowledge.now k) in
     let none : RowKey = record { position = pos 0; target = 0; set = 0 } in
     let at : ℕ = c.loop-row.row-index in
     let inside : at < length c.args.rows.now = c.loop-row-test.true in

@@ -1,6 +1,7 @@
 use Rattle.std.proofs.Common.{◌∙◌}
+use Rattle.std.proofs.lemmas.Result.{err_from_is_err_and}
 use Rattle.zber.specs.declared.framer.TheConstants.{MESSAGE_LIMIT}
-use Rattle.zmeta_commands.proofs.Showing.{rest_shorter, is_shown, shown_more, unfinished_end, whole_end}
+use Rattle.zmeta_commands.proofs.Showing.{rest_shorter, is_shown, shown_more, refused_end, unfinished_end, whole_end}
 use Rattle.zmeta_commands.proofs.show.show_octets.Goals as goal
 
 pub loop-framer-preserved : goal.loop-framer-preserved
@@ -17,6 +18,13 @@ loop-framer-smaller c =
     let before = c.loop-framer in
     let step = is_shown before.framer.stream c.show_next.new.framer.stream before.text.items c.show_next.new.text.items c.in_ok-show_next.field-0 c.in_ok-show_next.ensures c.if-branch.true in
     rest_shorter MESSAGE_LIMIT before.framer.stream.octets c.show_next.new.framer.stream.octets step.element step.begins
+
+pub returns-in_err-show_next : goal.returns-in_err-show_next
+returns-in_err-show_next c =
+    let before = c.loop-framer in
+    let p = err_from_is_err_and c.from_residual-in_err-show_next.result c.from_residual-in_err-show_next.ensures.1 in
+    refused_end c.args.octets.now c.args.text.now.items before.text.items c.show_next.new.text.items before.framer.stream c.show_next.new.framer.stream
+    c.in_err-show_next.field-0.0 p.0 c.from_residual-in_err-show_next.result p.1 p.2 before.invariant.so_far c.in_err-show_next.ensures
 
 pub returns-in_err-finish : goal.returns-in_err-finish
 returns-in_err-finish c =

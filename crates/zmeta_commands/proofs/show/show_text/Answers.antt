@@ -1,4 +1,4 @@
-use Rattle.zmeta_commands.specs.Devices.{left, output_device}
+use Rattle.zmeta_commands.specs.Devices.{input_device, output_device}
 use Rattle.zmeta_commands.proofs.Showing.{input_shown, ends_by}
 use Rattle.zmeta_commands.proofs.show.show_text.Goals as goal
 
@@ -10,6 +10,6 @@ returns-clause-shown g c =
 
 pub returns-clause-failed : goal.returns-clause-failed
 returns-clause-failed g c =
-    ends_by (left g.R.Read.remaining c.read_all.new.self) c.as_slice-2.result.now c.new-lines.result.items c.show_octets-answer.new.text.items c.as_slice-3.result.now
+    ends_by (input_device g.R.Read.remaining c.read_all.new.self) c.as_slice-2.result.now c.new-lines.result.items c.show_octets-answer.new.text.items c.as_slice-3.result.now
     (output_device g.W.Write.contents c.args.output.now) (output_device g.W.Write.contents c.print_lines.new.output) c.show_octets-answer.result c.print_lines.result
     c.show_octets-answer.ensures c.print_lines.ensures

@@ -12,9 +12,9 @@ returns-in_err-take_message-clause-receipt g c =
     let held = g.W.Sink.state c.send_due.new.sink in
     subst (λ z. AfterSendAndTake c.args.c z c.args.meta.now c.take_message.new.meta sink held) (sym (p.1 ∙ ap Err p.2))
     (halts_after c.args.c Due Listening same c.args.meta.now c.send_due.new.meta c.take_message.new.meta sink held
-    c.in_ok-send_due.ensures.speaks (c.in_err-take_message.ensures.halts held))
+    c.in_ok-send_due.ensures.after (c.in_err-take_message.ensures.err held))
 
 pub returns-clause-receipt : goal.returns-clause-receipt
 returns-clause-receipt g c =
     sent_and_taken c.args.c c.in_ok-take_message.field-0 c.args.meta.now c.send_due.new.meta c.take_message.new.meta (g.W.Sink.state c.args.sink.now)
-    (g.W.Sink.state c.send_due.new.sink) c.in_ok-send_due.ensures.speaks c.in_ok-take_message.ensures.hears
+    (g.W.Sink.state c.send_due.new.sink) c.in_ok-send_due.ensures.after c.in_ok-take_message.ensures.after

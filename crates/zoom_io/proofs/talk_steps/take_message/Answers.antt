@@ -5,22 +5,22 @@ use Rattle.zoom_io.proofs.Sending.{halts_keeps}
 use Rattle.zoom_io.specs.TalkTraces.{Listening}
 use Rattle.zoom_io.proofs.talk_steps.take_message.Goals as goal
 
-pub returns-in-Ok-clause-hears : goal.returns-in-Ok-clause-hears
-returns-in-Ok-clause-hears c =
+pub returns-in-Ok-clause-after : goal.returns-in-Ok-clause-after
+returns-in-Ok-clause-after c =
     subst (λ z. AfterTakeMessage c.args.c z c.args.meta.now c.take.new.self) (sym c.receipt_of.ensures)
     (taken_step c.up_to.ensures c.one_transcript.ensures c.one_input.ensures c.args.c c.args.meta.now c.take.new.self
     c.requires c.in-Ok.step c.in-Ok.ensures.answer (c.in-Ok.ensures.after tt))
 
 pub returns-in_default : goal.returns-in_default
 returns-in_default c = record {
-  hears = taken_refusal c.up_to.ensures c.one_transcript.ensures c.one_input.ensures c.args.c c.args.meta.now
+  after = taken_refusal c.up_to.ensures c.one_transcript.ensures c.one_input.ensures c.args.c c.args.meta.now
       c.take.new.self c.requires c.in-Err.error c.in_default.not-Memory c.in-Err.ensures.answer
       (c.in-Err.ensures.after c.in_default.not-Memory);
-  halts = tt;
+  err = tt;
   size = c.take.ensures.size;
 }
 
-pub returns-in-Memory-clause-halts : goal.returns-in-Memory-clause-halts
-returns-in-Memory-clause-halts c =
+pub returns-in-Memory-clause-err : goal.returns-in-Memory-clause-err
+returns-in-Memory-clause-err c =
     halts_keeps c.up_to.ensures c.args.c Listening c.args.meta.now c.take.new.self
     (c.in-Err.ensures.memory (ap Err c.in-Memory.is))

@@ -13,8 +13,8 @@ returns-clause-on c = IfOk-weaker c.take_all.result _ _ (λ _ g.
     goes_trans c.args.meta.now c.end.new.self c.take_all.new.meta
     (recorded_silent c.args.c InputEnded c.args.meta.now c.end.new.self tt c.end.ensures.after) g) c.take_all.ensures.on
 
-pub returns-clause-spares : goal.returns-clause-spares
-returns-clause-spares c = IfOk-weaker c.take_all.result _ _ (λ _ more.
+pub returns-clause-unfinished_only : goal.returns-clause-unfinished_only
+returns-clause-unfinished_only c = IfOk-weaker c.take_all.result _ _ (λ _ more.
     adds_spares c.args.c c.args.meta.now c.take_all.new.meta
     (subst (λ b. IsTranscriptValue c.args.c c.args.meta.now is_over b) c.if-is_over.false c.is_over.ensures)
     (adds_trans c.args.c c.args.meta.now c.end.new.self c.take_all.new.meta

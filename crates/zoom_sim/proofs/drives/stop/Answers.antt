@@ -13,8 +13,8 @@ returns-clause-after c = inr (
   subst (λ b. IsTranscriptValue c.args.c c.args.meta.now is_over b) c.if-is_over.false c.is_over.ensures,
 )
 
-pub returns-clause-spares : goal.returns-clause-spares
-returns-clause-spares c =
+pub returns-clause-unfinished_only : goal.returns-clause-unfinished_only
+returns-clause-unfinished_only c =
     adds_spares c.args.c c.args.meta.now c.stop.new.self
     (subst (λ b. IsTranscriptValue c.args.c c.args.meta.now is_over b) c.if-is_over.false c.is_over.ensures)
     (recorded_adds c.args.c (Stopped reasons.Turns) c.args.meta.now c.stop.new.self c.stop.ensures.after)

@@ -6,6 +6,6 @@ use Rattle.zoom_sim.proofs.drives.stop_all.Goals as goal
 pub loop-c-preserved : goal.loop-c-preserved
 loop-c-preserved c = (
   halts_more c.loop-c.c c.args.meta.now c.loop-c.meta c.stop.new.meta c.loop-c.invariant.0 c.stop.ensures.after,
-  spares_trans c.args.meta.now c.loop-c.meta c.stop.new.meta c.loop-c.invariant.1 c.stop.ensures.spares,
+  spares_trans c.args.meta.now c.loop-c.meta c.stop.new.meta c.loop-c.invariant.1 c.stop.ensures.unfinished_only,
   c.stop.ensures.size ∙ c.loop-c.invariant.2,
 )

@@ -42,4 +42,4 @@ returns-clause-whole g c = λ sure.
     most_whole c.exchange_laws.ensures c.one_transcript.ensures c.loop.counter c.args.meta.now c.loop.meta
     c.stop_all.new.meta c.args.peers.now c.loop.peers (c.loop.invariant.2 sure) (omega (arith, c.loop-test.false))
     (spares_trans c.loop.meta c.end_inputs.new.meta c.stop_all.new.meta
-    c.in_ok-end_inputs.ensures.spares c.stop_all.ensures.spares)
+    c.in_ok-end_inputs.ensures.unfinished_only c.stop_all.ensures.unfinished_only)

@@ -22,4 +22,4 @@ returns-else-branch-clause-grows g c = λ sure. IfOk-weaker c.end_inputs.result 
     grows_ended c.one_transcript.ensures c.exchange_laws.ensures.longer c.exchange_laws.ensures.few c.args.meta.now
     c.go_round.new.meta c.end_inputs.new.meta c.args.peers.now c.go_round.new.peers
     (subst (λ b. AfterSoundRound b c.args.meta.now c.go_round.new.meta c.args.peers.now c.go_round.new.peers)
-    c.if-branch.false (c.in_ok-go_round.ensures.rounds sure)) spares) c.end_inputs.ensures.spares
+    c.if-branch.false (c.in_ok-go_round.ensures.rounds sure)) spares) c.end_inputs.ensures.unfinished_only

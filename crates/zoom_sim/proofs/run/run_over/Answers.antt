@@ -12,8 +12,8 @@ carry_out-requires-clause-equal g c =
     let asked : length c.from_vec.result ≡ length c.args.questions.items = ap length c.from_vec.ensures in
     slice ∙ size ∙ c.requires.equal ∙ sym asked ∙ sym c.in_ok-meta.ensures.size
 
-pub returns-clause-ran : goal.returns-clause-ran
-returns-clause-ran g c =
+pub returns-clause-is_run : goal.returns-clause-is_run
+returns-clause-is_run g c =
     let after = subst (λ z. MetaAfter z c.args.settings [] c.in_ok-meta.meta) c.from_vec.ensures c.in_ok-meta.ensures.after in
     let of = subst (ArePeersOf c.args.targets.items) (sym c.deref_mut.ensures.value) c.in_ok-peers.ensures in
     c.in_ok-carry_out.ensures.ends.on c.args.questions.items c.args.settings c.args.targets.items

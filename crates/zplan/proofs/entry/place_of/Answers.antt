@@ -2,7 +2,7 @@ use Rattle.std.proofs.Common.{◌≡◌, ◌+◌, suc, true, take, arith, subst,
 use Rattle.std.proofs.lemmas.Bool.Decides.{nat_tests}
 use Rattle.zplan.specs.Positions.{first_of}
 use Rattle.zplan.specs.Ranges.{places}
-use Rattle.zplan.specs.Schedules.{NoneWaits}
+use Rattle.zplan.specs.Schedules.{HasNoneWaiting}
 use Rattle.zplan.proofs.Entries.{listed_at, waiting_here, none_more, take_all}
 use Rattle.zplan.proofs.entry.place_of.Goals as goal
 
@@ -18,9 +18,9 @@ returns-then-waits_from-clause-some c =
 
 pub loop-at-preserved : goal.loop-at-preserved
 loop-at-preserved c =
-    subst (λ k. NoneWaits c.args.first (take k c.args.entries.now)) (let e : suc c.loop-at.at ≡ c.loop-at.at + 1 = omega arith in e)
+    subst (λ k. HasNoneWaiting c.args.first (take k c.args.entries.now)) (let e : suc c.loop-at.at ≡ c.loop-at.at + 1 = omega arith in e)
     (none_more c.args.entries.now c.args.first c.loop-at.at c.index-entries-at.result c.loop-at.invariant c.loop-at-test.true c.index-entries-at.is
     (sym c.waits_from.ensures ∙ c.if-waits_from.false))
 
 pub returns-clause-none : goal.returns-clause-none
-returns-clause-none c = subst (NoneWaits c.args.first) (take_all c.args.entries.now c.loop-at.at c.loop-at-test.false) c.loop-at.invariant
+returns-clause-none c = subst (HasNoneWaiting c.args.first) (take_all c.args.entries.now c.loop-at.at c.loop-at-test.false) c.loop-at.invariant

@@ -1,6 +1,6 @@
 use Rattle.std.proofs.Common.{◌≡◌, pos, get_or, ◌∙◌, sym, subst}
 use Rattle.std.proofs.lemmas.List.{get_or_default}
-use Rattle.ztarget.specs.Keeping.{AllStand}
+use Rattle.ztarget.specs.Keeping.{AreHits}
 use Rattle.zplan.specs.Ranges.{positions_of}
 use Rattle.ztarget.proofs.AskedPositions.{held_step, first_in_set, stand_at}
 use Rattle.ztarget.proofs.present.put_held.Goals as goal
@@ -10,7 +10,7 @@ put_fitting-requires c =
     let ranges = c.args.ranges.now in
     let i = c.loop-range.range-index in
     let x = get_or ranges i (record { start = pos 0; n = pos 0 }) in
-    subst (AllStand c.args.databases.now) (sym c.hits_at-hits.ensures) (stand_at c.args.databases.now c.args.found.now (positions_of x) c.requires.stand)
+    subst (AreHits c.args.databases.now) (sym c.hits_at-hits.ensures) (stand_at c.args.databases.now c.args.found.now (positions_of x) c.requires.stand)
 
 pub loop-range-preserved : goal.loop-range-preserved
 loop-range-preserved c =

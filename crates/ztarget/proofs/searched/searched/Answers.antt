@@ -7,7 +7,7 @@ use Rattle.std.specs.List.{flat_map}
 use Rattle.std.specs.Ordering.{nat_cmp}
 use Rattle.ztarget.specs.Keeping.{databases_of}
 use Rattle.ztarget.specs.Searching.{called, each_once}
-use Rattle.ztarget.proofs.OnceNamed.{told_more, new_name, old_name}
+use Rattle.ztarget.proofs.OnceNamed.{membership_more, new_name, old_name}
 use Rattle.ztarget.proofs.searched.searched.Goals as goal
 use Rattle.ztarget.proofs.searched.searched.Goals.{then-branch+in_ok-put_called, else-branch}
 
@@ -34,7 +34,7 @@ loop-name-preserved c =
     let told = c.loop-name.invariant.told name in
     let rest = flat_map (called ds) (each_once after (drop (i + 1) names)) in
     record {
-      told = λ q. told_more before after name q (contains (slice_cmp nat_cmp) c.loop-name.named q) (contains (slice_cmp nat_cmp) c.put_name.new.named q) upto (c.loop-name.invariant.told q) (puts.0 q);
+      told = λ q. membership_more before after name q (contains (slice_cmp nat_cmp) c.loop-name.named q) (contains (slice_cmp nat_cmp) c.put_name.new.named q) upto (c.loop-name.invariant.told q) (puts.0 q);
       found = elim c.if-branch.branch [
         | then-branch+in_ok-put_called w ↦
             rw w.searched-is

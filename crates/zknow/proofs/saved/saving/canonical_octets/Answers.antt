@@ -1,7 +1,7 @@
 use Rattle.std.proofs.Common.{map, ap, subst, ◌∙◌}
 use Rattle.std.proofs.lemmas.Result.{err_from_is_err_and}
 use Rattle.zknow.specs.Tables.FactRefs.{fact_of}
-use Rattle.zknow.specs.Saved.Saved.{IsRefused}
+use Rattle.zknow.specs.Saved.Saved.{IsSaveRefusal}
 use Rattle.zknow.specs.Saved.Saving.{IsSavedUpTo}
 use Rattle.zknow.proofs.saved.saving.canonical_octets.Goals as goal
 
@@ -14,7 +14,7 @@ pub returns-in_err-put_facts-clause-refused : goal.returns-in_err-put_facts-clau
 returns-in_err-put_facts-clause-refused c =
     let p = err_from_is_err_and c.from_residual-in_err-put_facts.result c.from_residual-in_err-put_facts.ensures.1 in
     let facts = ap (map fact_of) c.as_slice.ensures.value ∙ c.in_ok-facts.ensures in
-    rw (p.1, p.2) (subst (λ l. IsRefused c.args.names.now l c.in_err-put_facts.field-0.0) facts (c.in_err-put_facts.ensures.err c.args.names.now))
+    rw (p.1, p.2) (subst (λ l. IsSaveRefusal c.args.names.now l c.in_err-put_facts.field-0.0) facts (c.in_err-put_facts.ensures.err c.args.names.now))
 
 pub returns-then-long-clause-refused : goal.returns-then-long-clause-refused
 returns-then-long-clause-refused c =

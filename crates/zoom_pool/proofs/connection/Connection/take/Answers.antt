@@ -8,7 +8,7 @@ use Rattle.zoom_pool.specs.Connections.{FramerAfter, AreConsistent}
 use Rattle.zoom_pool.proofs.Streams.{going}
 use Rattle.zorigin.specs.Log.{After as OriginAfter}
 use Rattle.zoom_pool.specs.Steps.{stop_after}
-use Rattle.zoom_pool.proofs.Taking.{took, held_done, kept_back, news_told, faulty, lacked}
+use Rattle.zoom_pool.proofs.Taking.{took, held_done, kept_back, news_of_outcome, faulty, lacked}
 use Rattle.zoom_pool.proofs.connection.Connection.take.Goals as goal
 
 pub lack-requires-clause-asked : goal.lack-requires-clause-asked
@@ -66,7 +66,7 @@ returns-in-Ok-Some-clause-part c = λ p m e.
     ∙ c.if-is_stopped.false in
     let n = subst (AreConsistent p) (sym c.self.view_is) m in
     let draws = rw c.in-Ok-Some.field-0-is at (c.in-Ok-Some.ensures.answer p (going _ p.stop s) n.frames) in
-    news_told c.args.target p _ c.next_message.new.framer.stream _ _ s draws.1 (c.process-answer.ensures.part p n.origin e)
+    news_of_outcome c.args.target p _ c.next_message.new.framer.stream _ _ s draws.1 (c.process-answer.ensures.part p n.origin e)
 
 pub returns-in-Ok-None-clause-done : goal.returns-in-Ok-None-clause-done
 returns-in-Ok-None-clause-done c = λ p m d.

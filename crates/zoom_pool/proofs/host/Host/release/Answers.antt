@@ -3,7 +3,7 @@ use Rattle.std.specs.Prelude.{not, ◌&&◌, ◌||◌}
 use Rattle.ztarget.specs.Receiving.{is_close}
 use Rattle.zoom_pool.specs.Transcripts.{joined}
 use Rattle.zoom_pool.specs.Hosts.{HostState}
-use Rattle.zoom_pool.specs.HostSteps.{is_unput}
+use Rattle.zoom_pool.specs.HostSteps.{is_not_put}
 use Rattle.zoom_pool.proofs.Served.{released_as}
 use Rattle.zoom_pool.proofs.host.Host.release.Goals as goal
 
@@ -21,15 +21,15 @@ returns c =
       target = c.release.new.self;
       framer = inside.framer.stream;
       waiting = joined c.put_reply-put.new.waiting.items;
-      stopped = c.is_unput-self-inside.result;
+      stopped = c.is_not_put-self-inside.result;
       closed = c.has_closed-self-inside.result;
     } in
-    let closed : new.closed ≡ (old.closed || (not (is_unput c.put_reply-put.result) && is_close c.in-Some.reply))
+    let closed : new.closed ≡ (old.closed || (not (is_not_put c.put_reply-put.result) && is_close c.in-Some.reply))
     = c.has_closed-self-inside.ensures
-    ∙ ap (λ u. inside.closed || (not u && is_close c.in-Some.reply)) c.is_unput-self-inside.ensures in
+    ∙ ap (λ u. inside.closed || (not u && is_close c.in-Some.reply)) c.is_not_put-self-inside.ensures in
     record {
       releases = rw (← c.self.view_is) (released_as c.args.k c.in-Some.reply c.put_reply-put.result old new
           inside.waiting.items c.put_reply-put.new.waiting.items c.if-self.false refl refl refl
-          c.is_unput-self-inside.ensures closed
+          c.is_not_put-self-inside.ensures closed
           c.in-Some.ensures.releases c.in-Some.ensures.after c.put_reply-put.ensures);
     }

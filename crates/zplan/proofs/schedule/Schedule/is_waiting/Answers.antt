@@ -1,10 +1,10 @@
 use Rattle.std.proofs.Common.{subst, sym}
-use Rattle.zplan.specs.Schedules.{AllListed, IsWaitingAt}
+use Rattle.zplan.specs.Schedules.{AreAskableLists, IsWaitingAt}
 use Rattle.zplan.proofs.Entries.{waiting_there}
 use Rattle.zplan.proofs.schedule.Schedule.is_waiting.Goals as goal
 
 pub place_of-requires : goal.place_of-requires
-place_of-requires c = (c.self.inside.uncut.three, subst (AllListed c.self.inside.uncut.three) (sym c.deref.ensures.value) c.self.invariant.listed)
+place_of-requires c = (c.self.inside.uncut.three, subst (AreAskableLists c.self.inside.uncut.three) (sym c.deref.ensures.value) c.self.invariant.listed)
 
 pub returns-in-Some-clause-some : goal.returns-in-Some-clause-some
 returns-in-Some-clause-some c = rw (← c.self.view_is) (λ _.

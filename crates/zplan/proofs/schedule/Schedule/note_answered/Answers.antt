@@ -1,11 +1,11 @@
 use Rattle.std.proofs.Common.{◌<◌, length, subst, sym, ◌∙◌, arith}
-use Rattle.zplan.specs.Schedules.{AllListed, IsWaitingAt}
+use Rattle.zplan.specs.Schedules.{AreAskableLists, IsWaitingAt}
 use Rattle.zplan.proofs.Entries.{listed_at}
 use Rattle.zplan.proofs.Plans.{waiting_lt, removed_at, gone_sound, gone_answered, left_sound, left_answered}
 use Rattle.zplan.proofs.schedule.Schedule.note_answered.Goals as goal
 
 pub place_of-requires : goal.place_of-requires
-place_of-requires c = (c.self.inside.uncut.three, subst (AllListed c.self.inside.uncut.three) (sym c.deref.ensures.value) c.self.invariant.listed)
+place_of-requires c = (c.self.inside.uncut.three, subst (AreAskableLists c.self.inside.uncut.three) (sym c.deref.ensures.value) c.self.invariant.listed)
 
 pub index_mut-requires : goal.index_mut-requires
 index_mut-requires c =

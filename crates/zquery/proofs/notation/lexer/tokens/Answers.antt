@@ -1,6 +1,6 @@
 use Rattle.std.proofs.Common.{refl, ◌∙◌, sym, ap, ◌∷◌, ℕ, inr}
-use Rattle.zquery.specs.Notation.Tokens.{StaysOpen}
-use Rattle.zquery.specs.Notation.Lexing.{Closes}
+use Rattle.zquery.specs.Notation.Tokens.{IsUnclosed}
+use Rattle.zquery.specs.Notation.Lexing.{QuotedFront}
 use Rattle.zquery.proofs.NotationTheory.TokenLists.{lexed-white, lexed-quoted, lexed-word, lexed-open, lexed-all}
 use Rattle.zquery.proofs.NotationTheory.Quoting.{not-quote}
 use Rattle.zquery.proofs.notation.lexer.tokens.Goals as goal
@@ -11,12 +11,12 @@ loop-octet-preserved-then-is_space c =
 
 pub returns-in_default-2-clause-err : goal.returns-in_default-2-clause-err
 returns-in_default-2-clause-err c =
-    let stays : StaysOpen c.in-Some.after.now = rw c.in_default-2.is at c.in_ok-content.ensures in
+    let stays : IsUnclosed c.in-Some.after.now = rw c.in_default-2.is at c.in_ok-content.ensures in
     inr (refl, lexed-open _ _ _ c.in-Some.after.now _ c.loop-octet.invariant (c.in-Some.ensures.some ∙ ap (λ (b : ℕ). b ∷ c.in-Some.after.now) c.if-octet-eq34.true) refl stays)
 
 pub loop-octet-preserved-then-octet-eq34 : goal.loop-octet-preserved-then-octet-eq34
 loop-octet-preserved-then-octet-eq34 c =
-    let closes : Closes c.in-Some.after.now c.in-Some-2.content.items c.in-Some-2.rest.now = rw c.in-Some-2.is at c.in_ok-content.ensures in
+    let closes : QuotedFront c.in-Some.after.now c.in-Some-2.content.items c.in-Some-2.rest.now = rw c.in-Some-2.is at c.in_ok-content.ensures in
     lexed-quoted _ _ _ _ c.in-Some.after.now c.in-Some-2.content.items c.in-Some-2.rest.now c.in_ok-token.field-0 c.loop-octet.invariant
     (c.in-Some.ensures.some ∙ ap (λ (b : ℕ). b ∷ c.in-Some.after.now) c.if-octet-eq34.true) closes c.in_ok-token.ensures.ok c.in_ok-push.ensures.items
 

@@ -1,8 +1,8 @@
 use Rattle.std.proofs.Common.{◌+◌, ◌∷◌, [], length, drop, take, sym, subst, ap, inr, arith, length-append, length-drop}
-use Rattle.zknow.specs.Saved.Fronts.{IsFrontFault, IsTaken}
+use Rattle.zknow.specs.Saved.Fronts.{IsFrontFault, IsTakenFront}
 use Rattle.zknow.specs.Saved.SavedFacts.{saved_fact}
 use Rattle.zknow.specs.Saved.Saved.{IsSaved}
-use Rattle.zknow.specs.Saved.Loaded.{IsFault}
+use Rattle.zknow.specs.Saved.Loaded.{IsLoadFault}
 use Rattle.zknow.proofs.SavedTheory.LoadSteps.{sound_to, later_fault, said_is_fact, above_sorted, sorted_above, added_last, begins_taken, saved_next, taken_some}
 use Rattle.zknow.proofs.saved.loading.Loading.load_fact.Goals as goal
 
@@ -11,7 +11,7 @@ returns-in-Err-clause-fault c =
     let s = c.args.self.now in
     let file = c.args.file.now in
     let here = subst (λ l. IsFrontFault saved_fact l c.in-Err.error) c.split_at.ensures.back c.in-Err.ensures.fault in
-    subst (IsFault file) (sym c.at.ensures) (later_fault file s.names s.knowledge (drop s.at file) (s.count + 1) c.in-Err.error (sound_to s.names s.knowledge file s.at c.requires.sound.saved c.requires.more) (ap (λ n. n + 1) c.requires.sound.count) here)
+    subst (IsLoadFault file) (sym c.at.ensures) (later_fault file s.names s.knowledge (drop s.at file) (s.count + 1) c.in-Err.error (sound_to s.names s.knowledge file s.at c.requires.sound.saved c.requires.more) (ap (λ n. n + 1) c.requires.sound.count) here)
 
 pub returns-then-not-branch-clause-fault : goal.returns-then-not-branch-clause-fault
 returns-then-not-branch-clause-fault c =
@@ -19,7 +19,7 @@ returns-then-not-branch-clause-fault c =
     let file = c.args.file.now in
     let fact = c.in-Ok.taken.0 in
     let size = c.in-Ok.taken.1 in
-    let taken = subst (λ l. IsTaken saved_fact l fact size) c.split_at.ensures.back c.in-Ok.ensures.taken in
+    let taken = subst (λ l. IsTakenFront saved_fact l fact size) c.split_at.ensures.back c.in-Ok.ensures.taken in
     inr (record {
       names = s.names;
       facts = s.knowledge;
@@ -42,7 +42,7 @@ returns-clause-ok c =
     let file = c.args.file.now in
     let fact = c.in-Ok.taken.0 in
     let size = c.in-Ok.taken.1 in
-    let taken = subst (λ l. IsTaken saved_fact l fact size) c.split_at.ensures.back c.in-Ok.ensures.taken in
+    let taken = subst (λ l. IsTakenFront saved_fact l fact size) c.split_at.ensures.back c.in-Ok.ensures.taken in
     let saved = c.requires.sound.saved in
     let sorted = sorted_above s.knowledge fact s.last c.requires.sound.last (c.in_ok-is_above.ensures.0 c.if-not-branch.false) saved.ordered in
     let new_is = added_last s.knowledge fact c.add.new.self c.in_ok-add.ensures.ok c.lawful.ensures.ordered sorted in

@@ -1,0 +1,8 @@
+use Rattle.std.proofs.Common.{◌≡◌, ◌++◌, drop, string_bytes}
+use Rattle.std.specs.List.{flat_map}
+use Rattle.zknow_json.specs.Sets.{set_lines}
+use Rattle.zknow_json.proofs.lines.put_sets.Given as goal
+
+abbrev pub invariant-loop-key : goal.invariant-loop-key
+invariant-loop-key l = string_bytes l.out ++ flat_map (set_lines l.names l.knowledge) (drop l.key-index l.sets)
+    ≡ string_bytes l.fn.out ++ flat_map (set_lines l.names l.knowledge) l.sets

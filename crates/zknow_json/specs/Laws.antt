@@ -1,0 +1,26 @@
+-- The text consists of lines of JSON, whatever the names and the facts are.
+use Rattle.std.specs.Prelude.{◌≡◌, ◌≤◌, ℕ, List, ◌++◌, All, codes}
+use Rattle.std.specs.List.{flat_map}
+use Rattle.json.specs.Json.{Members, object}
+use Rattle.json.specs.Print.{print}
+use Rattle.json.specs.Tree.{json_tokens}
+use Rattle.zknow.specs.declared.fact.Fact.{Fact}
+use Rattle.zknow_json.specs.Lines.{json_lines}
+
+-- the text of a JSON object with these members
+abbrev pub object_text : Members → List ℕ
+object_text members = print (json_tokens (object members))
+
+-- no octet below 20
+abbrev pub HasNoControl : List ℕ → Type 0
+HasNoControl octets = All (λ x. 0x20 ≤ x) octets
+
+-- lines of JSON: each is the text of an object, has no octet below 20, and has a line feed behind it
+pub record AreJsonLines (octets : List ℕ) : Type 0 where
+  pub objects : List Members
+  pub made : flat_map (λ o. object_text o ++ codes "\n") objects ≡ octets
+  pub no_control : All (λ o. HasNoControl (object_text o)) objects
+
+-- whatever the names and the facts are
+abbrev pub LinesLaw : Type 0
+LinesLaw = (names : List (List ℕ)) (facts : List Fact) → AreJsonLines (json_lines names facts)

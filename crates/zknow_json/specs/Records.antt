@@ -1,0 +1,80 @@
+-- The lines of records: one for each position of a set (Z39.50-2003, 4.1: NamePlusRecord).
+use Rattle.std.specs.Prelude.{ℕ, Option, Some, None, List, [], ◌∷◌, ◌++◌, codes}
+use Rattle.std.specs.List.{flat_map}
+use Rattle.json.specs.Token.{Token}
+use Rattle.zber.specs.Dotted.{dotted}
+use Rattle.zapdu.specs.declared.productions.record.RecordBody.{RecordBody}
+use Rattle.zapdu.specs.declared.productions.record.RecordBody.TheVariants.{Retrieval, Surrogate, Fragment}
+use Rattle.zapdu.specs.declared.productions.record.Record.{Record}
+use Rattle.zapdu.specs.Productions.Records.{whole_record}
+use Rattle.zapdu.specs.Text.{octets_alone}
+use Rattle.zknow.specs.declared.fact.Fact.{Fact}
+use Rattle.zknow.specs.declared.tables.keys.RowKey.{RowKey}
+use Rattle.zknow.specs.Encodings.{encoding}
+use Rattle.zknow.specs.Known.{records_at}
+use Rattle.zknow_json.specs.Members.{text_member, integer_member, octets_member, received_member, object, array_member, line}
+use Rattle.zknow_json.specs.Sets.{head, diag_members}
+
+-- ---- one record
+
+-- the syntax, if an object identifier names it
+abbrev pub syntax_member : Option (List ℕ) → List Token
+syntax_member None = []
+syntax_member (Some syntax) = text_member (codes "syntax") (dotted syntax)
+
+-- the name of the database, if the record has it
+abbrev pub database_member : Option (List ℕ) → List Token
+database_member None = []
+database_member (Some name) = received_member (codes "database") (codes "databaseOctets") name
+
+-- the canonical encoding of the record with its database
+abbrev pub encoding_member : Record → List Token
+encoding_member r = octets_member (codes "encoding") (encoding whole_record r)
+
+-- the octets, if the EXTERNAL has a syntax and octets and nothing else; else the encoding
+abbrev pub contents_member : Record → Option (List ℕ × List ℕ) → List Token
+contents_member r None = encoding_member r
+contents_member r (Some p) = octets_member (codes "octets") p.1
+
+-- the type: a record, a diagnostic in its place, or an element that is neither
+abbrev pub body_kind : RecordBody → List ℕ
+body_kind (Retrieval v) = codes "record"
+body_kind (Surrogate d) = codes "diagnostic"
+body_kind (Fragment m) = codes "element"
+
+-- what a line has of a record
+abbrev pub body_members : Record → RecordBody → List Token
+body_members r (Retrieval v) =
+    syntax_member v.direct ++ database_member r.name
+    ++ contents_member r (octets_alone v.direct v.indirect v.descriptor v.content)
+body_members r (Surrogate d) = database_member r.name ++ diag_members d
+body_members r (Fragment m) = encoding_member r
+
+-- one of several records
+unfoldable pub record_object : Record → List Token
+record_object r = object (text_member (codes "type") (body_kind r.body) ++ body_members r r.body)
+
+-- ---- rows
+
+-- what the line of a row begins with
+unfoldable pub row_head : List ℕ → List (List ℕ) → RowKey → List Token
+row_head kind names k = head kind names k.target k.set ++ integer_member (codes "position") k.position
+
+-- the line of one record
+unfoldable pub record_line : List (List ℕ) → RowKey → Record → List ℕ
+record_line names k r = line (object (row_head (body_kind r.body) names k ++ body_members r r.body))
+
+-- the line of several different records at one position
+unfoldable pub conflict_line : List (List ℕ) → RowKey → List Record → List ℕ
+conflict_line names k records =
+    line (object (row_head (codes "conflict") names k
+    ++ array_member (codes "records") (flat_map record_object records)))
+
+abbrev pub records_line : List (List ℕ) → RowKey → List Record → List ℕ
+records_line names k [] = []
+records_line names k (r ∷ []) = record_line names k r
+records_line names k (r ∷ q ∷ rest) = conflict_line names k (r ∷ q ∷ rest)
+
+-- the line of a row
+unfoldable pub row_line : List (List ℕ) → List Fact → RowKey → List ℕ
+row_line names facts k = records_line names k (records_at k.target k.set k.position facts)

@@ -1,0 +1,81 @@
+//! The lines of all that is known.
+ghost use Rattle.std.specs.Prelude.{◌≡◌, ◌++◌, OnOk, OnErr, IfOk, string_bytes};
+ghost use Rattle.std.specs.List.{flat_map};
+ghost use Rattle.std.specs.Str.{IsUtf8};
+ghost use Rattle.zknow_json.specs.Lines.{json_lines};
+ghost use Rattle.zknow_json.specs.Records.{row_line};
+ghost use Rattle.zknow_json.specs.Sets.{set_lines};
+
+use crate::records::put_row;
+use crate::sets::put_set_lines;
+use std::alloc::{AllocError, Global};
+use zknow::{Knowledge, Names, RowKey, SetKey};
+
+/// Appends the lines of each set.
+fn put_sets(
+    alloc: Global,
+    names: &Names,
+    knowledge: &Knowledge,
+    sets: &[SetKey],
+    out: &mut String,
+) -> Result<(), AllocError>
+    ensures { OnOk result (string_bytes out.new
+        ≡ string_bytes out.old ++ flat_map (set_lines names.now knowledge.now) sets.now) }
+{
+    for key in sets {
+        put_set_lines(alloc, names, knowledge, key, out)?;
+    }
+    Ok(())
+}
+
+/// Appends the line of each row.
+fn put_rows(
+    alloc: Global,
+    names: &Names,
+    knowledge: &Knowledge,
+    rows: &[RowKey],
+    out: &mut String,
+) -> Result<(), AllocError>
+    ensures { OnOk result (string_bytes out.new
+        ≡ string_bytes out.old ++ flat_map (row_line names.now knowledge.now) rows.now) }
+{
+    for key in rows {
+        put_row(alloc, names, knowledge, key, out)?;
+    }
+    Ok(())
+}
+
+/// Returns all lines.
+#[tactic(auto, unfolding(crate::specs::Lines::json_lines))]
+fn lines(alloc: Global, knowledge: &Knowledge, names: &Names) -> Result<String, AllocError>
+    ensures { IfOk result (λ text. string_bytes text ≡ json_lines names.now knowledge.now) }
+{
+    let mut text = String::new(alloc);
+    let sets = knowledge.sets()?;
+    put_sets(alloc, names, knowledge, &sets, &mut text)?;
+    let rows = knowledge.rows()?;
+    put_rows(alloc, names, knowledge, &rows, &mut text)?;
+    Ok(text)
+}
+
+/// Appends what is known as lines of JSON, one object each, in the order of the list. A target's set has an object for
+/// each count, for its failure and for each diagnostic. After all sets, each position at which a record is known has an
+/// object, by position, target and set. If different records are known at a position, its object has all of them.
+///
+/// A target has its name in `names`, else its number. What stands for octets that are not UTF-8, and which members each
+/// object has, is in `CALLING.md`.
+///
+/// Returns `AllocError` if no memory is found; nothing is appended.
+pub fn print_json(
+    alloc: Global,
+    knowledge: &Knowledge,
+    names: &Names,
+    out: &mut Vec<u8>,
+) -> Result<(), AllocError>
+    ensures ok { OnOk result (out.new.items ≡ out.old.items ++ json_lines names.now knowledge.now) }
+    ensures err { OnErr result (out.new.items ≡ out.old.items) }
+    ensures utf8 { OnOk result (IsUtf8 (json_lines names.now knowledge.now)) }
+{
+    let text = lines(alloc, knowledge, names)?;
+    out.extend_from_slice(text.as_str().as_bytes())
+}

@@ -1,0 +1,76 @@
+"""Writes saved files: facts in canonical BER, in fact order, behind the names of the targets."""
+
+# record syntaxes, and a set of diagnostics
+MARC21 = "1.2.840.10003.5.10"
+UNIMARC = "1.2.840.10003.5.1"
+SUTRS = "1.2.840.10003.5.101"
+XML = "1.2.840.10003.5.109.10"
+BIB1 = "1.2.840.10003.4.1"
+# kinds of facts
+COUNT, FAILED, SEEN, DIAG = range(4)
+
+
+def element(lead, *parts):
+    """An element with these identifier octets, and its length in the shortest form."""
+    contents = b"".join(parts)
+    size = len(contents)
+    if size < 128:
+        return lead + bytes([size]) + contents
+    octets = size.to_bytes((size.bit_length() + 7) // 8, "big")
+    return lead + bytes([128 + len(octets)]) + octets + contents
+
+
+def integer(lead, value):
+    """An INTEGER, not below 0, in the fewest octets."""
+    return element(lead, value.to_bytes(value.bit_length() // 8 + 1, "big"))
+
+
+def base128(arc):
+    groups = [arc & 127]
+    while arc > 127:
+        arc >>= 7
+        groups.append(arc & 127 | 128)
+    return bytes(reversed(groups))
+
+
+def object_identifier(dotted):
+    first, second, *rest = (int(it) for it in dotted.split("."))
+    return element(b"\x06", b"".join(base128(it) for it in (40 * first + second, *rest)))
+
+
+def external(syntax, content):
+    return element(b"\x28", object_identifier(syntax), content)
+
+
+def retrieved(syntax, content):
+    """A NamePlusRecord without a database's name: a retrieval record with this content."""
+    return element(b"\x30", element(b"\xa1", element(b"\xa1", external(syntax, content))))
+
+
+def record(syntax, octets):
+    return retrieved(syntax, element(b"\x81", octets))
+
+
+def diagnostic(syntax, condition, info=""):
+    """A DiagRec in the default format."""
+    return element(b"\x30", object_identifier(syntax), integer(b"\x02", condition), element(b"\x1a", info.encode()))
+
+
+def surrogate(syntax, condition, info=""):
+    """A NamePlusRecord with a diagnostic in place of the record."""
+    return element(b"\x30", element(b"\xa1", element(b"\xa2", diagnostic(syntax, condition, info))))
+
+
+def named(names):
+    return element(b"\xa4", *(element(b"\x80", it.encode()) for it in names))
+
+
+def fact(kind, target, number, place=None, rest=b""):
+    """A fact of a target's set: COUNT and how many; FAILED; SEEN, the position and a NamePlusRecord; DIAG, the place and a DiagRec."""
+    where = [integer(b"\x80", target), integer(b"\x81", number)]
+    return element(bytes([0xA0 + kind]), *where, *([] if place is None else [integer(b"\x82", place)]), rest)
+
+
+def of_facts(names, facts):
+    """A saved file of names and of facts, each as the parts of `fact`."""
+    return named(names) + b"".join(fact(*it) for it in sorted(set(facts)))
