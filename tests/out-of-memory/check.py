@@ -37,6 +37,10 @@ RUNS = [
     # the view for readers: records of MARC 21 and UNIMARC with letters of MARC-8 and UTF-8, SUTRS, a conflict, two counts, refusals
     (["run", "--titles", "tests/out-of-memory/titles.world"], None),
     (["join", "--titles", "tests/out-of-memory/titles-one.saved", "tests/out-of-memory/titles-two.saved"], None),
+    # lines of JSON, one search for all, and the records of one catalogue
+    (["join", "--json", "tests/out-of-memory/titles-one.saved", "tests/out-of-memory/titles-two.saved"], None),
+    (["run", "--title", "dune", "--author", "herbert", "--records", "1", "--syntax", "marc21", "examples/libraries.world"], None),
+    (["records", "--only", "library", "--syntax", "marc21", "examples/monday.saved"], None),
     # wrong words, and help
     (["run"], None),
     (["show", "--hex"], None),
