@@ -1,7 +1,7 @@
 # make               proves and builds zmeta, unless that was done with the present sources, and runs the demo:
 #                    two catalogues on this machine, asked over TCP, and one list of what they answer
 # make test          runs the gate: all proofs, must-fail edits and tests
-# make quick         does the demo's job by a build of which nothing is proved, in about two minutes
+# make quick         does the demo's job by a build of which nothing is proved, in some minutes
 #
 # make program       proves and builds zmeta, as make does
 # make show          prints the records of an example message
