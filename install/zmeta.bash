@@ -5,6 +5,7 @@ _zmeta_syntaxes='marc21 unimarc xml sutrs opac grs1'
 _zmeta_terms='--title --author --subject --isbn --any'
 _zmeta_search="$_zmeta_terms --query --records --elements --syntax"
 _zmeta_views='--titles --json --hex'
+_zmeta_limits='--patience --within'
 
 # Files, where $1 stands before their names in the word, and $2 is what is typed of a name.
 _zmeta_files() {
@@ -41,7 +42,7 @@ _zmeta_may() {
 _zmeta_options() {
     local options='' left='-h --help' option
     case $1 in
-        ask) options="--at-once --only $_zmeta_search $_zmeta_views --save" ;;
+        ask) options="--at-once $_zmeta_limits --only $_zmeta_search $_zmeta_views --save" ;;
         run | loop) options="$_zmeta_search $_zmeta_views --save" ;;
         join) options=$_zmeta_views ;;
         records) options='--only --syntax --conflicts' ;;
@@ -80,7 +81,7 @@ _zmeta_any() {
             return
             ;;
         -*) return ;;
-        ask) valued=" --only $_zmeta_search --save " ;;
+        ask) valued=" --only $_zmeta_limits $_zmeta_search --save " ;;
         run | loop) valued=" $_zmeta_search --save " ;;
         records) valued=' --only --syntax ' ;;
     esac

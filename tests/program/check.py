@@ -1,5 +1,6 @@
 #!/usr/bin/env python3
-"""Runs the program on rows, whole views, worlds and mutilated records, and compares what it prints with what is due.
+"""Runs the program on rows, whole views, worlds, mutilated records, hosts and a terminal, and compares what it prints with what is
+due; and the completions of command lines with rows and with its help.
 
     python3 tests/program/check.py       (once the program is built; ZMETA may name another build)
 
@@ -17,9 +18,12 @@ import sys
 import tempfile
 from concurrent.futures import ThreadPoolExecutor
 
+import completions
+import hosts
 import json_lines
 import marc_made
 import marc_views
+import terminal
 import views
 import worlds
 
@@ -139,6 +143,14 @@ def main():
             rows = rows_of(table)
             faults += [it for it in pool.map(lambda row: look(room, row), rows) if it]
             print(f"program: {len(rows)} rows of {table}")
+        rows = rows_of("completions")
+        faults += completions.faults(run, room, rows)
+        print(f"program: {len(rows)} rows of completions")
+        faults += terminal.faults(ZMETA, room)
+        print("program: Ctrl-C and the line of progress")
+        found, count, again = hosts.faults(ZMETA, room)
+        faults += found
+        print(f"program: {count} runs that ask hosts over TCP, and {again} again")
         faults += [it for it in (fault_of_view(room, *it) for it in views.files()) if it]
         print(f"program: {len(views.ALL)} whole views")
         faults += faults_of_large(room)

@@ -1,5 +1,5 @@
 -- The arguments of a command line, as `clap` found them.
-use Rattle.std.specs.Prelude.{◌≡◌, ◌⊎◌, ℕ, Bool, true, false, List, [], slice_get, Option, Some, None, codes}
+use Rattle.std.specs.Prelude.{◌≡◌, ◌⊎◌, ℕ, Bool, true, false, List, [], slice_get, Option, Some, None, IfSome, codes}
 use Rattle.std.specs.Option.{option_map}
 use Rattle.std.specs.Str.Parse.{digits_value, without_leading_plus}
 use Rattle.clap.specs.Words.{first_value, one_text, matched_of, raw_values}
@@ -28,6 +28,12 @@ HasValues found id values = or_none (option_map raw_values (matched_of found id)
 abbrev pub HasNumber : Found → List ℕ → ℕ → Type 0
 HasNumber found id n =
     (text : List ℕ) → one_text found id ≡ Some text → n ≡ digits_value 10 (without_leading_plus text)
+
+-- the option is this number of seconds in decimal digits, or it is left out
+pub record HasSeconds (found : Found) (id : List ℕ) (seconds : Option ℕ) : Type 0 where
+  pub left_out : one_text found id ≡ None → seconds ≡ None
+  pub given : (text : List ℕ) → one_text found id ≡ Some text
+      → IfSome seconds (λ n. n ≡ digits_value 10 (without_leading_plus text))
 
 -- whether the option is given; it takes no value
 pub record HasFlag (found : Found) (id : List ℕ) (given : Bool) : Type 0 where
@@ -79,9 +85,10 @@ AreArgumentsOf name found (Records first others only syntax conflicts) =
     × (now_of syntax ≡ first_value found (codes "syntax")) × HasFlag found (codes "conflicts") conflicts
 AreArgumentsOf name found (Run world saved search view) =
     (name ≡ codes "run") × HasWorld found world.now (now_of saved) search view
-AreArgumentsOf name found (Ask world saved at_once only search view) =
+AreArgumentsOf name found (Ask world saved at_once only patience within search view) =
     (name ≡ codes "ask") × HasWorld found world.now (now_of saved) search view
     × HasFlag found (codes "at-once") at_once × HasValues found (codes "only") (texts_of only.items)
+    × HasSeconds found (codes "patience") patience × HasSeconds found (codes "within") within
 AreArgumentsOf name found (Loop world saved search view) =
     (name ≡ codes "loop") × HasWorld found world.now (now_of saved) search view
 AreArgumentsOf name found (Serve address whose world count) =

@@ -4,7 +4,7 @@ ghost use Rattle.std.specs.Prelude.{◌≡◌, IfOk, IfSome, codes, map, option_
 ghost use Rattle.clap.specs.Words.{kind_of, found_of};
 ghost use Rattle.clap.specs.declared.error.kind.ErrorKind.TheVariants.{InvalidValue};
 ghost use Rattle.zmeta_args.specs.Texts.{texts_of};
-ghost use Rattle.zmeta_args.specs.Arguments.{IsParsed, AreArgumentsOf, HasValues, HasSearch, HasView};
+ghost use Rattle.zmeta_args.specs.Arguments.{IsParsed, AreArgumentsOf, HasValues, HasSeconds, HasSearch, HasView};
 
 use crate::forms::command;
 use clap::error::ErrorKind;
@@ -80,12 +80,15 @@ pub enum Arguments<'a> {
         conflicts: bool,
     },
     /// Ask the hosts of a world file over TCP, at once or one after the other, and print the list. Only questions
-    /// to these names are asked, or all if `only` is empty. Save the facts if `saved` is a path.
+    /// to these names are asked, or all if `only` is empty. Save the facts if `saved` is a path. `patience` is the
+    /// longest silence of a host, and `within` the longest time for everything, in seconds.
     Ask {
         world: &'a str,
         saved: Option<&'a str>,
         at_once: bool,
         only: Vec<&'a str>,
+        patience: Option<u32>,
+        within: Option<u32>,
         search: SearchOptions<'a>,
         view: View,
     },
@@ -244,6 +247,8 @@ fn asks_of<'a>(alloc: Global, found: &ArgMatches<'a>) -> Result<Option<Arguments
         saved: found.get_str("save"),
         at_once: found.get_flag("at-once"),
         only,
+        patience: seconds_of(found, "patience"),
+        within: seconds_of(found, "within"),
         search,
         view: view_of(found),
     }))
@@ -279,6 +284,13 @@ fn loops_of<'a>(alloc: Global, found: &ArgMatches<'a>) -> Result<Option<Argument
         search,
         view: view_of(found),
     }))
+}
+
+/// Returns a number of seconds, if the option is given.
+fn seconds_of(found: &ArgMatches<'_>, id: &str) -> Option<u32>
+    ensures { HasSeconds (found_of found.now) id.now result }
+{
+    found.get_one::<u32>(id)
 }
 
 /// Returns what is put to every question.

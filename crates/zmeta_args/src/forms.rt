@@ -1,164 +1,12 @@
 //! The forms of the command line: its commands with their arguments and options, and their help.
 
+use crate::options::{
+    ANY, ASKED_SYNTAX, AT_ONCE, AUTHOR, CONFLICTS, CommandOption, ELEMENTS, HEX, ISBN, JSON, ONLY,
+    ONLY_OF, PATIENCE, QUERY, RECORDS as RECORDS_WANTED, SAVE, SUBJECT, SYNTAX, TITLE, TITLES,
+    WITHIN, option,
+};
 use clap::{Arg, ArgAction, Command, value_parser};
 use std::alloc::{AllocError, Global};
-
-/// An option of a command.
-#[derive(Clone, Copy)]
-struct Extra {
-    id: &'static str,
-    help: &'static str,
-    /// The name of its value in the help, if it has a value.
-    value: Option<&'static str>,
-    /// Whether it may be given more than once.
-    is_many: bool,
-    /// The options that may not be given together with it.
-    excludes: &'static [&'static str],
-}
-
-const HEX: Extra = Extra {
-    id: "hex",
-    help: "Prints the octets of records in hexadecimal",
-    value: None,
-    is_many: false,
-    excludes: &[],
-};
-
-const TITLES: Extra = Extra {
-    id: "titles",
-    help: "Prints years and titles, to be read, in place of the list",
-    value: None,
-    is_many: false,
-    excludes: &["hex", "json"],
-};
-
-const JSON: Extra = Extra {
-    id: "json",
-    help: "Prints a JSON object a line, for programs, in place of the list",
-    value: None,
-    is_many: false,
-    excludes: &["hex"],
-};
-
-const QUERY: Extra = Extra {
-    id: "query",
-    help: "Asks every catalogue this query (PQF), in place of the file's",
-    value: Some("PQF"),
-    is_many: false,
-    excludes: &["title", "author", "subject", "isbn", "any"],
-};
-
-const TITLE: Extra = Extra {
-    id: "title",
-    help: "Asks every catalogue for this in a title; may be given several times, and all terms must match",
-    value: Some("TEXT"),
-    is_many: true,
-    excludes: &[],
-};
-
-const AUTHOR: Extra = Extra {
-    id: "author",
-    help: "Asks every catalogue for this author; may be given several times",
-    value: Some("TEXT"),
-    is_many: true,
-    excludes: &[],
-};
-
-const SUBJECT: Extra = Extra {
-    id: "subject",
-    help: "Asks every catalogue for this subject; may be given several times",
-    value: Some("TEXT"),
-    is_many: true,
-    excludes: &[],
-};
-
-const ISBN: Extra = Extra {
-    id: "isbn",
-    help: "Asks every catalogue for this ISBN; may be given several times",
-    value: Some("TEXT"),
-    is_many: true,
-    excludes: &[],
-};
-
-const ANY: Extra = Extra {
-    id: "any",
-    help: "Asks every catalogue for this anywhere in a record; may be given several times",
-    value: Some("TEXT"),
-    is_many: true,
-    excludes: &[],
-};
-
-const WANTED: Extra = Extra {
-    id: "records",
-    help: "Asks every catalogue for these records: a number, or positions as 1-3,10-12",
-    value: Some("WANT"),
-    is_many: false,
-    excludes: &[],
-};
-
-const ELEMENTS: Extra = Extra {
-    id: "elements",
-    help: "Asks every catalogue for records of this element set, as F (full) or B (brief)",
-    value: Some("NAME"),
-    is_many: false,
-    excludes: &[],
-};
-
-const ASKED_SYNTAX: Extra = Extra {
-    id: "syntax",
-    help: "Asks every catalogue for records of this syntax: a name as marc21, or an OID",
-    value: Some("SYNTAX"),
-    is_many: false,
-    excludes: &[],
-};
-
-const SAVE: Extra = Extra {
-    id: "save",
-    help: "Saves what was brought, in the file OUT",
-    value: Some("OUT"),
-    is_many: false,
-    excludes: &[],
-};
-
-const AT_ONCE: Extra = Extra {
-    id: "at-once",
-    help: "Asks all catalogues at once, and not one after the other",
-    value: None,
-    is_many: false,
-    excludes: &[],
-};
-
-const ONLY: Extra = Extra {
-    id: "only",
-    help: "Asks just the question of this name; may be given several times",
-    value: Some("NAME"),
-    is_many: true,
-    excludes: &[],
-};
-
-const SYNTAX: Extra = Extra {
-    id: "syntax",
-    help: "Writes just the records of this syntax: a name as marc21, or an OID",
-    value: Some("SYNTAX"),
-    is_many: false,
-    excludes: &[],
-};
-
-const ONLY_OF: Extra = Extra {
-    id: "only",
-    help: "Writes just the records of this catalogue; may be given several times",
-    value: Some("NAME"),
-    is_many: true,
-    excludes: &[],
-};
-
-const CONFLICTS: Extra = Extra {
-    id: "conflicts",
-    help: "Writes all records of a position for which several are known",
-    value: None,
-    is_many: false,
-    excludes: &[],
-};
 
 /// The most connections that one `serve` takes.
 const MOST_CONNECTIONS: i64 = 1_000_000;
@@ -170,7 +18,7 @@ struct Form {
     about: &'static str,
     example: &'static str,
     wants: &'static [Argument],
-    may: &'static [Extra],
+    may: &'static [CommandOption],
 }
 
 /// An argument of a command, under its name in the help.
@@ -346,7 +194,7 @@ prints lines as
         ISBN,
         ANY,
         QUERY,
-        WANTED,
+        RECORDS_WANTED,
         ELEMENTS,
         ASKED_SYNTAX,
         TITLES,
@@ -365,9 +213,10 @@ const ASK: Form = Form {
   host NAME ADDRESS           a catalogue, at an address as z3950.example.org:210
   ask NAME DB SYNTAX WANT QUERY
                               SYNTAX may be -; WANT is a number, or as 1-3,10-12
-Connects to all of them, asks each, and prints one list of all that they answer. A catalogue that
-cannot be reached, or is silent for 30 seconds, is told of, and the others are listed: status 1.
-With --at-once no catalogue waits for another. With --only just the questions of these names are
+Connects to all of them side by side, asks each, and prints one list of all that they answer. A
+catalogue that cannot be reached, or is silent for 30 seconds (--patience), is told of, and the
+others are listed: status 1. With --at-once no catalogue waits for another, and --within limits
+the time for all together. With --only just the questions of these names are
 asked, so that saved files of parts can be joined; status 3 where there is no such question.
 One search for all: --title, --author, --subject, --isbn and --any, or --query, are asked in place
 of the queries of FILE, and --records, --elements and --syntax in place of what its lines say.
@@ -383,6 +232,8 @@ or, with another question and the same file, by
     wants: &[WORLD],
     may: &[
         AT_ONCE,
+        PATIENCE,
+        WITHIN,
         ONLY,
         TITLE,
         AUTHOR,
@@ -390,7 +241,7 @@ or, with another question and the same file, by
         ISBN,
         ANY,
         QUERY,
-        WANTED,
+        RECORDS_WANTED,
         ELEMENTS,
         ASKED_SYNTAX,
         TITLES,
@@ -467,7 +318,7 @@ prints lines as
         ISBN,
         ANY,
         QUERY,
-        WANTED,
+        RECORDS_WANTED,
         ELEMENTS,
         ASKED_SYNTAX,
         TITLES,
@@ -492,26 +343,6 @@ fn clap_argument(alloc: Global, wanted: &Argument) -> Arg<'static> {
     } else {
         argument
     }
-}
-
-fn action_of(extra: &Extra) -> ArgAction {
-    if extra.value.is_none() {
-        ArgAction::SetTrue
-    } else if extra.is_many {
-        ArgAction::Append
-    } else {
-        ArgAction::Set
-    }
-}
-
-fn option(alloc: Global, extra: &Extra) -> Result<Arg<'static>, AllocError> {
-    let option = Arg::new(alloc, extra.id).long(extra.id).help(extra.help);
-    let option = option.action(action_of(extra));
-    let option = match extra.value {
-        None => option,
-        Some(value) => option.value_name(value),
-    };
-    option.conflicts_with_all(extra.excludes)
 }
 
 fn subcommand<'a>(alloc: Global, form: &Form) -> Result<Command<'a>, AllocError> {

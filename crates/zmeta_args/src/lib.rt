@@ -3,5 +3,6 @@
 
 mod arguments;
 mod forms;
+mod options;
 
 pub use arguments::{Arguments, SearchOptions, View, odd_arguments, parse};

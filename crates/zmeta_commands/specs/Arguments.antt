@@ -37,7 +37,7 @@ AfterCall octets (Records first others only syntax conflicts) input rest output 
     (first.now ∷ texts_of others.items) output printed errors told status
 AfterCall octets (Run world saved search view) input rest output printed errors told status = (rest ≡ input)
     × AfterRun (search_of search) view world.now (now_of saved) (octets world.now) output printed errors told status
-AfterCall octets (Ask world saved at_once only search view) input rest output printed errors told status =
+AfterCall octets (Ask world saved at_once only patience within search view) input rest output printed errors told status =
     (rest ≡ input) × AfterAsk (record { at_once = at_once; only = texts_of only.items }) (search_of search) view
     world.now (now_of saved) (octets world.now) output printed errors told status
 AfterCall octets (Loop world saved search view) input rest output printed errors told status = (rest ≡ input)

@@ -28,7 +28,7 @@ use std::time::Clock;
 use zmeta_args::{SearchOptions, View};
 use zmeta_world::network::NetworkRun;
 use zmeta_world::search::Search;
-use zoom::{Meta, MetaSettings, Question, Watch, ask, ask_at_once};
+use zoom::{Limits, Meta, MetaSettings, Question, Watch, ask, ask_at_once};
 
 /// Puts each chosen question of a world file to its host over TCP, and prints the list of the facts. The hosts are
 /// asked at once or one after the other, as `choice` says.
@@ -160,6 +160,7 @@ fn ask_network<'a, N: Net + Clock, P: Write + Drop>(
         settings,
         chosen.as_slice(),
         choice.at_once,
+        choice.limits,
         progress,
     )?;
     Ok(Finished::new(alloc, meta, names, chosen, view)?)
@@ -173,6 +174,7 @@ fn ask_watched<N: Net + Clock, C: Clock, P: Write + Drop>(
     settings: MetaSettings,
     addresses: &[Option<Bytes>],
     at_once: bool,
+    limits: Limits,
     mut progress: Progress<'_, C, P>,
 ) -> Result<Meta, AllocError>
     requires some { length questions.items < 2 ^ 32 }
@@ -188,6 +190,7 @@ fn ask_watched<N: Net + Clock, C: Clock, P: Write + Drop>(
         settings,
         addresses,
         at_once,
+        limits,
         &mut progress,
     )?;
     progress.wipe();
@@ -202,6 +205,7 @@ fn ask_hosts<N: Net + Clock, V: Watch>(
     settings: MetaSettings,
     addresses: &[Option<Bytes>],
     at_once: bool,
+    limits: Limits,
     watch: &mut V,
 ) -> Result<Meta, AllocError>
     requires some { length questions.items < 2 ^ 32 }
@@ -211,8 +215,8 @@ fn ask_hosts<N: Net + Clock, V: Watch>(
     ensures { IfOk result (λ meta. IsAsked questions.items settings at_once (is_present addresses.now) meta) }
 {
     if at_once {
-        ask_at_once(alloc, net, questions, settings, addresses, watch)
+        ask_at_once(alloc, net, questions, settings, addresses, limits, watch)
     } else {
-        ask(alloc, net, questions, settings, addresses, watch)
+        ask(alloc, net, questions, settings, addresses, limits, watch)
     }
 }

@@ -1,8 +1,9 @@
 //! The choice of questions, and how their hosts are asked.
 
-ghost use Rattle.std.specs.Prelude.{◌≡◌, length, Ok, Err, IfOk, MatchResult};
+ghost use Rattle.std.specs.Prelude.{◌≡◌, ◌*◌, length, Ok, Err, IfOk, IfSome, MatchResult};
+ghost use Rattle.std.specs.Duration.{as_nanos};
 ghost use Rattle.std.specs.List.{list_any};
-ghost use Rattle.std.specs.Option.{option_map};
+ghost use Rattle.std.specs.Option.{option_map, unwrap_or};
 ghost use Rattle.std.specs.Str.{bytes_eq};
 ghost use Rattle.zmeta_args.specs.Texts.{texts_of};
 ghost use Rattle.zmeta_commands.specs.Choice.{is_among, is_picked, address_if, IsChosen, AddressesResult, FirstUnknownResult, CheckNamesResult};
@@ -10,6 +11,7 @@ ghost use Rattle.zmeta_commands.specs.Choice.{is_among, is_picked, address_if, I
 use crate::fault::Fault;
 use bytes::Bytes;
 use std::alloc::{AllocError, Global};
+use zoom::Limits;
 
 /// Which questions are asked, and how.
 #[derive(Clone, Copy)]
@@ -18,6 +20,23 @@ pub struct Choice<'a, 'w> {
     pub at_once: bool,
     /// The names of the questions to ask. If there are none, all questions are asked.
     pub only: &'w [&'a str],
+    /// The time limits.
+    pub limits: Limits,
+}
+
+/// The seconds of patience without `--patience`.
+const PATIENCE: u32 = 30;
+
+/// The seconds for everything without `--within`.
+const HOUR: u32 = 3600;
+
+/// Returns the time limits of these numbers of seconds: without the first, a patience of 30 seconds; without the
+/// second, an hour for everything.
+pub(crate) fn limits_of(patience: Option<u32>, within: Option<u32>) -> Limits
+    ensures patience { as_nanos result.patience ≡ unwrap_or patience 30 * 1000000000 }
+    ensures total { IfSome result.total (λ limit. as_nanos limit ≡ unwrap_or within 3600 * 1000000000) }
+{
+    Limits::of_seconds(patience.unwrap_or(PATIENCE), within.unwrap_or(HOUR))
 }
 
 /// Returns whether the name is among the names.

@@ -4,7 +4,7 @@ ghost use Rattle.zmeta_commands.specs.Devices.{input_device, output_device};
 ghost use Rattle.zmeta_commands.specs.Arguments.{AfterCall, AfterArguments, AfterUsage, IsWrong};
 
 use crate::ask::ask_named;
-use crate::choice::Choice;
+use crate::choice::{Choice, limits_of};
 use crate::fault::{Fault, Status};
 use crate::files::Folder;
 use crate::finished::Paths;
@@ -189,12 +189,15 @@ fn call<'a, S: Folder + Net + Clock, R: Read, W: Write, E: Write, P: Write + Dro
             saved,
             at_once,
             only,
+            patience,
+            within,
             search,
             view,
         } => {
             let choice = Choice {
                 at_once,
                 only: only.as_slice(),
+                limits: limits_of(patience, within),
             };
             let paths = Paths { world, saved };
             ask_named(

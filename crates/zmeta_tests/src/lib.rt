@@ -12,8 +12,6 @@ mod devices;
 #[cfg(test)]
 mod faults;
 #[cfg(test)]
-mod hosts;
-#[cfg(test)]
 mod lines;
 #[cfg(test)]
 mod shelf;

@@ -49,3 +49,4 @@ pub use Rattle.zoom_sim.specs.RunTakeAll
 pub use Rattle.zoom_tcp.specs.Asking
 pub use Rattle.zoom_tcp.specs.AskingSteps
 pub use Rattle.zoom_tcp.specs.declared.service.ServeError
+pub use Rattle.zoom_tcp.specs.HostLinks

@@ -14,4 +14,7 @@ pub use zoom_pool::{Call, Host, Meta, Pool, Reason, ResultSet, State, Step, Take
 pub use zoom_questions::{MetaSettings, Move, Question};
 pub use zoom_sim::channels::{Channel, InMemory};
 pub use zoom_sim::{run_over, run_world};
-pub use zoom_tcp::{ServeError, TcpLink, ask, ask_at_once, run_loopback, serve};
+pub use zoom_tcp::{
+    ConnectProgress, Limits, Network, Readiness, ServeError, Sockets, TcpLink, TcpSockets,
+    Transfer, ask, ask_at_once, ask_at_once_over, ask_over, run_loopback, serve,
+};

@@ -105,7 +105,7 @@ module _ (q : List Question) (s : MetaSettings) (c : ℕ) (h now later : History
       writer = t.writer;
     }
 
-    phase_same : (n turns : ℕ) (phase : TalkPhase) → PhaseAmong phase q s c h now n turns first last
+    pub phase_same : (n turns : ℕ) (phase : TalkPhase) → PhaseAmong phase q s c h now n turns first last
         → PhaseAmong phase q s c h later n turns first last
     phase_same n turns phases.Due t = goes_same t
     phase_same n turns phases.Waiting t = goes_same t
@@ -165,12 +165,12 @@ option_step view q s c h now n m turns old new (Some x) None last steps a among 
 
 -- ---- one element of a list
 
-set_same : {X : Type 0} (xs : List X) (c : ℕ) (x : X) → c < length xs → slice_get (slice_set xs c x) c ≡ Some x
+pub set_same : {X : Type 0} (xs : List X) (c : ℕ) (x : X) → c < length xs → slice_get (slice_set xs c x) c ≡ Some x
 set_same [] c x lt = absurd (omega (arith, lt))
 set_same (y ∷ xs) zero x lt = refl
 set_same (y ∷ xs) (suc c) x lt = set_same xs c x (omega (arith, lt))
 
-set_other : {X : Type 0} (xs : List X) (c i : ℕ) (x : X) → (c == i) ≡ false → slice_get (slice_set xs c x) i ≡ slice_get xs i
+pub set_other : {X : Type 0} (xs : List X) (c i : ℕ) (x : X) → (c == i) ≡ false → slice_get (slice_set xs c x) i ≡ slice_get xs i
 set_other [] c i x far = refl
 set_other (y ∷ xs) zero zero x far = absurd cc
 set_other (y ∷ xs) zero (suc i) x far = refl
@@ -236,16 +236,16 @@ goes_trans view n m k turns x y z a b d one two = record {
   on = λ q s h first all. two.on q s h first (one.on q s h first all);
 }
 
-below_here : (n c : ℕ) → one_more_below c n c ≡ n
+pub below_here : (n c : ℕ) → one_more_below c n c ≡ n
 below_here n c = grind (arith, nat_tests)
 
-below_next : (n c : ℕ) → one_more_below (c + 1) n c ≡ n + 1
+pub below_next : (n c : ℕ) → one_more_below (c + 1) n c ≡ n + 1
 below_next n c = grind (arith, nat_tests)
 
-below_others : (n c i : ℕ) → (c == i) ≡ false → one_more_below (c + 1) n i ≡ one_more_below c n i
+pub below_others : (n c i : ℕ) → (c == i) ≡ false → one_more_below (c + 1) n i ≡ one_more_below c n i
 below_others n c i far = grind (arith, nat_tests)
 
-below_all : (n i c : ℕ) → c < i → one_more_below i n c ≡ n + 1
+pub below_all : (n i c : ℕ) → c < i → one_more_below i n c ≡ n + 1
 below_all n i c lt = grind (arith, nat_tests)
 
 -- One connection takes part.

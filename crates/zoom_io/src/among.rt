@@ -66,7 +66,7 @@ pub(crate) enum Arrival {
 
 /// What a connection did in a round.
 #[derive(Clone, Copy, Debug, PartialEq, Eq)]
-pub(crate) enum Part {
+pub enum Part {
     /// It was not polled.
     Out,
     /// It was polled, and no octets came.
@@ -183,8 +183,11 @@ fn poll_halves<R: NonBlocking, W: Sink>(
     }
 }
 
-/// Takes part in a round: writes what is due, then polls the source once.
-pub(crate) fn take_part<R: NonBlocking, W: Sink>(
+/// Takes part in a round of `talk_at_once`: writes what is due, then polls the source once for up to 4,096 octets. If
+/// `wait` holds, the poll may wait. A connection whose talk is over takes no part.
+///
+/// The steps are those of a talk, for each number of polls below `turns`. Returns an error only if no memory is found.
+pub fn take_part<R: NonBlocking, W: Sink>(
     alloc: Global,
     meta: &mut Meta,
     c: u32,
@@ -222,8 +225,9 @@ fn stop_at_limit<R: NonBlocking, W: Sink>(meta: &mut Meta, c: u32, halves: &mut 
     halves.phase = TalkPhase::Over;
 }
 
-/// Takes leave: writes what is due, then stops the connection for `Turns` if it is not over.
-pub(crate) fn take_leave<R: NonBlocking, W: Sink>(
+/// Takes leave after the last round of `talk_at_once`: writes what is due, then stops the connection for `Turns` if it
+/// is not over. The talk is then in phase `Over`. Returns an error only if no memory is found.
+pub fn take_leave<R: NonBlocking, W: Sink>(
     alloc: Global,
     meta: &mut Meta,
     c: u32,

@@ -11,7 +11,7 @@ mod stream;
 mod talk_steps;
 mod watch;
 
-pub use among::{Halves, TalkPhase};
+pub use among::{Halves, Part, TalkPhase, take_leave, take_part};
 pub use at_once::talk_at_once;
 pub use conversation::{TalkError, talk};
 pub use device::{Failed, NonBlocking, Sink, Source};

@@ -1,2 +1,4 @@
 pub mod Asking
 pub mod AskingSteps
+pub mod HostLinks
+pub mod HostTalks

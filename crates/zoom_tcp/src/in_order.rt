@@ -4,11 +4,14 @@ ghost use Rattle.zoom_questions.specs.Askable.{AreFit, AreAskable};
 ghost use Rattle.zoom_tcp.specs.Asking.{is_present, IsAsked};
 ghost use Rattle.zoom_tcp.specs.AskingSteps.{AfterTalkOn, AfterTalkAll};
 
-use crate::link::TcpLink;
+use crate::host_link::HostLink;
+use crate::limits::Limits;
+use crate::network::Network;
 use crate::opening::open_all;
+use crate::sockets::Sockets;
+use crate::tcp_sockets::TcpSockets;
 use bytes::Bytes;
 use std::alloc::{AllocError, Global};
-use std::io::{Read, Write};
 use std::net::Net;
 use std::time::Clock;
 use zber::Seq;
@@ -19,11 +22,11 @@ use zoom_pool::{Meta, MetaSettings, Question};
 const TURNS: u32 = 1_000_000;
 
 /// Puts each question to the host at the address (`host:port`) with its number, if it has one. Connects to all of
-/// them and sends each the Init, then talks with each in order (Z39.50-2003, 3.2).
+/// them side by side and sends each the Init, then talks with each in order (Z39.50-2003, 3.2).
 ///
-/// A host costs its own connection alone if it cannot be reached, fails, is silent for 30 seconds or takes more than
-/// an hour. So does a host whose talk has not ended after 1,000,000 reads. Nothing happens on the connection of a
-/// question without an address. `watch` looks at the connections before each talk.
+/// A host costs its own connection alone if it cannot be reached, fails, or exceeds `limits`. So does a host whose
+/// talk has not ended after 1,000,000 reads. Nothing happens on the connection of a question without an address.
+/// `watch` looks at the connections four times a second while it connects, and then before each talk.
 ///
 /// Returns an error only if no memory is found.
 pub fn ask<N: Net + Clock, V: Watch>(
@@ -32,6 +35,29 @@ pub fn ask<N: Net + Clock, V: Watch>(
     questions: Vec<Question>,
     settings: MetaSettings,
     addresses: &[Option<Bytes>],
+    limits: Limits,
+    watch: &mut V,
+) -> Result<Meta, AllocError>
+    requires some { length questions.items < 2 ^ 32 }
+    requires askable { AreAskable questions.items }
+    requires fit { AreFit settings }
+    requires equal { length addresses.now ≡ length questions.items }
+    ensures asked { IfOk result (λ meta. IsAsked questions.items settings false (is_present addresses.now) meta) }
+{
+    let network = Network::new(alloc, TcpSockets::new(alloc, net)?);
+    ask_over(
+        alloc, &network, questions, settings, addresses, limits, watch,
+    )
+}
+
+/// Does what `ask` does, over the sockets of a network.
+pub fn ask_over<S: Sockets, V: Watch>(
+    alloc: Global,
+    network: &Network<S>,
+    questions: Vec<Question>,
+    settings: MetaSettings,
+    addresses: &[Option<Bytes>],
+    limits: Limits,
     watch: &mut V,
 ) -> Result<Meta, AllocError>
     requires some { length questions.items < 2 ^ 32 }
@@ -41,16 +67,16 @@ pub fn ask<N: Net + Clock, V: Watch>(
     ensures asked { IfOk result (λ meta. IsAsked questions.items settings false (is_present addresses.now) meta) }
 {
     let mut meta = Meta::new(alloc, Seq::from_vec(questions), settings)?;
-    let links = open_all(alloc, net, &mut meta, addresses)?;
+    let links = open_all(alloc, network, &mut meta, addresses, limits, watch)?;
     talk_all(alloc, &mut meta, links, watch)?;
     Ok(meta)
 }
 
 /// Talks with each host in order. Each link is dropped when its talk ends.
-fn talk_all<C: Clock, S: Read + Write + Drop, V: Watch>(
+fn talk_all<S: Sockets, V: Watch>(
     alloc: Global,
     meta: &mut Meta,
-    links: Vec<Option<TcpLink<'_, C, S>>>,
+    links: Vec<Option<HostLink<'_, S>>>,
     watch: &mut V,
 ) -> Result<(), AllocError>
     requires few { length meta.old.pool.connections < 2 ^ 32 }
@@ -68,11 +94,11 @@ fn talk_all<C: Clock, S: Read + Write + Drop, V: Watch>(
 }
 
 /// Talks with a host if there is a link to it.
-fn talk_if<C: Clock, S: Read + Write + Drop>(
+fn talk_if<S: Sockets>(
     alloc: Global,
     meta: &mut Meta,
     c: u32,
-    link: Option<TcpLink<'_, C, S>>,
+    link: Option<HostLink<'_, S>>,
 ) -> Result<(), AllocError>
     requires { c < length meta.old.pool.connections }
     ensures talks { OnOk result (AfterTalkOn c (is_some link.entry) meta.old meta.new) }
@@ -85,17 +111,17 @@ fn talk_if<C: Clock, S: Read + Write + Drop>(
 }
 
 /// Talks with a host until its connection ends.
-fn talk_on<C: Clock, S: Read + Write + Drop>(
+fn talk_on<S: Sockets>(
     alloc: Global,
     meta: &mut Meta,
     c: u32,
-    link: TcpLink<'_, C, S>,
+    link: HostLink<'_, S>,
 ) -> Result<(), AllocError>
     requires { c < length meta.old.pool.connections }
     ensures talks { OnOk result (AfterTalkOn c true meta.old meta.new) }
     ensures size { length meta.new.pool.connections ≡ length meta.old.pool.connections }
 {
-    let TcpLink {
+    let HostLink {
         mut source,
         mut sink,
     } = link;

@@ -1,16 +1,26 @@
-//! Asks catalogues over TCP, and serves catalogues over TCP, with time limits.
+//! Asks catalogues over TCP, side by side, and serves catalogues over TCP, with time limits.
 #![tactic(auto)]
 
 mod at_once;
+mod connecting;
+mod host_link;
+mod host_talks;
 mod in_order;
+mod limits;
 mod link;
 mod loopback;
+mod network;
 mod opening;
-mod polling;
 mod service;
+mod sockets;
+mod tcp_sockets;
 
-pub use at_once::ask_at_once;
-pub use in_order::ask;
+pub use at_once::{ask_at_once, ask_at_once_over};
+pub use in_order::{ask, ask_over};
+pub use limits::Limits;
 pub use link::TcpLink;
 pub use loopback::run_loopback;
+pub use network::Network;
 pub use service::{ServeError, serve};
+pub use sockets::{ConnectProgress, Readiness, Sockets, Transfer};
+pub use tcp_sockets::TcpSockets;

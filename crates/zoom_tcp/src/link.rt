@@ -1,10 +1,9 @@
 //! A TCP stream as a source and a sink, with time limits.
 ghost use Rattle.std.specs.Prelude.{◌≡◌, IfOk};
 
-use bytes::Bytes;
 use std::io;
 use std::io::{ErrorKind, Read, Write};
-use std::net::{Net, OpenStream, TcpStream, ToSocketAddrs};
+use std::net::OpenStream;
 use std::time::{Clock, Duration, Instant};
 use zoom_io::Counting;
 
@@ -101,27 +100,4 @@ fn timed_device<C, S>(clock: &C, begun: Instant, stream: S) -> Counting<Timed<'_
         begun,
         stream,
     })
-}
-
-/// Connects to the first address that accepts within 30 seconds.
-fn stream_to<N: Net>(net: &N, address: &str) -> io::Result<N::Stream> {
-    let patience = Duration::from_secs(PATIENCE);
-    let mut last = io::Error::from(ErrorKind::InvalidInput);
-    for found in address.to_socket_addrs(net)? {
-        match TcpStream::connect_timeout(net, &found, patience) {
-            Ok(stream) => return Ok(stream),
-            Err(error) => last = error,
-        }
-    }
-    Err(last)
-}
-
-/// A link to the host at an address of the form `host:port`. Returns `None` if the host cannot be reached.
-pub(crate) fn link_to<'a, N: Net + Clock>(
-    net: &'a N,
-    address: &Bytes,
-) -> Option<TcpLink<'a, N, N::Stream>> {
-    let text = str::from_utf8(address.as_slice()).ok()?;
-    let stream = stream_to(net, text).ok()?;
-    TcpLink::new(net, stream).ok()
 }

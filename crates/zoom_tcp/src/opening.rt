@@ -1,70 +1,104 @@
-//! Opens a link to each host, and sends the Init on it.
+//! Connects to all hosts, and then sends each the Init.
 ghost use Rattle.std.specs.Prelude.{◌≡◌, ◌<◌, ◌^◌, length, is_some, IfOk};
 ghost use Rattle.zoom_tcp.specs.Asking.{is_present};
 ghost use Rattle.zoom_tcp.specs.AskingSteps.{AfterOpen, AfterOpenIf, AfterOpenAll};
 
-use crate::link::{TcpLink, link_to};
+use crate::connecting::{Attempt, await_all, begin_attempts};
+use crate::host_link::HostLink;
+use crate::limits::Limits;
+use crate::network::Network;
+use crate::sockets::Sockets;
 use bytes::Bytes;
 use std::alloc::{AllocError, Global};
-use std::net::Net;
-use std::time::Clock;
-use zoom_io::{PushError, Sink, push};
+use zoom_io::{PushError, Sink, Watch, push};
 use zoom_pool::laws::one_transcript;
 use zoom_pool::{Meta, Reason};
 
-/// Opens a link to each host that has an address, and sends the Init on it. An entry is `None` if there is no
-/// address, or if the host cannot be reached or the Init cannot be written.
-pub(crate) fn open_all<'a, N: Net + Clock>(
+/// Connects to all hosts that have an address, side by side. Then sends each the Init. An entry is `None` if there is
+/// no address, or if the host cannot be reached or the Init cannot be written. `watch` looks at the connections while
+/// it waits.
+pub(crate) fn open_all<'a, S: Sockets, V: Watch>(
     alloc: Global,
-    net: &'a N,
+    network: &'a Network<S>,
     meta: &mut Meta,
     addresses: &[Option<Bytes>],
-) -> Result<Vec<Option<TcpLink<'a, N, N::Stream>>>, AllocError>
+    limits: Limits,
+    watch: &mut V,
+) -> Result<Vec<Option<HostLink<'a, S>>>, AllocError>
     requires few { length meta.old.pool.connections < 2 ^ 32 }
     requires equal { length addresses.now ≡ length meta.old.pool.connections }
     ensures opens { IfOk result (λ links. AfterOpenAll (is_present addresses.now) links.items meta.old meta.new) }
     ensures size { length meta.new.pool.connections ≡ length meta.old.pool.connections }
     ensures links { IfOk result (λ links. length links.items ≡ length addresses.now) }
 {
+    let mut attempts = begin_attempts(alloc, network, addresses, limits)?;
+    await_all(network, &mut attempts, meta, watch);
+    begin_all(alloc, meta, addresses, &mut attempts)
+}
+
+/// Sends the Init on each link to a host that has an address.
+fn begin_all<'a, S: Sockets>(
+    alloc: Global,
+    meta: &mut Meta,
+    addresses: &[Option<Bytes>],
+    attempts: &mut [Option<Attempt<'a, S>>],
+) -> Result<Vec<Option<HostLink<'a, S>>>, AllocError>
+    requires few { length meta.old.pool.connections < 2 ^ 32 }
+    requires equal { length addresses.now ≡ length meta.old.pool.connections }
+    requires attempts { length attempts.old ≡ length addresses.now }
+    ensures opens { IfOk result (λ links. AfterOpenAll (is_present addresses.now) links.items meta.old meta.new) }
+    ensures size { length meta.new.pool.connections ≡ length meta.old.pool.connections }
+    ensures links { IfOk result (λ links. length links.items ≡ length addresses.now) }
+{
     let mut links = Vec::new(alloc);
     for c in 0..addresses.len() {
-        links.push(open_if(alloc, net, meta, c as u32, &addresses[c])?)?;
+        let link = link_if(&mut attempts[c])?;
+        links.push(begin_if(alloc, meta, c as u32, &addresses[c], link)?)?;
     }
     Ok(links)
 }
 
-/// Opens a link to a host if it has an address.
-fn open_if<'a, N: Net + Clock>(
+/// The link that an attempt has made, if there is one.
+fn link_if<'a, S: Sockets>(
+    attempt: &mut Option<Attempt<'a, S>>,
+) -> Result<Option<HostLink<'a, S>>, AllocError> {
+    match attempt {
+        Some(attempt) => attempt.link(),
+        None => Ok(None),
+    }
+}
+
+/// Sends the Init on the link to a host that has an address.
+fn begin_if<'a, S: Sockets>(
     alloc: Global,
-    net: &'a N,
     meta: &mut Meta,
     c: u32,
     address: &Option<Bytes>,
-) -> Result<Option<TcpLink<'a, N, N::Stream>>, AllocError>
+    link: Option<HostLink<'a, S>>,
+) -> Result<Option<HostLink<'a, S>>, AllocError>
     requires { c < length meta.old.pool.connections }
     ensures opens { IfOk result (λ link. AfterOpenIf (is_some address.now) c (is_some link) meta.old meta.new) }
     ensures size { length meta.new.pool.connections ≡ length meta.old.pool.connections }
 {
     match address {
-        Some(address) => open(alloc, net, meta, c, address),
+        Some(_) => begin_on(alloc, meta, c, link),
         None => Ok(None),
     }
 }
 
-/// Opens a link to a host, and sends the Init on it. Returns `None`, and stops the connection, if it cannot be
-/// reached or the Init cannot be written.
-fn open<'a, N: Net + Clock>(
+/// Sends the Init on a link. Returns `None`, and stops the connection, if there is no link or the Init cannot be
+/// written.
+fn begin_on<'a, S: Sockets>(
     alloc: Global,
-    net: &'a N,
     meta: &mut Meta,
     c: u32,
-    address: &Bytes,
-) -> Result<Option<TcpLink<'a, N, N::Stream>>, AllocError>
+    link: Option<HostLink<'a, S>>,
+) -> Result<Option<HostLink<'a, S>>, AllocError>
     requires { c < length meta.old.pool.connections }
     ensures opens { IfOk result (λ link. AfterOpen c (is_some link) meta.old meta.new) }
     ensures size { length meta.new.pool.connections ≡ length meta.old.pool.connections }
 {
-    let Some(mut link) = link_to(net, address) else {
+    let Some(mut link) = link else {
         meta.stop(c, Reason::Connect);
         return Ok(None);
     };
@@ -76,7 +110,12 @@ fn open<'a, N: Net + Clock>(
 }
 
 /// Makes the calls that are due, and writes what waits. Returns whether it was written.
-fn begin<W: Sink>(alloc: Global, meta: &mut Meta, c: u32, sink: &mut W) -> Result<bool, AllocError>
+pub(crate) fn begin<W: Sink>(
+    alloc: Global,
+    meta: &mut Meta,
+    c: u32,
+    sink: &mut W,
+) -> Result<bool, AllocError>
     requires { c < length meta.old.pool.connections }
     ensures opens { IfOk result (λ reached. AfterOpen c reached meta.old meta.new) }
     ensures size { length meta.new.pool.connections ≡ length meta.old.pool.connections }

@@ -7,6 +7,8 @@ mod answers;
 #[cfg(test)]
 mod arranged;
 #[cfg(test)]
+mod asking;
+#[cfg(test)]
 mod failing;
 #[cfg(test)]
 mod heads;
@@ -16,6 +18,8 @@ mod hosts;
 mod metas;
 #[cfg(test)]
 mod moves;
+#[cfg(test)]
+mod peers;
 #[cfg(test)]
 mod pool;
 #[cfg(test)]

@@ -1,7 +1,7 @@
 use Rattle.std.proofs.Common.{◌≡◌, ◌∙◌, ◌↔◌, sym, ap, subst, true, ◌+◌, take, length, Contains, arith}
 use Rattle.std.proofs.lemmas.List.{take_all}
 use Rattle.zmeta_args.specs.Texts.{texts_of}
-use Rattle.zmeta_commands.specs.Catalogues.{is_of, IsOfCatalogues}
+use Rattle.zmeta_commands.specs.Catalogues.{is_of}
 use Rattle.zmeta_commands.proofs.Picking.{ArePicked, picked, passed}
 use Rattle.zmeta_commands.proofs.catalogues.add_facts.Goals as goal
 use Rattle.zmeta_commands.proofs.catalogues.add_facts.Goals.{then-is_of+in_ok-add, else-is_of}

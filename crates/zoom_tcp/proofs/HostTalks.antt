@@ -1,0 +1,447 @@
+-- Talks with hosts at once, while other hosts are still being connected to.
+use Rattle.std.proofs.Common.{◌≡◌, ◌∙◌, sym, ap, subst, refl, append-nil, arith, ◌⊎◌, inl, inr, ℕ, zero, suc, ◌+◌, ◌<◌, ◌≤◌, ◌==◌, Bool, true, false, List, [], ◌∷◌, ◌++◌, length, slice_get, slice_set, Option, None, Some, Result, Ok, Err, OnOk, is_some, true≢false}
+use Rattle.std.proofs.lemmas.Bool.{cases_lt}
+use Rattle.std.proofs.lemmas.Bool.Decides.{nat_tests}
+use Rattle.std.proofs.lemmas.Option.{slice_get_past}
+use Rattle.std.proofs.KnownBytes.{Appends-nil, Consumes-nil}
+use denote.Enum.Bare.{sameb}
+use Rattle.zoom_io.specs.contracts.among.TalkPhase.{the_type}
+use Rattle.zoom_questions.specs.declared.question.Question.{Question}
+use Rattle.zoom_questions.specs.declared.question.MetaSettings.{MetaSettings}
+use Rattle.zoom_pool.specs.History.{History, events_on}
+use Rattle.zoom_pool.specs.Metas.{MetaLinks, MetaAfter}
+use Rattle.zoom_io.specs.declared.among.TalkPhase.{TalkPhase}
+use Rattle.zoom_io.specs.declared.among.TalkPhase.TheVariants as phases
+use Rattle.zoom_io.specs.TalkTraces.{beginning}
+use Rattle.zoom_io.specs.TalksAmong.{View, IsDoneAmong, PhaseAmong, StepAmong}
+use Rattle.zoom_io.specs.PollRounds.{for_each, one_more_below}
+use Rattle.zoom_io.proofs.Apart.{behind, none_before}
+use Rattle.zoom_io.proofs.Joining.{risen_none}
+use Rattle.zoom_io.proofs.Together.{phase_same, set_same, set_other, below_here, below_next, below_others, below_all}
+use Rattle.zoom_tcp.specs.declared.host_talks.HostTalk.{HostTalk}
+use Rattle.zoom_tcp.specs.declared.host_talks.HostTalk.TheVariants as talks
+use Rattle.zoom_tcp.specs.Asking.{is_present, IsConnectionAskedIf, IsAsked}
+use Rattle.zoom_tcp.specs.AskingSteps.{OpenedWay, AfterOpen, IsOpened, IsOpenedIf}
+use Rattle.zoom_tcp.specs.HostTalks.{HostView, Out, Connecting, Talking, IsTalkAt, IsTalkedWith, IsHostAt, AfterHostStep, HostStep, IsHostOver, IsNew, is_reached, IsBegun, IsHostIn, AreHosts, EachHostStep, HostsStep, IsOverIn, AreHostsOver, IsFirstOf, AreAllBegun}
+use Rattle.zoom_tcp.proofs.Alike.{opening_alike, others_opening, none_talked}
+use Rattle.zoom_tcp.proofs.AtOnce.{ended}
+
+-- ---- histories with the same events on a connection
+
+module _ (q : List Question) (s : MetaSettings) (c : ℕ) (now later : History) (e : events_on c later ≡ events_on c now) where
+  talk_same : (h : History) (n : ℕ) (phase : TalkPhase) (first last : View) → IsTalkAt phase q s c h now n first last
+      → IsTalkAt phase q s c h later n first last
+  talk_same h n phases.Due first last t = (t.0, t.1, phase_same q s c h now later first last e t.0 0 phases.Due t.2)
+  talk_same h n phases.Waiting first last t = (t.0, t.1, phase_same q s c h now later first last e t.0 0 phases.Waiting t.2)
+  talk_same h n phases.Over first last t = (t.0, t.1, phase_same q s c h now later first last e 0 t.0 phases.Over t.2)
+
+  host_same : (chosen : Bool) (n : ℕ) (v : HostView) → IsHostAt chosen q s c now n v → IsHostAt chosen q s c later n v
+  host_same true n Out o = record { more = o.more; opening = o.opening; mine = e ∙ o.mine }
+  host_same false n Out o = (o.0, e ∙ o.1)
+  host_same chosen n Connecting o = (o.0, e ∙ o.1)
+  host_same chosen n (Talking last) o =
+      (o.0, record { h = o.1.h; opened = o.1.opened; first = o.1.first; talk = talk_same o.1.h n last.phase o.1.first last o.1.talk })
+
+-- ---- more polls
+
+module _ (q : List Question) (s : MetaSettings) (c : ℕ) (now : History) (n m : ℕ) (le : n ≤ m) where
+  talk_more : (h : History) (phase : TalkPhase) (first last : View) → IsTalkAt phase q s c h now n first last
+      → IsTalkAt phase q s c h now m first last
+  talk_more h phases.Due first last t = (t.0, (let few = t.1 in omega (arith, few, le)), t.2)
+  talk_more h phases.Waiting first last t = (t.0, (let few = t.1 in omega (arith, few, le)), t.2)
+  talk_more h phases.Over first last t = t
+
+  host_more : (chosen : Bool) (v : HostView) → IsHostAt chosen q s c now n v → IsHostAt chosen q s c now m v
+  host_more chosen Out o = o
+  host_more chosen Connecting o = o
+  host_more chosen (Talking last) o =
+      (o.0, record { h = o.1.h; opened = o.1.opened; first = o.1.first; talk = talk_more o.1.h last.phase o.1.first last o.1.talk })
+
+-- ---- results
+
+pub ok_one : {X E A B : Type 0} (r : Result X E) → (A → B) → OnOk r A → OnOk r B
+ok_one (Ok x) f a = f a
+ok_one (Err e) f a = tt
+
+-- A phase that was compared with Over, and differs.
+pub goes_on : (phase : TalkPhase) → false ≡ sameb the_type phase phases.Over → phase ≡ phases.Over → ⊥
+goes_on phase differs is =
+    let same : false ≡ true = differs ∙ ap (λ (x : TalkPhase). sameb the_type x phases.Over) is in true≢false (sym same)
+
+-- ---- steps of one host
+
+-- Nothing happens.
+pub stays_step : (c n m : ℕ) (old new : MetaLinks) (v : HostView) → n ≤ m → new ≡ old → HostStep c n m old new v v
+stays_step c n m old new v le is = record {
+  on = λ chosen q s now a at. record {
+    later = now;
+    after = subst (λ z. MetaAfter q s now z) (sym is) a;
+    at = host_more q s c now n m le chosen v at;
+    others = λ i far. refl;
+  };
+}
+
+-- A connection is opened.
+module _ (q : List Question) (s : MetaSettings) (c : ℕ) (now : History) (reached : Bool) (new : MetaLinks)
+    (o : OpenedWay q s c now reached new) (none : events_on c now ≡ []) where
+  here : IsOpened q s c reached (o.more ++ now)
+  here = record {
+    more = o.more;
+    opening = opening_alike [] none o.opening;
+    mine = behind c o.more now [] none ∙ ap (events_on c) (append-nil o.more);
+  }
+
+-- A talk that begins.
+begins : (q : List Question) (s : MetaSettings) (c : ℕ) (h : History) (first : View) → first.phase ≡ phases.Due
+    → (n : ℕ) → IsTalkAt first.phase q s c h h n first first
+begins q s c h first is n =
+    subst (λ z. IsTalkAt z q s c h h n first first) (sym is) (
+      0,
+      omega arith,
+      record {
+        reads = 0;
+        talk = record {
+          more = [];
+          read = [];
+          written = [];
+          trace = beginning;
+          mine = refl;
+          consumed = Consumes-nil first.source.octets;
+          appended = Appends-nil first.sink.octets;
+        };
+        few = omega arith;
+        polled = risen_none first.polls;
+        reader = refl;
+        writer = refl;
+      },
+    )
+
+pub begun_step : (c n m : ℕ) (old new : MetaLinks) (v : HostView) → AfterOpen c (is_reached v) old new → IsNew v
+    → HostStep c n m old new Connecting v
+begun_step c n m old new v opens is = record {
+  on = λ chosen q s now a at.
+      let o : OpenedWay q s c now (is_reached v) new = opens.on q s now a in
+      record {
+        later = o.more ++ now;
+        after = o.after;
+        at = by chosen q s now at.0 at.1 v is o;
+        others = λ i far. none_before i o.more now (others_opening i o.opening far);
+      };
+}
+  where
+    by : (chosen : Bool) (q : List Question) (s : MetaSettings) (now : History) → chosen ≡ true → events_on c now ≡ []
+        → (v : HostView) → IsNew v → (o : OpenedWay q s c now (is_reached v) new)
+        → IsHostAt chosen q s c (o.more ++ now) m v
+    by chosen q s now picked none Out is o =
+        subst (λ z. IsOpenedIf z q s c false (o.more ++ now)) (sym picked) (here q s c now false new o none)
+    by chosen q s now picked none Connecting is o = absurd is
+    by chosen q s now picked none (Talking first) is o = (
+      picked,
+      record {
+        h = o.more ++ now;
+        opened = here q s c now true new o none;
+        first = first;
+        talk = begins q s c (o.more ++ now) first is m;
+      },
+    )
+
+-- A talk that is not over, for any limit on polls.
+to_among : (q : List Question) (s : MetaSettings) (c : ℕ) (h now : History) (n : ℕ) (phase : TalkPhase) (first last : View)
+    → (phase ≡ phases.Over → ⊥) → IsTalkAt phase q s c h now n first last
+    → (k : ℕ) × (k ≤ n) × ((turns : ℕ) → PhaseAmong phase q s c h now k turns first last)
+to_among q s c h now n phases.Due first last on t = (t.0, t.1, λ turns. t.2)
+to_among q s c h now n phases.Waiting first last on t = (t.0, t.1, λ turns. t.2)
+to_among q s c h now n phases.Over first last on t = absurd (on refl)
+
+from_among : (q : List Question) (s : MetaSettings) (c : ℕ) (h now : History) (k n turns : ℕ) (phase : TalkPhase)
+    (first last : View) → k ≤ n → turns ≤ 1000000000 → PhaseAmong phase q s c h now k turns first last
+    → IsTalkAt phase q s c h now n first last
+from_among q s c h now k n turns phases.Due first last le few t = (k, le, t)
+from_among q s c h now k n turns phases.Waiting first last le few t = (k, le, t)
+from_among q s c h now k n turns phases.Over first last le few t = (turns, few, t)
+
+-- The talk goes on, from each number of polls up to n to one up to m.
+pub talk_step : (c n m : ℕ) (old new : MetaLinks) (before last : View) → (before.phase ≡ phases.Over → ⊥)
+    → ((k : ℕ) → k ≤ n → (l : ℕ) × (turns : ℕ) × (l ≤ m) × (turns ≤ 1000000000)
+    × StepAmong c k l turns old new before last)
+    → HostStep c n m old new (Talking before) (Talking last)
+talk_step c n m old new before last goes steps = record {
+  on = λ chosen q s now a at.
+      let t : IsTalkedWith q s c now n before = at.1 in
+      let was = to_among q s c t.h now n before.phase t.first before goes t.talk in
+      let step = steps was.0 was.1 in
+      let r = step.4.on q s t.h now t.first a (was.2 step.1) in
+      record {
+        later = r.later;
+        after = r.after;
+        at = (
+          at.0,
+          record {
+            h = t.h;
+            opened = t.opened;
+            first = t.first;
+            talk = from_among q s c t.h r.later step.0 m step.1 last.phase t.first last step.2 step.3 r.among;
+          },
+        );
+        others = r.others;
+      };
+}
+
+pub part_step : (c n : ℕ) (old new : MetaLinks) (before last : View) → (before.phase ≡ phases.Over → ⊥) → n < 1000000000
+    → ((k turns : ℕ) → k < turns → StepAmong c k (k + 1) turns old new before last)
+    → HostStep c n (n + 1) old new (Talking before) (Talking last)
+part_step c n old new before last goes lt steps =
+    talk_step c n (n + 1) old new before last goes
+    (λ k le. (k + 1, 1000000000, omega (arith, le), omega arith, steps k 1000000000 (omega (arith, le, lt))))
+
+pub leave_step : (c n : ℕ) (old new : MetaLinks) (before last : View) → (before.phase ≡ phases.Over → ⊥) → n ≤ 1000000000
+    → ((k : ℕ) → StepAmong c k k k old new before last) → HostStep c n n old new (Talking before) (Talking last)
+leave_step c n old new before last goes lt steps =
+    talk_step c n n old new before last goes (λ k le. (k, k, le, omega (arith, le, lt), steps k))
+
+-- Looking at an attempt.
+pub look_step : (c n m : ℕ) (old new : MetaLinks) (v : HostView) → IsBegun c (Some v) old new
+    → HostStep c n m old new Connecting v
+look_step c n m old new v b = begun_step c n m old new v b.0 b.1
+
+-- ---- all hosts
+
+module _ {E : Type 0} (view : E → HostView) where
+  module _ (c k m : ℕ) (n next : ℕ → ℕ) (hosts : List E) (before last : E) (old new : MetaLinks)
+      (lt : c < length hosts) (is : slice_get hosts c ≡ Some before) (at : n c ≡ k) (to : next c ≡ m)
+      (others : (i : ℕ) → (c == i) ≡ false → next i ≡ n i) (step : HostStep c k m old new (view before) (view last))
+    where
+      module _ (chosen : ℕ → Bool) (q : List Question) (s : MetaSettings) (all : AreHosts view chosen q s n hosts old) where
+        was : IsHostAt (chosen c) q s c all.now k (view before)
+        was =
+            subst (λ z. IsHostAt (chosen c) q s c all.now z (view before)) at
+            (subst (λ z. IsHostIn view (chosen c) q s c all.now (n c) z) is (all.each c))
+
+        r : AfterHostStep (chosen c) q s c all.now m (view last) new
+        r = step.on (chosen c) q s all.now all.after was
+
+        mine : IsHostIn view (chosen c) q s c r.later (next c) (slice_get (slice_set hosts c last) c)
+        mine =
+            subst (λ z. IsHostIn view (chosen c) q s c r.later (next c) z) (sym (set_same hosts c last lt))
+            (subst (λ z. IsHostAt (chosen c) q s c r.later z (view last)) (sym to) r.at)
+
+        kept : (i : ℕ) (x : Option E) → events_on i r.later ≡ events_on i all.now
+            → IsHostIn view (chosen i) q s i all.now (n i) x → IsHostIn view (chosen i) q s i r.later (n i) x
+        kept i None e o = tt
+        kept i (Some x) e o = host_same q s i all.now r.later e (chosen i) (n i) (view x) o
+
+        each : (i : ℕ) (b : Bool) → (c == i) ≡ b
+            → IsHostIn view (chosen i) q s i r.later (next i) (slice_get (slice_set hosts c last) i)
+        each i true e =
+            let same : c ≡ i = grind (arith, nat_tests) in
+            subst (λ z. IsHostIn view (chosen z) q s z r.later (next z) (slice_get (slice_set hosts c last) z)) same mine
+        each i false e =
+            subst (λ z. IsHostIn view (chosen i) q s i r.later z (slice_get (slice_set hosts c last) i)) (sym (others i e))
+            (subst (λ z. IsHostIn view (chosen i) q s i r.later (n i) z) (sym (set_other hosts c i last e))
+            (kept i (slice_get hosts i) (r.others i e) (all.each i)))
+
+      pub one_step : EachHostStep view n next hosts (slice_set hosts c last) old new
+      one_step = record {
+        on = λ chosen q s all. record {
+          now = (r chosen q s all).later;
+          after = (r chosen q s all).after;
+          each = λ i. each chosen q s all i (c == i) refl;
+        };
+      }
+
+  pub steps_trans : (n m k : ℕ → ℕ) (x y z : List E) (a b d : MetaLinks)
+      → EachHostStep view n m x y a b → EachHostStep view m k y z b d → EachHostStep view n k x z a d
+  steps_trans n m k x y z a b d one two = record { on = λ chosen q s all. two.on chosen q s (one.on chosen q s all) }
+
+  -- More polls.
+  more_at : (chosen : Bool) (q : List Question) (s : MetaSettings) (c : ℕ) (now : History) (n m : ℕ) (x : Option E)
+      → n ≤ m → IsHostIn view chosen q s c now n x → IsHostIn view chosen q s c now m x
+  more_at chosen q s c now n m None le o = tt
+  more_at chosen q s c now n m (Some x) le o = host_more q s c now n m le chosen (view x) o
+
+  pub steps_none : (n m : ℕ) (x : List E) (a : MetaLinks) → n ≤ m → HostsStep view n m x x a a
+  steps_none n m x a le = record {
+    on = λ chosen q s all. record {
+      now = all.now;
+      after = all.after;
+      each = λ c. more_at (chosen c) q s c all.now n m (slice_get x c) le (all.each c);
+    };
+  }
+
+  pub steps_more : (n m : ℕ) (x y : List E) (a b : MetaLinks) → n ≤ m → HostsStep view 0 n x y a b
+      → HostsStep view 0 m x y a b
+  steps_more n m x y a b le one = steps_trans (λ c. 0) (λ c. n) (λ c. m) x y y a b b one (steps_none n m y b le)
+
+  -- Rounds, and one more; and what comes after them.
+  pub rounds_go : (n : ℕ) (x y z : List E) (a b d : MetaLinks) → HostsStep view 0 n x y a b
+      → HostsStep view n (n + 1) y z b d → HostsStep view 0 (n + 1) x z a d
+  rounds_go n x y z a b d one two = steps_trans (λ c. 0) (λ c. n) (λ c. n + 1) x y z a b d one two
+
+  pub steps_both : (x y z : List E) (a b d : MetaLinks) → HostsStep view 0 1000000000 x y a b
+      → HostsStep view 1000000000 1000000000 y z b d → HostsStep view 0 1000000000 x z a d
+  steps_both x y z a b d one two =
+      steps_trans (λ c. 0) (λ c. 1000000000) (λ c. 1000000000) x y z a b d one two
+
+  -- A round begins, goes on by one connection, and ends.
+  pub round_begins : (n : ℕ) (x : List E) (a : MetaLinks) → EachHostStep view (for_each n) (one_more_below 0 n) x x a a
+  round_begins n x a = record {
+    on = λ chosen q s all. record {
+      now = all.now;
+      after = all.after;
+      each = λ c. subst (λ z. IsHostIn view (chosen c) q s c all.now z (slice_get x c)) (sym (none_below n c)) (all.each c);
+    };
+  }
+    where
+      none_below : (n c : ℕ) → one_more_below 0 n c ≡ n
+      none_below n c = grind (arith, nat_tests)
+
+  pub round_goes : (c n : ℕ) (x hosts : List E) (before last : E) (a b d : MetaLinks) → c < length hosts
+      → slice_get hosts c ≡ Some before → EachHostStep view (for_each n) (one_more_below c n) x hosts a b
+      → HostStep c n (n + 1) b d (view before) (view last)
+      → EachHostStep view (for_each n) (one_more_below (c + 1) n) x (slice_set hosts c last) a d
+  round_goes c n x hosts before last a b d lt is goes step =
+      steps_trans (for_each n) (one_more_below c n) (one_more_below (c + 1) n) x hosts (slice_set hosts c last) a b d goes
+      (one_step c n (n + 1) (one_more_below c n) (one_more_below (c + 1) n) hosts before last b d lt is
+      (below_here n c) (below_next n c) (below_others n c) step)
+
+  pub round_ends : (i n : ℕ) (x hosts : List E) (a b : MetaLinks) → length hosts ≤ i
+      → EachHostStep view (for_each n) (one_more_below i n) x hosts a b → HostsStep view n (n + 1) x hosts a b
+  round_ends i n x hosts a b le goes =
+      steps_trans (for_each n) (one_more_below i n) (for_each (n + 1)) x hosts hosts a b b goes
+      (record {
+        on = λ chosen q s all. record {
+          now = all.now;
+          after = all.after;
+          each = λ c. counted chosen q s all c (cases_lt c i);
+        };
+      })
+    where
+      counted : (chosen : ℕ → Bool) (q : List Question) (s : MetaSettings)
+          (all : AreHosts view chosen q s (one_more_below i n) hosts b) (c : ℕ) → (c < i) ⊎ (i ≤ c)
+          → IsHostIn view (chosen c) q s c all.now (n + 1) (slice_get hosts c)
+      counted chosen q s all c (inl lt) =
+          subst (λ z. IsHostIn view (chosen c) q s c all.now z (slice_get hosts c)) (below_all n i c lt) (all.each c)
+      counted chosen q s all c (inr past) =
+          subst (λ z. IsHostIn view (chosen c) q s c all.now (n + 1) z)
+          (sym (slice_get_past hosts c (omega (arith, le, past)))) tt
+
+  -- One host is ended.
+  pub end_goes : (c n : ℕ) (x hosts : List E) (before last : E) (a b d : MetaLinks) → c < length hosts
+      → slice_get hosts c ≡ Some before → HostsStep view n n x hosts a b → HostStep c n n b d (view before) (view last)
+      → HostsStep view n n x (slice_set hosts c last) a d
+  end_goes c n x hosts before last a b d lt is goes step =
+      steps_trans (λ i. n) (λ i. n) (λ i. n) x hosts (slice_set hosts c last) a b d goes
+      (one_step c n n (λ i. n) (λ i. n) hosts before last b d lt is refl refl (λ i far. refl) step)
+
+  -- All below a number are over, and one more.
+  pub over_more : (hosts : List E) (c : ℕ) (last : E) → c < length hosts → IsHostOver (view last)
+      → ((i : ℕ) → i < c → IsOverIn view (slice_get hosts i)) → (i : ℕ) → i < c + 1
+      → IsOverIn view (slice_get (slice_set hosts c last) i)
+  over_more hosts c last lt over below i less = by (c == i) refl
+    where
+      by : (b : Bool) → (c == i) ≡ b → IsOverIn view (slice_get (slice_set hosts c last) i)
+      by true e =
+          let same : c ≡ i = grind (arith, nat_tests) in
+          subst (λ z. IsOverIn view (slice_get (slice_set hosts c last) z)) same
+          (subst (IsOverIn view) (sym (set_same hosts c last lt)) over)
+      by false e =
+          let before : i < c = grind (arith, nat_tests) in
+          subst (IsOverIn view) (sym (set_other hosts c i last e)) (below i before)
+
+  pub over_all : (hosts : List E) (n : ℕ) → length hosts ≤ n → ((i : ℕ) → i < n → IsOverIn view (slice_get hosts i))
+      → AreHostsOver view hosts
+  over_all hosts n le below c = by (cases_lt c n)
+    where
+      by : (c < n) ⊎ (n ≤ c) → IsOverIn view (slice_get hosts c)
+      by (inl lt) = below c lt
+      by (inr past) = subst (IsOverIn view) (sym (slice_get_past hosts c (omega (arith, le, past)))) tt
+
+-- ---- before the first round
+
+pub begun_push : {B A R W : Type 0} (xs : List (Option B)) (ys : List (HostTalk A R W)) (x : Option B) (y : HostTalk A R W)
+    → AreAllBegun xs ys → IsFirstOf x y → AreAllBegun (xs ++ x ∷ []) (ys ++ y ∷ [])
+begun_push [] [] x y all is = (is, tt)
+begun_push (a ∷ xs) (b ∷ ys) x y all is = (all.0, begun_push xs ys x y all.1 is)
+begun_push [] (b ∷ ys) x y all is = absurd all
+begun_push (a ∷ xs) [] x y all is = absurd all
+
+module _ {B A R W : Type 0} (view : HostTalk A R W → HostView)
+    (out : view talks.Out ≡ Out) (connecting : (a : A) → view (talks.Connecting a) ≡ Connecting)
+    (q : List Question) (s : MetaSettings) where
+  first_at : (chosen : Bool) (c : ℕ) (x : Option B) (y : HostTalk A R W) → is_some x ≡ chosen → IsFirstOf x y
+      → IsHostAt chosen q s c [] 0 (view y)
+  first_at chosen c None talks.Out e is =
+      subst (λ z. IsHostAt chosen q s c [] 0 z) (sym out)
+      (subst (λ z. IsOpenedIf z q s c false []) e (refl, refl))
+  first_at chosen c (Some x) (talks.Connecting a) e is =
+      subst (λ z. IsHostAt chosen q s c [] 0 z) (sym (connecting a)) (sym e, refl)
+  first_at chosen c None (talks.Connecting a) e is = absurd is
+  first_at chosen c None (talks.Talking halves) e is = absurd is
+  first_at chosen c (Some x) talks.Out e is = absurd is
+  first_at chosen c (Some x) (talks.Talking halves) e is = absurd is
+
+  first_in : (chosen : ℕ → Bool) (i : ℕ) (xs : List (Option B)) (ys : List (HostTalk A R W)) → AreAllBegun xs ys
+      → (c : ℕ) → is_present xs c ≡ chosen i → IsHostIn view (chosen i) q s i [] 0 (slice_get ys c)
+  first_in chosen i [] [] all c e = tt
+  first_in chosen i (x ∷ xs) (y ∷ ys) all zero e = first_at (chosen i) i x y e all.0
+  first_in chosen i (x ∷ xs) (y ∷ ys) all (suc c) e = first_in chosen i xs ys all.1 c e
+  first_in chosen i [] (y ∷ ys) all c e = absurd all
+  first_in chosen i (x ∷ xs) [] all c e = absurd all
+
+-- ---- after the last round
+
+get_within : {E : Type 0} (xs : List E) (i : ℕ) → i < length xs → slice_get xs i ≡ None → ⊥
+get_within [] i lt is = absurd (omega (arith, lt))
+get_within (x ∷ xs) zero lt is = absurd cc
+get_within (x ∷ xs) (suc i) lt is = get_within xs i (omega (arith, lt)) is
+
+module _ {E : Type 0} (view : E → HostView) (q : List Question) (s : MetaSettings) (c : ℕ) (now : History) where
+  asked_talk : (chosen : Bool) (phase : TalkPhase) (last : View) → last.phase ≡ phase → phase ≡ phases.Over
+      → (chosen ≡ true) × IsTalkedWith q s c now 1000000000 last → IsConnectionAskedIf chosen q s true c now
+  asked_talk chosen phase last at over o =
+      let t : IsTalkedWith q s c now 1000000000 last = o.1 in
+      let is : last.phase ≡ phases.Over = at ∙ over in
+      let done = subst (λ z. IsTalkAt z q s c t.h now 1000000000 t.first last) is t.talk in
+      let d : IsDoneAmong q s c t.h now done.0 t.first last = done.2 in
+      let few = done.1 in
+      let given = d.given in
+      let polls = d.few in
+      subst (λ z. IsConnectionAskedIf z q s true c now) (sym o.0)
+      (ended q s c t.h now d.over t.opened d.reads done.0 t.first last (omega (arith, few, given, polls)) d.ended)
+
+  asked_view : (chosen : Bool) (v : HostView) → IsHostOver v → IsHostAt chosen q s c now 1000000000 v
+      → IsConnectionAskedIf chosen q s true c now
+  asked_view true Out over o = none_talked q s true c now now o refl
+  asked_view false Out over o = o.1
+  asked_view chosen Connecting over o = absurd over
+  asked_view chosen (Talking last) over o = asked_talk chosen phases.Over last over refl o
+
+  pub asked_in : (chosen : Bool) (hosts : List E) → c < length hosts → IsOverIn view (slice_get hosts c)
+      → IsHostIn view chosen q s c now 1000000000 (slice_get hosts c) → IsConnectionAskedIf chosen q s true c now
+  asked_in chosen hosts lt over o = by (slice_get hosts c) refl over o
+    where
+      by : (x : Option E) → slice_get hosts c ≡ x → IsOverIn view x → IsHostIn view chosen q s c now 1000000000 x
+          → IsConnectionAskedIf chosen q s true c now
+      by (Some x) is over o = asked_view chosen (view x) over o
+      by None is over o = absurd (get_within hosts c lt is)
+
+-- All hosts were asked.
+pub asked_at_once : {B A R W : Type 0} (view : HostTalk A R W → HostView) → view talks.Out ≡ Out
+    → ((a : A) → view (talks.Connecting a) ≡ Connecting) → (q : List Question) (s : MetaSettings) (chosen : ℕ → Bool)
+    (attempts : List (Option B)) (first last : List (HostTalk A R W)) (old new : MetaLinks) → MetaAfter q s [] old
+    → length last ≡ length q → AreAllBegun attempts first → ((c : ℕ) → is_present attempts c ≡ chosen c)
+    → HostsStep view 0 1000000000 first last old new → AreHostsOver view last → IsAsked q s true chosen new
+asked_at_once view out connecting q s chosen attempts first last old new a size begun present steps over =
+    let all : AreHosts view chosen q s (λ c. 1000000000) last new = steps.on chosen q s start in
+    record {
+      history = all.now;
+      after = all.after;
+      each = λ c lt. asked_in view q s c all.now (chosen c) last (omega (arith, lt, size)) (over c) (all.each c);
+    }
+  where
+    start : AreHosts view chosen q s (λ c. 0) first old
+    start = record {
+      now = [];
+      after = a;
+      each = λ c. first_in view out connecting q s chosen c attempts first begun c (present c);
+    }

@@ -1,0 +1,19 @@
+use Rattle.std.proofs.Common.{◌≡◌, [], length, refl, sym, subst, rules}
+use Rattle.zoom_pool.specs.Metas.{MetaAfter}
+use Rattle.zoom_tcp.specs.Asking.{is_present}
+use Rattle.zoom_tcp.specs.HostTalks.{AreAllBegun}
+use Rattle.zoom_tcp.proofs.HostTalks.{asked_at_once}
+use Rattle.zoom_tcp.proofs.at_once.ask_at_once_over.Goals as goal
+
+pub returns : goal.returns
+returns g c =
+    let after = subst (λ z. MetaAfter z c.args.settings [] c.in_ok-meta.meta) c.from_vec.ensures c.in_ok-meta.ensures.after in
+    let same : c.deref_mut.result.now ≡ c.in_ok-talks.talks.items = search rules in
+    let size : length c.talk_with_all-talked.new.talks ≡ length c.args.questions.items = search rules in
+    record {
+      asked = asked_at_once _ refl (λ a. refl) c.args.questions.items c.args.settings (is_present c.args.addresses.now)
+          c.in_ok-attempts.attempts.items c.deref_mut.result.now c.talk_with_all-talked.new.talks
+          c.in_ok-meta.meta c.talk_with_all-talked.new.meta after size
+          (subst (λ z. AreAllBegun c.in_ok-attempts.attempts.items z) (sym same) c.in_ok-talks.ensures.begun)
+          c.in_ok-attempts.ensures.named c.in_ok-talked.ensures.talks c.in_ok-talked.ensures.over;
+    }

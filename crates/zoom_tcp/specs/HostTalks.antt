@@ -1,0 +1,149 @@
+-- Talks with hosts at once, while other hosts are still being connected to (Z39.50-2003, 3.2).
+use Rattle.std.specs.Prelude.{◌≡◌, ◌+◌, ◌<◌, ◌≤◌, ◌==◌, ℕ, Bool, true, false, List, [], ◌∷◌, slice_get, Option, None, Some}
+use Rattle.zoom_questions.specs.declared.question.Question.{Question}
+use Rattle.zoom_questions.specs.declared.question.MetaSettings.{MetaSettings}
+use Rattle.zoom_pool.specs.History.{History, events_on}
+use Rattle.zoom_pool.specs.Metas.{MetaLinks, MetaAfter}
+use Rattle.zoom_io.specs.declared.among.TalkPhase.{TalkPhase}
+use Rattle.zoom_io.specs.declared.among.TalkPhase.TheVariants as phases
+use Rattle.zoom_io.specs.Devices.{DeviceState}
+use Rattle.zoom_io.specs.TalkTraces.{Due, Waiting}
+use Rattle.zoom_io.specs.TalksAmong.{View, view_of, OngoingTalkAmong, IsDoneAmong}
+use Rattle.zoom_tcp.specs.declared.host_talks.HostTalk.{HostTalk}
+use Rattle.zoom_tcp.specs.declared.host_talks.HostTalk.TheVariants as talks
+use Rattle.zoom_tcp.specs.AskingSteps.{IsOpened, IsOpenedIf, AfterOpen}
+
+-- How far asking a host has come, as contracts see it.
+pub data HostView : Type 0 where
+  Out : HostView
+  Connecting : HostView
+  Talking : View → HostView
+
+-- The view of a host's part.
+abbrev pub host_view : {A R W : Type 0} → (R → DeviceState) → (R → ℕ) → (W → DeviceState) → HostTalk A R W → HostView
+host_view state polls held talks.Out = Out
+host_view state polls held (talks.Connecting attempt) = Connecting
+host_view state polls held (talks.Talking halves) = Talking (view_of state polls held halves)
+
+-- The view, if there is something to see.
+abbrev pub view_if : {E : Type 0} → (E → HostView) → Option E → Option HostView
+view_if view None = None
+view_if view (Some x) = Some (view x)
+
+-- ---- one host
+
+-- What a phase says of a talk after at most n polls. One that is over had at most 1,000,000,000.
+abbrev pub IsTalkAt : TalkPhase → List Question → MetaSettings → ℕ → History → History → ℕ → View → View → Type 0
+IsTalkAt phases.Due q s c h now n first last =
+    (polls : ℕ) × (polls ≤ n) × OngoingTalkAmong q s c h now polls Due first last
+IsTalkAt phases.Waiting q s c h now n first last =
+    (polls : ℕ) × (polls ≤ n) × OngoingTalkAmong q s c h now polls Waiting first last
+IsTalkAt phases.Over q s c h now n first last =
+    (turns : ℕ) × (turns ≤ 1000000000) × IsDoneAmong q s c h now turns first last
+
+-- The host was reached, and the talk that began then is as its phase says.
+pub record IsTalkedWith (q : List Question) (s : MetaSettings) (c : ℕ) (now : History) (n : ℕ) (last : View)
+    : Type 0 where
+  pub h : History
+  pub opened : IsOpened q s c true h
+  pub first : View
+  pub talk : IsTalkAt last.phase q s c h now n first last
+
+-- What the events of a connection are, by how far asking its host has come.
+abbrev pub IsHostAt : Bool → List Question → MetaSettings → ℕ → History → ℕ → HostView → Type 0
+IsHostAt chosen q s c now n Out = IsOpenedIf chosen q s c false now
+IsHostAt chosen q s c now n Connecting = (chosen ≡ true) × (events_on c now ≡ [])
+IsHostAt chosen q s c now n (Talking last) = (chosen ≡ true) × IsTalkedWith q s c now n last
+
+-- A step of a connection, after which the others have no new events.
+pub record AfterHostStep
+    (chosen : Bool) (q : List Question) (s : MetaSettings) (c : ℕ) (now : History) (n : ℕ) (last : HostView)
+    (new : MetaLinks)
+    : Type 0 where
+  pub later : History
+  pub after : MetaAfter q s later new
+  pub at : IsHostAt chosen q s c later n last
+  pub others : (i : ℕ) → (c == i) ≡ false → events_on i later ≡ events_on i now
+
+-- The connection goes from at most n polls to at most m.
+pub record HostStep (c n m : ℕ) (old new : MetaLinks) (before last : HostView) : Type 0 where
+  pub on : (chosen : Bool) (q : List Question) (s : MetaSettings) (now : History)
+      → MetaAfter q s now old → IsHostAt chosen q s c now n before → AfterHostStep chosen q s c now m last new
+
+-- Nothing more happens with the host.
+abbrev pub IsHostOver : HostView → Type 0
+IsHostOver Out = Unit {0}
+IsHostOver Connecting = ⊥
+IsHostOver (Talking last) = last.phase ≡ phases.Over
+
+-- The phase of a talk that was begun.
+abbrev pub IsNew : HostView → Type 0
+IsNew Out = Unit {0}
+IsNew Connecting = ⊥
+IsNew (Talking last) = last.phase ≡ phases.Due
+
+-- whether the host was reached
+abbrev pub is_reached : HostView → Bool
+is_reached (Talking last) = true
+is_reached _ = false
+
+-- What looking at an attempt did: nothing; or the connection was opened, and a talk begins if the host was reached.
+abbrev pub IsBegun : ℕ → Option HostView → MetaLinks → MetaLinks → Type 0
+IsBegun c None old new = new ≡ old
+IsBegun c (Some view) old new = AfterOpen c (is_reached view) old new × IsNew view
+
+-- ---- all hosts
+
+-- What the events of a connection are, if there is an entry for it.
+abbrev pub IsHostIn : {E : Type 0} → (E → HostView) → Bool → List Question → MetaSettings → ℕ → History → ℕ
+    → Option E → Type 0
+IsHostIn view chosen q s c now n None = Unit {0}
+IsHostIn view chosen q s c now n (Some talk) = IsHostAt chosen q s c now n (view talk)
+
+-- Some history left the connections, after at most n c polls of each connection c.
+pub record AreHosts {E : Type 0}
+    (view : E → HostView) (chosen : ℕ → Bool) (q : List Question) (s : MetaSettings) (n : ℕ → ℕ) (hosts : List E)
+    (new : MetaLinks)
+    : Type 0 where
+  pub now : History
+  pub after : MetaAfter q s now new
+  pub each : (c : ℕ) → IsHostIn view (chosen c) q s c now (n c) (slice_get hosts c)
+
+-- The connections go from n c to m c polls each.
+pub record EachHostStep {E : Type 0}
+    (view : E → HostView) (n m : ℕ → ℕ) (before last : List E) (old new : MetaLinks)
+    : Type 0 where
+  pub on : (chosen : ℕ → Bool) (q : List Question) (s : MetaSettings)
+      → AreHosts view chosen q s n before old → AreHosts view chosen q s m last new
+
+-- All connections go from at most n polls to at most m.
+abbrev pub HostsStep : {E : Type 0} → (E → HostView) → ℕ → ℕ → List E → List E → MetaLinks → MetaLinks → Type 0
+HostsStep view n m before last old new = EachHostStep view (λ c. n) (λ c. m) before last old new
+
+-- One round: each connection has one poll more at most, up to 1,000,000,000.
+abbrev pub AfterRoundOfHosts : {E : Type 0} → (E → HostView) → List E → List E → MetaLinks → MetaLinks → Type 0
+AfterRoundOfHosts view before last old new =
+    (n : ℕ) → n < 1000000000 → HostsStep view n (n + 1) before last old new
+
+-- Nothing more happens with the host, if there is an entry for it.
+abbrev pub IsOverIn : {E : Type 0} → (E → HostView) → Option E → Type 0
+IsOverIn view None = Unit {0}
+IsOverIn view (Some talk) = IsHostOver (view talk)
+
+-- Nothing more happens with any host.
+abbrev pub AreHostsOver : {E : Type 0} → (E → HostView) → List E → Type 0
+AreHostsOver view hosts = (c : ℕ) → IsOverIn view (slice_get hosts c)
+
+-- ---- before the first round
+
+-- The host is being connected to if there is an attempt; else there is no host.
+abbrev pub IsFirstOf : {B A R W : Type 0} → Option B → HostTalk A R W → Type 0
+IsFirstOf None talks.Out = Unit {0}
+IsFirstOf (Some attempt) (talks.Connecting taken) = Unit {0}
+IsFirstOf _ _ = ⊥
+
+-- The same for each entry.
+abbrev pub AreAllBegun : {B A R W : Type 0} → List (Option B) → List (HostTalk A R W) → Type 0
+AreAllBegun [] [] = Unit {0}
+AreAllBegun (x ∷ xs) (y ∷ ys) = IsFirstOf x y × AreAllBegun xs ys
+AreAllBegun _ _ = ⊥

@@ -1,0 +1,50 @@
+//! The time limits of asking hosts.
+ghost use Rattle.std.specs.Prelude.{◌≡◌, ◌-◌, ◌*◌, true, is_some, IfSome};
+ghost use Rattle.std.specs.Duration.{as_nanos};
+
+use std::time::Duration;
+
+/// The time limits of asking hosts.
+#[derive(Clone, Copy, Debug, PartialEq, Eq)]
+pub struct Limits {
+    /// The longest time for connecting to all hosts together, and the longest silence of a host.
+    pub patience: Duration,
+    /// The longest time for everything, from the first look-up of a name on. `None` sets no limit.
+    pub total: Option<Duration>,
+}
+
+impl Default for Limits {
+    /// A patience of 30 seconds, and an hour for everything.
+    fn default() -> Limits {
+        Limits::of_seconds(30, 3600)
+    }
+}
+
+impl Limits {
+    /// A patience, and a time for everything, of so many seconds.
+    pub fn of_seconds(patience: u32, total: u32) -> Limits
+        ensures patience { as_nanos result.patience ≡ patience * 1000000000 }
+        ensures total { IfSome result.total (λ limit. as_nanos limit ≡ total * 1000000000) }
+        ensures limited { is_some result.total ≡ true }
+    {
+        Limits {
+            patience: Duration::from_secs(patience as u64),
+            total: Some(Duration::from_secs(total as u64)),
+        }
+    }
+
+    /// What is left of the time for everything, if it began at `begun`.
+    pub(crate) fn total_left(&self, begun: Duration, now: Duration) -> Duration {
+        match self.total {
+            Some(total) => left_of(total, begun, now),
+            None => Duration::MAX,
+        }
+    }
+}
+
+/// What is left at `now` of a span of time that began at `begun`: zero if the span is over.
+pub(crate) fn left_of(span: Duration, begun: Duration, now: Duration) -> Duration
+    ensures { as_nanos result ≡ as_nanos span - (as_nanos now - as_nanos begun) }
+{
+    span.saturating_sub(now.saturating_sub(begun))
+}

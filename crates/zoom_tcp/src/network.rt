@@ -1,0 +1,232 @@
+//! The sockets of all links, what each is ready for, and what it has not sent yet.
+ghost use Rattle.std.specs.Prelude.{◌≡◌, ◌<◌, length, IfOk};
+ghost use Rattle.std.specs.Io.{WritesAtMost};
+ghost use Rattle.zoom_tcp.specs.HostLinks.{IsBoundedTransfer};
+
+use crate::sockets::{Readiness, Sockets, Transfer};
+use bytes::BytesMut;
+use std::alloc::{AllocError, Global};
+use std::cell::RefCell;
+use std::time::Duration;
+use zoom_io::Failed;
+
+/// The longest wait for any link, in milliseconds.
+pub(crate) const LONGEST_WAIT: u64 = 250;
+
+/// The sockets of all links. The links share it by reference.
+#[derive(Drop)]
+pub struct Network<S> {
+    pub(crate) poller: RefCell<Poller<S>>,
+}
+
+/// The sockets, what each is ready for, and what it has not sent yet.
+#[derive(Drop)]
+pub(crate) struct Poller<S> {
+    alloc: Global,
+    pub(crate) sockets: S,
+    /// By token.
+    ready: Vec<Readiness>,
+    /// The octets that a sink took and no socket has taken yet, by token.
+    unsent: Vec<Option<BytesMut>>,
+    /// The number of waits for reports so far, also of those without waiting.
+    pub(crate) looks: u64,
+    /// Whether reports came that a link may not have seen yet.
+    news: bool,
+    /// The nearest deadline that a link noted since the last wait for any link.
+    nearest: Duration,
+}
+
+impl<S> Network<S> {
+    /// A network without open sockets.
+    pub fn new(alloc: Global, sockets: S) -> Network<S> {
+        Network {
+            poller: RefCell::new(Poller {
+                alloc,
+                sockets,
+                ready: Vec::new(alloc),
+                unsent: Vec::new(alloc),
+                looks: 0,
+                news: false,
+                nearest: Duration::MAX,
+            }),
+        }
+    }
+
+    /// Gives the sockets back.
+    pub fn into_sockets(self) -> S {
+        self.poller.into_inner().sockets
+    }
+}
+
+impl<S> Poller<S> {
+    /// A token that no socket has.
+    pub(crate) fn new_token(&mut self) -> Result<usize, AllocError> {
+        let token = self.ready.len();
+        self.ready.push(Readiness::default())?;
+        self.unsent.push(None)?;
+        Ok(token)
+    }
+
+    /// What the socket with the token is ready for.
+    pub(crate) fn ready_of(&self, token: usize) -> Readiness {
+        self.ready
+            .get(token)
+            .copied()
+            .unwrap_or(Readiness::default())
+    }
+
+    /// Notes what the socket with the token is ready for.
+    pub(crate) fn set_ready(&mut self, token: usize, ready: Readiness) {
+        if let Some(noted) = self.ready.get_mut(token) {
+            *noted = ready;
+        }
+    }
+
+    /// Notes that a link has to be polled at this time.
+    pub(crate) fn note_deadline(&mut self, time: Duration) {
+        self.nearest = self.nearest.min(time);
+    }
+
+    /// Takes out the octets that the socket with the token has not taken yet.
+    fn take_unsent(&mut self, token: usize) -> Option<BytesMut> {
+        self.unsent.get_mut(token)?.take()
+    }
+
+    /// Keeps octets until the socket with the token takes them.
+    fn keep_unsent(&mut self, token: usize, octets: BytesMut) {
+        if let Some(unsent) = self.unsent.get_mut(token) {
+            *unsent = Some(octets);
+        }
+    }
+}
+
+impl<S: Sockets> Poller<S> {
+    /// Waits at most `most` for reports.
+    pub(crate) fn wait(&mut self, most: Duration) {
+        if self.look(most) {
+            self.news = true;
+        }
+    }
+
+    /// Notes that all links have been told what was reported so far, except that octets came.
+    pub(crate) fn end_connecting(&mut self) {
+        self.news = self.ready.iter().any(|ready| ready.readable);
+    }
+
+    /// Waits for reports, no longer than each link allows. It does not wait if reports came outside of such a wait,
+    /// since links may have octets then that were not read.
+    pub(crate) fn wait_for_any(&mut self, now: Duration) {
+        let most = self
+            .nearest
+            .saturating_sub(now)
+            .min(Duration::from_millis(LONGEST_WAIT));
+        self.nearest = Duration::MAX;
+        self.look(if self.news { Duration::ZERO } else { most });
+        self.news = false;
+    }
+
+    /// Waits at most `most` for reports. Returns whether a flag is set that was not.
+    fn look(&mut self, most: Duration) -> bool {
+        self.looks = self.looks.wrapping_add(1);
+        self.sockets.wait(most, &mut self.ready)
+    }
+
+    /// Reads from a socket that was reported readable.
+    pub(crate) fn read(&mut self, token: usize, socket: &S::Socket, piece: &mut [u8]) -> Transfer
+        ensures { IsBoundedTransfer result (length piece.new) }
+    {
+        let ready = self.ready_of(token);
+        if !ready.readable {
+            return Transfer::NotYet;
+        }
+        let moved = self.sockets.read(socket, piece);
+        let readable = match moved {
+            Transfer::Octets(count) => count == 0 || count == piece.len() || ready.closed,
+            Transfer::NotYet => false,
+            Transfer::Failure => true,
+        };
+        self.set_ready(token, Readiness { readable, ..ready });
+        moved
+    }
+
+    /// Writes to a socket that was reported writable.
+    fn write(&mut self, token: usize, socket: &S::Socket, piece: &[u8]) -> Transfer
+        ensures { IsBoundedTransfer result (length piece.now) }
+    {
+        let ready = self.ready_of(token);
+        if !ready.writable {
+            return Transfer::NotYet;
+        }
+        let moved = self.sockets.write(socket, piece);
+        let writable = moved != Transfer::NotYet;
+        self.set_ready(token, Readiness { writable, ..ready });
+        moved
+    }
+
+    /// Writes a front of `piece` without waiting. What the socket does not take now is kept until it does.
+    pub(crate) fn send(
+        &mut self,
+        token: usize,
+        socket: &S::Socket,
+        piece: &[u8],
+    ) -> Result<usize, Failed>
+        ensures bound { WritesAtMost result piece.now }
+        ensures some { IfOk result (λ n. 0 < length piece.now → 0 < n) }
+    {
+        if piece.is_empty() {
+            return Ok(0);
+        }
+        if let Some(mut unsent) = self.take_unsent(token) {
+            if unsent.extend_from_slice(piece).is_err() {
+                return Err(Failed);
+            }
+            self.keep_unsent(token, unsent);
+            return Ok(piece.len());
+        }
+        match self.write(token, socket, piece) {
+            Transfer::Octets(count) if count > 0 => Ok(count),
+            Transfer::NotYet => self.send_later(token, piece),
+            _ => Err(Failed),
+        }
+    }
+
+    /// Keeps octets for a socket that has no others to take.
+    fn send_later(&mut self, token: usize, piece: &[u8]) -> Result<usize, Failed>
+        ensures all { IfOk result (λ n. n ≡ length piece.now) }
+    {
+        let Ok(octets) = BytesMut::copy_from_slice(self.alloc, piece) else {
+            return Err(Failed);
+        };
+        self.keep_unsent(token, octets);
+        Ok(piece.len())
+    }
+
+    /// Writes what the socket has not taken yet, until it takes no more.
+    pub(crate) fn flush(&mut self, token: usize, socket: &S::Socket) -> Result<(), Failed> {
+        let Some(mut unsent) = self.take_unsent(token) else {
+            return Ok(());
+        };
+        self.write_front(token, socket, &mut unsent)?;
+        if !unsent.is_empty() {
+            self.keep_unsent(token, unsent);
+        }
+        Ok(())
+    }
+
+    /// Writes octets until the socket takes no more, and leaves the others.
+    fn write_front(
+        &mut self,
+        token: usize,
+        socket: &S::Socket,
+        octets: &mut BytesMut,
+    ) -> Result<(), Failed> {
+        while !octets.is_empty() {
+            match self.write(token, socket, octets.as_slice()) {
+                Transfer::Octets(count) if count > 0 => octets.advance(count),
+                Transfer::NotYet => return Ok(()),
+                _ => return Err(Failed),
+            }
+        }
+        Ok(())
+    }
+}

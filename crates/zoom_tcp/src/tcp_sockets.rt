@@ -1,0 +1,163 @@
+//! Sockets over TCP, all watched by one poll of the system.
+ghost use Rattle.std.specs.Prelude.{◌≤◌, length, IfOk};
+ghost use Rattle.zoom_tcp.specs.HostLinks.{IsBoundedTransfer};
+
+use crate::sockets::{ConnectProgress, Readiness, Sockets, Transfer};
+use libc::net as c;
+use mio::event::Event;
+use mio::net::TcpStream;
+use mio::{Events, Interest, Poll, Token};
+use std::alloc::{AllocError, Global};
+use std::io;
+use std::io::{ErrorKind, Read, Write};
+use std::net::{Net, SocketAddr, ToSocketAddrs};
+use std::os::fd::{AsRawFd, RawFd};
+use std::time::{Clock, Duration, Instant};
+
+/// The most sockets that one wait reports. The next wait reports the others.
+const MOST_EVENTS: usize = 256;
+
+/// Sockets over TCP, all watched by one poll of the system.
+#[derive(Drop)]
+pub struct TcpSockets<'a, N> {
+    net: &'a N,
+    origin: Option<Instant>,
+    poll: Option<Poll>,
+    events: Events,
+}
+
+impl<'a, N: Net + Clock> TcpSockets<'a, N> {
+    /// No sockets yet. If the system has no clock or no poll, no socket can be made.
+    ///
+    /// Returns an error only if no memory is found.
+    pub fn new(alloc: Global, net: &'a N) -> Result<TcpSockets<'a, N>, AllocError> {
+        Ok(TcpSockets {
+            net,
+            origin: Instant::now(net).ok(),
+            poll: Poll::new(net).ok(),
+            events: Events::with_capacity(alloc, MOST_EVENTS)?,
+        })
+    }
+}
+
+/// Begins to connect, and to watch the stream. Small writes are sent at once (`TCP_NODELAY`).
+fn begin<N: Net>(net: &N, poll: &Poll, token: usize, address: SocketAddr) -> io::Result<TcpStream> {
+    let mut stream = TcpStream::connect(net, address)?;
+    stream.set_nodelay(true)?;
+    poll.registry().register(
+        &mut stream,
+        Token(token),
+        Interest::READABLE | Interest::WRITABLE,
+    )?;
+    Ok(stream)
+}
+
+/// Has the system acknowledge at once what came (`TCP_QUICKACK`). Otherwise a host that holds back small writes until
+/// the acknowledgement stalls for 40 milliseconds. The system soon drops the option, so each read sets it again.
+fn acknowledge(fd: RawFd) {
+    let mut on = [0u8; 16];
+    on[..4].copy_from_slice(&1i32.to_ne_bytes());
+    let _ = unsafe { c::setsockopt(fd, c::IPPROTO_TCP, c::TCP_QUICKACK, &on, 4) };
+}
+
+/// The result of a call of a stream that had room for `most` octets.
+fn transfer(answer: io::Result<usize>, most: usize) -> Transfer
+    requires { IfOk answer (λ n. n ≤ most) }
+    ensures { IsBoundedTransfer result most }
+{
+    match answer {
+        Ok(count) => Transfer::Octets(count),
+        Err(error) => match error.kind() {
+            ErrorKind::WouldBlock | ErrorKind::Interrupted => Transfer::NotYet,
+            _ => Transfer::Failure,
+        },
+    }
+}
+
+/// What a socket was ready for before, or is by this event.
+fn reported(ready: Readiness, event: &Event) -> Readiness {
+    let fails = event.is_error() || event.is_write_closed();
+    Readiness {
+        readable: ready.readable || event.is_readable() || event.is_read_closed() || fails,
+        writable: ready.writable || event.is_writable() || fails,
+        closed: ready.closed || event.is_read_closed() || fails,
+    }
+}
+
+/// The addresses that are found for `host:port`.
+fn found<N: Net>(alloc: Global, net: &N, text: &str) -> Result<Vec<SocketAddr>, AllocError> {
+    let mut addresses = Vec::new(alloc);
+    let Ok(all) = text.to_socket_addrs(net) else {
+        return Ok(addresses);
+    };
+    for address in all {
+        addresses.push(address)?;
+    }
+    Ok(addresses)
+}
+
+impl<'a, N: Net + Clock> Sockets for TcpSockets<'a, N> {
+    type Address = SocketAddr;
+
+    type Socket = TcpStream;
+
+    fn now(&self) -> Option<Duration> {
+        match &self.origin {
+            Some(origin) => origin.elapsed(self.net).ok(),
+            None => None,
+        }
+    }
+
+    fn resolve(&self, alloc: Global, text: &str) -> Result<Vec<SocketAddr>, AllocError> {
+        found(alloc, self.net, text)
+    }
+
+    fn connect(&mut self, token: usize, address: &SocketAddr) -> Option<TcpStream> {
+        match &self.poll {
+            Some(poll) => begin(self.net, poll, token, *address).ok(),
+            None => None,
+        }
+    }
+
+    fn progress(&mut self, socket: &TcpStream) -> ConnectProgress {
+        match socket.take_error() {
+            Ok(None) => {}
+            Ok(Some(_)) => return ConnectProgress::Refused,
+            Err(_) => return ConnectProgress::Refused,
+        }
+        match socket.peer_addr() {
+            Ok(_) => ConnectProgress::Connected,
+            Err(error) if error.kind() == ErrorKind::NotConnected => ConnectProgress::Pending,
+            Err(_) => ConnectProgress::Refused,
+        }
+    }
+
+    fn wait(&mut self, most: Duration, ready: &mut [Readiness]) -> bool {
+        let Some(poll) = &mut self.poll else {
+            return false;
+        };
+        if poll.poll(&mut self.events, Some(most)).is_err() {
+            return false;
+        }
+        let mut is_new = false;
+        for event in &self.events {
+            if let Some(noted) = ready.get_mut(event.token().0) {
+                let now = reported(*noted, event);
+                is_new = is_new || now != *noted;
+                *noted = now;
+            }
+        }
+        is_new
+    }
+
+    fn read(&mut self, socket: &TcpStream, piece: &mut [u8]) -> Transfer {
+        acknowledge(socket.as_raw_fd());
+        let mut stream = socket;
+        transfer(stream.read(piece), piece.len())
+    }
+
+    fn write(&mut self, socket: &TcpStream, piece: &[u8]) -> Transfer {
+        let mut stream = socket;
+        transfer(stream.write(piece), piece.len())
+    }
+}

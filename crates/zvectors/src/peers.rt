@@ -1,0 +1,244 @@
+// Hosts in memory, under a clock that only waiting moves.
+ghost use Rattle.std.specs.Prelude.{length};
+ghost use Rattle.zoom.specs.HostLinks.{IsBoundedTransfer};
+
+use std::alloc::{AllocError, Global};
+use std::time::Duration;
+use zoom::{ConnectProgress, Readiness, Sockets, Transfer};
+
+/// What a host does when it is connected to.
+#[derive(Clone, Copy, PartialEq, Eq)]
+pub(crate) enum Welcome {
+    /// It refuses.
+    Refuses,
+    /// It never answers.
+    Never,
+    /// It connects after so many milliseconds.
+    After(u64),
+}
+
+/// An address of a host. Its times are in milliseconds.
+#[derive(Clone, Copy)]
+pub(crate) struct Peer {
+    pub(crate) name: &'static str,
+    pub(crate) welcome: Welcome,
+    /// The octets that it sends.
+    pub(crate) octets: &'static [u8],
+    /// When the first octet comes, and how long it is from one to the next.
+    pub(crate) first: u64,
+    pub(crate) every: u64,
+    /// When it ends.
+    pub(crate) ends: u64,
+    /// When it begins to take octets.
+    pub(crate) takes: u64,
+    pub(crate) given: usize,
+    pub(crate) token: usize,
+    pub(crate) answers: u64,
+}
+
+/// A host that connects after a millisecond and sends nothing.
+pub(crate) const PEER: Peer = Peer {
+    name: "",
+    welcome: Welcome::After(1),
+    octets: b"",
+    first: 0,
+    every: 0,
+    ends: u64::MAX,
+    takes: 0,
+    given: 0,
+    token: usize::MAX,
+    answers: u64::MAX,
+};
+
+impl Peer {
+    /// How many octets it has sent by a time.
+    fn sent_by(&self, time: u64) -> usize {
+        if time < self.first {
+            return 0;
+        }
+        let count = time
+            .saturating_sub(self.first)
+            .checked_div(self.every)
+            .unwrap_or(u64::MAX);
+        usize::try_from(count)
+            .unwrap_or(usize::MAX)
+            .saturating_add(1)
+            .min(self.octets.len())
+    }
+
+    /// When the next octet after a time comes.
+    fn next_octet(&self, time: u64) -> u64 {
+        let sent = self.sent_by(time);
+        if sent >= self.octets.len() {
+            return u64::MAX;
+        }
+        let gaps = self.every.saturating_mul(sent as u64);
+        self.first.saturating_add(gaps)
+    }
+
+    /// The first change after a time.
+    fn next_change(&self, time: u64) -> u64 {
+        let mut next = self.next_octet(time);
+        for at in [self.ends, self.takes, self.answers] {
+            if at > time {
+                next = next.min(at);
+            }
+        }
+        next
+    }
+
+    /// What it is ready for, if something changed after one time and by another.
+    fn reported(&self, ready: Readiness, before: u64, time: u64) -> Readiness {
+        let is_new = |at: u64| at > before && at <= time;
+        let comes = self.sent_by(time) > self.sent_by(before);
+        Readiness {
+            readable: ready.readable || comes || is_new(self.ends),
+            writable: ready.writable || is_new(self.answers) || is_new(self.takes),
+            closed: ready.closed || is_new(self.ends),
+        }
+    }
+
+    /// Gives octets that it has sent by a time.
+    fn give(&mut self, time: u64, piece: &mut [u8]) -> usize {
+        let sent = self.sent_by(time);
+        let mut count = 0usize;
+        for place in piece.iter_mut() {
+            let Some(octet) = self.octets.get(self.given) else {
+                break;
+            };
+            if self.given >= sent {
+                break;
+            }
+            *place = *octet;
+            self.given = self.given.saturating_add(1);
+            count = count.saturating_add(1);
+        }
+        count
+    }
+}
+
+/// Hosts in memory.
+#[derive(Drop)]
+pub(crate) struct Peers {
+    peers: Vec<Peer>,
+    /// The octets that each took.
+    pub(crate) taken: Vec<Vec<u8>>,
+    pub(crate) time: u64,
+    reported: u64,
+    /// How often was waited, and how many reads and writes there were.
+    pub(crate) waits: u64,
+    pub(crate) moves: u64,
+}
+
+impl Peers {
+    /// These hosts, at time 0.
+    pub(crate) fn new(alloc: Global, peers: &[Peer]) -> Result<Peers, AllocError> {
+        let mut taken = Vec::new(alloc);
+        for _ in peers {
+            taken.push(Vec::new(alloc))?;
+        }
+        Ok(Peers {
+            peers: peers.to_vec(alloc)?,
+            taken,
+            time: 0,
+            reported: 0,
+            waits: 0,
+            moves: 0,
+        })
+    }
+}
+
+impl Sockets for Peers {
+    type Address = usize;
+
+    type Socket = usize;
+
+    fn now(&self) -> Option<Duration> {
+        Some(Duration::from_millis(self.time))
+    }
+
+    fn resolve(&self, alloc: Global, text: &str) -> Result<Vec<usize>, AllocError> {
+        let mut found = Vec::new(alloc);
+        for i in 0..self.peers.len() {
+            if self.peers[i].name == text {
+                found.push(i)?;
+            }
+        }
+        Ok(found)
+    }
+
+    fn connect(&mut self, token: usize, address: &usize) -> Option<usize> {
+        let time = self.time;
+        let peer = self.peers.get_mut(*address)?;
+        peer.token = token;
+        peer.answers = match peer.welcome {
+            Welcome::Refuses => time.saturating_add(1),
+            Welcome::Never => u64::MAX,
+            Welcome::After(wait) => time.saturating_add(wait),
+        };
+        Some(*address)
+    }
+
+    fn progress(&mut self, socket: &usize) -> ConnectProgress {
+        match self.peers.get(*socket) {
+            Some(peer) if peer.welcome != Welcome::Refuses => ConnectProgress::Connected,
+            _ => ConnectProgress::Refused,
+        }
+    }
+
+    fn wait(&mut self, most: Duration, ready: &mut [Readiness]) -> bool {
+        self.waits = self.waits.saturating_add(1);
+        let most = u64::try_from(most.as_millis()).unwrap_or(u64::MAX);
+        let mut next_change = u64::MAX;
+        for peer in &self.peers {
+            next_change = next_change.min(peer.next_change(self.reported));
+        }
+        let time = self
+            .time
+            .max(next_change.min(self.time.saturating_add(most)));
+        let mut is_new = false;
+        for peer in &self.peers {
+            if let Some(noted) = ready.get_mut(peer.token) {
+                let now = peer.reported(*noted, self.reported, time);
+                is_new = is_new || now != *noted;
+                *noted = now;
+            }
+        }
+        self.time = time;
+        self.reported = time;
+        is_new
+    }
+
+    fn read(&mut self, socket: &usize, piece: &mut [u8]) -> Transfer {
+        self.moves = self.moves.saturating_add(1);
+        let time = self.time;
+        let Some(peer) = self.peers.get_mut(*socket) else {
+            return Transfer::Failure;
+        };
+        let count = peer.give(time, piece).min(piece.len());
+        if count > 0 || peer.ends <= time {
+            Transfer::Octets(count)
+        } else {
+            Transfer::NotYet
+        }
+    }
+
+    fn write(&mut self, socket: &usize, piece: &[u8]) -> Transfer {
+        self.moves = self.moves.saturating_add(1);
+        let Some(peer) = self.peers.get(*socket) else {
+            return Transfer::Failure;
+        };
+        if peer.takes > self.time {
+            return Transfer::NotYet;
+        }
+        // It takes at most two octets at a time.
+        let count = piece.len().min(2);
+        let Some(taken) = self.taken.get_mut(*socket) else {
+            return Transfer::Failure;
+        };
+        match taken.extend_from_slice(&piece[..count]) {
+            Ok(()) => Transfer::Octets(count),
+            Err(_) => Transfer::Failure,
+        }
+    }
+}

@@ -1,0 +1,449 @@
+#!/usr/bin/env python3
+"""Has the program ask hosts over TCP, and compares with what is due: what it prints and tells, how long it takes, and what each host is
+sent.
+
+    ZMETA=PROGRAM python3 tests/program/hosts.py
+
+The hosts are on 127.0.0.1, each at a port of its own, and give their replies whatever they are asked. The term of each search is the
+name of its host, so that a search is seen that goes to another. What a host is to be sent is the same in order and at once, octet by
+octet."""
+
+import asyncio
+import errno
+import os
+import socket
+import subprocess
+import sys
+import tempfile
+import time
+from collections import namedtuple
+from concurrent.futures import ThreadPoolExecutor
+from functools import partial
+
+from saved import MARC21, element, integer, object_identifier, record
+
+# the program has to end within so many seconds, whatever its hosts do
+END = 60
+# seconds between pieces of three octets, before a delayed reply, between octets that trickle, and between long parts
+PAUSE, DELAY, TRICKLE, REST = 0.002, 0.2, 0.3, 0.5
+# how many runs go side by side that do not wait, and that do
+BUSY, WAITING = 4, 32
+# how often a run with limits of time is tried again, since other work of the machine may take as long; and all of them together
+AGAIN, ALL_AGAIN = 3, 12
+MANY = 100
+IN_ORDER, AT_ONCE = False, True
+BOTH = (IN_ORDER, AT_ONCE)
+
+# requests: Init, a search of database d by one term as operation 1, a Present of one record of it, and Close
+
+INIT = bytes.fromhex("b421 820400000000 830205e0 840301c006 8503100000 8603100000 9f6f057a6d657461")
+CLOSE = bytes.fromhex("bf30 059f81530100")
+
+
+def search(term):
+    operand = element(b"\xbf\x66", element(b"\xbf\x2c"), element(b"\x9f\x2d", term.encode()))
+    query = element(b"\xa1", object_identifier("1.2.840.10003.3.1"), element(b"\xa0", operand))
+    front = bytes.fromhex("820400000001 8d0100 8e0101 8f0100 9001ff 910131")
+    return element(b"\xb6", front, element(b"\xb2", element(b"\x9f\x69", b"d")), element(b"\xb5", query))
+
+
+def operation(position):
+    return element(b"\x82", (position + 1).to_bytes(4, "big"))
+
+
+def present(position):
+    return element(b"\xb8", operation(position), bytes.fromhex("9f1f0131"), integer(b"\x9e", position), bytes.fromhex("9d0101"))
+
+
+# replies: Init is accepted, with concurrent operations and named result sets, or refused; a count; and one record
+
+ACCEPTED = bytes.fromhex("b51c 820400000000 830205e0 840301c006 8503100000 8603100000 8c01ff")
+REFUSED = ACCEPTED[:-1] + b"\0"
+
+
+def counted(count):
+    return element(b"\xb7", bytes.fromhex("820400000001"), integer(b"\x97", count), bytes.fromhex("980100 990101 9601ff"))
+
+
+def shown(position, octets):
+    front = [operation(position), bytes.fromhex("980101"), integer(b"\x99", position + 1), bytes.fromhex("9b0100")]
+    return element(b"\xb9", *front, element(b"\xbc", record(MARC21, octets.encode())))
+
+
+def size_of_first(octets):
+    """The size of the first request, or 0 if it is not all there. None has more than 127 octets behind its length."""
+    at = 2 if octets[:1] == b"\xbf" else 1
+    size = at + 1 + sum(octets[at : at + 1])
+    return size if at < len(octets) and size <= len(octets) else 0
+
+
+# how a host gives its replies
+
+
+async def all_together(talk):
+    talk.stream.write(b"".join(talk.host.replies))
+
+
+async def one_by_one(talk, pause=0):
+    """Gives a reply for each request."""
+    for count, reply in enumerate(talk.host.replies, 1):
+        await talk.requests(count)
+        await asyncio.sleep(pause)
+        talk.stream.write(reply)
+
+
+async def in_pieces(talk, size, pause):
+    octets = b"".join(talk.host.replies)
+    for at in range(0, len(octets), size):
+        talk.stream.write(octets[at : at + size])
+        await asyncio.sleep(pause)
+
+
+async def broken_off(talk):
+    await all_together(talk)
+    talk.stream.write_eof()
+
+
+class Talk(asyncio.Protocol):
+    """A connection to a host: the octets that came, and the times at which requests were all there."""
+
+    def __init__(self, host):
+        self.host, self.came, self.times, self.is_over = host, b"", [], False
+        self.seen, self.news = 0, asyncio.Event()
+
+    def connection_made(self, transport):
+        self.stream = transport
+        self.host.talks.append(self)
+        self.giving = asyncio.ensure_future(self.host.give(self))
+
+    def data_received(self, data):
+        self.came += data
+        while size := size_of_first(self.came[self.seen :]):
+            self.seen += size
+            self.times.append(time.monotonic())
+        self.news.set()
+
+    def connection_lost(self, exc):
+        self.giving.cancel()
+        self.is_over = True
+
+    async def requests(self, count):
+        """Waits for so many requests."""
+        while len(self.times) < count:
+            self.news.clear()
+            await self.news.wait()
+
+
+# where a host is
+
+
+def address_of(door):
+    return "%s:%d" % door.getsockname()
+
+
+async def listening(host):
+    server = await asyncio.get_running_loop().create_server(lambda: Talk(host), "127.0.0.1", 0)
+    host.held.append(server)
+    return address_of(server.sockets[0])
+
+
+async def unheard(host):
+    """Nobody listens at the port, which is taken."""
+    host.held.append(socket.socket())
+    host.held[0].bind(("127.0.0.1", 0))
+    return address_of(host.held[0])
+
+
+async def full(host):
+    """As many connections wait as may, and the system drops what else comes."""
+    address = await unheard(host)
+    host.held[0].listen(0)
+    place = host.held[0].getsockname()
+    while True:
+        caller = socket.socket()
+        host.held.append(caller)
+        caller.setblocking(False)
+        caller.connect_ex(place)
+        await asyncio.sleep(0.05)
+        if caller.connect_ex(place) == errno.EALREADY:
+            return address
+
+
+class Host:
+    """A host, and what is due: how many requests it is sent, where None are all, and what becomes of its question. That is `answered`,
+    `refused`, `closed`, or the reason that the program tells. With no request it is not connected to either."""
+
+    def __init__(self, name, records, requests, outcome, give=all_together, replies=None, place=listening):
+        self.name, self.records, self.requests, self.outcome, self.give, self.place = name, records, requests, outcome, give, place
+        whole = [ACCEPTED, counted(len(records)), *(shown(*it) for it in enumerate(records, 1)), CLOSE]
+        self.replies = whole if replies is None else replies
+        self.talks, self.held, self.address = [], [], None
+
+    async def open(self):
+        self.address = self.place if isinstance(self.place, str) else await self.place(self)
+
+    def close(self):
+        for it in [talk.stream for talk in self.talks] + self.held:
+            it.close()
+
+    def requests_due(self):
+        """What each connection is due to bring."""
+        every = [INIT, search(self.name), *(present(it) for it, _ in enumerate(self.records, 1)), CLOSE]
+        return [] if self.requests == 0 else [b"".join(every[: self.requests])]
+
+
+# Kinds of hosts: what is due, how they give replies, which, and where they are.
+
+KINDS = {
+    "whole": (None, "answered"),
+    "one-by-one": (None, "answered", one_by_one),
+    "slow": (None, "answered", partial(one_by_one, pause=DELAY)),
+    "pieces": (None, "answered", partial(in_pieces, size=3, pause=PAUSE)),
+    "five-parts": (None, "answered", partial(in_pieces, size=50, pause=REST)),
+    "great": (None, "answered"),
+    "page": (None, "answered", one_by_one),
+    # as the first, if the time for all is over before the host is talked with
+    "late": (1, "Read"),
+    "trickling": (1, "Read", partial(in_pieces, size=1, pause=TRICKLE)),
+    "silent": (1, "Read", all_together, []),
+    "stalling": (2, "Read", all_together, [ACCEPTED]),
+    "ending": (2, "Ended", broken_off, [ACCEPTED]),
+    "closing": (2, "closed", all_together, [ACCEPTED, CLOSE]),
+    "refusing": (1, "refused", all_together, [REFUSED]),
+    "nobody": (0, "Connect", None, [], unheard),
+    "full": (0, "Connect", None, [], full),
+    # addresses that stand for none; no name is looked up of which a server would have to be asked
+    "no-port": (0, "Connect", None, [], "nowhere"),
+    "great-port": (0, "Connect", None, [], "127.0.0.1:65536"),
+    "no-name": (0, "Connect", None, [], "a..b:210"),
+    "no-address": (0, "Connect", None, [], ""),
+}
+# Octets of longer records: many, and as many as make a reply of 4,096 octets, which the program reads at a time.
+SIZES = {"great": 40_000, "page": 4_096 - len(shown(1, "x" * 4_000)) + 4_000}
+
+
+def hosts_of(kinds):
+    """Hosts of these kinds, with three records each, and with a name of its own, which has a space."""
+    names = [(kind, f"{kind} {number}") for number, kind in enumerate(kinds.split())]
+    return [Host(name, [f"{name}.{it}".ljust(SIZES.get(kind, 0), "x") for it in (1, 2, 3)], *KINDS[kind]) for kind, name in names]
+
+
+def four_hosts(give=all_together):
+    refuses = Host("refuses", ["r"], 1, "refused", give, [REFUSED])
+    one, other = (Host(name, [octets], None, "answered", give) for name, octets in (("one", "r1"), ("other", "r2")))
+    return [Host("nobody", ["r"], *KINDS["nobody"]), other, refuses, one]
+
+
+# what is due
+
+
+def world_of(hosts):
+    """A world file, with the hosts in another order than their questions."""
+    lines = [f'host "{it.name}" "{it.address}"\n' for it in reversed(hosts)]
+    return "step 1\n" + "".join(lines + [f'ask "{it.name}" d - {len(it.records)} "\\"{it.name}\\""\n' for it in hosts])
+
+
+def chosen(hosts, options):
+    only = [name for option, name in zip(options, options[1:]) if option == "--only"]
+    return [it for it in hosts if not only or it.name in only]
+
+
+def answer_due(hosts):
+    """The status, and what is printed and told, if these are asked."""
+    answered = [it for it in hosts if it.outcome == "answered"]
+    sets = {it: {"answered": f"1 count {len(it.records)}", "refused": "0 failed"}.get(it.outcome) for it in hosts}
+    lines = [f'target "{it.name}" set {text}\n' for it, text in sets.items() if text]
+    rows = sorted((position, hosts.index(it), octets) for it in answered for position, octets in enumerate(it.records, 1))
+    lines += [f'{position} "{hosts[at].name}" 1 rec {MARC21} - "{octets}"\n' for position, at, octets in rows]
+    told = [f'zmeta: target "{it.name}": {it.outcome}\n' for it in hosts if it.outcome in ("Connect", "Read", "Ended")]
+    return int(len(answered) < len(hosts)), "".join(lines), "".join(told)
+
+
+# Options, and what is due of the four hosts: it is written out, and does not come from `answer_due`.
+
+OTHER = 'target "other" set 1 count 1\n', '1 "other" 1 rec 1.2.840.10003.5.10 - "r2"\n'
+ONE = 'target "one" set 1 count 1\n', '1 "one" 1 rec 1.2.840.10003.5.10 - "r1"\n'
+REFUSES = 'target "refuses" set 0 failed\n'
+ROWS = (
+    ((), (1, OTHER[0] + REFUSES + ONE[0] + OTHER[1] + ONE[1], 'zmeta: target "nobody": Connect\n')),
+    (("--only", "one", "--only", "other"), (0, OTHER[0] + ONE[0] + OTHER[1] + ONE[1], "")),
+    (("--only", "one"), (0, ONE[0] + ONE[1], "")),
+    (("--only", "refuses"), (1, REFUSES, "")),
+)
+
+# runs, and what else has to hold of some
+
+Run = namedtuple("Run", "hosts at_once answer begun taken")
+
+
+def times_of(run):
+    """When each host that answers was sent Init, the search, and Close."""
+    return [(*it.talks[0].times[:2], it.talks[0].times[-1]) for it in run.hosts if it.outcome == "answered"]
+
+
+def is_prompt(run):
+    """no host delays another: those that answer are sent all from Init to Close before half of the patience, three seconds, is over"""
+    return all(close < run.begun + 1.5 for _, _, close in times_of(run))
+
+
+def is_ordered(run):
+    """all are sent Init before the first search; in order, one is sent Close before the next search, at once, after all searches"""
+    inits, searches, closes = zip(*times_of(run))
+    befores = [(max(searches), min(closes))] if run.at_once else zip(closes, searches[1:])
+    return max(inits) < min(searches) and all(one < other for one, other in befores)
+
+
+# kinds of hosts in the order of their questions, options, ways to ask, the least and the longest time, and what else has to hold
+
+Case = namedtuple("Case", "kinds options ways least most holds", defaults=((), BOTH, 0, END, None))
+
+EVERY = "no-port full whole nobody silent one-by-one ending great-port refusing pieces stalling closing slow no-address no-name"
+PATIENCE, WITHIN = ("--patience", "1"), ("--within", "1")
+THREE, TWO = ("--patience", "3"), ("--patience", "1", "--within", "2")
+QUICK = [Case("slow slow slow", holds=is_ordered), Case("great page great page"), Case("closing one-by-one"), Case("")]
+LONG = [
+    Case("whole silent one-by-one", PATIENCE, BOTH, 1, 2),
+    Case("silent whole pieces", PATIENCE, BOTH, 1, 2),
+    Case("stalling one-by-one", PATIENCE, BOTH, 1, 2),
+    Case("full whole full full one-by-one", PATIENCE, BOTH, 1, 2),
+    Case("full whole one-by-one", THREE, [AT_ONCE], 3, 4, is_prompt),
+    Case("silent pieces stalling one-by-one whole", THREE, [AT_ONCE], 3, 4, is_prompt),
+    Case("full whole", WITHIN, [AT_ONCE], 1, 2),
+    Case("full late", WITHIN, [IN_ORDER], 1, 2),
+    Case("trickling whole one-by-one", TWO, [AT_ONCE], 2, 3),
+    Case("whole one-by-one trickling", TWO, BOTH, 2, 3),
+    Case("whole trickling late", TWO, [IN_ORDER], 2, 3),
+    # a host that is never silent for a second is not given up
+    Case("five-parts whole", PATIENCE, BOTH, 4 * REST, 4 * REST + 1),
+    # in order, the silence of each of two hosts begins when it is talked with
+    Case(EVERY, PATIENCE, [AT_ONCE], 1, 2.5),
+    Case(EVERY, PATIENCE, [IN_ORDER], 3, 6),
+]
+
+
+class Trials:
+    """The program, a folder for world files, threads for runs, and a gate for runs that are alone of their kind."""
+
+    def __init__(self, zmeta, room, pool):
+        self.zmeta, self.room, self.pool, self.count = zmeta, room, pool, 0
+        self.alone, self.again = asyncio.Semaphore(1), 0
+
+    def file_of(self, world):
+        self.count += 1
+        path = os.path.join(self.room, f"asked-{self.count}.world")
+        with open(path, "w", encoding="utf-8") as file:
+            file.write(world)
+        return path
+
+    def program(self, words, files):
+        """What `ask` answers, prints and tells, when it began, and how long it took. It may open so many files, if that is a number."""
+        limit = ["sh", "-c", 'ulimit -n "$0" && exec "$@"', str(files)] if files else []
+        begun = time.monotonic()
+        ran = subprocess.run([*limit, self.zmeta, "ask", *words], stdin=subprocess.DEVNULL, capture_output=True, timeout=END)
+        taken = time.monotonic() - begun
+        return (ran.returncode, ran.stdout.decode(), ran.stderr.decode()), begun, taken
+
+    async def run(self, hosts, options, at_once, files=None):
+        """Has hosts asked, and waits until each has seen the end of its connections."""
+        try:
+            for it in hosts:
+                await it.open()
+            words = [self.file_of(world_of(hosts)), *options, *(["--at-once"] if at_once else [])]
+            found = await asyncio.get_running_loop().run_in_executor(self.pool, self.program, words, files)
+            for _ in range(500):
+                await asyncio.sleep(0.01)
+                if all(talk.is_over for it in hosts for talk in it.talks):
+                    break
+            return Run(hosts, at_once, *found)
+        finally:
+            for it in hosts:
+                it.close()
+
+    async def faults_of_row(self, kind, row, at_once):
+        hosts, (options, due) = four_hosts(*KINDS[kind][2:]), row
+        return faults_of_answer(await self.run(hosts, options, at_once), chosen(hosts, options), due)
+
+    async def faults_of_case(self, case, at_once):
+        """What is not as it should be of a case. If it has limits of time, it is tried again, with no other beside it."""
+        found, left = await self.looked_at(case, at_once), AGAIN if case.least or case.holds else 0
+        while found and left and self.again < ALL_AGAIN:
+            left, self.again = left - 1, self.again + 1
+            async with self.alone:
+                found = await self.looked_at(case, at_once)
+        return found
+
+    async def looked_at(self, case, at_once):
+        """What is not as it should be of a run."""
+        run = await self.run(hosts_of(case.kinds), case.options, at_once)
+        found = faults_of_answer(run, run.hosts)
+        if not case.least <= run.taken <= case.most:
+            found.append(f"{run.taken:.2f} s, and {case.least} to {case.most} s are due")
+        if case.holds and not found and not case.holds(run):
+            found.append(f"{case.holds.__doc__}: begun at {run.begun}, {times_of(run)}")
+        return found
+
+    async def faults_of_many(self, files, at_once):
+        """What is not as it should be of many hosts, and so many open files. If there are too few, the hosts for whom no descriptor was
+        found have failed for `Connect`. The program has few other descriptors: three streams, a poll, and perhaps the world file."""
+        hosts = hosts_of("whole " * MANY)
+        run = await self.run(hosts, (), at_once, files)
+        for it in hosts:
+            if files < MANY and f'"{it.name}": Connect\n' in run.answer[2]:
+                it.requests, it.outcome = KINDS["nobody"][:2]
+        reached = sum(it.outcome == "answered" for it in hosts)
+        least, most = min(MANY, files - 10), min(MANY, files - 3)
+        return faults_of_answer(run, hosts) + ([] if least <= reached <= most else [f"{reached} of {MANY} hosts are reached"])
+
+
+def faults_of_answer(run, asked, due=None):
+    """How what the program answers, and what hosts are sent, differs from what is due, if these are asked."""
+    due = due or answer_due(asked)
+    found = [] if run.answer == due else [f"{run.answer}\n    {due} is due"]
+    for it in run.hosts:
+        sent, wanted = [talk.came.hex() for talk in it.talks], [octets.hex() for octets in it.requests_due() if it in asked]
+        if sent != wanted:
+            found.append(f"{it.name} is sent {sent}\n    {wanted} is due")
+    return found
+
+
+async def titled(gate, title, at_once, faults_of):
+    """The faults of a run that waits at a gate, behind its title."""
+    title = f"hosts: {title}, {'at once' if at_once else 'in order'}"
+    async with gate:
+        try:
+            return [f"{title}: {it}" for it in await faults_of]
+        except subprocess.TimeoutExpired:
+            return [f"{title}: does not end in {END} s"]
+
+
+async def all_faults(zmeta, room, pool):
+    """What is not as it should be, how many runs there were, and how many again. Runs that wait are first, since others would take their
+    processor."""
+    trials, waiting, busy = Trials(zmeta, room, pool), asyncio.Semaphore(WAITING), asyncio.Semaphore(BUSY)
+    groups = []
+    for gate, cases in ((waiting, LONG), (busy, QUICK)):
+        groups.append([titled(gate, f"{it.kinds} {it.options}", way, trials.faults_of_case(it, way)) for it in cases for way in it.ways])
+    for way in BOTH:
+        groups[1] += [titled(trials.alone, f"{files} files", way, trials.faults_of_many(files, way)) for files in (256, 40)]
+        for kind in ("whole", "one-by-one", "slow", "pieces"):
+            groups[1] += [titled(busy, f"four {kind} {it[0]}", way, trials.faults_of_row(kind, it, way)) for it in ROWS]
+    found = [await asyncio.gather(*runs) for runs in groups]
+    return [fault for group in found for some in group for fault in some], sum(len(runs) for runs in groups), trials.again
+
+
+def faults(zmeta, room):
+    """What is not as it should be, how many runs there were, and how many of them were tried again."""
+    with ThreadPoolExecutor(BUSY + WAITING + 1) as pool:
+        return asyncio.run(all_faults(zmeta, room, pool))
+
+
+def main():
+    begun = time.monotonic()
+    with tempfile.TemporaryDirectory() as room:
+        found, count, again = faults(os.path.abspath(os.environ["ZMETA"]), room)
+    print(f"{count} runs, and {again} again, in {time.monotonic() - begun:.1f} s", *found, sep="\n")
+    return 1 if found else 0
+
+
+if __name__ == "__main__":
+    sys.exit(main())
