@@ -30,6 +30,8 @@ PAUSE, DELAY, TRICKLE, REST = 0.002, 0.2, 0.3, 0.5
 BUSY, WAITING = 4, 32
 # how often a run with limits of time is tried again, since other work of the machine may take as long; and all of them together
 AGAIN, ALL_AGAIN = 3, 12
+# a run may be late by as many times what one without hosts takes, here and now: more on a busy machine, or of a slow build
+STARTS = 10
 MANY = 100
 IN_ORDER, AT_ONCE = False, True
 BOTH = (IN_ORDER, AT_ONCE)
@@ -376,7 +378,8 @@ class Trials:
         """What is not as it should be of a run."""
         run = await self.run(hosts_of(case.kinds), case.options, at_once)
         found = faults_of_answer(run, run.hosts)
-        if not case.least <= run.taken <= case.most:
+        late = run.taken - case.most
+        if run.taken < case.least or late > 0 and late > STARTS * (await self.run([], (), IN_ORDER)).taken:
             found.append(f"{run.taken:.2f} s, and {case.least} to {case.most} s are due")
         if case.holds and not found and not case.holds(run):
             found.append(f"{case.holds.__doc__}: begun at {run.begun}, {times_of(run)}")
