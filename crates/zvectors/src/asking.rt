@@ -102,7 +102,7 @@ const CASES: [Case; 7] = [
             Peer {
                 name: "b",
                 octets: REPLIES,
-                first: 10,
+                first: 600,
                 ..PEER
             },
             Peer {
@@ -116,11 +116,11 @@ const CASES: [Case; 7] = [
         total: None,
         in_order: End {
             states: [DONE, DONE, DONE],
-            time: 501,
+            time: 600,
         },
         at_once: End {
             states: [DONE, DONE, DONE],
-            time: 501,
+            time: 600,
         },
     },
     // One answers an attempt to connect too late; the name of another is not known.
