@@ -2,8 +2,9 @@
 """Refuses each allocation of the program's runs, and of tests, in turn, and looks at what they answer then: it alone, with the next, and
 with all that follow.
 
-A run has to end with status 4, `out of memory` and nothing printed, or as it does with ample memory. A test has to tell that it wants memory while it
-makes itself ready, and from then on to pass: what it tests asks again where memory was refused, and has to answer the same.
+A run has to end with status 4, `out of memory` and nothing printed, or as it does with ample memory. One that saves a file may have printed
+all, and leaves the older file as it is. A test has to tell that it wants memory while it makes itself ready, and from then on to pass: what
+it tests asks again where memory was refused, and has to answer the same.
 
     python3 tests/out-of-memory/check.py       (once the program and the vectors are built; ZMETA may name another build)
 """
@@ -20,22 +21,25 @@ ROOT = os.path.dirname(os.path.dirname(os.path.dirname(os.path.abspath(__file__)
 ZMETA = os.path.abspath(os.environ.get("ZMETA") or os.path.join(ROOT, "crates/zmeta/out/zmeta"))
 VECTORS = os.path.join(ROOT, "crates/{0}/out/{0}_tests")
 
+# stands for the path of a file that a run saves, and what is there before
+SAVED, OLDER = "SAVED", b"an older file"
 RUNS = [
     (["show"], "examples/present-response.hex"),
     (["pqf", "@attr 1=4 dune"], None),
     (["pqf", "@attr 1=4 @and dune @attr 1=1003 herbert"], None),
-    (["run", "examples/libraries.world"], None),
+    (["run", "--save", SAVED, "examples/libraries.world"], None),
     # answers that are shorter than what was asked for, and the same with moves
     (["run", "tests/out-of-memory/short.world"], None),
     (["run", "tests/out-of-memory/moves.world"], None),
-    (["loop", "examples/libraries.world"], None),
+    (["loop", "--save", SAVED, "examples/libraries.world"], None),
+    (["ask", "--save", SAVED, "tests/program/files/hosts.world"], None),
     (["join", "examples/monday.saved", "examples/tuesday.saved"], None),
     # one count, and two that differ
     (["join", "tests/out-of-memory/four.saved", "tests/out-of-memory/four.saved"], None),
     (["join", "tests/out-of-memory/four.saved", "tests/out-of-memory/five.saved"], None),
     (["records", "examples/monday.saved", "examples/tuesday.saved"], None),
     # the view for readers: records of MARC 21 and UNIMARC with letters of MARC-8 and UTF-8, SUTRS, a conflict, two counts, refusals
-    (["run", "--titles", "tests/out-of-memory/titles.world"], None),
+    (["run", "--titles", "--save", SAVED, "tests/out-of-memory/titles.world"], None),
     (["join", "--titles", "tests/out-of-memory/titles-one.saved", "tests/out-of-memory/titles-two.saved"], None),
     # lines of JSON, one search for all, and the records of one catalogue
     (["join", "--json", "tests/out-of-memory/titles-one.saved", "tests/out-of-memory/titles-two.saved"], None),
@@ -61,22 +65,42 @@ ALL = (1 << 64) - 1
 WANTS = re.compile(r"error: (Unread|AllocError|AllocFailed|Memory|OutOfMemory|PqfError \{ at: \d+, kind: Memory \})")
 
 
+def content(path):
+    with open(path, "rb") as file:
+        return file.read()
+
+
 def run(room, words, file, first, last):
-    """Runs a program with allocations refused (none where the last is 0): its status, both outputs, and its allocations."""
-    count = os.path.join(room, f"count-{threading.get_ident()}")
+    """Runs a program with allocations refused (none where the last is 0): its status, both outputs, and the saved file, if it saves one;
+    and its allocations."""
+    count, saved = (os.path.join(room, f"{name}-{threading.get_ident()}") for name in ("count", "saved"))
+    saves = SAVED in words
+    if saves:
+        with open(saved, "wb") as older:
+            older.write(OLDER)
+    words = [saved if it == SAVED else it for it in words]
     surroundings = dict(os.environ, LD_PRELOAD=os.path.join(room, "refuse.so"), REFUSE=str(first), LAST=str(last), COUNT=count)
     with open(os.path.join(ROOT, file) if file else os.devnull, "rb") as given:
         ran = subprocess.run(words, stdin=given, capture_output=True, env=surroundings, cwd=ROOT, timeout=60, close_fds=False)
-    with open(count) as it:
-        return (ran.returncode, ran.stdout, ran.stderr), int(it.read())
+    return (ran.returncode, ran.stdout, ran.stderr, content(saved) if saves else None), int(content(count))
+
+
+def is_refused(answer, ample):
+    """Whether memory was refused, and is said to be."""
+    status, printed, told, saved = answer
+    if saved is not None and (saved != OLDER or printed not in (b"", ample[1])):
+        return False
+    return status == 4 and (saved is not None or not printed) and told.endswith(b"out of memory\n")
 
 
 def look_at_run(room, words, file):
     ample, count = run(room, [ZMETA, *words], file, 1, 0)
+    if ample[3] == OLDER:
+        return f"zmeta {' '.join(words)}: saves nothing with ample memory: {ample}"
     refused = [(number, last) for number in range(1, count + 1) for last in (number, number + 1, ALL)]
     answers = POOL.map(lambda it: run(room, [ZMETA, *words], file, *it), refused)
     for (number, last), (answer, _) in zip(refused, answers):
-        if answer != ample and (answer[:2] != (4, b"") or not answer[2].endswith(b"out of memory\n")):
+        if answer != ample and not is_refused(answer, ample):
             return f"zmeta {' '.join(words)}: allocations {number} to {last} of {count} refused: {answer}"
     print(f"zmeta {' '.join(words)}: each of {count} allocations refused, with the next, and with all that follow")
     return None

@@ -1,14 +1,14 @@
 #!/usr/bin/env python3
-"""Runs the program on rows, whole views, worlds, mutilated records, hosts and a terminal, and compares what it prints with what is
-due; and the completions of command lines with rows and with its help.
+"""Runs the program on rows, whole views, worlds, mutilated records, hosts, a terminal, and streams that fail or are slow, talks to its
+server, and compares what it prints with what is due; and the completions of command lines with rows and with its help.
 
     python3 tests/program/check.py       (once the program is built; ZMETA may name another build)
 
 A row has the words of a command line, with `|` between them, and the input behind `<`. Behind `=>` stand the status, standard output
 and standard error, with `>` between them. `%` and two digits stand for one octet, `=FILE` for the octets of that file, `-` for none.
 One more `>` is followed by a file that the run makes, and one with the same octets. A row of words has the status behind `=>`, and the
-beginning of the text: on standard output if the status is 0, else on standard error. The files are those of tests/program/files, and
-`folder` is a folder."""
+beginning of the text: on standard output if the status is 0, else on standard error. A row of `full` begins with the stream that fails.
+The files are those of tests/program/files, and `folder` is a folder."""
 
 import os
 import re
@@ -23,8 +23,12 @@ import hosts
 import json_lines
 import marc_made
 import marc_views
+import replies
+import served
+import streams
 import terminal
 import views
+import wide
 import worlds
 
 HERE = os.path.dirname(os.path.abspath(__file__))
@@ -52,8 +56,8 @@ def meant(text):
 
 
 def run(room, words, given=b""):
-    """The status of a command in a folder, what it prints, and what it tells."""
-    ran = subprocess.run([ZMETA, *words], input=given, capture_output=True, cwd=room, timeout=60)
+    """The status of a command in a folder, what it prints, and what it tells. Its help has the name by which it is called."""
+    ran = subprocess.run(["zmeta", *words], executable=ZMETA, input=given, capture_output=True, cwd=room, timeout=60)
     return ran.returncode, ran.stdout, ran.stderr
 
 
@@ -65,9 +69,11 @@ def rows_of(table):
 def fault_of_row(room, row):
     """What is not as the row says, if anything."""
     line, due = row.split(" => ", 1)
-    words, _, given = line.partition(" < ")
+    line, _, given = line.partition(" < ")
     status, printed, told, *made = due.split(" > ")
-    found = run(room, words.split("|")[1:], meant(given) if given else b"")
+    front, *words = line.split("|")
+    given = meant(given) if given else b""
+    found = run(room, words, given) if front == "zmeta" else streams.failing(ZMETA, room, front, words, given)
     if found != (int(status), meant(printed), meant(told)):
         return f"{row}\n    {found}"
     for it in made:
@@ -138,7 +144,7 @@ def main():
     with tempfile.TemporaryDirectory() as room, ThreadPoolExecutor(len(os.sched_getaffinity(0))) as pool:
         shutil.copytree(FILES, room, dirs_exist_ok=True)
         os.mkdir(os.path.join(room, "folder"))
-        for table in ("show", "pqf", "join", "records", "worlds", "search", "json", "words"):
+        for table in ("show", "pqf", "join", "records", "worlds", "search", "json", "help", "full", "words"):
             look = fault_of_words if table == "words" else fault_of_row
             rows = rows_of(table)
             faults += [it for it in pool.map(lambda row: look(room, row), rows) if it]
@@ -151,12 +157,23 @@ def main():
         found, count, again = hosts.faults(ZMETA, room)
         faults += found
         print(f"program: {count} runs that ask hosts over TCP, and {again} again")
+        found, count = replies.faults(ZMETA, room)
+        faults += found
+        print(f"program: {count} hosts, whose replies are accepted or refused")
+        found, count = served.faults(ZMETA, room)
+        faults += found
+        print(f"program: {count} sessions with its server")
+        faults += streams.faults(ZMETA, room)
+        print("program: long texts over slow streams")
         faults += [it for it in (fault_of_view(room, *it) for it in views.files()) if it]
         print(f"program: {len(views.ALL)} whole views")
         faults += faults_of_large(room)
         made = [*worlds.made(octets_of)]
         faults += [it for it in pool.map(lambda it: fault_of_world(room, *it), [(number, *it) for number, it in enumerate(made)]) if it]
         print(f"program: {len(made)} worlds")
+        made = [*wide.made()]
+        faults += [it for it in pool.map(lambda it: wide.fault_of(ZMETA, room, *it), enumerate(made)) if it]
+        print(f"program: {len(made)} wide worlds")
         faults += marc_views.faults(ZMETA, room, [*marc_made.all_of_them(MUTILATED, SEED)], SEED)
         print(f"program: {MUTILATED} mutilated records")
         files = json_lines.files(JSON_WORLDS, JSON_FACTS, SEED)

@@ -36,25 +36,29 @@ MANY = 100
 IN_ORDER, AT_ONCE = False, True
 BOTH = (IN_ORDER, AT_ONCE)
 
-# requests: Init, a search of database d by one term as operation 1, a Present of one record of it, and Close
+# requests: Init, a search of database d by one term as operation 1, a Present of ranges of its records, and Close
 
 INIT = bytes.fromhex("b421 820400000000 830205e0 840301c006 8503100000 8603100000 9f6f057a6d657461")
 CLOSE = bytes.fromhex("bf30 059f81530100")
 
 
-def search(term):
+def search(term, name=b"1"):
     operand = element(b"\xbf\x66", element(b"\xbf\x2c"), element(b"\x9f\x2d", term.encode()))
     query = element(b"\xa1", object_identifier("1.2.840.10003.3.1"), element(b"\xa0", operand))
-    front = bytes.fromhex("820400000001 8d0100 8e0101 8f0100 9001ff 910131")
-    return element(b"\xb6", front, element(b"\xb2", element(b"\x9f\x69", b"d")), element(b"\xb5", query))
+    front = bytes.fromhex("820400000001 8d0100 8e0101 8f0100 9001ff")
+    database = element(b"\xb2", element(b"\x9f\x69", b"d"))
+    return element(b"\xb6", front, element(b"\x91", name), database, element(b"\xb5", query))
 
 
 def operation(position):
     return element(b"\x82", (position + 1).to_bytes(4, "big"))
 
 
-def present(position):
-    return element(b"\xb8", operation(position), bytes.fromhex("9f1f0131"), integer(b"\x9e", position), bytes.fromhex("9d0101"))
+def present(position, number=1, more=(), name=b"1"):
+    """A Present of so many records from a position on, and of more ranges."""
+    others = [element(b"\x30", integer(b"\x81", start), integer(b"\x82", many)) for start, many in more]
+    front = operation(position), element(b"\x9f\x1f", name), integer(b"\x9e", position), integer(b"\x9d", number)
+    return element(b"\xb8", *front, *([element(b"\xbf\x81\x54", *others)] if others else []))
 
 
 # replies: Init is accepted, with concurrent operations and named result sets, or refused; a count; and one record
@@ -73,10 +77,14 @@ def shown(position, octets):
 
 
 def size_of_first(octets):
-    """The size of the first request, or 0 if it is not all there. None has more than 127 octets behind its length."""
-    at = 2 if octets[:1] == b"\xbf" else 1
-    size = at + 1 + sum(octets[at : at + 1])
-    return size if at < len(octets) and size <= len(octets) else 0
+    """The size of the first request, or 0 if it is not all there."""
+    at = 3 if octets[:1] == b"\xbf" else 2
+    if at > len(octets):
+        return 0
+    short = octets[at - 1]
+    behind = at + max(0, short - 128)
+    size = behind + (short if short < 128 else int.from_bytes(octets[at:behind], "big"))
+    return size if max(behind, size) <= len(octets) else 0
 
 
 # how a host gives its replies
@@ -179,6 +187,7 @@ class Host:
         self.name, self.records, self.requests, self.outcome, self.give, self.place = name, records, requests, outcome, give, place
         whole = [ACCEPTED, counted(len(records)), *(shown(*it) for it in enumerate(records, 1)), CLOSE]
         self.replies = whole if replies is None else replies
+        self.want, self.term = len(records), name
         self.talks, self.held, self.address = [], [], None
 
     async def open(self):
@@ -190,7 +199,7 @@ class Host:
 
     def requests_due(self):
         """What each connection is due to bring."""
-        every = [INIT, search(self.name), *(present(it) for it, _ in enumerate(self.records, 1)), CLOSE]
+        every = [INIT, search(self.term), *(present(it) for it, _ in enumerate(self.records, 1)), CLOSE]
         return [] if self.requests == 0 else [b"".join(every[: self.requests])]
 
 
@@ -242,7 +251,7 @@ def four_hosts(give=all_together):
 def world_of(hosts):
     """A world file, with the hosts in another order than their questions."""
     lines = [f'host "{it.name}" "{it.address}"\n' for it in reversed(hosts)]
-    return "step 1\n" + "".join(lines + [f'ask "{it.name}" d - {len(it.records)} "\\"{it.name}\\""\n' for it in hosts])
+    return "".join(lines + [f'ask "{it.name}" d - {it.want} "\\"{it.term}\\""\n' for it in hosts])
 
 
 def chosen(hosts, options):
@@ -337,21 +346,23 @@ class Trials:
             file.write(world)
         return path
 
-    def program(self, words, files):
-        """What `ask` answers, prints and tells, when it began, and how long it took. It may open so many files, if that is a number."""
+    def program(self, words, files, errors):
+        """What `ask` answers, prints and tells, when it began, and how long it took. It may open so many files, if that is a number. Its
+        standard error is `errors`."""
         limit = ["sh", "-c", 'ulimit -n "$0" && exec "$@"', str(files)] if files else []
+        words, given = [*limit, self.zmeta, "ask", *words], subprocess.DEVNULL
         begun = time.monotonic()
-        ran = subprocess.run([*limit, self.zmeta, "ask", *words], stdin=subprocess.DEVNULL, capture_output=True, timeout=END)
+        ran = subprocess.run(words, stdin=given, stdout=subprocess.PIPE, stderr=errors, cwd=self.room, timeout=END)
         taken = time.monotonic() - begun
-        return (ran.returncode, ran.stdout.decode(), ran.stderr.decode()), begun, taken
+        return (ran.returncode, ran.stdout.decode(), (ran.stderr or b"").decode()), begun, taken
 
-    async def run(self, hosts, options, at_once, files=None):
-        """Has hosts asked, and waits until each has seen the end of its connections."""
+    async def run(self, hosts, options, at_once, files=None, errors=subprocess.PIPE, front="step 1\n"):
+        """Has hosts asked, and waits until each has seen the end of its connections. `front` stands in front of the world file."""
         try:
             for it in hosts:
                 await it.open()
-            words = [self.file_of(world_of(hosts)), *options, *(["--at-once"] if at_once else [])]
-            found = await asyncio.get_running_loop().run_in_executor(self.pool, self.program, words, files)
+            words = [self.file_of(front + world_of(hosts)), *options, *(["--at-once"] if at_once else [])]
+            found = await asyncio.get_running_loop().run_in_executor(self.pool, self.program, words, files, errors)
             for _ in range(500):
                 await asyncio.sleep(0.01)
                 if all(talk.is_over for it in hosts for talk in it.talks):

@@ -42,13 +42,19 @@ def external(syntax, content):
     return element(b"\x28", object_identifier(syntax), content)
 
 
-def retrieved(syntax, content):
-    """A NamePlusRecord without a database's name: a retrieval record with this content."""
-    return element(b"\x30", element(b"\xa1", element(b"\xa1", external(syntax, content))))
+def name_plus_record(choice, database):
+    """A NamePlusRecord, with a database's name if there is one."""
+    name = [] if database is None else [element(b"\x80", database.encode())]
+    return element(b"\x30", *name, element(b"\xa1", choice))
 
 
-def record(syntax, octets):
-    return retrieved(syntax, element(b"\x81", octets))
+def retrieved(syntax, content, database=None):
+    """A retrieval record with this content."""
+    return name_plus_record(element(b"\xa1", external(syntax, content)), database)
+
+
+def record(syntax, octets, database=None):
+    return retrieved(syntax, element(b"\x81", octets), database)
 
 
 def diagnostic(syntax, condition, info=""):
@@ -56,9 +62,9 @@ def diagnostic(syntax, condition, info=""):
     return element(b"\x30", object_identifier(syntax), integer(b"\x02", condition), element(b"\x1a", info.encode()))
 
 
-def surrogate(syntax, condition, info=""):
+def surrogate(syntax, condition, info="", database=None):
     """A NamePlusRecord with a diagnostic in place of the record."""
-    return element(b"\x30", element(b"\xa1", element(b"\xa2", diagnostic(syntax, condition, info))))
+    return name_plus_record(element(b"\xa2", diagnostic(syntax, condition, info)), database)
 
 
 def named(names):

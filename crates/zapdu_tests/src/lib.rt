@@ -6,6 +6,8 @@
 mod apdus;
 pub mod boxes;
 #[cfg(test)]
+mod calls;
+#[cfg(test)]
 mod collected;
 #[cfg(test)]
 mod damaged;

@@ -44,7 +44,8 @@ fn take_row<'a>(
     found: &mut Vec<&'a Record>,
 ) -> Result<(), AllocError>
     ensures { OnOk result (referenced found.new.items
-        ≡ referenced found.old.items ++ taken (option_copied asked.entry) conflicts (row_records knowledge.now row.now)) }
+        ≡ referenced found.old.items ++ taken (option_copied asked.entry) conflicts
+        (row_records knowledge.now row.now)) }
 {
     match known_in(knowledge, row) {
         Known::Nothing => Ok(()),

@@ -14,12 +14,12 @@ use zmeta_commands::input::Input;
 use zmeta_commands::output::Output;
 
 fn main(rt: HostRuntime) -> ExitCode {
-    let words = arguments(&rt);
+    let arguments = arguments_of(&rt);
     let mut input = Input::new("-", rt.stdin());
     let mut output = Output::new("-", rt.stdout());
     let mut errors = Output::new("-", rt.stderr());
-    let given = match &words {
-        Ok(words) => Ok(words.as_slice()),
+    let given = match &arguments {
+        Ok(arguments) => Ok(arguments.as_slice()),
         Err(error) => Err(error.kind()),
     };
     let screen = screen_of(&rt);
@@ -44,10 +44,10 @@ fn screen_of(rt: &HostRuntime) -> Option<Stderr> {
     }
 }
 
-/// The words of the command line.
-fn arguments(rt: &HostRuntime) -> io::Result<Vec<String>> {
+/// The arguments of the command line.
+fn arguments_of(rt: &HostRuntime) -> io::Result<Vec<String>> {
     match env::args(rt)?.collect::<Vec<String>>(rt.alloc()) {
-        Ok(words) => Ok(words),
+        Ok(arguments) => Ok(arguments),
         Err(_) => Err(io::Error::from(ErrorKind::OutOfMemory)),
     }
 }

@@ -1,7 +1,7 @@
 -- The arguments of a command line, as `clap` found them.
-use Rattle.std.specs.Prelude.{◌≡◌, ◌⊎◌, ℕ, Bool, true, false, List, [], slice_get, Option, Some, None, IfSome, codes}
+use Rattle.std.specs.Prelude.{◌≡◌, ◌⊎◌, ℕ, ◌<◌, ◌^◌, Bool, true, false, List, [], slice_get, Option, Some, None, codes}
 use Rattle.std.specs.Option.{option_map}
-use Rattle.std.specs.Str.Parse.{digits_value, without_leading_plus}
+use Rattle.std.specs.Str.Parse.{IsNumeral, digits_value, without_leading_plus}
 use Rattle.clap.specs.Words.{first_value, one_text, matched_of, raw_values}
 use Rattle.clap.specs.declared.parser.matches.Found.{Found}
 use Rattle.zmeta_args.specs.declared.arguments.View.{View}
@@ -24,26 +24,38 @@ or_none (Some values) = values
 abbrev pub HasValues : Found → List ℕ → List (List ℕ) → Type 0
 HasValues found id values = or_none (option_map raw_values (matched_of found id)) ≡ values
 
--- the argument is this number in decimal digits
-abbrev pub HasNumber : Found → List ℕ → ℕ → Type 0
-HasNumber found id n =
-    (text : List ℕ) → one_text found id ≡ Some text → n ≡ digits_value 10 (without_leading_plus text)
+-- the number that the text writes in decimal digits
+abbrev pub number_of : List ℕ → ℕ
+number_of text = digits_value 10 (without_leading_plus text)
 
--- the option is this number of seconds in decimal digits, or it is left out
+-- the text is a number below 2 ^ 32 in decimal digits, behind a plus or no sign
+abbrev pub IsNumber : List ℕ → Type 0
+IsNumber text = IsNumeral 10 (without_leading_plus text) × (number_of text < 2 ^ 32)
+
+-- the number is that of the text, and there is none exactly if the text is no number
+abbrev pub IsNumberOf : List ℕ → Option ℕ → Type 0
+IsNumberOf text (Some n) = IsNumber text × (n ≡ number_of text)
+IsNumberOf text None = IsNumber text → ⊥
+
+-- the argument is given, and it is this number
+abbrev pub HasNumber : Found → List ℕ → ℕ → Type 0
+HasNumber found id n = (text : List ℕ) × (one_text found id ≡ Some text) × IsNumberOf text (Some n)
+
+-- the seconds of an option: the number given, or none if the option is left out or what is given is no number
 pub record HasSeconds (found : Found) (id : List ℕ) (seconds : Option ℕ) : Type 0 where
   pub left_out : one_text found id ≡ None → seconds ≡ None
-  pub given : (text : List ℕ) → one_text found id ≡ Some text
-      → IfSome seconds (λ n. n ≡ digits_value 10 (without_leading_plus text))
+  pub given : (text : List ℕ) → one_text found id ≡ Some text → IsNumberOf text seconds
 
 -- whether the option is given; it takes no value
 pub record HasFlag (found : Found) (id : List ℕ) (given : Bool) : Type 0 where
   pub holds : one_text found id ≡ Some (codes "true") → given ≡ true
   pub left_out : (one_text found id ≡ None) ⊎ (one_text found id ≡ Some (codes "false")) → given ≡ false
 
--- the option is given, or it is left out; it takes no value
+-- the option is given; it takes no value
 abbrev pub IsGiven : Found → List ℕ → Type 0
 IsGiven found id = one_text found id ≡ Some (codes "true")
 
+-- the option is left out; it takes no value
 abbrev pub IsLeftOut : Found → List ℕ → Type 0
 IsLeftOut found id = (one_text found id ≡ None) ⊎ (one_text found id ≡ Some (codes "false"))
 
@@ -63,7 +75,7 @@ pub record HasSearch (found : Found) (s : SearchOptions) : Type 0 where
   pub authors : HasValues found (codes "author") (texts_of s.authors.items)
   pub subjects : HasValues found (codes "subject") (texts_of s.subjects.items)
   pub isbns : HasValues found (codes "isbn") (texts_of s.isbns.items)
-  pub words : HasValues found (codes "any") (texts_of s.words.items)
+  pub any : HasValues found (codes "any") (texts_of s.any.items)
   pub records : now_of s.records ≡ first_value found (codes "records")
   pub elements : now_of s.elements ≡ first_value found (codes "elements")
   pub syntax : now_of s.syntax ≡ first_value found (codes "syntax")

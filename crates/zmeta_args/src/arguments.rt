@@ -39,7 +39,7 @@ pub struct SearchOptions<'a> {
     /// ISBNs (Use 7).
     pub isbns: Vec<&'a str>,
     /// Words from anywhere (Use 1016).
-    pub words: Vec<&'a str>,
+    pub any: Vec<&'a str>,
     /// The wanted records: a number, or ranges of positions as `1-3,10-12`.
     pub records: Option<&'a str>,
     /// The element set name.
@@ -81,7 +81,8 @@ pub enum Arguments<'a> {
     },
     /// Ask the hosts of a world file over TCP, at once or one after the other, and print the list. Only questions
     /// to these names are asked, or all if `only` is empty. Save the facts if `saved` is a path. `patience` is the
-    /// longest silence of a host, and `within` the longest time for everything, in seconds.
+    /// longest time for connecting to all hosts and the longest that one may be silent, `within` the longest time for
+    /// everything, in seconds.
     Ask {
         world: &'a str,
         saved: Option<&'a str>,
@@ -301,14 +302,14 @@ fn search_of<'a>(alloc: Global, found: &ArgMatches<'a>) -> Result<SearchOptions<
     let authors = values_of(alloc, found, "author")?;
     let subjects = values_of(alloc, found, "subject")?;
     let isbns = values_of(alloc, found, "isbn")?;
-    let words = values_of(alloc, found, "any")?;
+    let any = values_of(alloc, found, "any")?;
     Ok(SearchOptions {
         query: found.get_str("query"),
         titles,
         authors,
         subjects,
         isbns,
-        words,
+        any,
         records: found.get_str("records"),
         elements: found.get_str("elements"),
         syntax: found.get_str("syntax"),

@@ -76,8 +76,9 @@ Statuses:
 const SHOW: Form = Form {
     name: "show",
     about: "Shows what recorded Z39.50 messages say",
-    example: "Reads hexadecimal digits from standard input; spaces and line ends between them don't count.
-Prints a line for each message, and below it a line for each record that it brings.
+    example: "Reads hexadecimal digits from standard input; spaces and line ends between them
+don't count. Prints a line for each message, and below it a line for each
+record that it brings.
 
 Example, the message with which a catalogue ends a session:
   echo 'BF 30 05 9F 81 53 01 00' | zmeta show
@@ -91,7 +92,8 @@ const PQF: Form = Form {
     name: "pqf",
     about: "Shows how a query is understood, and how it goes out",
     example: "TEXT is a query in prefix notation (PQF), as one word: quote it for the shell.
-Prints it with all its attributes in place, and below it its encoding in hexadecimal.
+Prints it with all its attributes in place, and below it its encoding in
+hexadecimal.
 
 Example, books with the title word dune that Herbert wrote:
   zmeta pqf '@and @attr 1=4 dune @attr 1=1003 herbert'
@@ -111,9 +113,9 @@ prints first
 const JOIN: Form = Form {
     name: "join",
     about: "Puts together what searches of the same catalogues brought",
-    example: "A and each B are saved files, of the same catalogues in the same order.
-Prints one list of all that any search brought. Where they brought different records for one
-position of a result set, all of these are shown there as a conflict.
+    example: "A and each B are saved files, of the same catalogues in the same order. Prints
+one list of all that any search brought. Where they brought different records
+for one position of a result set, all of these are shown there as a conflict.
 
 Example, the searches of two days:
   zmeta join monday.saved tuesday.saved
@@ -137,13 +139,15 @@ prints lines as
 const RECORDS: Form = Form {
     name: "records",
     about: "Writes the records that searches of the same catalogues brought",
-    example: "A and each B are saved files, of the same catalogues in the same order; one is enough.
-Writes the octets of the records, one after the other in the order of the list of 'zmeta join',
-as cataloguing tools read them. Where several records are known for one position, all of these
-are left out, or none with --conflicts. Standard error says how many things are left out: such
-positions, diagnostics that stand for records, records of another syntax than the one asked for,
-and structured records, as OPAC and GRS-1. --only takes the records of some
-catalogues alone. SYNTAX is marc21, unimarc, xml, sutrs, opac, grs1 or an object identifier.
+    example: "A and each B are saved files, of the same catalogues in the same order; one is
+enough. Writes the octets of the records, one after the other in the order of
+the list of 'zmeta join', as cataloguing tools read them. Where several records
+are known for one position, all of these are left out, or none with
+--conflicts. Standard error says how many things are left out: such positions,
+diagnostics that stand for records, records of another syntax than the one
+asked for, and structured records, as OPAC and GRS-1. --only takes the records
+of some catalogues alone. SYNTAX is marc21, unimarc, xml, sutrs, opac, grs1 or
+an object identifier.
 
 Example, the MARC 21 records that a search brought from loc:
   zmeta ask --save books.saved catalogues
@@ -165,8 +169,8 @@ Example, the MARC 21 records that a search brought from loc:
 const RUN: Form = Form {
     name: "run",
     about: "Runs searches against catalogues in memory",
-    example: "FILE describes the catalogues, what each is asked, and in which order octets are carried, a
-line each:
+    example: "FILE describes the catalogues, what each is asked, and in which order octets
+are carried, a line each:
   step N                      records that one request asks for, 1 to 1000; else 10
   window N                    requests sent before the first is answered, 1 to 64; else 4
   target NAME SIZE FLAGS      a catalogue; SIZE is the most octets of records in a reply; FLAGS are
@@ -178,8 +182,9 @@ line each:
                               SYNTAX may be -; WANT is a number, or as 1-3,10-12
   to NAME K, from NAME K      at most K octets are carried to it, or from it; rel NAME K releases
                               its reply K
-Prints one list of all that they answer. --title and the other terms, or --query, are asked in place
-of the queries of FILE, and --records, --elements and --syntax in place of what its lines say.
+Prints one list of all that they answer. --title and the other terms, or
+--query, are asked in place of the queries of FILE, and --records, --elements
+and --syntax in place of what its lines say.
 
 Example:
   zmeta run world
@@ -213,14 +218,16 @@ const ASK: Form = Form {
   host NAME ADDRESS           a catalogue, at an address as z3950.example.org:210
   ask NAME DB SYNTAX WANT QUERY
                               SYNTAX may be -; WANT is a number, or as 1-3,10-12
-Connects to all of them side by side, asks each, and prints one list of all that they answer. A
-catalogue that cannot be reached, or is silent for 30 seconds (--patience), is told of, and the
-others are listed: status 1. With --at-once no catalogue waits for another, and --within limits
+Connects to all of them side by side, asks each, and prints one list of all
+that they answer. A catalogue that cannot be reached, or is silent for 30
+seconds (--patience), gets a line on standard error, and the others are listed:
+status 1. With --at-once no catalogue waits for another, and --within limits
 the time for all together. With --only just the questions of these names are
-asked, so that saved files of parts can be joined; status 3 where there is no such question.
-One search for all: --title, --author, --subject, --isbn and --any, or --query, are asked in place
-of the queries of FILE, and --records, --elements and --syntax in place of what its lines say.
-SYNTAX is marc21, unimarc, xml, sutrs, opac, grs1, an object identifier, or - for none.
+asked, so that saved files of parts can be joined; status 3 where there is no
+such question. One search for all: --title, --author, --subject, --isbn and
+--any, or --query, are asked in place of the queries of FILE, and --records,
+--elements and --syntax in place of what its lines say. SYNTAX is marc21,
+unimarc, xml, sutrs, opac, grs1, an object identifier, or - for none.
 
 Example, a file with the two lines
   host loc lx2.loc.gov:210
@@ -254,9 +261,10 @@ or, with another question and the same file, by
 const SERVE: Form = Form {
     name: "serve",
     about: "Serves a catalogue in memory to other programs",
-    example: "ADDRESS is where connections are taken, as localhost:9999. FILE describes catalogues in memory,
-as 'zmeta help run' says, and NAME is one of them. N connections are taken, one after the other.
-Status 3 with 'cannot serve' where there is no such catalogue, or the address cannot be taken.
+    example: "ADDRESS is where connections are taken, as localhost:9999. FILE describes
+catalogues in memory, as 'zmeta help run' says, and NAME is one of them. N
+connections are taken, one after the other. Status 3 with 'cannot serve' where
+there is no such catalogue, or the address cannot be taken.
 
 Example, one client asks the catalogue of a city library:
   zmeta serve localhost:9999 'city library' world 1",
@@ -300,10 +308,11 @@ Example, one client asks the catalogue of a city library:
 const LOOP: Form = Form {
     name: "loop",
     about: "Runs searches against catalogues in memory, over this machine's network",
-    example: "FILE is as for 'zmeta run'. Each catalogue is asked over a TCP connection to 127.0.0.1, so that the
-list shows whether this machine's network carries octets as they are: it is the list of 'zmeta run'.
-Lines of FILE that say in which order octets are carried are read, and not followed.
-Status 3 with 'cannot serve' where no connections can be made.
+    example: "FILE is as for 'zmeta run'. Each catalogue is asked over a TCP connection to
+127.0.0.1, so that the list shows whether this machine's network carries octets
+as they are: it is the list of 'zmeta run'. Lines of FILE that say in which
+order octets are carried are read, and not followed. Status 3 with 'cannot
+serve' where no connections can be made.
 
 Example:
   zmeta loop world

@@ -1,96 +1,95 @@
--- The end of a command that asks, and what is written then.
-use Rattle.std.proofs.Common.{◌≡◌, ℕ, List, Option, Some, None, Result, Ok, Err, IfSome, inl, inr, refl}
-use Rattle.zmeta_commands.specs.Ask.{IsOfAsking}
-use Rattle.zmeta_commands.specs.Devices.{Device}
-use Rattle.zmeta_commands.specs.Finished.{IsPrinted, PutFinishedResult, IsOfSaving, FinishResult, Conclusion}
+-- The ends of commands: what a command that asks writes and saves, help, and a target that is served.
+use Rattle.std.proofs.Common.{◌≡◌, ◌∙◌, ap, ℕ, List, [], ◌++◌, Option, Some, None, Result, Ok, Err, IfSome, inl, inr}
+use Rattle.std.specs.Io.KnownBytes.{Appends}
+use Rattle.zmeta_commands.specs.Arguments.{HelpResult}
+use Rattle.zmeta_commands.specs.Devices.{Device, Outputs, PutFailure, PutResult}
+use Rattle.zmeta_commands.specs.Finished.{IsPrinted, PutFinishedResult, IsOfSaving, FinishResult, IsUnmade, Holds}
 use Rattle.zmeta_world.specs.declared.world.World.{World}
 use Rattle.zmeta_world.specs.Worlds.{IsWorld}
+use Rattle.zoom.specs.ServeError.{ServeError}
+use Rattle.zoom.specs.ServeError.TheVariants as serves
+use Rattle.zmeta_commands.specs.Faults.{of_serve}
 use Rattle.zmeta_commands.specs.Serve.{ServeResult, ServeWorldResult, IsServiceEnd}
 use Rattle.zmeta_commands.specs.declared.fault.Fault.{Fault}
 use Rattle.zmeta_commands.specs.declared.fault.Fault.TheVariants.{Write, Serve, Memory}
-use Rattle.zmeta_commands.specs.declared.fault.Status.{Status}
 use Rattle.zmeta_commands.specs.declared.finished.Finished.{Finished}
-use Rattle.zmeta_commands.proofs.Joining.{kept}
-
-unput : (r : Finished) (saved : Option (List ℕ)) (output printed errors told : Device) (f : Fault)
-    → PutFinishedResult r output printed errors told (Err f) → FinishResult r saved output printed errors told (Err f)
-unput r saved output printed errors told (Write path) h = inr h
-unput r saved output printed errors told Memory h = inl h
-unput r saved output printed errors told f h = absurd h
 
 -- the list was not written
-pub not_put : (r : Finished) (saved : Option (List ℕ)) (output printed errors told : Device) (g f : Fault) (answer : Result Status Fault)
-    → answer ≡ Err f → f ≡ g → PutFinishedResult r output printed errors told (Err g)
-    → FinishResult r saved output printed errors told answer
-not_put r saved output printed errors told g f answer is of h = rw (is, of) (unput r saved output printed errors told g h)
-
-unsaved : (r : Finished) (saved : Option (List ℕ)) (output printed errors told : Device) (f : Fault)
-    → IsPrinted r output printed errors told → IsOfSaving saved f → FinishResult r saved output printed errors told (Err f)
-unsaved r saved output printed errors told (Write path) h s = inl (h, s)
-unsaved r saved output printed errors told Memory h s = inr (h, s)
-unsaved r saved output printed errors told f h s = absurd s
+pub unput : {M : Type 0} (contents : M → Option (List ℕ)) (r : Finished) (saved : Option (List ℕ))
+    (before after : Outputs) (f : Fault)
+    → PutFinishedResult r before after (Err f) → FinishResult contents r saved before after (Err f)
+unput contents r saved before after (Write path) h = inr h
+unput contents r saved before after Memory h = inl h
+unput contents r saved before after f h = absurd h
 
 -- the list was written, and the facts were not saved
-pub not_saved : (r : Finished) (saved : Option (List ℕ)) (output printed errors told : Device) (g f : Fault) (answer : Result Status Fault)
-    → answer ≡ Err f → f ≡ g → IsPrinted r output printed errors told → IsOfSaving saved g
-    → FinishResult r saved output printed errors told answer
-not_saved r saved output printed errors told g f answer is of h s =
-    rw (is, of) (unsaved r saved output printed errors told g h s)
+pub unsaved : {M : Type 0} (contents : M → Option (List ℕ)) (r : Finished) (saved : Option (List ℕ))
+    (before after : Outputs) (f : Fault)
+    → IsPrinted r before after → IsOfSaving saved f → FinishResult contents r saved before after (Err f)
+unsaved contents r saved before after (Write path) h s = inl (h, s)
+unsaved contents r saved before after Memory h s = inr (h, s)
+unsaved contents r saved before after f h s = absurd s
 
--- ---- a command that asks
+-- ---- a file that is made
 
-finished : (says : Result Finished Fault → Type 0) (r : Finished) (saved : Option (List ℕ))
-    (output printed errors told : Device) (answer : Result Status Fault)
-    → says (Ok r) → FinishResult r saved output printed errors told answer
-    → Conclusion says saved output printed errors told answer
-finished says r saved output printed errors told (Ok status) h f = (r, h, f)
-finished says r saved output printed errors told (Err (Write path)) h f = (r, h, f)
-finished says r saved output printed errors told (Err Memory) h (inl f) = inl f
-finished says r saved output printed errors told (Err Memory) h (inr f) = inr (r, h, f.0, f.1)
-finished says r saved output printed errors told (Err f) h g = absurd g
+filled : (old new : Option (List ℕ)) (held octets : List ℕ) → old ≡ Some held → IfSome old (λ held. held ≡ [])
+    → Appends old new octets → new ≡ Some octets
+filled None new held octets known empty h = cc
+filled (Some was) None held octets known empty h = absurd h
+filled (Some was) (Some xs) held octets known empty h = ap Some (h ∙ ap (λ z. z ++ octets) empty)
 
-pub conclusion : (says : List ℕ → Result Finished Fault → Type 0)
-    (file : Option (List ℕ)) (r : Finished) (saved : Option (List ℕ)) (output printed errors told : Device) (answer : Result Status Fault)
-    → IfSome file (λ octets. says octets (Ok r)) → FinishResult r saved output printed errors told answer
-    → IfSome file (λ octets. Conclusion (says octets) saved output printed errors told answer)
-conclusion says None r saved output printed errors told answer h f = tt
-conclusion says (Some octets) r saved output printed errors told answer h f =
-    finished (says octets) r saved output printed errors told answer h f
+-- a new file holds the octets that were written to it
+pub holds : {M : Type 0} (contents : M → Option (List ℕ)) (old new : M) (octets : List ℕ)
+    → IfSome (contents old) (λ held. held ≡ []) → Appends (contents old) (contents new) octets
+    → Holds contents new octets
+holds contents old new octets empty h known =
+    filled (contents old) (contents new) (known old).0 octets (known old).1 empty h
 
--- no hosts were asked
-unasked : (says : Result Finished Fault → Type 0) (path : List ℕ) (saved : Option (List ℕ)) (output errors : Device) (f : Fault)
-    → IsOfAsking path f → says (Err f) → Conclusion says saved output output errors errors (Err f)
-unasked says path saved output errors (Write told) of h = absurd of
-unasked says path saved output errors Memory of h = inl (kept output, refl)
-unasked says path saved output errors f of h = (h, kept output, refl)
+-- a file that could not be written could not be made
+pub unmade : (old new : Device) (octets path : List ℕ) (f : Fault) → PutFailure old new octets f → old.path ≡ path
+    → IsUnmade path f
+unmade old new octets path (Write told) h is = h.0 ∙ is
+unmade old new octets path f h is = absurd h
 
-pub asked_none : (says : List ℕ → Result Finished Fault → Type 0) (file : Option (List ℕ)) (path : List ℕ) (saved : Option (List ℕ))
-    (output errors : Device) (g f : Fault) (answer : Result Status Fault) → answer ≡ Err f → f ≡ g → IsOfAsking path g
-    → IfSome file (λ octets. says octets (Err g))
-    → IfSome file (λ octets. Conclusion (says octets) saved output output errors errors answer)
-asked_none says None path saved output errors g f answer is same of h = tt
-asked_none says (Some octets) path saved output errors g f answer is same of h =
-    rw (is, same) (unasked (says octets) path saved output errors g of h)
+-- ---- help
+
+-- the text of help was written, or a front of it
+pub help_put : (old new : Device) (text : List ℕ) (answer : Result (Unit {0}) Fault) → PutResult old new text answer
+    → HelpResult old new answer
+help_put old new text (Ok _) h = (text, h)
+help_put old new text (Err (Write path)) h = (h.0, (text, h.1))
+help_put old new text (Err Memory) h = absurd h
+help_put old new text (Err f) h = absurd h
 
 -- ---- a target that is served
 
-serves_at : (name octets : List ℕ) (world : World) (answer : Result (Unit {0}) Fault)
-    → IsWorld octets world → ServeWorldResult name world answer → ServeResult name octets answer
-serves_at name octets world (Ok _) says (target, found) = (world, target, says, found)
-serves_at name octets world (Err Serve) says told = (world, says)
-serves_at name octets world (Err Memory) says told = tt
-serves_at name octets world (Err f) says told = absurd told
+-- no memory was found for a connection, or none could be taken
+pub not_served : (name : List ℕ) (count : ℕ) (world : World) (e : ServeError) (f : Fault)
+    (r : Result (Unit {0}) ServeError) (answer : Result (Unit {0}) Fault) → answer ≡ Err f → f ≡ of_serve e → r ≡ Err e → (count ≡ 0 → r ≡ Ok tt)
+    → ServeWorldResult name count world answer
+not_served name count world e f r answer is of was none = rw (is, of) (by e was)
+  where
+    by : (e : ServeError) → r ≡ Err e → ServeWorldResult name count world (Err (of_serve e))
+    by serves.Listen was = tt
+    by serves.Memory was = λ zero. let done : r ≡ Ok tt = none zero in cc
+
+serves_at : (name octets : List ℕ) (count : ℕ) (world : World) (answer : Result (Unit {0}) Fault)
+    → IsWorld octets world → ServeWorldResult name count world answer → ServeResult name octets answer
+serves_at name octets count world (Ok _) says (target, found) = (world, target, says, found)
+serves_at name octets count world (Err Serve) says told = (world, says)
+serves_at name octets count world (Err Memory) says told = tt
+serves_at name octets count world (Err f) says told = absurd told
 
 -- the result if a file has the world
-pub serve_result : (name : List ℕ) (file : Option (List ℕ)) (world : World) (answer : Result (Unit {0}) Fault)
-    → IfSome file (λ octets. IsWorld octets world) → ServeWorldResult name world answer
+pub serve_result : (name : List ℕ) (count : ℕ) (file : Option (List ℕ)) (world : World)
+    (answer : Result (Unit {0}) Fault) → IfSome file (λ octets. IsWorld octets world) → ServeWorldResult name count world answer
     → IfSome file (λ octets. ServeResult name octets answer)
-serve_result name None world answer says told = tt
-serve_result name (Some octets) world answer says told = serves_at name octets world answer says told
+serve_result name count None world answer says told = tt
+serve_result name count (Some octets) world answer says told = serves_at name octets count world answer says told
 
-pub service_end : (name path : List ℕ) (world : World) (answer : Result (Unit {0}) Fault)
-    → ServeWorldResult name world answer → IsServiceEnd path answer
-service_end name path world (Ok _) told = tt
-service_end name path world (Err Serve) told = tt
-service_end name path world (Err Memory) told = tt
-service_end name path world (Err f) told = absurd told
+pub service_end : (name path : List ℕ) (count : ℕ) (world : World) (answer : Result (Unit {0}) Fault)
+    → ServeWorldResult name count world answer → IsServiceEnd path answer
+service_end name path count world (Ok _) told = tt
+service_end name path count world (Err Serve) told = tt
+service_end name path count world (Err Memory) told = tt
+service_end name path count world (Err f) told = absurd told

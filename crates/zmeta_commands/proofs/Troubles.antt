@@ -3,16 +3,16 @@ use Rattle.std.proofs.Common.{◌≡◌, ◌∙◌, sym, ap, subst, refl, ℕ, �
 use Rattle.std.proofs.lemmas.List.{take_more, length-take-le}
 use Rattle.zoom.specs.State.{State}
 use Rattle.zoom.specs.PoolSteps.{IsStateAt}
-use Rattle.zoom.specs.Laws.{OneTranscript, UpToLaw}
+use Rattle.zoom.specs.Laws.{OneTranscript}
 use Rattle.zoom.specs.Metas.{MetaLinks, IsTranscriptValue, is_skipped, is_complete}
 use Rattle.zoom.proofs.Metas.{state_tells}
 use Rattle.zmeta_commands.specs.Finished.{is_failed, has_failed, is_troubled, is_asked, IsTroubledAt, failure_line, AreLinesFrom}
 
-pub trouble_at : UpToLaw → OneTranscript → (c : ℕ) (meta : MetaLinks) (state : State) (failed complete skipped answer : Bool) → c < length meta.pool.connections
+pub trouble_at : OneTranscript → (c : ℕ) (meta : MetaLinks) (state : State) (failed complete skipped answer : Bool) → c < length meta.pool.connections
     → IsStateAt c meta.pool state → failed ≡ is_failed state → IsTranscriptValue c meta is_complete complete → IsTranscriptValue c meta is_skipped skipped → answer ≡ (failed || not complete || skipped)
     → IsTranscriptValue c meta is_troubled answer
-trouble_at law hearing c meta state failed complete skipped answer lt is f k n e q s h p a transcript =
-    e ∙ ap (λ z. z || not complete || skipped) (f ∙ state_tells law hearing is_failed c meta state lt is q s h p a transcript)
+trouble_at hearing c meta state failed complete skipped answer lt is f k n e q s h p a transcript =
+    e ∙ ap (λ z. z || not complete || skipped) (f ∙ state_tells hearing is_failed c meta state lt is q s [] h p a transcript)
     ∙ ap (λ z. has_failed p || not z || skipped) (k q s h p a transcript)
     ∙ ap (λ z. has_failed p || not (is_complete p) || z) (n q s h p a transcript)
 

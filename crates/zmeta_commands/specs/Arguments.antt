@@ -1,5 +1,5 @@
 -- What the program does with the arguments of a command line.
-use Rattle.std.specs.Prelude.{◌≡◌, ◌⊎◌, ℕ, true, List, ◌∷◌, Option, Result, Ok, Err}
+use Rattle.std.specs.Prelude.{◌≡◌, ◌⊎◌, ℕ, List, ◌∷◌, Option, Result, Ok, Err}
 use Rattle.clap.specs.Words.{kind_of}
 use Rattle.clap.specs.declared.error.Error.{Error}
 use Rattle.clap.specs.declared.error.kind.ErrorKind.{ErrorKind}
@@ -17,66 +17,84 @@ use Rattle.zmeta_commands.specs.Run.{AfterRun}
 use Rattle.zmeta_commands.specs.Searches.{search_of}
 use Rattle.zmeta_commands.specs.Serve.{AfterServe}
 use Rattle.zmeta_commands.specs.Show.{AfterShow}
-use Rattle.zmeta_commands.specs.Devices.{Device, AfterTell}
+use Rattle.zmeta_commands.specs.Faults.{as_done}
+use Rattle.zmeta_commands.specs.Devices.{Device, Outputs, Streams, written, IsUnchanged, HasGained, HasStopped, AfterTell, AfterEnd}
+use Rattle.zmeta_commands.specs.declared.fault.Fault.{Fault}
 use Rattle.zmeta_commands.specs.declared.fault.Fault.TheVariants as faults
 use Rattle.zmeta_commands.specs.declared.fault.Status.{Status}
 use Rattle.zmeta_commands.specs.declared.fault.Status.TheVariants as statuses
 
--- the devices and the status after the command, with these arguments and no others
+-- the streams, the saved file and the status after the command, with these arguments and no others; `octets` are those
+-- of the files at paths, and `contents` those of files that the command makes
 abbrev pub AfterCall
-    : (List ℕ → Option (List ℕ)) → Arguments → Device → Device → Device → Device → Device → Device → Status → Type 0
-AfterCall octets Show input rest output printed errors told status =
-    AfterShow input rest output printed errors told status
-AfterCall octets (Pqf text) input rest output printed errors told status =
-    (rest ≡ input) × AfterPqf text.now output printed errors told status
-AfterCall octets (Join first others view) input rest output printed errors told status = (rest ≡ input)
-    × AfterJoin view octets (first.now ∷ texts_of others.items) output printed errors told status
-AfterCall octets (Records first others only syntax conflicts) input rest output printed errors told status =
-    (rest ≡ input) × AfterRecords
-    (record { only = texts_of only.items; syntax = now_of syntax; conflicts = conflicts }) octets
-    (first.now ∷ texts_of others.items) output printed errors told status
-AfterCall octets (Run world saved search view) input rest output printed errors told status = (rest ≡ input)
-    × AfterRun (search_of search) view world.now (now_of saved) (octets world.now) output printed errors told status
-AfterCall octets (Ask world saved at_once only patience within search view) input rest output printed errors told status =
-    (rest ≡ input) × AfterAsk (record { at_once = at_once; only = texts_of only.items }) (search_of search) view
-    world.now (now_of saved) (octets world.now) output printed errors told status
-AfterCall octets (Loop world saved search view) input rest output printed errors told status = (rest ≡ input)
-    × AfterLoop (search_of search) view world.now (now_of saved) (octets world.now) output printed errors told status
-AfterCall octets (Serve address name world count) input rest output printed errors told status =
-    (rest ≡ input) × (printed ≡ output) × AfterServe name.now world.now (octets world.now) errors told status
+    : {M : Type 0} → (M → Option (List ℕ)) → (List ℕ → Option (List ℕ)) → Arguments → Streams → Streams → Status
+    → Type 0
+AfterCall contents octets Show before after status = AfterShow before after status
+AfterCall contents octets (Pqf text) before after status =
+    (after.input ≡ before.input) × AfterPqf text.now (written before) (written after) status
+AfterCall contents octets (Join first others view) before after status = (after.input ≡ before.input)
+    × AfterJoin view octets (first.now ∷ texts_of others.items) (written before) (written after) status
+AfterCall contents octets (Records first others only syntax conflicts) before after status =
+    (after.input ≡ before.input)
+    × AfterRecords (record { only = texts_of only.items; syntax = now_of syntax; conflicts = conflicts }) octets
+    (first.now ∷ texts_of others.items) (written before) (written after) status
+AfterCall contents octets (Run world saved search view) before after status = (after.input ≡ before.input)
+    × AfterRun contents (search_of search) view world.now (now_of saved) (octets world.now)
+    (written before) (written after) status
+AfterCall contents octets (Ask world saved at_once only patience within search view) before after status =
+    (after.input ≡ before.input)
+    × AfterAsk contents (record { at_once = at_once; only = texts_of only.items }) (search_of search) view
+    world.now (now_of saved) (octets world.now) (written before) (written after) status
+AfterCall contents octets (Loop world saved search view) before after status = (after.input ≡ before.input)
+    × AfterLoop contents (search_of search) view world.now (now_of saved) (octets world.now)
+    (written before) (written after) status
+AfterCall contents octets (Serve address name world count) before after status =
+    (after.input ≡ before.input) × (after.output ≡ before.output)
+    × AfterServe name.now world.now (octets world.now) before.errors after.errors status
 
 -- help was asked for
 abbrev pub IsHelp : ErrorKind → Type 0
 IsHelp kind = (kind ≡ kinds.DisplayHelp) ⊎ (kind ≡ kinds.DisplayVersion)
 
--- help is printed; an error is reported only if help cannot be printed
-pub record AfterHelp (output printed errors told : Device) (status : Status) : Type 0 where
-  pub ends : ((status ≡ statuses.Done) × (told ≡ errors)) ⊎ ((status ≡ statuses.Refused) × (printed.has_failed ≡ true))
+-- a text was printed whole, a front of it if the stream failed, or nothing if no memory was found; what the text says
+-- is for `clap`, whose contract does not tell it
+abbrev pub HelpResult : Device → Device → Result (Unit {0}) Fault → Type 0
+HelpResult old new (Ok _) = (text : List ℕ) × HasGained old new text
+HelpResult old new (Err (faults.Write path)) = (path.now ≡ old.path) × ((text : List ℕ) × HasStopped old new text)
+HelpResult old new (Err faults.Memory) = IsUnchanged old new
+HelpResult old new (Err _) = ⊥
 
--- no command was run: the reason is reported and nothing is printed, or help is printed
-pub record AfterUsage (error : Error) (output printed errors told : Device) (status : Status) : Type 0 where
+-- help is printed; an error is reported only if help cannot be printed
+abbrev pub AfterHelp : Outputs → Outputs → Status → Type 0
+AfterHelp before after status = (answer : Result (Unit {0}) Fault) × HelpResult before.output after.output answer
+    × AfterEnd (as_done answer) before.errors after.errors status
+
+-- no command was run: help is printed, or nothing is; want of memory is reported, and the text for wrong arguments is
+-- for `clap`
+pub record AfterUsage (error : Error) (before after : Outputs) (status : Status) : Type 0 where
   pub memory : kind_of error ≡ kinds.OutOfMemory
-      → (status ≡ statuses.Memory) × AfterTell errors told faults.Memory × (printed ≡ output)
-  pub help : IsHelp (kind_of error) → AfterHelp output printed errors told status
+      → (status ≡ statuses.Memory) × AfterTell before.errors after.errors faults.Memory × (after.output ≡ before.output)
+  pub help : IsHelp (kind_of error) → AfterHelp before after status
   pub wrong : (kind_of error ≡ kinds.OutOfMemory → ⊥) → (IsHelp (kind_of error) → ⊥)
-      → (status ≡ statuses.Arguments) × (printed ≡ output)
+      → (status ≡ statuses.Arguments) × (after.output ≡ before.output)
 
 -- arguments that are not UTF-8 are wrong, unless no memory is found
 abbrev pub IsWrong : Status → Type 0
 IsWrong status = (status ≡ statuses.Arguments) ⊎ (status ≡ statuses.Memory)
 
--- the devices and the status after the command that was parsed; or none was run, and the input is unchanged
+-- the streams, the saved file and the status after the command that was parsed; or none was run, and the input is
+-- unchanged
 abbrev pub AfterParsed
-    : (List ℕ → Option (List ℕ)) → List (List ℕ) → Result Arguments Error → Device → Device → Device → Device → Device
-    → Device → Status → Type 0
-AfterParsed octets arguments (Ok asked) input rest output printed errors told status =
-    IsParsed arguments asked × AfterCall octets asked input rest output printed errors told status
-AfterParsed octets arguments (Err error) input rest output printed errors told status =
-    (rest ≡ input) × AfterUsage error output printed errors told status
+    : {M : Type 0} → (M → Option (List ℕ)) → (List ℕ → Option (List ℕ)) → List (List ℕ) → Result Arguments Error
+    → Streams → Streams → Status → Type 0
+AfterParsed contents octets arguments (Ok asked) before after status =
+    IsParsed arguments asked × AfterCall contents octets asked before after status
+AfterParsed contents octets arguments (Err error) before after status =
+    (after.input ≡ before.input) × AfterUsage error (written before) (written after) status
 
--- the devices and the status after a call of the program with these arguments
+-- the streams, the saved file and the status after a call of the program with these arguments
 abbrev pub AfterArguments
-    : (List ℕ → Option (List ℕ)) → List (List ℕ) → Device → Device → Device → Device → Device → Device → Status
+    : {M : Type 0} → (M → Option (List ℕ)) → (List ℕ → Option (List ℕ)) → List (List ℕ) → Streams → Streams → Status
     → Type 0
-AfterArguments octets arguments input rest output printed errors told status =
-    (asked : Result Arguments Error) × AfterParsed octets arguments asked input rest output printed errors told status
+AfterArguments contents octets arguments before after status =
+    (asked : Result Arguments Error) × AfterParsed contents octets arguments asked before after status

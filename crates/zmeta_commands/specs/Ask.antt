@@ -8,13 +8,11 @@ use Rattle.zmeta_world.specs.Search.{SearchTexts}
 use Rattle.zmeta_world.specs.NetworkRuns.{IsNetworkRun, IsFirstTargetLine}
 use Rattle.zoom.specs.Asking.{is_present, IsAsked}
 use Rattle.zmeta_commands.specs.Choice.{Manner, AreAllKnown, IsChosen, IsFirstUnknown}
-use Rattle.zmeta_commands.specs.Devices.{Device}
 use Rattle.zmeta_commands.specs.declared.fault.Fault.{Fault}
 use Rattle.zmeta_commands.specs.declared.fault.Fault.TheVariants.{Read, Line, Query, Wanted, Syntax, NoQuestion, Memory}
-use Rattle.zmeta_commands.specs.declared.fault.Status.{Status}
 use Rattle.zmeta_commands.specs.declared.finished.Finished.{Finished}
 use Rattle.zmeta_commands.specs.Worlds.{IsSearchedFile, IsSearchRefusal}
-use Rattle.zmeta_commands.specs.Finished.{asker, IsListed, Conclusion, Command, AfterCommand}
+use Rattle.zmeta_commands.specs.Finished.{asker, IsListed, Command, AfterCommand}
 
 -- ---- the world of a file
 
@@ -88,12 +86,6 @@ IsOfAsking path _ = ⊥
 
 -- ---- the command
 
--- the result of `ask`, and the devices after it
-abbrev pub AskResult : Manner → SearchTexts → View → List ℕ → Option (List ℕ)
-    → Device → Device → Device → Device → Result Status Fault → Type 0
-AskResult manner search view file saved output printed errors told answer =
-    Conclusion (AskFileResult manner search view file) saved output printed errors told answer
-
--- the devices and the status after `ask`
-abbrev pub AfterAsk : Manner → SearchTexts → View → Command
-AfterAsk manner search view = AfterCommand (AskResult manner search view)
+-- the streams, the saved file and the status after `ask`, by the contents of files that it makes
+abbrev pub AfterAsk : {M : Type 0} → (M → Option (List ℕ)) → Manner → SearchTexts → View → Command
+AfterAsk contents manner search view = AfterCommand contents (AskFileResult manner search view) IsOfAsking

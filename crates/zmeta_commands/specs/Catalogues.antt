@@ -13,13 +13,13 @@ is_chosen [] None = true
 is_chosen (first ∷ only) None = false
 
 -- the fact is about such a catalogue; the first name is target 0's
-abbrev pub is_of : List (List ℕ) → List (List ℕ) → Fact → Bool
-is_of only names f = is_chosen only (slice_get names (fact_target f))
+abbrev pub is_of_chosen : List (List ℕ) → List (List ℕ) → Fact → Bool
+is_of_chosen only names f = is_chosen only (slice_get names (fact_target f))
 
 -- of the facts, exactly those about the chosen catalogues
 pub record IsOfCatalogues (only names : List (List ℕ)) (facts chosen : List Fact) : Type 0 where
   pub lawful : AreFacts chosen
-  pub members : (f : Fact) → Contains chosen f ↔ (Contains facts f × (is_of only names f ≡ true))
+  pub members : (f : Fact) → Contains chosen f ↔ (Contains facts f × (is_of_chosen only names f ≡ true))
 
 -- the facts about the chosen catalogues, or the first name that no catalogue has
 abbrev pub CataloguesResult : List (List ℕ) → List (List ℕ) → List Fact → Result (List Fact) Fault → Type 0

@@ -2,9 +2,10 @@
 use Rattle.std.specs.Prelude.{◌≡◌, ◌⊎◌, ℕ, List, ◌++◌, Option, Bool, true, false, Result, Ok, Err, MatchResult, codes}
 use Rattle.std.specs.Io.KnownBytes.{Keeps, Appends}
 use Rattle.zoom.specs.Devices.{HasAppendedFront}
-use Rattle.zmeta_commands.specs.Faults.{fault_text}
+use Rattle.zmeta_commands.specs.Faults.{fault_text, end_status}
 use Rattle.zmeta_commands.specs.declared.fault.Fault.{Fault}
 use Rattle.zmeta_commands.specs.declared.fault.Fault.TheVariants.{Read, Write}
+use Rattle.zmeta_commands.specs.declared.fault.Status.{Status}
 use Rattle.zmeta_commands.specs.declared.input.Input.{Input}
 use Rattle.zmeta_commands.specs.declared.output.Output.{Output}
 
@@ -22,11 +23,46 @@ input_device remaining s = record { known = remaining s.reader; path = s.path.no
 abbrev pub output_device : {W : Type 0} → (W → Option (List ℕ)) → Output W → Device
 output_device contents s = record { known = contents s.writer; path = s.path.now; has_failed = s.has_failed }
 
+-- the streams that a command writes: standard output and standard error, or others in their place
+pub record Outputs : Type 0 where
+  pub output : Device
+  pub errors : Device
+
+-- the streams of a command that also reads one
+pub record Streams : Type 0 where
+  pub input : Device
+  pub output : Device
+  pub errors : Device
+
+-- those of the streams that are written
+abbrev pub written : Streams → Outputs
+written s = record { output = s.output; errors = s.errors }
+
+-- two streams that are written, by what their writers hold
+abbrev pub outputs
+    : {W E : Type 0} → (W → Option (List ℕ)) → (E → Option (List ℕ)) → Output W → Output E → Outputs
+outputs contents told output errors =
+    record { output = output_device contents output; errors = output_device told errors }
+
+-- a stream that is read and two that are written, by what the reader has left and the writers hold
+abbrev pub streams
+    : {R W E : Type 0} → (R → Option (List ℕ)) → (W → Option (List ℕ)) → (E → Option (List ℕ))
+    → Input R → Output W → Output E → Streams
+streams remaining contents told input output errors = record {
+  input = input_device remaining input;
+  output = output_device contents output;
+  errors = output_device told errors;
+}
+
 -- nothing was written
 pub record IsUnchanged (old new : Device) : Type 0 where
   pub kept : Keeps old.known new.known
   pub path : new.path ≡ old.path
   pub sound : new.has_failed ≡ old.has_failed
+
+-- nothing was written to either stream
+abbrev pub AreUnwritten : Outputs → Outputs → Type 0
+AreUnwritten before after = IsUnchanged before.output after.output × (after.errors ≡ before.errors)
 
 -- the whole text was written
 pub record HasGained (old new : Device) (text : List ℕ) : Type 0 where
@@ -58,14 +94,28 @@ PutResult old new text result = MatchResult result (λ _. HasGained old new text
 abbrev pub fault_line : Fault → List ℕ
 fault_line f = codes "zmeta: " ++ fault_text f ++ codes "\n"
 
+-- a call of the stream failed
+pub record IsBroken (old new : Device) : Type 0 where
+  pub path : new.path ≡ old.path
+  pub failed : new.has_failed ≡ true
+
 -- the line of a fault was written, or a call of the stream failed
 abbrev pub AfterTell : Device → Device → Fault → Type 0
-AfterTell old new f = (new.has_failed ≡ true) ⊎ HasGained old new (fault_line f)
+AfterTell old new f = IsBroken old new ⊎ HasGained old new (fault_line f)
+
+-- the lines were written, or a front of them before a call of the stream failed
+abbrev pub AfterTellLines : Device → Device → List ℕ → Type 0
+AfterTellLines old new lines = HasStopped old new lines ⊎ HasGained old new lines
 
 -- the fault that stopped a command was reported, or nothing if there was none
 abbrev pub AfterReport : {A : Type 0} → Device → Device → Result A Fault → Type 0
 AfterReport old new (Ok _) = new ≡ old
 AfterReport old new (Err f) = AfterTell old new f
+
+-- standard error and the status after a command with this result: a fault is reported, and a failure of standard
+-- error makes the status `Refused`, unless it is `Memory`
+abbrev pub AfterEnd : Result Status Fault → Device → Device → Status → Type 0
+AfterEnd answer old new status = AfterReport old new answer × (status ≡ end_status new.has_failed answer)
 
 -- the stream that a fault names has failed: the one read, or the one written
 abbrev pub IsOfStream : {A : Type 0} → Device → Device → Result A Fault → Type 0

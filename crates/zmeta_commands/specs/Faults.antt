@@ -1,5 +1,5 @@
 -- The texts and statuses of faults.
-use Rattle.std.specs.Prelude.{ℕ, List, ◌++◌, Result, Ok, Err, codes}
+use Rattle.std.specs.Prelude.{ℕ, List, ◌++◌, Bool, true, false, Result, Ok, Err, codes}
 use Rattle.std.specs.Fmt.{decimal}
 use Rattle.zber.specs.Faults.{fault_kind_name}
 use Rattle.zber.specs.declared.fault.FrameError.{FrameError}
@@ -121,12 +121,22 @@ abbrev pub status_of : Fault → Status
 status_of Memory = statuses.Memory
 status_of _ = statuses.Refused
 
--- the status of a command with this result
-abbrev pub result_status : Result (Unit {0}) Fault → Status
-result_status (Ok _) = statuses.Done
-result_status (Err f) = status_of f
+-- the status after a call of standard error failed: `Memory` comes before `Refused`, and `Refused` before the others
+abbrev pub refused_status : Status → Status
+refused_status statuses.Memory = statuses.Memory
+refused_status _ = statuses.Refused
 
--- the status of a command: its own, or that of the fault that stopped it
-abbrev pub end_status : Result Status Fault → Status
-end_status (Ok status) = status
-end_status (Err f) = status_of f
+-- the status of a command that did its work, by whether standard error failed
+abbrev pub own_status : Bool → Status → Status
+own_status false status = status
+own_status true status = refused_status status
+
+-- the status of a command: that of the fault that stopped it, or its own
+abbrev pub end_status : Bool → Result Status Fault → Status
+end_status failed (Ok status) = own_status failed status
+end_status failed (Err f) = status_of f
+
+-- the result of a command that has no other status than `Done`
+abbrev pub as_done : Result (Unit {0}) Fault → Result Status Fault
+as_done (Ok _) = Ok statuses.Done
+as_done (Err f) = Err f

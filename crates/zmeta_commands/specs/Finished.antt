@@ -1,19 +1,18 @@
 -- The end of a command that asks: what it prints, reports and saves, and its status.
 use Rattle.std.specs.Prelude.{◌≡◌, ◌⊎◌, ℕ, ◌+◌, ◌<◌, ◌^◌, Bool, true, false, not, ◌||◌, List, [], ◌∷◌, ◌++◌, length}
-use Rattle.std.specs.Prelude.{codes, slice_get, Option, Some, None, Result, Ok, Err, IfSome}
+use Rattle.std.specs.Prelude.{codes, slice_get, Option, Some, None, Result, Ok, Err, IfSome, IfErr}
 use Rattle.zapdu.specs.Text.{quoted}
 use Rattle.zmeta_args.specs.declared.arguments.View.{View}
 use Rattle.zknow.specs.Known.{HasFailure}
 use Rattle.zmeta_commands.specs.Views.{printed}
-use Rattle.zknow.specs.Saved.Saved.{IsSaved}
+use Rattle.zknow.specs.Saved.Saved.{IsSaved, HasTooDeep, HasTooLong}
 use Rattle.zoom.specs.State.{State}
 use Rattle.zoom.specs.State.TheVariants as states
 use Rattle.zoom.specs.Reasons.{reason_name}
 use Rattle.zoom.specs.Transcripts.{Transcript, state_at}
 use Rattle.zoom.specs.PoolSteps.{IsStateAt}
 use Rattle.zoom.specs.Metas.{MetaLinks, IsTranscriptValue, is_skipped, is_complete}
-use Rattle.zmeta_commands.specs.Faults.{end_status}
-use Rattle.zmeta_commands.specs.Devices.{Device, IsUnchanged, HasGained, HasStopped, AfterReport}
+use Rattle.zmeta_commands.specs.Devices.{Device, Outputs, HasGained, HasStopped, AreUnwritten, AfterTellLines, AfterEnd}
 use Rattle.zmeta_commands.specs.declared.fault.Fault.{Fault}
 use Rattle.zmeta_commands.specs.declared.fault.Fault.TheVariants.{Read, Write, Line, Memory, Query, Wanted, Syntax}
 use Rattle.zmeta_commands.specs.declared.fault.Status.{Status}
@@ -53,23 +52,21 @@ AreLinesFrom meta c (name ∷ names) text =
     (state : State) × (rest : List ℕ) × IsStateAt c meta.pool state × AreLinesFrom meta (c + 1) names rest
     × (text ≡ failure_line name state ++ rest)
 
--- the text was written, or a call of the stream failed
-abbrev pub AfterTellLines : Device → Device → List ℕ → Type 0
-AfterTellLines old new text = (new.has_failed ≡ true) ⊎ HasGained old new text
-
 -- the whole list was written, and the failed connections were reported
-abbrev pub IsPrinted : Finished → Device → Device → Device → Device → Type 0
-IsPrinted r output printed errors told =
-    HasGained output printed r.list.items
-    × ((lines : List ℕ) × AreLinesFrom r.meta 0 r.names lines × AfterTellLines errors told lines)
+abbrev pub IsPrinted : Finished → Outputs → Outputs → Type 0
+IsPrinted r before after = HasGained before.output after.output r.list.items
+    × ((lines : List ℕ) × AreLinesFrom r.meta 0 r.names lines × AfterTellLines before.errors after.errors lines)
+
+-- a front of the list was written, and nothing was reported yet
+abbrev pub IsPartlyPrinted : Finished → Outputs → Outputs → Type 0
+IsPartlyPrinted r before after = HasStopped before.output after.output r.list.items × (after.errors ≡ before.errors)
 
 -- the list was written and the failed connections were reported, or why not
-abbrev pub PutFinishedResult : Finished → Device → Device → Device → Device → Result (Unit {0}) Fault → Type 0
-PutFinishedResult r output printed errors told (Ok u) = IsPrinted r output printed errors told
-PutFinishedResult r output printed errors told (Err (Write path)) =
-    (path.now ≡ output.path) × HasStopped output printed r.list.items × (told ≡ errors)
-PutFinishedResult r output printed errors told (Err Memory) = IsUnchanged output printed × (told ≡ errors)
-PutFinishedResult r output printed errors told (Err _) = ⊥
+abbrev pub PutFinishedResult : Finished → Outputs → Outputs → Result (Unit {0}) Fault → Type 0
+PutFinishedResult r before after (Ok u) = IsPrinted r before after
+PutFinishedResult r before after (Err (Write path)) = (path.now ≡ before.output.path) × IsPartlyPrinted r before after
+PutFinishedResult r before after (Err Memory) = AreUnwritten before after
+PutFinishedResult r before after (Err _) = ⊥
 
 -- ---- the status
 
@@ -119,12 +116,43 @@ IsFinishedStatus r status = IsStatusOf r.addresses.items r.meta status
 
 -- ---- saving
 
--- the octets of the saved file, or why there is none
+-- the octets are the saved file of what is known
+abbrev pub IsSavedOf : Finished → List ℕ → Type 0
+IsSavedOf r octets = IsSaved r.names r.meta.pool.knowledge octets
+
+-- an element of the saved file would pass the limits
+abbrev pub PassesLimits : Finished → Type 0
+PassesLimits r = HasTooDeep r.names r.meta.pool.knowledge ⊎ HasTooLong r.names r.meta.pool.knowledge
+
+-- the octets of the saved file, or why there are none; the file at the path is refused only if they pass the limits
 abbrev pub SavedOctetsResult : List ℕ → Finished → Result (List ℕ) Fault → Type 0
-SavedOctetsResult path r (Ok octets) = IsSaved r.names r.meta.pool.knowledge octets
-SavedOctetsResult path r (Err (Write told)) = told.now ≡ path
+SavedOctetsResult path r (Ok octets) = IsSavedOf r octets
+SavedOctetsResult path r (Err (Write told)) = (told.now ≡ path) × PassesLimits r
 SavedOctetsResult path r (Err Memory) = Unit {0}
 SavedOctetsResult path r (Err _) = ⊥
+
+-- the file at the path could not be made or written
+abbrev pub IsUnmade : List ℕ → Fault → Type 0
+IsUnmade path (Write told) = told.now ≡ path
+IsUnmade path _ = ⊥
+
+-- the octets that such files hold are always known
+abbrev pub AreFilesKnown : {M : Type 0} → (M → Option (List ℕ)) → Type 0
+AreFilesKnown {M} contents = (file : M) → (octets : List ℕ) × (contents file ≡ Some octets)
+
+-- the file holds these octets and no others, if what such files hold is known
+abbrev pub Holds : {M : Type 0} → (M → Option (List ℕ)) → M → List ℕ → Type 0
+Holds contents file octets = AreFilesKnown contents → contents file ≡ Some octets
+
+-- no file was made if no path is given; else one that holds the octets of the saved file
+abbrev pub IsMade : {M : Type 0} → (M → Option (List ℕ)) → Finished → Option (List ℕ) → Option M → Type 0
+IsMade contents r None None = Unit {0}
+IsMade contents r (Some path) (Some file) = (octets : List ℕ) × IsSavedOf r octets × Holds contents file octets
+IsMade contents r saved made = ⊥
+
+-- if a path is given, a file was made that holds the octets of the saved file; `contents` are those of such files
+abbrev pub HasSavedFile : {M : Type 0} → (M → Option (List ℕ)) → Finished → Option (List ℕ) → Type 0
+HasSavedFile {M} contents r saved = (made : Option M) × IsMade contents r saved made
 
 -- the facts are to be saved at some path
 abbrev pub IsToBeSaved : Option (List ℕ) → Type 0
@@ -141,15 +169,23 @@ IsOfSaving saved _ = ⊥
 
 -- the list was written, the failed connections reported and the facts saved; or which of these was not done
 abbrev pub FinishResult
-    : Finished → Option (List ℕ) → Device → Device → Device → Device → Result Status Fault → Type 0
-FinishResult r saved output printed errors told (Ok status) =
-    IsPrinted r output printed errors told × IsFinishedStatus r status
-FinishResult r saved output printed errors told (Err (Write path)) =
-    (IsPrinted r output printed errors told × (saved ≡ Some path.now))
-    ⊎ ((path.now ≡ output.path) × HasStopped output printed r.list.items × (told ≡ errors))
-FinishResult r saved output printed errors told (Err Memory) =
-    (IsUnchanged output printed × (told ≡ errors)) ⊎ (IsPrinted r output printed errors told × IsToBeSaved saved)
-FinishResult r saved output printed errors told (Err _) = ⊥
+    : {M : Type 0} → (M → Option (List ℕ)) → Finished → Option (List ℕ) → Outputs → Outputs → Result Status Fault
+    → Type 0
+FinishResult contents r saved before after (Ok status) =
+    IsPrinted r before after × IsFinishedStatus r status × HasSavedFile contents r saved
+FinishResult contents r saved before after (Err (Write path)) = (IsPrinted r before after × (saved ≡ Some path.now))
+    ⊎ ((path.now ≡ before.output.path) × IsPartlyPrinted r before after)
+FinishResult contents r saved before after (Err Memory) =
+    AreUnwritten before after ⊎ (IsPrinted r before after × IsToBeSaved saved)
+FinishResult contents r saved before after (Err _) = ⊥
+
+-- the streams, the saved file and the status after finished connections; `between` is standard error before a fault
+-- is reported
+abbrev pub AfterFinished
+    : {M : Type 0} → (M → Option (List ℕ)) → Finished → Option (List ℕ) → Outputs → Outputs → Status → Type 0
+AfterFinished contents r saved before after status = (answer : Result Status Fault) × (between : Device)
+    × FinishResult contents r saved before (record after { errors = between }) answer
+    × AfterEnd answer between after.errors status
 
 -- ---- a command that asks
 
@@ -167,35 +203,25 @@ IsOfSearchedWorld path Wanted = Unit {0}
 IsOfSearchedWorld path Syntax = Unit {0}
 IsOfSearchedWorld path f = IsOfWorld path f
 
--- The result of a command that asks, and the devices after it. Its end was done, or a part of it; or a fault came
--- before anything was written.
-abbrev pub Conclusion : (Result Finished Fault → Type 0) → Option (List ℕ)
-    → Device → Device → Device → Device → Result Status Fault → Type 0
-Conclusion says saved output printed errors told (Ok status) =
-    (r : Finished) × says (Ok r) × FinishResult r saved output printed errors told (Ok status)
-Conclusion says saved output printed errors told (Err (Write path)) =
-    (r : Finished) × says (Ok r) × FinishResult r saved output printed errors told (Err (Write path))
-Conclusion says saved output printed errors told (Err Memory) =
-    (IsUnchanged output printed × (told ≡ errors))
-    ⊎ ((r : Finished) × says (Ok r) × IsPrinted r output printed errors told × IsToBeSaved saved)
-Conclusion says saved output printed errors told (Err f) = says (Err f) × IsUnchanged output printed × (told ≡ errors)
+-- the streams, the saved file and the status after the questions were asked with this result: its end, or nothing but
+-- the fault
+abbrev pub AfterAsked
+    : {M : Type 0} → (M → Option (List ℕ)) → Result Finished Fault → Option (List ℕ) → Outputs → Outputs → Status
+    → Type 0
+AfterAsked contents (Ok r) saved before after status = AfterFinished contents r saved before after status
+AfterAsked contents (Err f) saved before after status =
+    (after.output ≡ before.output) × AfterEnd (Err f) before.errors after.errors status
 
--- the path that a fault names: the world file, the stream of the list if it failed, or the saved file
-abbrev pub IsOfPaths : List ℕ → Option (List ℕ) → Device → Result Status Fault → Type 0
-IsOfPaths world saved printed (Err (Read told)) = told.now ≡ world
-IsOfPaths world saved printed (Err (Write told)) =
-    ((told.now ≡ printed.path) × (printed.has_failed ≡ true)) ⊎ (saved ≡ Some told.now)
-IsOfPaths world saved printed _ = Unit {0}
-
--- the devices and the status after a command, by the paths of the world file and the saved file, and the world
+-- the streams and the status after a command, by the paths of the world file and the saved file, and the world
 -- file's octets
 abbrev pub Command : Type 1
-Command = List ℕ → Option (List ℕ) → Option (List ℕ) → Device → Device → Device → Device → Status → Type 0
+Command = List ℕ → Option (List ℕ) → Option (List ℕ) → Outputs → Outputs → Status → Type 0
 
--- the devices and the status after a command with these results; the fault that stopped it was reported
+-- the streams, the saved file and the status after a command that asks with these results, by the octets of the world
+-- file, and with these faults, by its path; `contents` are those of files that the command makes
 abbrev pub AfterCommand
-    : (List ℕ → Option (List ℕ) → Device → Device → Device → Device → Result Status Fault → Type 0) → Command
-AfterCommand says world saved file output printed errors told status = (answer : Result Status Fault)
-    × (between : Device) × (status ≡ end_status answer)
-    × IfSome file (λ octets. says octets saved output printed errors between answer)
-    × IsOfPaths world saved printed answer × AfterReport between told answer
+    : {M : Type 0} → (M → Option (List ℕ)) → (List ℕ → Result Finished Fault → Type 0) → (List ℕ → Fault → Type 0)
+    → Command
+AfterCommand contents says faults world saved file before after status = (asked : Result Finished Fault)
+    × IfSome file (λ octets. says octets asked) × IfErr asked (faults world)
+    × AfterAsked contents asked saved before after status

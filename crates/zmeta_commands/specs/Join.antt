@@ -8,8 +8,7 @@ use Rattle.zknow.specs.Known.{HasFailure}
 use Rattle.zmeta_commands.specs.Views.{printed}
 use Rattle.zknow.specs.Saved.Saved.{IsSaved}
 use Rattle.zknow.specs.Saved.Loaded.{IsNotKnowledge, IsNotCanonical}
-use Rattle.zmeta_commands.specs.Faults.{end_status}
-use Rattle.zmeta_commands.specs.Devices.{Device, IsUnchanged, HasGained, PutFailure, AfterReport}
+use Rattle.zmeta_commands.specs.Devices.{Device, Outputs, IsUnchanged, HasGained, PutFailure, AfterEnd}
 use Rattle.zmeta_commands.specs.declared.fault.Fault.{Fault}
 use Rattle.zmeta_commands.specs.declared.fault.Fault.TheVariants.{Read, Write, NotKnowledge, NotCanonical}
 use Rattle.zmeta_commands.specs.declared.fault.Fault.TheVariants.{NamesDiffer, Memory}
@@ -130,8 +129,8 @@ JoinResult view octets paths old new (Err (Write told)) = (facts : List Fact) ×
 JoinResult view octets paths old new (Err Memory) = IsUnchanged old new
 JoinResult view octets paths old new (Err f) = IsRefusedAmong octets paths f × IsUnchanged old new
 
--- the devices and the status after `join`
-abbrev pub AfterJoin
-    : View → (List ℕ → Option (List ℕ)) → List (List ℕ) → Device → Device → Device → Device → Status → Type 0
-AfterJoin view octets paths output printed errors told status = (answer : Result Status Fault)
-    × (status ≡ end_status answer) × JoinResult view octets paths output printed answer × AfterReport errors told answer
+-- the streams and the status after `join`
+abbrev pub AfterJoin : View → (List ℕ → Option (List ℕ)) → List (List ℕ) → Outputs → Outputs → Status → Type 0
+AfterJoin view octets paths before after status = (answer : Result Status Fault)
+    × JoinResult view octets paths before.output after.output answer
+    × AfterEnd answer before.errors after.errors status

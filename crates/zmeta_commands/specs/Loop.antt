@@ -4,12 +4,10 @@ use Rattle.zmeta_args.specs.declared.arguments.View.{View}
 use Rattle.zmeta_world.specs.declared.in_memory.InMemoryRun.{InMemoryRun}
 use Rattle.zmeta_world.specs.Search.{SearchTexts}
 use Rattle.zmeta_commands.specs.Worlds.{IsSearchRefusal}
-use Rattle.zmeta_commands.specs.Devices.{Device}
 use Rattle.zmeta_commands.specs.declared.fault.Fault.{Fault}
 use Rattle.zmeta_commands.specs.declared.fault.Fault.TheVariants.{Read, Line, Query, Wanted, Syntax, Serve, Memory}
-use Rattle.zmeta_commands.specs.declared.fault.Status.{Status}
 use Rattle.zmeta_commands.specs.declared.finished.Finished.{Finished}
-use Rattle.zmeta_commands.specs.Finished.{Conclusion, Command, AfterCommand}
+use Rattle.zmeta_commands.specs.Finished.{Command, AfterCommand}
 use Rattle.zmeta_commands.specs.Run.{IsInMemoryFile, IsLineAtFault, IsFileRun}
 
 -- the connections could not be made, or no memory was found
@@ -42,12 +40,6 @@ LoopFileResult search view file (Err Serve) = HasInMemoryRun search file
 LoopFileResult search view file (Err Memory) = Unit {0}
 LoopFileResult search view file (Err f) = IsSearchRefusal search f
 
--- the result of `loop`, and the devices after it
-abbrev pub LoopResult : SearchTexts → View → List ℕ → Option (List ℕ)
-    → Device → Device → Device → Device → Result Status Fault → Type 0
-LoopResult search view file saved output printed errors told answer =
-    Conclusion (LoopFileResult search view file) saved output printed errors told answer
-
--- the devices and the status after `loop`
-abbrev pub AfterLoop : SearchTexts → View → Command
-AfterLoop search view = AfterCommand (LoopResult search view)
+-- the streams, the saved file and the status after `loop`, by the contents of files that it makes
+abbrev pub AfterLoop : {M : Type 0} → (M → Option (List ℕ)) → SearchTexts → View → Command
+AfterLoop contents search view = AfterCommand contents (LoopFileResult search view) IsOfLoop

@@ -9,8 +9,8 @@ use Rattle.zquery.specs.Notation.Texts.{IsText, IsTextFault}
 use Rattle.zquery.specs.Notation.Printing.{query_text}
 use Rattle.zquery.specs.Element.Type1.{WritesQuery}
 use Rattle.zquery.specs.Element.Type1Reading.{query_spelling}
-use Rattle.zmeta_commands.specs.Faults.{result_status}
-use Rattle.zmeta_commands.specs.Devices.{Device, IsUnchanged, HasGained, HasStopped, AfterReport}
+use Rattle.zmeta_commands.specs.Faults.{as_done}
+use Rattle.zmeta_commands.specs.Devices.{Device, Outputs, IsUnchanged, HasGained, HasStopped, AfterEnd}
 use Rattle.zmeta_commands.specs.declared.fault.Fault.{Fault}
 use Rattle.zmeta_commands.specs.declared.fault.Fault.TheVariants.{Write, Query, Memory}
 use Rattle.zmeta_commands.specs.declared.fault.Status.{Status}
@@ -57,8 +57,7 @@ PqfResult text old new (Err (Write path)) =
     (path.now ≡ old.path) × ((lines : List ℕ) × AreLinesOf text lines × HasStopped old new lines)
 PqfResult text old new (Err _) = ⊥
 
--- the devices and the status after `pqf`
-abbrev pub AfterPqf : List ℕ → Device → Device → Device → Device → Status → Type 0
-AfterPqf text output printed errors told status =
-    (answer : Result (Unit {0}) Fault) × (status ≡ result_status answer) × PqfResult text output printed answer
-    × AfterReport errors told answer
+-- the streams and the status after `pqf`
+abbrev pub AfterPqf : List ℕ → Outputs → Outputs → Status → Type 0
+AfterPqf text before after status = (answer : Result (Unit {0}) Fault)
+    × PqfResult text before.output after.output answer × AfterEnd (as_done answer) before.errors after.errors status

@@ -12,9 +12,7 @@ use Rattle.zmeta_args.specs.Texts.{texts_of}
 use Rattle.zmeta_world.specs.Search.{dotted_syntax}
 use Rattle.zmeta_commands.specs.Catalogues.{IsOfCatalogues}
 use Rattle.zmeta_commands.specs.Choice.{AreAllKnown, IsFirstUnknown}
-use Rattle.zmeta_commands.specs.Faults.{end_status}
-use Rattle.zmeta_commands.specs.Devices.{Device, IsUnchanged, HasGained, HasStopped, AfterReport}
-use Rattle.zmeta_commands.specs.Finished.{AfterTellLines}
+use Rattle.zmeta_commands.specs.Devices.{Device, Outputs, HasGained, HasStopped, AreUnwritten, AfterTellLines, AfterEnd}
 use Rattle.zmeta_commands.specs.Join.{AreJoined, IsRefusedAmong, IsKnownStatus}
 use Rattle.zmeta_commands.specs.declared.records.Extract.{Extract}
 use Rattle.zmeta_commands.specs.declared.fault.Fault.{Fault}
@@ -24,19 +22,20 @@ use Rattle.zmeta_commands.specs.declared.fault.Status.{Status}
 -- ---- the record syntax that is asked for
 
 -- the object identifier that the text is, or that it names, if there is a text
-abbrev pub IsSyntax : Option (List ℕ) → Option (List ℕ) → Type 0
-IsSyntax None None = Unit {0}
-IsSyntax (Some text) (Some oid) = DottedResult (dotted_syntax text) (Ok oid)
-IsSyntax _ _ = ⊥
+abbrev pub IsChosenSyntax : Option (List ℕ) → Option (List ℕ) → Type 0
+IsChosenSyntax None None = Unit {0}
+IsChosenSyntax (Some text) (Some oid) = DottedResult (dotted_syntax text) (Ok oid)
+IsChosenSyntax _ _ = ⊥
 
 -- the text is no object identifier, and names none
 abbrev pub IsNoOid : Option (List ℕ) → List ℕ → Type 0
 IsNoOid None told = ⊥
-IsNoOid (Some text) told = (told ≡ text) × (e : OidError) × (e ≢ oids.Memory) × DottedResult (dotted_syntax text) (Err e)
+IsNoOid (Some text) told =
+    (told ≡ text) × (e : OidError) × (e ≢ oids.Memory) × DottedResult (dotted_syntax text) (Err e)
 
 -- the object identifier of the text, or why it is refused
 abbrev pub SyntaxResult : Option (List ℕ) → Result (Option (List ℕ)) Fault → Type 0
-SyntaxResult text (Ok oid) = IsSyntax text oid
+SyntaxResult text (Ok oid) = IsChosenSyntax text oid
 SyntaxResult text (Err (NotOid told)) = IsNoOid text told.now
 SyntaxResult text (Err Memory) = Unit {0}
 SyntaxResult text (Err _) = ⊥
@@ -60,28 +59,28 @@ left_text left =
 
 -- the names of the catalogues, or none for all; the record syntax by its text, or any; and whether all records of a
 -- position that has several are written
-pub record Wanted : Type 0 where
+pub record WantedRecords : Type 0 where
   pub only : List (List ℕ)
   pub syntax : Option (List ℕ)
   pub conflicts : Bool
 
 -- the records that are asked for
-abbrev pub extract : Extract → Wanted
-extract e = record { only = texts_of e.only.now; syntax = option_map (λ text. text.now) e.syntax; conflicts = e.conflicts }
+abbrev pub extract : Extract → WantedRecords
+extract e =
+    record { only = texts_of e.only.now; syntax = option_map (λ text. text.now) e.syntax; conflicts = e.conflicts }
 
 -- the octets were written and the lines reported; or the stream failed
-abbrev pub PutRecordsResult
-    : List ℕ → List ℕ → Device → Device → Device → Device → Result (Unit {0}) Fault → Type 0
-PutRecordsResult text lines output printed errors told (Ok u) =
-    HasGained output printed text × AfterTellLines errors told lines
-PutRecordsResult text lines output printed errors told (Err (Write path)) =
-    (path.now ≡ output.path) × HasStopped output printed text × (told ≡ errors)
-PutRecordsResult text lines output printed errors told (Err _) = ⊥
+abbrev pub PutRecordsResult : List ℕ → List ℕ → Outputs → Outputs → Result (Unit {0}) Fault → Type 0
+PutRecordsResult text lines before after (Ok u) =
+    HasGained before.output after.output text × AfterTellLines before.errors after.errors lines
+PutRecordsResult text lines before after (Err (Write path)) = (path.now ≡ before.output.path)
+    × HasStopped before.output after.output text × (after.errors ≡ before.errors)
+PutRecordsResult text lines before after (Err _) = ⊥
 
 -- these are the facts about the chosen catalogues that the files at these paths have together, and this is the record
 -- syntax asked for
 pub record IsExtract
-    (octets : List ℕ → Option (List ℕ)) (paths : List (List ℕ)) (e : Wanted) (facts : List Fact)
+    (octets : List ℕ → Option (List ℕ)) (paths : List (List ℕ)) (e : WantedRecords) (facts : List Fact)
     (oid : Option (List ℕ))
     : Type 0 where
   pub names : List (List ℕ)
@@ -89,7 +88,7 @@ pub record IsExtract
   pub joined : AreJoined octets names paths all
   pub known : AreAllKnown e.only names
   pub chosen : IsOfCatalogues e.only names all facts
-  pub syntax : IsSyntax e.syntax oid
+  pub syntax : IsChosenSyntax e.syntax oid
 
 -- the name is the first that no catalogue of the files at these paths has
 abbrev pub HasNoCatalogue
@@ -100,27 +99,25 @@ HasNoCatalogue octets paths only name =
 -- The result of `records`: the octets and what was left out, or a front of the octets if the stream failed. Nothing
 -- was written if a file, the record syntax or a name is refused, or no memory was found.
 abbrev pub RecordsResult
-    : Wanted → (List ℕ → Option (List ℕ)) → List (List ℕ) → Device → Device → Device → Device
-    → Result Status Fault → Type 0
-RecordsResult e octets paths output printed errors told (Ok status) = (facts : List Fact) × (oid : Option (List ℕ))
+    : WantedRecords → (List ℕ → Option (List ℕ)) → List (List ℕ) → Outputs → Outputs → Result Status Fault → Type 0
+RecordsResult e octets paths before after (Ok status) = (facts : List Fact) × (oid : Option (List ℕ))
     × IsExtract octets paths e facts oid × IsKnownStatus facts status
-    × HasGained output printed (records_octets oid e.conflicts facts)
-    × AfterTellLines errors told (left_text (left_out oid e.conflicts facts))
-RecordsResult e octets paths output printed errors told (Err (Write path)) =
+    × HasGained before.output after.output (records_octets oid e.conflicts facts)
+    × AfterTellLines before.errors after.errors (left_text (left_out oid e.conflicts facts))
+RecordsResult e octets paths before after (Err (Write path)) =
     (facts : List Fact) × (oid : Option (List ℕ))
-    × IsExtract octets paths e facts oid × (path.now ≡ output.path)
-    × HasStopped output printed (records_octets oid e.conflicts facts) × (told ≡ errors)
-RecordsResult e octets paths output printed errors told (Err (NotOid text)) =
-    IsNoOid e.syntax text.now × IsUnchanged output printed × (told ≡ errors)
-RecordsResult e octets paths output printed errors told (Err (NoCatalogue name)) =
-    HasNoCatalogue octets paths e.only name.now × IsUnchanged output printed × (told ≡ errors)
-RecordsResult e octets paths output printed errors told (Err Memory) = IsUnchanged output printed × (told ≡ errors)
-RecordsResult e octets paths output printed errors told (Err f) =
-    IsRefusedAmong octets paths f × IsUnchanged output printed × (told ≡ errors)
+    × IsExtract octets paths e facts oid × (path.now ≡ before.output.path)
+    × HasStopped before.output after.output (records_octets oid e.conflicts facts) × (after.errors ≡ before.errors)
+RecordsResult e octets paths before after (Err (NotOid text)) =
+    IsNoOid e.syntax text.now × AreUnwritten before after
+RecordsResult e octets paths before after (Err (NoCatalogue name)) =
+    HasNoCatalogue octets paths e.only name.now × AreUnwritten before after
+RecordsResult e octets paths before after (Err Memory) = AreUnwritten before after
+RecordsResult e octets paths before after (Err f) = IsRefusedAmong octets paths f × AreUnwritten before after
 
--- the devices and the status after `records`
+-- the streams and the status after `records`; `between` is standard error before a fault is reported
 abbrev pub AfterRecords
-    : Wanted → (List ℕ → Option (List ℕ)) → List (List ℕ) → Device → Device → Device → Device → Status → Type 0
-AfterRecords e octets paths output printed errors told status = (answer : Result Status Fault) × (between : Device)
-    × (status ≡ end_status answer) × RecordsResult e octets paths output printed errors between answer
-    × AfterReport between told answer
+    : WantedRecords → (List ℕ → Option (List ℕ)) → List (List ℕ) → Outputs → Outputs → Status → Type 0
+AfterRecords e octets paths before after status = (answer : Result Status Fault) × (between : Device)
+    × RecordsResult e octets paths before (record after { errors = between }) answer
+    × AfterEnd answer between after.errors status

@@ -8,13 +8,11 @@ use Rattle.zmeta_world.specs.Search.{SearchTexts}
 use Rattle.zmeta_world.specs.InMemoryRuns.{IsInMemoryRun, IsFirstHostLine}
 use Rattle.zoom.specs.Run.{IsRun}
 use Rattle.zoom.specs.RunRounds.{IsCompleteRun}
-use Rattle.zmeta_commands.specs.Devices.{Device}
 use Rattle.zmeta_commands.specs.declared.fault.Fault.{Fault}
 use Rattle.zmeta_commands.specs.declared.fault.Fault.TheVariants.{Read, Line, Memory}
-use Rattle.zmeta_commands.specs.declared.fault.Status.{Status}
 use Rattle.zmeta_commands.specs.declared.finished.Finished.{Finished}
 use Rattle.zmeta_commands.specs.Worlds.{IsSearchedFile, IsSearchRefusal}
-use Rattle.zmeta_commands.specs.Finished.{asker, IsListed, Conclusion, Command, AfterCommand}
+use Rattle.zmeta_commands.specs.Finished.{asker, IsListed, IsOfSearchedWorld, Command, AfterCommand}
 
 -- ---- the world of a file
 
@@ -64,12 +62,6 @@ RunFileResult search view file (Err f) = IsSearchRefusal search f
 
 -- ---- the command
 
--- the result of `run`, and the devices after it
-abbrev pub RunResult : SearchTexts → View → List ℕ → Option (List ℕ)
-    → Device → Device → Device → Device → Result Status Fault → Type 0
-RunResult search view file saved output printed errors told answer =
-    Conclusion (RunFileResult search view file) saved output printed errors told answer
-
--- the devices and the status after `run`
-abbrev pub AfterRun : SearchTexts → View → Command
-AfterRun search view = AfterCommand (RunResult search view)
+-- the streams, the saved file and the status after `run`, by the contents of files that it makes
+abbrev pub AfterRun : {M : Type 0} → (M → Option (List ℕ)) → SearchTexts → View → Command
+AfterRun contents search view = AfterCommand contents (RunFileResult search view) IsOfSearchedWorld

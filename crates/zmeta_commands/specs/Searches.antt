@@ -21,14 +21,14 @@ abbrev pub terms_shown : List Term → List (List ℕ × List ℕ)
 terms_shown terms = map (λ term. (term.attr.now, term.text.now)) terms
 
 -- terms under this Use attribute
-abbrev pub under : List ℕ → List (List ℕ) → List (List ℕ × List ℕ)
-under attr texts = map (λ text. (attr, text)) texts
+abbrev pub terms_under : List ℕ → List (List ℕ) → List (List ℕ × List ℕ)
+terms_under attr texts = map (λ text. (attr, text)) texts
 
 -- the terms of the options: titles, authors, subjects, ISBNs, and words from anywhere
 abbrev pub terms_of : SearchOptions → List (List ℕ × List ℕ)
-terms_of s = under (codes "4") (texts_of s.titles.items) ++ under (codes "1003") (texts_of s.authors.items)
-    ++ under (codes "21") (texts_of s.subjects.items) ++ under (codes "7") (texts_of s.isbns.items)
-    ++ under (codes "1016") (texts_of s.words.items)
+terms_of s = terms_under (codes "4") (texts_of s.titles.items) ++ terms_under (codes "1003") (texts_of s.authors.items)
+    ++ terms_under (codes "21") (texts_of s.subjects.items) ++ terms_under (codes "7") (texts_of s.isbns.items)
+    ++ terms_under (codes "1016") (texts_of s.any.items)
 
 -- this many operators
 abbrev pub ands : ℕ → List ℕ

@@ -12,8 +12,8 @@ use Rattle.zapdu.specs.declared.apdu.Kind.{Kind}
 use Rattle.zapdu.specs.Writes.{Writes, IsNoApdu, IsMalformed}
 use Rattle.zmeta_commands.specs.Digits.{octets_of}
 use Rattle.zapdu_lines.specs.Lines.{apdu_text}
-use Rattle.zmeta_commands.specs.Faults.{result_status}
-use Rattle.zmeta_commands.specs.Devices.{Device, IsUnchanged, HasGained, HasStopped, IsOfStream, AfterReport}
+use Rattle.zmeta_commands.specs.Faults.{as_done}
+use Rattle.zmeta_commands.specs.Devices.{Device, Streams, IsUnchanged, HasGained, HasStopped, IsOfStream, AfterEnd}
 use Rattle.zmeta_commands.specs.declared.fault.Fault.{Fault}
 use Rattle.zmeta_commands.specs.declared.fault.Fault.TheVariants.{Read, Write, Hex, Frame, NotApdu, Malformed, Memory}
 use Rattle.zmeta_commands.specs.declared.fault.Status.{Status}
@@ -22,7 +22,8 @@ use Rattle.zmeta_commands.specs.declared.fault.Status.{Status}
 pub data ShownText : List ℕ → List ℕ → Result (Unit {0}) Fault → Type 0 where
   nothing_left : ShownText [] [] (Ok tt)
   apdu : {xs rest text : List ℕ} {e : Element} {end : Result (Unit {0}) Fault} (v : Apdu)
-      → HasFirstMessage MESSAGE_LIMIT xs e rest → Writes v e → ShownText rest text end → ShownText xs (apdu_text v ++ text) end
+      → HasFirstMessage MESSAGE_LIMIT xs e rest → Writes v e → ShownText rest text end
+      → ShownText xs (apdu_text v ++ text) end
   fault : {xs : List ℕ} {kind : FaultKind} {at : ℕ} → HasFault MESSAGE_LIMIT xs kind at
       → ShownText xs [] (Err (Frame kind at))
   unfinished : {xs : List ℕ}
@@ -55,8 +56,9 @@ ShowResult digits old new (Err (Write path)) = HasShownFront digits old new
 ShowResult digits old new (Err Memory) = IsUnchanged old new
 ShowResult digits old new answer = ShowDigitsResult digits old new answer
 
--- the devices and the status after `show`
-abbrev pub AfterShow : Device → Device → Device → Device → Device → Device → Status → Type 0
-AfterShow input rest output printed errors told status = (answer : Result (Unit {0}) Fault)
-    × (status ≡ result_status answer) × IfSome input.known (λ digits. ShowResult digits output printed answer)
-    × (rest.path ≡ input.path) × IsOfStream rest printed answer × AfterReport errors told answer
+-- the streams and the status after `show`
+abbrev pub AfterShow : Streams → Streams → Status → Type 0
+AfterShow before after status = (answer : Result (Unit {0}) Fault)
+    × IfSome before.input.known (λ digits. ShowResult digits before.output after.output answer)
+    × (after.input.path ≡ before.input.path) × IsOfStream after.input after.output answer
+    × AfterEnd (as_done answer) before.errors after.errors status

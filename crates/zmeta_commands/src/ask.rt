@@ -4,40 +4,39 @@ ghost use Rattle.std.specs.Prelude.{◌≡◌, ◌<◌, ◌^◌, length, IfOk, I
 ghost use Rattle.std.specs.Option.{option_map};
 ghost use Rattle.zoom.specs.Askable.{AreAskable, AreFit};
 ghost use Rattle.zoom.specs.Asking.{is_present, IsAsked};
-ghost use Rattle.zmeta_commands.specs.Devices.{output_device};
-ghost use Rattle.zmeta_commands.specs.Finished.{HasNames, IsOfPaths, IsOfSearchedWorld};
+ghost use Rattle.zmeta_commands.specs.Devices.{outputs};
+ghost use Rattle.zmeta_commands.specs.Finished.{HasNames, IsOfSearchedWorld};
 ghost use Rattle.zmeta_commands.specs.Choice.{manner};
-ghost use Rattle.zmeta_world.specs.Search.{search_texts};
 ghost use Rattle.zmeta_commands.specs.Searches.{search_of};
-ghost use Rattle.zmeta_commands.specs.Ask.{ReadNetworkResult, CanBeAsked, AskNetworkResult, AskFileResult, AskResult, IsOfAsking, AfterAsk};
+ghost use Rattle.zmeta_commands.specs.Ask.{ReadNetworkResult, CanBeAsked, AskNetworkResult, AskFileResult, IsOfAsking, AfterAsk};
 
 use crate::choice::{Choice, addresses_of};
 use crate::fault::{Fault, Status};
-use crate::files::{Folder, file_at};
-use crate::finished::{Finished, NAME, Paths, finish};
-use crate::input::Input;
+use crate::files::Folder;
+use crate::finished::{Finished, NAME, Paths, conclude};
 use crate::output::Output;
 use crate::progress::Progress;
-use crate::searches::copy_search;
-use crate::worlds::searched_world;
+use crate::worlds::world_at;
 use bytes::Bytes;
 use std::alloc::{AllocError, Global};
-use std::io::{Read, Write};
+use std::io::Write;
 use std::net::Net;
 use std::time::Clock;
 use zmeta_args::{SearchOptions, View};
 use zmeta_world::network::NetworkRun;
-use zmeta_world::search::Search;
 use zoom::{Limits, Meta, MetaSettings, Question, Watch, ask, ask_at_once};
 
-/// Puts each chosen question of a world file to its host over TCP, and prints the list of the facts. The hosts are
-/// asked at once or one after the other, as `choice` says.
+/// Puts each chosen question of a world file to its host over TCP, and prints what is known: as the list, the view
+/// for readers or lines of JSON, as `view` says. The hosts are asked at once or one after the other, as `choice` says.
+/// If `search` has a query, wanted positions, an element set or a syntax, it replaces that of every question.
 ///
-/// Writes a line on `errors` for each connection that failed, and saves the facts if a path is given. If there is
-/// no list, or it was not saved, writes the reason on `errors`.
+/// Writes a line on `errors` for each connection that failed. If `paths` has a path `saved`, then makes a saved file of
+/// the facts there, and returns `Done` or `Failed` only if the file holds them all. If nothing is printed or not all is
+/// saved, writes the reason on `errors`.
 ///
-/// Returns `Failed` if a search, an association or a connection failed, a host closed a connection first, or a
-/// chosen question was not asked. While it asks, it writes its progress on `screen`, if there is one.
+/// Returns `Refused` if a file or a stream failed, `errors` too. Else returns `Failed` if a search, an association or a
+/// connection failed, a host closed a connection first, or a chosen question was not asked. While it asks, it writes
+/// its progress on `screen`, if there is one.
 pub fn ask_named<'a, 'o: 'a, S: Folder + Net + Clock, W: Write, E: Write, P: Write + Drop>(
     alloc: Global,
     system: &'a S,
@@ -49,85 +48,47 @@ pub fn ask_named<'a, 'o: 'a, S: Folder + Net + Clock, W: Write, E: Write, P: Wri
     output: &mut Output<'o, W>,
     errors: &mut Output<'_, E>,
 ) -> Status
-    ensures { AfterAsk (manner choice.entry) (search_of search.now) view paths.entry.world.now
+    ensures { AfterAsk S.Made.contents (manner choice.entry) (search_of search.now) view paths.entry.world.now
         (option_map (λ path. path.now) paths.entry.saved)
-        (S.octets system.now paths.entry.world.now) (output_device W.contents output.old)
-        (output_device W.contents output.new)
-        (output_device E.contents errors.old) (output_device E.contents errors.new) result }
+        (S.octets system.now paths.entry.world.now) (outputs W.contents E.contents output.old errors.old)
+        (outputs W.contents E.contents output.new errors.new) result }
 {
-    match ask_paths(
-        alloc, system, paths, choice, search, view, screen, output, errors,
-    ) {
-        Ok(status) => status,
-        Err(fault) => fault.report(errors),
-    }
+    let asked = ask_file(alloc, system, paths.world, choice, search, view, screen);
+    conclude(alloc, system, asked, paths.saved, output, errors)
 }
 
-/// Asks, prints the list, reports the failed connections, and saves.
-fn ask_paths<'a, 'o: 'a, S: Folder + Net + Clock, W: Write, E: Write, P: Write + Drop>(
+/// Asks the hosts of the file at a path.
+fn ask_file<'a, S: Folder + Net + Clock, P: Write + Drop>(
     alloc: Global,
     system: &'a S,
-    paths: Paths<'a>,
+    path: &'a str,
     choice: Choice<'a, '_>,
     search: &SearchOptions<'_>,
     view: View,
     screen: Option<P>,
-    output: &mut Output<'o, W>,
-    errors: &mut Output<'_, E>,
-) -> Result<Status, Fault<'a>>
-    ensures asks { IfSome (S.octets system.now paths.entry.world.now)
-        (λ octets. AskResult (manner choice.entry) (search_of search.now) view octets (option_map (λ path. path.now) paths.entry.saved)
-        (output_device W.contents output.old) (output_device W.contents output.new)
-        (output_device E.contents errors.old) (output_device E.contents errors.new) result) }
-    ensures paths { IsOfPaths paths.entry.world.now (option_map (λ path. path.now) paths.entry.saved)
-        (output_device W.contents output.new) result }
-{
-    let search = copy_search(alloc, search)?;
-    let mut world = file_at(system, paths.world);
-    let finished = ask_file(
-        alloc,
-        system,
-        &mut world,
-        choice,
-        &search.texts(),
-        view,
-        screen,
-    )?;
-    let answer = finish(alloc, system, &finished, paths.saved, output, errors);
-    drop(finished);
-    answer
-}
-
-/// Asks the hosts of a file.
-fn ask_file<'a, N: Net + Clock, R: Read, P: Write + Drop>(
-    alloc: Global,
-    net: &N,
-    file: &mut Input<'a, R>,
-    choice: Choice<'a, '_>,
-    search: &Search<'_>,
-    view: View,
-    screen: Option<P>,
 ) -> Result<Finished, Fault<'a>>
-    ensures asked { IfSome (R.remaining file.old.reader)
-        (λ octets. AskFileResult (manner choice.entry) (search_texts search.now) view octets result) }
+    ensures asked { IfSome (S.octets system.now path.entry.now)
+        (λ octets. AskFileResult (manner choice.entry) (search_of search.now) view octets result) }
     ensures sound { IfOk result HasNames }
-    ensures path { IfErr result (IsOfAsking file.old.path.now) }
+    ensures path { IfErr result (IsOfAsking path.entry.now) }
 {
-    let network = read_network(alloc, file, search)?;
-    ask_network(alloc, net, network, choice, view, screen)
+    let network = read_network(alloc, system, path, search)?;
+    ask_network(alloc, system, network, choice, view, screen)
 }
 
-/// Reads a file, puts the search to its questions, and plans a network run of its world.
-fn read_network<'a, R: Read>(
+/// Reads the file at a path, puts the search to its questions, and plans a network run of its world.
+fn read_network<'a, F: Folder>(
     alloc: Global,
-    file: &mut Input<'a, R>,
-    search: &Search<'_>,
+    files: &'a F,
+    path: &'a str,
+    search: &SearchOptions<'_>,
 ) -> Result<NetworkRun, Fault<'a>>
-    ensures network { IfSome (R.remaining file.old.reader) (λ octets. ReadNetworkResult (search_texts search.now) octets result) }
+    ensures network { IfSome (F.octets files.now path.entry.now)
+        (λ octets. ReadNetworkResult (search_of search.now) octets result) }
     ensures fit { IfOk result CanBeAsked }
-    ensures path { IfErr result (IsOfSearchedWorld file.old.path.now) }
+    ensures path { IfErr result (IsOfSearchedWorld path.entry.now) }
 {
-    let world = searched_world(alloc, file, search)?;
+    let world = world_at(alloc, files, path, search)?;
     let name = Bytes::copy_from_slice(alloc, NAME)?;
     Ok(world.network(alloc, name)?)
 }

@@ -3,7 +3,7 @@
 ghost use Rattle.std.specs.Prelude.{◌≡◌, [], IfOk, OnOk};
 ghost use Rattle.zknow.specs.Facts.{fact_target, AreFacts};
 ghost use Rattle.zmeta_args.specs.Texts.{texts_of};
-ghost use Rattle.zmeta_commands.specs.Catalogues.{is_of, IsOfCatalogues, CataloguesResult};
+ghost use Rattle.zmeta_commands.specs.Catalogues.{is_of_chosen, IsOfCatalogues, CataloguesResult};
 
 use crate::choice::{first_unknown, is_picked};
 use crate::fault::Fault;
@@ -23,8 +23,8 @@ fn target_of(fact: &Fact) -> u32
 }
 
 /// Returns whether the fact is about a catalogue whose name is among `only`, or `only` is empty.
-fn is_of(only: &[&str], names: &Names, fact: &Fact) -> bool
-    ensures { result ≡ is_of (texts_of only.now) names.now fact.now }
+fn is_of_chosen(only: &[&str], names: &Names, fact: &Fact) -> bool
+    ensures { result ≡ is_of_chosen (texts_of only.now) names.now fact.now }
 {
     match names.as_slice().get(target_of(fact) as usize) {
         Some(name) => is_picked(only, name.as_slice()),
@@ -44,7 +44,7 @@ fn add_facts(
     ensures { OnOk result (IsOfCatalogues (texts_of only.now) names.now facts.now chosen.new) }
 {
     for fact in facts {
-        if is_of(only, names, fact) {
+        if is_of_chosen(only, names, fact) {
             chosen.add(fact)?;
         }
     }

@@ -1,6 +1,6 @@
 //! From the arguments of the command line to the command that they ask for.
 ghost use Rattle.std.specs.Prelude.{◌≡◌, Err, IfErr, IfOk, MatchResult, map, string_bytes};
-ghost use Rattle.zmeta_commands.specs.Devices.{input_device, output_device};
+ghost use Rattle.zmeta_commands.specs.Devices.{output_device, outputs, streams};
 ghost use Rattle.zmeta_commands.specs.Arguments.{AfterCall, AfterArguments, AfterUsage, IsWrong};
 
 use crate::ask::ask_named;
@@ -42,11 +42,10 @@ pub fn run<'a, S: Folder + Net + Clock, R: Read, W: Write, E: Write, P: Write + 
     errors: &mut Output<'a, E>,
     screen: Option<P>,
 ) -> Status
-    ensures done { IfOk arguments.entry (λ arguments. AfterArguments (S.octets system.now)
+    ensures done { IfOk arguments.entry (λ arguments. AfterArguments S.Made.contents (S.octets system.now)
         (map string_bytes arguments.now)
-        (input_device R.remaining input.old) (input_device R.remaining input.new)
-        (output_device W.contents output.old) (output_device W.contents output.new)
-        (output_device E.contents errors.old) (output_device E.contents errors.new) result) }
+        (streams R.remaining W.contents E.contents input.old output.old errors.old)
+        (streams R.remaining W.contents E.contents input.new output.new errors.new) result) }
     ensures wrong { IfErr arguments.entry (λ _. IsWrong result) }
     ensures memory { arguments.entry ≡ Err ErrorKind.OutOfMemory → result ≡ Status.Memory }
     ensures silent { IfErr arguments.entry (λ _. output_device W.contents output.new
@@ -69,10 +68,9 @@ fn run_arguments<'a, S: Folder + Net + Clock, R: Read, W: Write, E: Write, P: Wr
     errors: &mut Output<'a, E>,
     screen: Option<P>,
 ) -> Status
-    ensures { AfterArguments (S.octets system.now) (map string_bytes arguments.now)
-        (input_device R.remaining input.old) (input_device R.remaining input.new)
-        (output_device W.contents output.old) (output_device W.contents output.new)
-        (output_device E.contents errors.old) (output_device E.contents errors.new) result }
+    ensures { AfterArguments S.Made.contents (S.octets system.now) (map string_bytes arguments.now)
+        (streams R.remaining W.contents E.contents input.old output.old errors.old)
+        (streams R.remaining W.contents E.contents input.new output.new errors.new) result }
 {
     let asked = parse(alloc, arguments);
     answer(alloc, system, asked, input, output, errors, screen)
@@ -89,16 +87,15 @@ fn answer<'a, S: Folder + Net + Clock, R: Read, W: Write, E: Write, P: Write + D
     screen: Option<P>,
 ) -> Status
     ensures { MatchResult asked.entry
-        (λ asked. AfterCall (S.octets system.now) asked (input_device R.remaining input.old) (input_device R.remaining input.new)
-        (output_device W.contents output.old) (output_device W.contents output.new)
-        (output_device E.contents errors.old) (output_device E.contents errors.new) result)
-        (λ error. (input.new ≡ input.old) × AfterUsage error (output_device W.contents output.old)
-        (output_device W.contents output.new)
-        (output_device E.contents errors.old) (output_device E.contents errors.new) result) }
+        (λ asked. AfterCall S.Made.contents (S.octets system.now) asked
+        (streams R.remaining W.contents E.contents input.old output.old errors.old)
+        (streams R.remaining W.contents E.contents input.new output.new errors.new) result)
+        (λ error. (input.new ≡ input.old) × AfterUsage error (outputs W.contents E.contents output.old errors.old)
+        (outputs W.contents E.contents output.new errors.new) result) }
 {
     match asked {
         Ok(asked) => call(alloc, system, asked, input, output, errors, screen),
-        Err(error) => tell(&error, output, errors),
+        Err(error) => tell(alloc, &error, output, errors),
     }
 }
 
@@ -117,7 +114,7 @@ fn refuse<'a, W: Write, E: Write>(
         return Fault::Memory.report(errors);
     }
     match odd_arguments(alloc) {
-        Ok(error) => tell(&error, output, errors),
+        Ok(error) => tell(alloc, &error, output, errors),
         Err(_) => Fault::Memory.report(errors),
     }
 }
@@ -132,9 +129,9 @@ fn call<'a, S: Folder + Net + Clock, R: Read, W: Write, E: Write, P: Write + Dro
     errors: &mut Output<'a, E>,
     screen: Option<P>,
 ) -> Status
-    ensures { AfterCall (S.octets system.now) asked.entry (input_device R.remaining input.old) (input_device R.remaining input.new)
-        (output_device W.contents output.old) (output_device W.contents output.new)
-        (output_device E.contents errors.old) (output_device E.contents errors.new) result }
+    ensures { AfterCall S.Made.contents (S.octets system.now) asked.entry
+        (streams R.remaining W.contents E.contents input.old output.old errors.old)
+        (streams R.remaining W.contents E.contents input.new output.new errors.new) result }
 {
     match asked {
         Arguments::Show => show(alloc, input, output, errors),

@@ -1,7 +1,7 @@
 //! Why a command stopped, and the status that it ends with.
 ghost use Rattle.std.specs.Prelude.{◌≡◌, Some};
-ghost use Rattle.zmeta_commands.specs.Faults.{code_of, status_of, fault_text, of_frame, of_apdu, of_query, of_print, of_build, of_load, of_world, of_search, of_serve};
-ghost use Rattle.zmeta_commands.specs.Devices.{output_device, AfterTell};
+ghost use Rattle.zmeta_commands.specs.Faults.{code_of, status_of, own_status, as_done, fault_text, of_frame, of_apdu, of_query, of_print, of_build, of_load, of_world, of_search, of_serve};
+ghost use Rattle.zmeta_commands.specs.Devices.{output_device, AfterTell, AfterEnd};
 ghost use Rattle.zmeta_commands.specs.declared.fault.Fault.TheVariants.{Memory};
 
 use crate::output::Output;
@@ -16,7 +16,8 @@ use zmeta_world::world::WorldError;
 use zoom::ServeError;
 use zquery::{BuildError, PqfError, PqfErrorKind, PrintError};
 
-/// How a command ends. If several apply, `Memory` comes before `Refused`, and `Refused` before `Failed`.
+/// How a command ends. If several apply, `Memory` comes before `Refused`, and `Refused` before `Failed`. With wrong
+/// arguments no command runs, so `Arguments` stands alone.
 #[derive(Clone, Copy, Debug, PartialEq, Eq)]
 pub enum Status {
     /// The command did all of its work.
@@ -25,7 +26,7 @@ pub enum Status {
     Failed,
     /// The arguments of the command line are wrong.
     Arguments,
-    /// Input was refused, or a file, a stream or a listening socket failed.
+    /// Input was refused, or a file, a stream (standard error too) or a listening socket failed.
     Refused,
     /// No memory was found.
     Memory,
@@ -42,6 +43,19 @@ impl Status {
             Status::Arguments => 2,
             Status::Refused => 3,
             Status::Memory => 4,
+        }
+    }
+
+    /// Returns the status of a command that would end with this one, by whether standard error failed.
+    fn after_errors(self, has_failed: bool) -> Status
+        ensures { result ≡ own_status has_failed self }
+    {
+        if !has_failed {
+            return self;
+        }
+        match self {
+            Status::Memory => Status::Memory,
+            _ => Status::Refused,
         }
     }
 }
@@ -259,9 +273,35 @@ impl Fault<'_> {
     /// be written.
     pub fn report<E: Write>(&self, errors: &mut Output<'_, E>) -> Status
         ensures status { result ≡ status_of self.now }
-        ensures reported { AfterTell (output_device E.contents errors.old) (output_device E.contents errors.new) self.now }
+        ensures reported { AfterTell (output_device E.contents errors.old)
+            (output_device E.contents errors.new) self.now }
     {
         errors.tell(self);
         self.status()
+    }
+}
+
+/// Ends a command: reports the fault that stopped it, and returns its status. That is `Refused` if a write of
+/// `errors` failed, unless it is `Memory`.
+pub(crate) fn end<E: Write>(answer: Result<Status, Fault<'_>>, errors: &mut Output<'_, E>) -> Status
+    ensures { AfterEnd answer.entry (output_device E.contents errors.old) (output_device E.contents errors.new) result }
+{
+    match answer {
+        Ok(status) => status.after_errors(errors.has_failed),
+        Err(fault) => fault.report(errors),
+    }
+}
+
+/// Ends a command that has no other status than `Done` unless a fault stops it.
+pub(crate) fn end_done<E: Write>(
+    answer: Result<(), Fault<'_>>,
+    errors: &mut Output<'_, E>,
+) -> Status
+    ensures { AfterEnd (as_done answer.entry) (output_device E.contents errors.old)
+        (output_device E.contents errors.new) result }
+{
+    match answer {
+        Ok(()) => end(Ok(Status::Done), errors),
+        Err(fault) => end(Err(fault), errors),
     }
 }

@@ -21,7 +21,7 @@ pub trait Folder {
     fn open(&self, path: &str) -> io::Result<Self::File>
         ensures { IfOk result (λ file. Self.File.remaining file ≡ octets self.now path.now) };
 
-    /// Creates an empty file at a path for writing.
+    /// Creates an empty file at a path for writing. A file that is there already is emptied.
     fn create(&self, path: &str) -> io::Result<Self::Made>
         ensures { IfOk result (λ file. IfSome (Self.Made.contents file) (λ octets. octets ≡ [])) };
 }

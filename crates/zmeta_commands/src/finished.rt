@@ -1,12 +1,12 @@
 //! The end of a command that asks: prints the list, reports failed connections, and saves the facts.
 
-ghost use Rattle.std.specs.Prelude.{IfOk, IfErr, MatchResult};
+ghost use Rattle.std.specs.Prelude.{◌≡◌, IfOk, IfErr, MatchResult, Ok, Err};
 ghost use Rattle.std.specs.Option.{option_map};
-ghost use Rattle.zmeta_commands.specs.Devices.{output_device};
-ghost use Rattle.zmeta_commands.specs.Finished.{HasNames, IsListed, PutFinishedResult, IsOfSaving, SavedOctetsResult, FinishResult};
+ghost use Rattle.zmeta_commands.specs.Devices.{outputs};
+ghost use Rattle.zmeta_commands.specs.Finished.{HasNames, IsListed, PutFinishedResult, IsOfSaving, SavedOctetsResult, IsUnmade, Holds, IsMade, FinishResult, AfterAsked};
 
 use crate::failures::failure_lines;
-use crate::fault::{Fault, Status};
+use crate::fault::{Fault, Status, end};
 use crate::files::Folder;
 use crate::output::Output;
 use crate::trouble::finished_status;
@@ -74,36 +74,16 @@ fn put_finished<'o, W: Write, E: Write>(
     errors: &mut Output<'_, E>,
 ) -> Result<(), Fault<'o>>
     requires { HasNames finished.now }
-    ensures { PutFinishedResult finished.now (output_device W.contents output.old) (output_device W.contents output.new)
-        (output_device E.contents errors.old) (output_device E.contents errors.new) result }
+    ensures { PutFinishedResult finished.now (outputs W.contents E.contents output.old errors.old)
+        (outputs W.contents E.contents output.new errors.new) result }
 {
     let lines = failure_lines(alloc, &finished.meta, finished.names.as_slice())?;
     output.put(finished.list.as_slice())?;
-    // A failure to write these lines is only recorded in `errors`.
-    let _ = errors.put(lines.as_slice());
+    errors.put_lines(lines.as_slice());
     Ok(())
 }
 
-/// Saves the facts if a path is given.
-fn save_finished<'a, F: Folder>(
-    alloc: Global,
-    files: &F,
-    path: Option<&'a str>,
-    finished: &Finished,
-) -> Result<(), Fault<'a>>
-    ensures { IfErr result (IsOfSaving (option_map (λ path. path.now) path.entry)) }
-{
-    let Some(path) = path else {
-        return Ok(());
-    };
-    let octets = saved_octets(alloc, path, finished)?;
-    match files.create(path) {
-        Ok(file) => Output::new(path, file).put(octets.as_slice()),
-        Err(_) => Err(Fault::Write(path)),
-    }
-}
-
-/// Returns the octets of the saved file. `Write` with its path if the elements pass their limits.
+/// Returns the octets of the saved file. `Write` with its path if an element passes the limits, else only `Memory`.
 fn saved_octets<'a>(alloc: Global, path: &'a str, finished: &Finished) -> Result<Vec<u8>, Fault<'a>>
     ensures { MatchResult result (λ octets. SavedOctetsResult path.entry.now finished.now (Ok octets.items))
         (λ fault. SavedOctetsResult path.entry.now finished.now (Err fault)) }
@@ -116,13 +96,54 @@ fn saved_octets<'a>(alloc: Global, path: &'a str, finished: &Finished) -> Result
         &mut octets,
     ) {
         Ok(()) => Ok(octets),
+        Err(SaveError::TooDeep) => Err(Fault::Write(path)),
+        Err(SaveError::TooLong) => Err(Fault::Write(path)),
         Err(SaveError::Memory) => Err(Fault::Memory),
-        Err(_) => Err(Fault::Write(path)),
     }
 }
 
-/// Prints the list, reports the failed connections, and saves the facts if a path is given.
-pub(crate) fn finish<'a, 'o: 'a, F: Folder, W: Write, E: Write>(
+/// Makes a file that holds these octets. `Write` with its path if it cannot be made or written.
+///
+/// An older file at the path is lost. So the caller has the octets in memory first, and `Memory` empties no file.
+fn make_file<'a, F: Folder>(files: &F, path: &'a str, octets: &[u8]) -> Result<F::Made, Fault<'a>>
+    ensures made { IfOk result (λ file. Holds F.Made.contents file octets.now) }
+    ensures refused { IfErr result (IsUnmade path.entry.now) }
+{
+    let Ok(file) = files.create(path) else {
+        return Err(Fault::Write(path));
+    };
+    let mut made = Output::new(path, file);
+    made.put(octets)?;
+    let Output {
+        path: _,
+        writer,
+        has_failed: _,
+    } = made;
+    Ok(writer)
+}
+
+/// Saves the facts if a path is given, and returns the file that it makes.
+fn save_finished<'a, F: Folder>(
+    alloc: Global,
+    files: &F,
+    path: Option<&'a str>,
+    finished: &Finished,
+) -> Result<Option<F::Made>, Fault<'a>>
+    ensures made { IfOk result (IsMade F.Made.contents finished.now (option_map (λ path. path.now) path.entry)) }
+    ensures refused { IfErr result (IsOfSaving (option_map (λ path. path.now) path.entry)) }
+{
+    let Some(path) = path else {
+        return Ok(None);
+    };
+    let octets = saved_octets(alloc, path, finished)?;
+    let file = make_file(files, path, octets.as_slice())?;
+    Ok(Some(file))
+}
+
+/// Prints the list, reports the failed connections, and then saves the facts if a path is given.
+///
+/// Returns the status, if standard error does not fail.
+fn finish<'a, 'o: 'a, F: Folder, W: Write, E: Write>(
     alloc: Global,
     files: &F,
     finished: &Finished,
@@ -131,11 +152,39 @@ pub(crate) fn finish<'a, 'o: 'a, F: Folder, W: Write, E: Write>(
     errors: &mut Output<'_, E>,
 ) -> Result<Status, Fault<'a>>
     requires { HasNames finished.now }
-    ensures { FinishResult finished.now (option_map (λ path. path.now) saved.entry)
-        (output_device W.contents output.old) (output_device W.contents output.new)
-        (output_device E.contents errors.old) (output_device E.contents errors.new) result }
+    ensures { FinishResult F.Made.contents finished.now (option_map (λ path. path.now) saved.entry)
+        (outputs W.contents E.contents output.old errors.old)
+        (outputs W.contents E.contents output.new errors.new) result }
 {
     put_finished(alloc, finished, output, errors)?;
-    save_finished(alloc, files, saved, finished)?;
+    let made = save_finished(alloc, files, saved, finished)?;
+    drop(made);
     Ok(finished_status(finished))
+}
+
+/// Ends a command that asked with this result: prints the list, reports the failed connections and saves the facts, or
+/// reports the fault. `run`, `ask` and `loop` all end here.
+///
+/// If all was done and a path is given, a file was made that holds the octets of the saved file.
+pub(crate) fn conclude<'a, 'o: 'a, F: Folder, W: Write, E: Write>(
+    alloc: Global,
+    files: &F,
+    asked: Result<Finished, Fault<'a>>,
+    saved: Option<&'a str>,
+    output: &mut Output<'o, W>,
+    errors: &mut Output<'_, E>,
+) -> Status
+    requires { IfOk asked HasNames }
+    ensures { AfterAsked F.Made.contents asked.entry (option_map (λ path. path.now) saved.entry)
+        (outputs W.contents E.contents output.old errors.old)
+        (outputs W.contents E.contents output.new errors.new) result }
+{
+    match asked {
+        Ok(finished) => {
+            let ended = finish(alloc, files, &finished, saved, output, errors);
+            drop(finished);
+            end(ended, errors)
+        }
+        Err(fault) => end(Err(fault), errors),
+    }
 }

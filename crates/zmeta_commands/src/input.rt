@@ -1,7 +1,7 @@
 //! Streams that are read to their end.
-ghost use Rattle.std.specs.Prelude.{◌≡◌, ◌≤◌, ◌*◌, ◌⊎◌, IfOk, IfSome, IfErr, OnOk, Err, vec_len, true, false};
+ghost use Rattle.std.specs.Prelude.{◌≡◌, ◌≤◌, ◌*◌, ◌⊎◌, IfOk, IfSome, IfErr, OnOk, Err, length, vec_len, true, false};
 ghost use Rattle.std.specs.Io.KnownBytes.{IsAtEnd};
-ghost use Rattle.zmeta_commands.specs.Input.{HasLostFront};
+ghost use Rattle.zmeta_commands.specs.Input.{HasLostFront, ReadPieceResult};
 
 use crate::fault::Fault;
 use std::alloc::Global;
@@ -9,6 +9,9 @@ use std::io::Read;
 
 /// The most reads of one stream.
 const READS: u32 = 1_000_000;
+
+/// The most octets of one read.
+const PIECE: usize = 4_096;
 
 /// A stream that is read, and whether a read of it failed.
 #[derive(Drop)]
@@ -74,9 +77,9 @@ fn read_pieces<'a, R: Read>(
     ensures err { IfErr result (λ f. (f ≡ Fault.Read path.entry) ⊎ (f ≡ Fault.Memory)) }
 {
     let mut octets = Vec::new(alloc);
-    let mut piece = [0u8; 4096];
+    let mut piece = [0u8; PIECE];
     for _ in 0..READS {
-        let Ok(count) = reader.read(&mut piece) else {
+        let Some(count) = read_piece(reader, &mut piece) else {
             return Err(Fault::Read(path));
         };
         if count == 0 {
@@ -85,4 +88,16 @@ fn read_pieces<'a, R: Read>(
         octets.extend_from_slice(&piece[..count])?;
     }
     Err(Fault::Read(path))
+}
+
+/// Reads a piece of at most 4,096 octets, and returns how many came: 0 only at the end, `None` if the read failed.
+fn read_piece<R: Read>(reader: &mut R, piece: &mut [u8]) -> Option<usize>
+    requires { length piece.old ≡ 4096 }
+    ensures bound { IfSome result (λ count. count ≤ 4096) }
+    ensures bytes { ReadPieceResult (R.remaining reader.old) (R.remaining reader.new) piece.new result }
+{
+    match reader.read(piece) {
+        Ok(count) => Some(count),
+        Err(_) => None,
+    }
 }

@@ -2,11 +2,11 @@
 ghost use Rattle.std.specs.Prelude.{◌≡◌, ◌↔◌, ◌∷◌, IsTrue, IfSome, IfErr, Result};
 ghost use Rattle.zmeta_args.specs.Texts.{texts_of};
 ghost use Rattle.zmeta_commands.specs.Join.{IsKnownStatus, LoadFileResult, LoadNamedResult, LoadAllResult, AbsorbNamedResult, AbsorbAllResult, IsOfFile, PutListResult, JoinResult, AfterJoin};
-ghost use Rattle.zmeta_commands.specs.Devices.{output_device};
+ghost use Rattle.zmeta_commands.specs.Devices.{output_device, outputs};
 ghost use Rattle.zmeta_commands.specs.declared.fault.Fault.{Fault};
 ghost use Rattle.zmeta_commands.specs.declared.fault.Status.{Status};
 
-use crate::fault::{Fault, Status};
+use crate::fault::{Fault, Status, end};
 use crate::files::{Folder, file_at};
 use crate::input::Input;
 use crate::output::Output;
@@ -32,13 +32,11 @@ pub fn join_named<'a, 'o: 'a, F: Folder, W: Write, E: Write>(
     errors: &mut Output<'_, E>,
 ) -> Status
     ensures { AfterJoin view (F.octets files.now) (first.entry.now ∷ texts_of others.now)
-        (output_device W.contents output.old) (output_device W.contents output.new)
-        (output_device E.contents errors.old) (output_device E.contents errors.new) result }
+        (outputs W.contents E.contents output.old errors.old)
+        (outputs W.contents E.contents output.new errors.new) result }
 {
-    match join_files(alloc, files, first, others, view, output) {
-        Ok(status) => status,
-        Err(fault) => fault.report(errors),
-    }
+    let answer = join_files(alloc, files, first, others, view, output);
+    end(answer, errors)
 }
 
 /// Prints the list, and returns the status.

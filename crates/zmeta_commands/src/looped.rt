@@ -2,31 +2,30 @@
 
 ghost use Rattle.std.specs.Prelude.{IfOk, IfErr, IfSome};
 ghost use Rattle.std.specs.Option.{option_map};
-ghost use Rattle.zmeta_commands.specs.Devices.{output_device};
-ghost use Rattle.zmeta_commands.specs.Finished.{HasNames, IsOfPaths};
-ghost use Rattle.zmeta_world.specs.Search.{search_texts};
+ghost use Rattle.zmeta_commands.specs.Devices.{outputs};
+ghost use Rattle.zmeta_commands.specs.Finished.{HasNames};
 ghost use Rattle.zmeta_commands.specs.Searches.{search_of};
-ghost use Rattle.zmeta_commands.specs.Loop.{IsOfNetwork, IsOfLoop, LoopFileResult, LoopResult, AfterLoop};
+ghost use Rattle.zmeta_commands.specs.Loop.{IsOfNetwork, IsOfLoop, LoopFileResult, AfterLoop};
 ghost use Rattle.zmeta_world.specs.InMemoryRuns.{CanBeRun};
 ghost use Rattle.zmeta_commands.specs.Run.{IsListedRun};
 
 use crate::fault::{Fault, Status};
-use crate::files::{Folder, file_at};
-use crate::finished::{Finished, Paths, finish};
-use crate::input::Input;
+use crate::files::Folder;
+use crate::finished::{Finished, Paths, conclude};
 use crate::output::Output;
 use crate::run::read_in_memory;
-use crate::searches::copy_search;
 use std::alloc::Global;
-use std::io::{Read, Write};
+use std::io::Write;
 use std::net::Net;
 use zmeta_args::{SearchOptions, View};
 use zmeta_world::in_memory::InMemoryRun;
-use zmeta_world::search::Search;
 use zoom::run_loopback;
 
-/// As `run_named`, but each connection goes over TCP on 127.0.0.1, with both of its ends in this process. The
-/// moves of the file are ignored.
+/// Puts the questions of a world file to its targets, as `run_named` does, but each connection goes over TCP on
+/// 127.0.0.1, with both of its ends in this process. The moves of the file are ignored.
+///
+/// `search`, `view` and the path `saved` mean what they mean in `run_named`, and so does the status. If a connection
+/// cannot be made, prints nothing and writes the reason on `errors`.
 pub fn loop_named<'a, 'o: 'a, S: Folder + Net, W: Write, E: Write>(
     alloc: Global,
     system: &'a S,
@@ -36,56 +35,30 @@ pub fn loop_named<'a, 'o: 'a, S: Folder + Net, W: Write, E: Write>(
     output: &mut Output<'o, W>,
     errors: &mut Output<'_, E>,
 ) -> Status
-    ensures { AfterLoop (search_of search.now) view paths.entry.world.now (option_map (λ path. path.now) paths.entry.saved)
-        (S.octets system.now paths.entry.world.now) (output_device W.contents output.old)
-        (output_device W.contents output.new)
-        (output_device E.contents errors.old) (output_device E.contents errors.new) result }
+    ensures { AfterLoop S.Made.contents (search_of search.now) view paths.entry.world.now
+        (option_map (λ path. path.now) paths.entry.saved)
+        (S.octets system.now paths.entry.world.now) (outputs W.contents E.contents output.old errors.old)
+        (outputs W.contents E.contents output.new errors.new) result }
 {
-    match loop_paths(alloc, system, paths, search, view, output, errors) {
-        Ok(status) => status,
-        Err(fault) => fault.report(errors),
-    }
+    let asked = loop_file(alloc, system, paths.world, search, view);
+    conclude(alloc, system, asked, paths.saved, output, errors)
 }
 
-/// Runs the world, prints the list, reports the failed connections, and saves.
-fn loop_paths<'a, 'o: 'a, S: Folder + Net, W: Write, E: Write>(
+/// Runs the world of the file at a path.
+fn loop_file<'a, S: Folder + Net>(
     alloc: Global,
     system: &'a S,
-    paths: Paths<'a>,
+    path: &'a str,
     search: &SearchOptions<'_>,
     view: View,
-    output: &mut Output<'o, W>,
-    errors: &mut Output<'_, E>,
-) -> Result<Status, Fault<'a>>
-    ensures loops { IfSome (S.octets system.now paths.entry.world.now)
-        (λ octets. LoopResult (search_of search.now) view octets (option_map (λ path. path.now) paths.entry.saved)
-        (output_device W.contents output.old) (output_device W.contents output.new)
-        (output_device E.contents errors.old) (output_device E.contents errors.new) result) }
-    ensures paths { IsOfPaths paths.entry.world.now (option_map (λ path. path.now) paths.entry.saved)
-        (output_device W.contents output.new) result }
-{
-    let search = copy_search(alloc, search)?;
-    let mut world = file_at(system, paths.world);
-    let finished = loop_file(alloc, system, &mut world, &search.texts(), view)?;
-    let answer = finish(alloc, system, &finished, paths.saved, output, errors);
-    drop(finished);
-    answer
-}
-
-/// Runs the world of a file.
-fn loop_file<'a, N: Net, R: Read>(
-    alloc: Global,
-    net: &N,
-    file: &mut Input<'a, R>,
-    search: &Search<'_>,
-    view: View,
 ) -> Result<Finished, Fault<'a>>
-    ensures ran { IfSome (R.remaining file.old.reader) (λ octets. LoopFileResult (search_texts search.now) view octets result) }
+    ensures ran { IfSome (S.octets system.now path.entry.now)
+        (λ octets. LoopFileResult (search_of search.now) view octets result) }
     ensures sound { IfOk result HasNames }
-    ensures path { IfErr result (IsOfLoop file.old.path.now) }
+    ensures path { IfErr result (IsOfLoop path.entry.now) }
 {
-    let run = read_in_memory(alloc, file, search)?;
-    loop_in_memory(alloc, net, run, view)
+    let run = read_in_memory(alloc, system, path, search)?;
+    loop_in_memory(alloc, system, run, view)
 }
 
 /// Runs a planned world, and makes its list.

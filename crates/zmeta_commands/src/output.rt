@@ -1,7 +1,7 @@
 //! Streams that are written.
 ghost use Rattle.std.specs.Prelude.{◌≡◌, ◌≤◌, OnOk, IfSome, IfErr, true, false, length};
 ghost use Rattle.std.specs.Io.KnownBytes.{Appends};
-ghost use Rattle.zmeta_commands.specs.Devices.{output_device, WritePiecesResult, PutResult, AfterTell};
+ghost use Rattle.zmeta_commands.specs.Devices.{output_device, WritePiecesResult, PutResult, AfterTell, AfterTellLines};
 ghost use Rattle.zmeta_commands.specs.Pieces.{WritePieceResult};
 
 use crate::fault::Fault;
@@ -43,6 +43,17 @@ impl<'a, W: Write> Output<'a, W> {
         }
         self.has_failed = true;
         Err(Fault::Write(self.path))
+    }
+
+    /// Writes lines that report what a command did not do. A failure only sets `has_failed`: the command goes on, and
+    /// `Refused` is its status at the end.
+    pub(crate) fn put_lines(&mut self, lines: &[u8])
+        ensures { AfterTellLines (output_device W.contents self.old) (output_device W.contents self.new) lines.now }
+    {
+        if write_pieces(&mut self.writer, lines) {
+            return;
+        }
+        self.has_failed = true;
     }
 
     /// Writes the line that reports a fault. A failure only sets `has_failed`.

@@ -5,9 +5,9 @@ ghost use Rattle.zquery.specs.Notation.Printing.{query_text};
 ghost use Rattle.zquery.specs.Element.Type1.{WritesQuery};
 ghost use Rattle.zquery.specs.Element.Type1Reading.{query_spelling};
 ghost use Rattle.zmeta_commands.specs.Pqf.{IsQueryOf, element_text, PutBothResult, PutQueryResult, PqfResult, AfterPqf};
-ghost use Rattle.zmeta_commands.specs.Devices.{output_device};
+ghost use Rattle.zmeta_commands.specs.Devices.{output_device, outputs};
 
-use crate::fault::{Fault, Status};
+use crate::fault::{Fault, Status, end_done};
 use crate::output::Output;
 use std::alloc::{AllocError, Global};
 use std::io::Write;
@@ -26,13 +26,11 @@ pub fn pqf<W: Write, E: Write>(
     output: &mut Output<'_, W>,
     errors: &mut Output<'_, E>,
 ) -> Status
-    ensures { AfterPqf text.now (output_device W.contents output.old) (output_device W.contents output.new)
-        (output_device E.contents errors.old) (output_device E.contents errors.new) result }
+    ensures { AfterPqf text.now (outputs W.contents E.contents output.old errors.old)
+        (outputs W.contents E.contents output.new errors.new) result }
 {
-    match pqf_text(alloc, text.as_bytes(), output) {
-        Ok(()) => Status::Done,
-        Err(fault) => fault.report(errors),
-    }
+    let answer = pqf_text(alloc, text.as_bytes(), output);
+    end_done(answer, errors)
 }
 
 fn pqf_text<'a, W: Write>(

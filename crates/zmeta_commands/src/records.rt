@@ -2,13 +2,13 @@
 
 ghost use Rattle.std.specs.Prelude.{◌≡◌, ◌++◌, ◌∷◌, IfOk, OnOk, Ok, Err};
 ghost use Rattle.std.specs.Option.{option_map};
-ghost use Rattle.zmeta_commands.specs.Devices.{output_device};
+ghost use Rattle.zmeta_commands.specs.Devices.{outputs};
 ghost use Rattle.zknow_records.specs.Records.{records_octets, left_out};
 ghost use Rattle.zmeta_args.specs.Texts.{texts_of};
 ghost use Rattle.zmeta_commands.specs.Records.{SyntaxResult, left_line, left_text, extract, PutRecordsResult, RecordsResult, AfterRecords};
 
 use crate::catalogues::facts_of;
-use crate::fault::{Fault, Status};
+use crate::fault::{Fault, Status, end};
 use crate::files::Folder;
 use crate::join::{known_status, load_all};
 use crate::output::Output;
@@ -46,7 +46,8 @@ pub struct SavedFiles<'a, 'w> {
 /// If a file is refused, the syntax is not an object identifier, or no catalogue has a given name, writes the reason on
 /// `errors` and nothing else.
 ///
-/// Returns `Failed` if a search or an association of the chosen catalogues failed.
+/// Returns `Refused` if a file, the syntax or a name is refused, or a stream failed, `errors` too. Else returns
+/// `Failed` if a search or an association of the chosen catalogues failed.
 pub fn records_named<'a, 'o: 'a, F: Folder, W: Write, E: Write>(
     alloc: Global,
     files: &'a F,
@@ -57,13 +58,11 @@ pub fn records_named<'a, 'o: 'a, F: Folder, W: Write, E: Write>(
 ) -> Status
     ensures { AfterRecords (extract wanted.entry) (F.octets files.now)
         (saved.entry.first.now ∷ texts_of saved.entry.others.now)
-        (output_device W.contents output.old) (output_device W.contents output.new)
-        (output_device E.contents errors.old) (output_device E.contents errors.new) result }
+        (outputs W.contents E.contents output.old errors.old)
+        (outputs W.contents E.contents output.new errors.new) result }
 {
-    match records_files(alloc, files, saved, wanted, output, errors) {
-        Ok(status) => status,
-        Err(fault) => fault.report(errors),
-    }
+    let answer = records_files(alloc, files, saved, wanted, output, errors);
+    end(answer, errors)
 }
 
 /// Writes the records, reports what was left out, and returns the status.
@@ -77,8 +76,8 @@ fn records_files<'a, 'o: 'a, F: Folder, W: Write, E: Write>(
 ) -> Result<Status, Fault<'a>>
     ensures { RecordsResult (extract wanted.entry) (F.octets files.now)
         (saved.entry.first.now ∷ texts_of saved.entry.others.now)
-        (output_device W.contents output.old) (output_device W.contents output.new)
-        (output_device E.contents errors.old) (output_device E.contents errors.new) result }
+        (outputs W.contents E.contents output.old errors.old)
+        (outputs W.contents E.contents output.new errors.new) result }
 {
     let syntax = syntax_of(alloc, wanted.syntax)?;
     let known = load_all(alloc, files, saved.first, saved.others)?;
@@ -167,12 +166,10 @@ fn put_records<'o, W: Write, E: Write>(
     output: &mut Output<'o, W>,
     errors: &mut Output<'_, E>,
 ) -> Result<(), Fault<'o>>
-    ensures { PutRecordsResult octets.now lines.now (output_device W.contents output.old)
-        (output_device W.contents output.new)
-        (output_device E.contents errors.old) (output_device E.contents errors.new) result }
+    ensures { PutRecordsResult octets.now lines.now (outputs W.contents E.contents output.old errors.old)
+        (outputs W.contents E.contents output.new errors.new) result }
 {
     output.put(octets)?;
-    // A failure to write these lines is only recorded in `errors`.
-    let _ = errors.put(lines);
+    errors.put_lines(lines);
     Ok(())
 }

@@ -2,35 +2,34 @@
 
 ghost use Rattle.std.specs.Prelude.{IfOk, IfErr, IfSome};
 ghost use Rattle.std.specs.Option.{option_map};
-ghost use Rattle.zmeta_commands.specs.Devices.{output_device};
-ghost use Rattle.zmeta_commands.specs.Finished.{HasNames, IsOfPaths, IsOfSearchedWorld};
+ghost use Rattle.zmeta_commands.specs.Devices.{outputs};
+ghost use Rattle.zmeta_commands.specs.Finished.{HasNames, IsOfSearchedWorld};
 ghost use Rattle.zmeta_world.specs.InMemoryRuns.{CanBeRun};
-ghost use Rattle.zmeta_world.specs.Search.{search_texts};
 ghost use Rattle.zmeta_commands.specs.Searches.{search_of};
-ghost use Rattle.zmeta_commands.specs.Run.{ReadInMemoryResult, IsCompleteListedRun, RunFileResult, RunResult, AfterRun};
+ghost use Rattle.zmeta_commands.specs.Run.{ReadInMemoryResult, IsCompleteListedRun, RunFileResult, AfterRun};
 
 use crate::fault::{Fault, Status};
-use crate::files::{Folder, file_at};
-use crate::finished::{Finished, NAME, Paths, finish};
-use crate::input::Input;
+use crate::files::Folder;
+use crate::finished::{Finished, NAME, Paths, conclude};
 use crate::output::Output;
-use crate::searches::copy_search;
-use crate::worlds::searched_world;
+use crate::worlds::world_at;
 use bytes::Bytes;
 use std::alloc::{AllocError, Global};
-use std::io::{Read, Write};
+use std::io::Write;
 use zmeta_args::{SearchOptions, View};
 use zmeta_world::in_memory::InMemoryRun;
-use zmeta_world::search::Search;
 use zoom::{InMemory, run_over};
 
-/// Puts the questions of a world file to its targets in memory, and prints the list of the facts.
+/// Puts the questions of a world file to its targets in memory, and prints what is known: as the list, the view for
+/// readers or lines of JSON, as `view` says. If `search` has a query, wanted positions, an element set or a syntax, it
+/// replaces that of every question.
 ///
-/// Writes a line on `errors` for each connection that failed, and saves the facts if a path is given. If there is
-/// no list, or it was not saved, writes the reason on `errors`.
+/// Writes a line on `errors` for each connection that failed. If `paths` has a path `saved`, then makes a saved file of
+/// the facts there, and returns `Done` or `Failed` only if the file holds them all. If nothing is printed or not all is
+/// saved, writes the reason on `errors`.
 ///
-/// Returns `Failed` if a search, an association or a connection failed, a target closed a connection first, or a
-/// question was not asked.
+/// Returns `Refused` if a file or a stream failed, `errors` too. Else returns `Failed` if a search, an association or a
+/// connection failed, a target closed a connection first, or a question was not asked.
 pub fn run_named<'a, 'o: 'a, F: Folder, W: Write, E: Write>(
     alloc: Global,
     files: &'a F,
@@ -40,68 +39,45 @@ pub fn run_named<'a, 'o: 'a, F: Folder, W: Write, E: Write>(
     output: &mut Output<'o, W>,
     errors: &mut Output<'_, E>,
 ) -> Status
-    ensures { AfterRun (search_of search.now) view paths.entry.world.now (option_map (λ path. path.now) paths.entry.saved)
-        (F.octets files.now paths.entry.world.now) (output_device W.contents output.old)
-        (output_device W.contents output.new)
-        (output_device E.contents errors.old) (output_device E.contents errors.new) result }
+    ensures { AfterRun F.Made.contents (search_of search.now) view paths.entry.world.now
+        (option_map (λ path. path.now) paths.entry.saved)
+        (F.octets files.now paths.entry.world.now) (outputs W.contents E.contents output.old errors.old)
+        (outputs W.contents E.contents output.new errors.new) result }
 {
-    match run_paths(alloc, files, paths, search, view, output, errors) {
-        Ok(status) => status,
-        Err(fault) => fault.report(errors),
-    }
+    let asked = run_file(alloc, files, paths.world, search, view);
+    conclude(alloc, files, asked, paths.saved, output, errors)
 }
 
-/// Runs the world, prints the list, reports the failed connections, and saves.
-fn run_paths<'a, 'o: 'a, F: Folder, W: Write, E: Write>(
+/// Runs the world of the file at a path.
+fn run_file<'a, F: Folder>(
     alloc: Global,
     files: &'a F,
-    paths: Paths<'a>,
+    path: &'a str,
     search: &SearchOptions<'_>,
     view: View,
-    output: &mut Output<'o, W>,
-    errors: &mut Output<'_, E>,
-) -> Result<Status, Fault<'a>>
-    ensures runs { IfSome (F.octets files.now paths.entry.world.now)
-        (λ octets. RunResult (search_of search.now) view octets (option_map (λ path. path.now) paths.entry.saved)
-        (output_device W.contents output.old) (output_device W.contents output.new)
-        (output_device E.contents errors.old) (output_device E.contents errors.new) result) }
-    ensures paths { IsOfPaths paths.entry.world.now (option_map (λ path. path.now) paths.entry.saved)
-        (output_device W.contents output.new) result }
-{
-    let search = copy_search(alloc, search)?;
-    let mut world = file_at(files, paths.world);
-    let finished = run_file(alloc, &mut world, &search.texts(), view)?;
-    let answer = finish(alloc, files, &finished, paths.saved, output, errors);
-    drop(finished);
-    answer
-}
-
-/// Runs the world of a file.
-fn run_file<'a, R: Read>(
-    alloc: Global,
-    file: &mut Input<'a, R>,
-    search: &Search<'_>,
-    view: View,
 ) -> Result<Finished, Fault<'a>>
-    ensures ran { IfSome (R.remaining file.old.reader) (λ octets. RunFileResult (search_texts search.now) view octets result) }
+    ensures ran { IfSome (F.octets files.now path.entry.now)
+        (λ octets. RunFileResult (search_of search.now) view octets result) }
     ensures sound { IfOk result HasNames }
-    ensures path { IfErr result (IsOfSearchedWorld file.old.path.now) }
+    ensures path { IfErr result (IsOfSearchedWorld path.entry.now) }
 {
-    let run = read_in_memory(alloc, file, search)?;
+    let run = read_in_memory(alloc, files, path, search)?;
     Ok(run_in_memory(alloc, run, view)?)
 }
 
-/// Reads a file, puts the search to its questions, and plans an in-memory run of its world.
-pub(crate) fn read_in_memory<'a, R: Read>(
+/// Reads the file at a path, puts the search to its questions, and plans an in-memory run of its world.
+pub(crate) fn read_in_memory<'a, F: Folder>(
     alloc: Global,
-    file: &mut Input<'a, R>,
-    search: &Search<'_>,
+    files: &'a F,
+    path: &'a str,
+    search: &SearchOptions<'_>,
 ) -> Result<InMemoryRun, Fault<'a>>
-    ensures in_memory_run { IfSome (R.remaining file.old.reader) (λ octets. ReadInMemoryResult (search_texts search.now) octets result) }
+    ensures in_memory_run { IfSome (F.octets files.now path.entry.now)
+        (λ octets. ReadInMemoryResult (search_of search.now) octets result) }
     ensures fit { IfOk result CanBeRun }
-    ensures path { IfErr result (IsOfSearchedWorld file.old.path.now) }
+    ensures path { IfErr result (IsOfSearchedWorld path.entry.now) }
 {
-    let world = searched_world(alloc, file, search)?;
+    let world = world_at(alloc, files, path, search)?;
     let name = Bytes::copy_from_slice(alloc, NAME)?;
     Ok(world.in_memory(alloc, name)?)
 }

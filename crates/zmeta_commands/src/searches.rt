@@ -5,7 +5,7 @@ ghost use Rattle.std.specs.List.{flat_map};
 ghost use Rattle.std.specs.Option.{option_map};
 ghost use Rattle.zmeta_args.specs.Texts.{texts_of};
 ghost use Rattle.zmeta_world.specs.Search.{search_texts};
-ghost use Rattle.zmeta_commands.specs.Searches.{escaped, term_text, under, terms_of, ands, terms_query, copied_texts, search_of, terms_shown};
+ghost use Rattle.zmeta_commands.specs.Searches.{escaped, term_text, terms_under, terms_of, ands, terms_query, copied_texts, search_of, terms_shown};
 
 use std::alloc::{AllocError, Global};
 use zmeta_args::SearchOptions;
@@ -36,7 +36,7 @@ fn put_terms<'a>(
     terms: &mut Vec<Term<'a>>,
 ) -> Result<(), AllocError>
     ensures { OnOk result (terms_shown terms.new.items
-        ≡ terms_shown terms.old.items ++ under attr.now (texts_of texts.now)) }
+        ≡ terms_shown terms.old.items ++ terms_under attr.now (texts_of texts.now)) }
 {
     for text in texts {
         terms.push(Term { attr, text: *text })?;
@@ -53,7 +53,7 @@ fn terms_of<'a>(alloc: Global, search: &SearchOptions<'a>) -> Result<Vec<Term<'a
     put_terms("1003", search.authors.as_slice(), &mut terms)?;
     put_terms("21", search.subjects.as_slice(), &mut terms)?;
     put_terms("7", search.isbns.as_slice(), &mut terms)?;
-    put_terms("1016", search.words.as_slice(), &mut terms)?;
+    put_terms("1016", search.any.as_slice(), &mut terms)?;
     Ok(terms)
 }
 

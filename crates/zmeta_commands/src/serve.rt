@@ -5,7 +5,7 @@ ghost use Rattle.zmeta_world.specs.InMemoryRuns.{IsFit};
 ghost use Rattle.zmeta_commands.specs.Devices.{output_device};
 ghost use Rattle.zmeta_commands.specs.Serve.{ServeResult, ServeWorldResult, IsServiceEnd, AfterServe};
 
-use crate::fault::{Fault, Status};
+use crate::fault::{Fault, Status, end_done};
 use crate::files::{Folder, file_at};
 use crate::output::Output;
 use crate::worlds::world_in;
@@ -42,10 +42,8 @@ pub fn serve_named<'a, S: Folder + Net + Clock, E: Write>(
     ensures { AfterServe service.entry.name.now service.entry.world.now (S.octets system.now service.entry.world.now)
         (output_device E.contents errors.old) (output_device E.contents errors.new) result }
 {
-    match serve_target(alloc, system, service) {
-        Ok(()) => Status::Done,
-        Err(fault) => fault.report(errors),
-    }
+    let answer = serve_target(alloc, system, service);
+    end_done(answer, errors)
 }
 
 /// Reads the world, and serves its target.
@@ -65,7 +63,7 @@ fn serve_target<'a, S: Folder + Net + Clock>(
     served
 }
 
-/// Serves a target of the world.
+/// Serves a target of the world for `service.count` connections. If that is 0, it needs no memory.
 fn serve_world<'a, S: Net + Clock>(
     alloc: Global,
     system: &'a S,
@@ -73,7 +71,7 @@ fn serve_world<'a, S: Net + Clock>(
     world: &World,
 ) -> Result<(), Fault<'a>>
     requires { IsFit world.now }
-    ensures { ServeWorldResult service.entry.name.now world.now result }
+    ensures { ServeWorldResult service.entry.name.now service.entry.count world.now result }
 {
     let Some(target) = world.target(service.name.as_bytes()) else {
         return Err(Fault::Serve);

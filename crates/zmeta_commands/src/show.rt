@@ -3,10 +3,10 @@ ghost use Rattle.std.specs.Prelude.{◌≡◌, None, IfSome};
 ghost use Rattle.zmeta_commands.specs.Show.{ShowResult, AfterShow, OneShowing};
 ghost use Rattle.zber.specs.declared.framer.TheConstants.{MESSAGE_LIMIT};
 ghost use Rattle.zmeta_commands.specs.Steps.{PrintLinesResult, ShowOctetsResult, ShowNextResult};
-ghost use Rattle.zmeta_commands.specs.Devices.{input_device, output_device, IsOfStream};
+ghost use Rattle.zmeta_commands.specs.Devices.{input_device, output_device, streams, IsOfStream};
 
 use crate::digits::decode;
-use crate::fault::{Fault, Status};
+use crate::fault::{Fault, Status, end_done};
 use crate::input::Input;
 use crate::output::Output;
 use std::alloc::Global;
@@ -27,14 +27,11 @@ pub fn show<'a, R: Read, W: Write, E: Write>(
     output: &mut Output<'a, W>,
     errors: &mut Output<'_, E>,
 ) -> Status
-    ensures { AfterShow (input_device R.remaining input.old) (input_device R.remaining input.new)
-        (output_device W.contents output.old) (output_device W.contents output.new)
-        (output_device E.contents errors.old) (output_device E.contents errors.new) result }
+    ensures { AfterShow (streams R.remaining W.contents E.contents input.old output.old errors.old)
+        (streams R.remaining W.contents E.contents input.new output.new errors.new) result }
 {
-    match show_text(alloc, input, output) {
-        Ok(()) => Status::Done,
-        Err(fault) => fault.report(errors),
-    }
+    let answer = show_text(alloc, input, output);
+    end_done(answer, errors)
 }
 
 /// Octets have only one text and one end.

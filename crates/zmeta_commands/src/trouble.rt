@@ -6,7 +6,7 @@ ghost use Rattle.zmeta_commands.specs.Finished.{is_failed, is_troubled, is_asked
 use crate::fault::Status;
 use crate::finished::Finished;
 use bytes::Bytes;
-use zoom::laws::{one_transcript, up_to};
+use zoom::laws::one_transcript;
 use zoom::{Meta, State};
 
 fn is_failed(state: State) -> bool
@@ -26,7 +26,6 @@ fn is_troubled(meta: &Meta, c: u32) -> bool
     requires { c < length meta.now.pool.connections }
     ensures { IsTranscriptValue c meta.now is_troubled result }
 {
-    up_to();
     one_transcript();
     let failed = is_failed(meta.state(c));
     let complete = meta.complete(c);

@@ -8,7 +8,8 @@ use zknow_json::print_json;
 use zknow_titles::print_titles;
 use zmeta_args::View;
 
-/// Appends the list, the view for readers, or lines of JSON. Returns `AllocError` if no memory is found; `out` is unchanged.
+/// Appends the list, the view for readers, or lines of JSON. Returns `AllocError` if no memory is found; `out` is
+/// unchanged.
 pub(crate) fn print_view(
     alloc: Global,
     knowledge: &Knowledge,

@@ -4,12 +4,16 @@ ghost use Rattle.std.specs.Prelude.{IfOk, IfErr, IfSome};
 ghost use Rattle.zmeta_world.specs.InMemoryRuns.{IsFit};
 ghost use Rattle.zmeta_commands.specs.Finished.{IsOfWorld, IsOfSearchedWorld};
 ghost use Rattle.zmeta_world.specs.Search.{search_texts};
+ghost use Rattle.zmeta_commands.specs.Searches.{search_of};
 ghost use Rattle.zmeta_commands.specs.Worlds.{WorldResult, SearchedResult};
 
 use crate::fault::Fault;
+use crate::files::{Folder, file_at};
 use crate::input::Input;
+use crate::searches::copy_search;
 use std::alloc::Global;
 use std::io::Read;
+use zmeta_args::SearchOptions;
 use zmeta_world::search::Search;
 use zmeta_world::world::{World, read_world};
 
@@ -27,7 +31,7 @@ pub(crate) fn world_in<'a, R: Read>(
 }
 
 /// Reads the world of a file, and puts a search to every question.
-pub(crate) fn searched_world<'a, R: Read>(
+fn searched_world<'a, R: Read>(
     alloc: Global,
     file: &mut Input<'a, R>,
     search: &Search<'_>,
@@ -39,4 +43,22 @@ pub(crate) fn searched_world<'a, R: Read>(
 {
     let world = world_in(alloc, file)?;
     Ok(world.with_search(alloc, search)?)
+}
+
+/// Reads the world of the file at a path, and puts the search of the options to every question. `run`, `ask` and `loop`
+/// all begin here.
+pub(crate) fn world_at<'a, F: Folder>(
+    alloc: Global,
+    files: &'a F,
+    path: &'a str,
+    search: &SearchOptions<'_>,
+) -> Result<World, Fault<'a>>
+    ensures says { IfSome (F.octets files.now path.entry.now)
+        (λ octets. SearchedResult (search_of search.now) octets result) }
+    ensures fit { IfOk result IsFit }
+    ensures path { IfErr result (IsOfSearchedWorld path.entry.now) }
+{
+    let search = copy_search(alloc, search)?;
+    let mut file = file_at(files, path);
+    searched_world(alloc, &mut file, &search.texts())
 }

@@ -26,6 +26,7 @@ zmeta|run|world => 0 1 0 zmeta: cannot write -%0a
 zmeta|run|world|--save|out => 0 5 0 zmeta: cannot write -%0a
 zmeta|--help => 0 1 0 zmeta: cannot write -%0a
 zmeta|pqf|a b => 0 0 1 -
+zmeta|ask|hosts => 0 0 1 -
 ";
 
 // The calls at which streams fail.

@@ -2,7 +2,9 @@ pub use Rattle.zoom_io.specs.TalksAmong
 pub use Rattle.zoom_io.specs.Answering
 pub use Rattle.zoom_io.specs.Arrivals
 pub use Rattle.zoom_io.specs.AtOnce
+pub use Rattle.zoom_io.specs.Blameless
 pub use Rattle.zoom_io.specs.Devices
+pub use Rattle.zoom_io.specs.Looks
 pub use Rattle.zoom_io.specs.Pushing
 pub use Rattle.zoom_io.specs.PollRounds
 pub use Rattle.zoom_io.specs.Streams
@@ -14,11 +16,13 @@ pub use Rattle.zoom_io.specs.declared.among.TalkPhase
 pub use Rattle.zoom_laws.specs.Accord
 pub use Rattle.zoom_laws.specs.Catalogue
 pub use Rattle.zoom_laws.specs.Exchange
+pub use Rattle.zoom_laws.specs.Lengths
 pub use Rattle.zoom_laws.specs.Schedules
 pub use Rattle.zoom_pool.specs.PoolSteps
 pub use Rattle.zoom_pool.specs.CallsOf
 pub use Rattle.zoom_pool.specs.Inputs
 pub use Rattle.zoom_pool.specs.Conflicts
+pub use Rattle.zoom_pool.specs.DriveLaws
 pub use Rattle.zoom_pool.specs.Drivers
 pub use Rattle.zoom_pool.specs.Driving
 pub use Rattle.zoom_pool.specs.Due
@@ -41,6 +45,7 @@ pub use Rattle.zoom_questions.specs.Askable
 pub use Rattle.zoom_questions.specs.NewTargets
 pub use Rattle.zoom_sim.specs.Run
 pub use Rattle.zoom_sim.specs.RunCatalogue
+pub use Rattle.zoom_sim.specs.RunMoves
 pub use Rattle.zoom_sim.specs.RunPeers
 pub use Rattle.zoom_sim.specs.RunRounds
 pub use Rattle.zoom_sim.specs.RunSound
@@ -48,5 +53,7 @@ pub use Rattle.zoom_sim.specs.RunSteps
 pub use Rattle.zoom_sim.specs.RunTakeAll
 pub use Rattle.zoom_tcp.specs.Asking
 pub use Rattle.zoom_tcp.specs.AskingSteps
+pub use Rattle.zoom_tcp.specs.Clients
 pub use Rattle.zoom_tcp.specs.declared.service.ServeError
 pub use Rattle.zoom_tcp.specs.HostLinks
+pub use Rattle.zoom_tcp.specs.Serving

@@ -1,19 +1,17 @@
 -- What a target's answering does to an exchange.
-use Rattle.std.proofs.Common.{◌≡◌, ◌∙◌, sym, subst, inl, inr, ◌⊎◌, ℕ, suc, ◌+◌, ◌<◌, ◌≤◌, Bool, true, false, List, [], ◌∷◌, ◌++◌, length, Ok, Err, refl, true≢false, arith}
-use Rattle.std.specs.Io.KnownBytes.{Keeps, Appends, Consumes}
-use Rattle.std.proofs.KnownBytes.{Consumes-trans, Consumes-kept, Consumes-nil, Appends-trans, Appends-nil}
-use Rattle.zoom_pool.specs.Hosts.{HostState, HostAfter, Holdings, HostEvent, HostFed, HostFedPart, Released, Lost, HostHandedOut, HostRecorded, ReleaseResult}
-use Rattle.zoom_io.specs.Devices.{DeviceState, HasFailed, HasNoFailure}
+use Rattle.std.proofs.Common.{◌≡◌, ◌∙◌, sym, subst, inl, inr, ◌⊎◌, ℕ, ◌+◌, ◌-◌, ◌^◌, ◌<◌, ◌≤◌, true, false, List, [], ◌∷◌, ◌++◌, length, Result, Ok, Err, refl, arith}
+use Rattle.std.specs.Io.KnownBytes.{Appends, Consumes}
+use Rattle.std.proofs.KnownBytes.{Consumes-trans, Consumes-nil, Appends-trans, Appends-nil}
+use Rattle.ztarget.specs.Receiving.{may_release}
+use Rattle.zoom_pool.specs.Hosts.{HostState, HostAfter, Holdings, HostEvent, HostFed, HostFedPart, Released, Lost, HostHandedOut, HostRecorded, HasNone, ReleaseResult}
+use Rattle.zoom_io.specs.Devices.{DeviceState, HasNoFailure}
 use Rattle.zoom_io.specs.TalkTraces.{same}
 use Rattle.zoom_io.specs.declared.replies.AnswerError.{AnswerError}
 use Rattle.zoom_io.specs.declared.replies.AnswerError.TheVariants as errors
-use Rattle.std.specs.Prelude.{◌||◌}
-use Rattle.zoom_io.specs.Answering.{AfterWriteReplies, AfterAnswerPiece, AfterAnswer, IsServed, nothing, fed, released, lost, handed, unhanded, unfed, unreleased, Exchange, ExchangeStep, StarvedStep, AfterRelease, AfterReleaseAll, UnwrittenReplies, FailedPiece}
+use Rattle.zoom_io.specs.Answering.{nothing, fed, released, lost, handed, unhanded, unfed, unreleased, too_many, Exchange, ExchangeStep, StarvedExchange, AfterRelease, LeavesNoReply, AfterReleaseAll, WriteStep, AfterWriteReplies, ReplyStep, AfterReplyAll, PieceStep, UnfedPiece}
+use Rattle.zoom_io.proofs.LastClose.{none_pending, released_still}
 
-pub on_same : (h : HostState) (l k : DeviceState) → ExchangeStep same h h l l k k
-on_same h l k = record { on = λ holdings events reads source sink x. x; reader = refl; writer = refl }
-
-pub on_trans : (f g : ℕ → ℕ) (a b d : HostState) (l l2 l3 k k2 k3 : DeviceState) → ExchangeStep f a b l l2 k k2
+on_trans : (f g : ℕ → ℕ) (a b d : HostState) (l l2 l3 k k2 k3 : DeviceState) → ExchangeStep f a b l l2 k k2
     → ExchangeStep g b d l2 l3 k2 k3 → ExchangeStep (λ n. g (f n)) a d l l3 k k3
 on_trans f g a b d l l2 l3 k k2 k3 one two = record {
   on = λ holdings events reads source sink x.
@@ -22,292 +20,228 @@ on_trans f g a b d l l2 l3 k k2 k3 one two = record {
   writer = two.writer ∙ one.writer;
 }
 
--- No memory is found after an exchange that went on.
-starves_after : (f g : ℕ → ℕ) (a b d : HostState) (l l2 l3 k k2 k3 : DeviceState) → ExchangeStep f a b l l2 k k2
-    → StarvedStep g b d l2 l3 k2 k3 → StarvedStep (λ n. g (f n)) a d l l3 k k3
-starves_after f g a b d l l2 l3 k k2 k3 one two = record {
+-- ---- replies are released
+
+-- At least n replies were released, after every exchange that leads to the old state.
+pub record Releases (n : ℕ) (old new : HostState) : Type 0 where
+  pub on : (holdings : Holdings) (events : List HostEvent) (reads : ℕ) (source left sink held : DeviceState)
+      → Exchange holdings events reads old source left sink held
+      → (y : Exchange holdings events reads new source left sink held) × (n ≤ length y.more)
+
+pub releases_none : (h : HostState) → Releases 0 h h
+releases_none h = record { on = λ holdings events reads source left sink held x. (x, omega arith) }
+
+-- One reply more is released.
+pub releases_more : (n : ℕ) (old mid new : HostState) → Releases n old mid → HostRecorded (Released 0) mid new
+    → Releases (n + 1) old new
+releases_more n old mid new before u = record {
+  on = λ holdings events reads source left sink held x.
+      let y = before.on holdings events reads source left sink held x in
+      let many : n ≤ length y.0.more = y.1 in (
+        record {
+          more = Released 0 ∷ y.0.more;
+          read = y.0.read;
+          written = y.0.written;
+          exchanges = released y.0.exchanges;
+          after = u holdings (y.0.more ++ events) y.0.after;
+          consumed = y.0.consumed;
+          appended = y.0.appended;
+        },
+        omega (arith, many),
+      );
+}
+
+releases_lost : (n : ℕ) (old mid new : HostState) → Releases n old mid → HostRecorded (Lost 0) mid new → AfterRelease old new
+releases_lost n old mid new before u left held = record {
   on = λ holdings events reads source sink x.
-      two.on holdings events (f reads) source sink (one.on holdings events reads source sink x);
-  reader = two.reader ∙ one.reader;
-  writer = two.writer ∙ one.writer;
-}
-
--- An exchange begins, without events.
-pub from_start : (holdings : Holdings) (events : List HostEvent) (h : HostState) (source sink : DeviceState)
-    → HostAfter holdings events h → Exchange holdings events 0 h source source sink sink
-from_start holdings events h source sink a = record {
-  more = [];
-  read = [];
-  written = [];
-  exchanges = nothing;
-  after = a;
-  consumed = Consumes-nil source.octets;
-  appended = Appends-nil sink.octets;
-}
-
--- ---- replies
-
-release_one : (k : ℕ) (old new : HostState) → HostRecorded (Released k) old new → AfterRelease old new
-release_one k old new u l m = record {
-  on = λ holdings events reads source sink x. record {
-    more = Released k ∷ x.more;
-    read = x.read;
-    written = x.written;
-    exchanges = released k x.exchanges;
-    after = u holdings (x.more ++ events) x.after;
-    consumed = x.consumed;
-    appended = x.appended;
-  };
+      let y = before.on holdings events reads source left sink held x in
+      record {
+        more = Lost 0 ∷ y.0.more;
+        read = y.0.read;
+        written = y.0.written;
+        exchanges = lost y.0.exchanges;
+        after = u holdings (y.0.more ++ events) y.0.after;
+        consumed = y.0.consumed;
+        appended = y.0.appended;
+      };
   reader = refl;
   writer = refl;
 }
 
-lose_one : (k : ℕ) (old new : HostState) → HostRecorded (Lost k) old new → AfterRelease old new
-lose_one k old new u l m = record {
-  on = λ holdings events reads source sink x. record {
-    more = Lost k ∷ x.more;
-    read = x.read;
-    written = x.written;
-    exchanges = lost k x.exchanges;
-    after = u holdings (x.more ++ events) x.after;
-    consumed = x.consumed;
-    appended = x.appended;
-  };
+releases_on : (n : ℕ) (old new : HostState) → Releases n old new → AfterRelease old new
+releases_on n old new r left held = record {
+  on = λ holdings events reads source sink x. (r.on holdings events reads source left sink held x).0;
   reader = refl;
   writer = refl;
 }
 
-pub serves_same : (h : HostState) → AfterRelease h h
-serves_same h l k = on_same h l k
+-- Nothing more may be released, so no reply is left.
+none_left : (mid new : HostState) → HasNone mid 0 new → LeavesNoReply new
+none_left mid new none = subst LeavesNoReply (sym none.1) (by none.0)
+  where
+    by : (mid.stopped ≡ true) ⊎ (may_release mid.target.pending 0 ≡ false) → LeavesNoReply mid
+    by (inl stopped) holdings events a = inl stopped
+    by (inr may) holdings events a = inr (none_pending holdings events mid a may)
 
-pub serves_trans : (a b d : HostState) → AfterRelease a b → AfterRelease b d → AfterRelease a d
-serves_trans a b d one two l k = on_trans same same a b d l l l k k k (one l k) (two l k)
-
-pub serves_release : (E : Type 0) (k : ℕ) (answer : Bool) (old new : HostState) → ReleaseResult {E = E} k (Ok answer) old new
-    → AfterRelease old new
-serves_release E k true old new r = release_one k old new r.1
-serves_release E k false old new (inl none) = subst (AfterRelease old) (sym none.1) (serves_same old)
-serves_release E k false old new (inr long) = lose_one k old new long.1
+-- The last reply was not released: none is left, or it was too long.
+pub releases_all : (E : Type 0) (n : ℕ) (old mid new : HostState) → Releases n old mid
+    → ReleaseResult {E = E} 0 (Ok false) mid new → AfterReleaseAll {E = E} (Ok tt) old new
+releases_all E n old mid new before (inl none) =
+    (subst (AfterRelease old) (sym none.1) (releases_on n old mid before), none_left mid new none)
+releases_all E n old mid new before (inr long) =
+    (releases_lost n old mid new before long.1, λ holdings events a. inl long.0.stopped)
 
 -- No memory is found for a reply, after others were released.
-pub serves_none : (E : Type 0) (e : E) (k : ℕ) (old mid new : HostState) → AfterRelease old mid
-    → ReleaseResult {E = E} k (Err e) mid new → AfterReleaseAll {E = E} (Err e) old new
-serves_none E e k old mid new one r l m =
-    starves_after same same old mid new l l l m m m (one l m) (record {
-      on = λ holdings events reads source sink x. record {
-        more = Lost k ∷ x.more;
-        read = x.read;
-        written = x.written;
-        starves = unreleased k x.exchanges r.0;
-        after = r.1 holdings (x.more ++ events) x.after;
-        consumed = x.consumed;
-        appended = x.appended;
+pub releases_starve : (E : Type 0) (e : E) (n : ℕ) (old mid new : HostState) → Releases n old mid
+    → ReleaseResult {E = E} 0 (Err e) mid new → AfterReleaseAll {E = E} (Err e) old new
+releases_starve E e n old mid new before r left held = record {
+  on = λ holdings events reads source sink x.
+      let y = before.on holdings events reads source left sink held x in
+      record {
+        more = Lost 0 ∷ y.0.more;
+        read = y.0.read;
+        written = y.0.written;
+        starves = unreleased y.0.exchanges r.0;
+        after = r.1 holdings (y.0.more ++ events) y.0.after;
+        consumed = y.0.consumed;
+        appended = y.0.appended;
       };
-      reader = refl;
-      writer = refl;
-    })
-
--- No memory is found for handing out.
-pub starves_unhanded : (old new : HostState) (k : DeviceState) → new ≡ old
-    → (l : DeviceState) → StarvedStep same old new l l k k
-starves_unhanded old new k e l = record {
-  on = λ holdings events reads source sink x. record {
-    more = x.more;
-    read = x.read;
-    written = x.written;
-    starves = unhanded x.exchanges;
-    after = subst (HostAfter holdings (x.more ++ events)) (sym e) x.after;
-    consumed = x.consumed;
-    appended = x.appended;
-  };
-  reader = refl;
-  writer = refl;
 }
 
--- ---- a piece
+-- More replies were released than memory can hold.
+pub releases_many : (E : Type 0) (e : E) (n : ℕ) (old new : HostState) → n ≡ 2 ^ 64 - 1 → Releases n old new
+    → AfterReleaseAll {E = E} (Err e) old new
+releases_many E e n old new most before left held = record {
+  on = λ holdings events reads source sink x.
+      let y = before.on holdings events reads source left sink held x in
+      record {
+        more = y.0.more;
+        read = y.0.read;
+        written = y.0.written;
+        starves = too_many y.0.exchanges (subst (λ z. z ≤ length y.0.more) most y.1);
+        after = y.0.after;
+        consumed = y.0.consumed;
+        appended = y.0.appended;
+      };
+}
 
-pub on_fed : (old new : HostState) (piece : List ℕ) (l l2 k : DeviceState) → HostRecorded (HostFed piece) old new
+-- ---- replies are written
+
+pub on_handed : (old new : HostState) (sink held : DeviceState) → HostRecorded (HostHandedOut old.waiting) old new
+    → new.waiting ≡ [] → Appends sink.octets held.octets old.waiting → HasNoFailure sink held → WriteStep old new sink held
+on_handed old new sink held u none appended sound = record {
+  on = λ left. record {
+    on = λ holdings events reads source first x. record {
+      more = HostHandedOut old.waiting ∷ x.more;
+      read = x.read;
+      written = x.written ++ old.waiting;
+      exchanges = handed old.waiting x.exchanges;
+      after = u holdings (x.more ++ events) x.after;
+      consumed = x.consumed;
+      appended = Appends-trans first.octets sink.octets held.octets x.written old.waiting x.appended appended;
+    };
+    reader = refl;
+    writer = sound;
+  };
+  released = λ holdings events a r. released_still holdings events old.waiting old new a (u holdings events a) r;
+  none_waits = none;
+}
+
+module _ (old mid new : HostState) (one : AfterRelease old mid × LeavesNoReply mid) (sink held : DeviceState) where
+  -- The history after the replies were released.
+  released_at : (holdings : Holdings) (events : List HostEvent) → HostAfter holdings events old
+      → (later : List HostEvent) × HostAfter holdings later mid
+  released_at holdings events a =
+      let x = (one.0 sink sink).on holdings events 0 sink sink (record {
+        more = [];
+        read = [];
+        written = [];
+        exchanges = nothing;
+        after = a;
+        consumed = Consumes-nil sink.octets;
+        appended = Appends-nil sink.octets;
+      }) in
+      (x.more ++ events, x.after)
+
+  replies_on : WriteStep mid new sink held → ReplyStep old new sink held
+  replies_on w = record {
+    on = λ left. on_trans same same old mid new left left left sink sink held (one.0 left sink) (w.on left);
+    answered = λ holdings events a.
+        let at = released_at holdings events a in
+        record {
+          released = w.released holdings at.0 at.1 (one.1 holdings at.0 at.1);
+          none_waits = w.none_waits;
+        };
+  }
+
+  -- A write fails, or no memory is found.
+  replies_failed : (e : AnswerError) → AfterWriteReplies (Err e) mid new sink held → AfterReplyAll (Err e) old new sink held
+  replies_failed errors.Read h = absurd h
+  replies_failed errors.Turns h = absurd h
+  replies_failed errors.Write h = record {
+    on = λ holdings events reads source left first x.
+        let y = (one.0 left sink).on holdings events reads source first x in
+        record {
+          host = mid;
+          before = sink;
+          exchange = y;
+          released = one.1 holdings (y.more ++ events) y.after;
+          unwritten = h;
+        };
+    failed = h.failed;
+  }
+  replies_failed errors.Memory h = (
+    λ left. record {
+      on = λ holdings events reads source first x.
+          let y = (one.0 left sink).on holdings events reads source first x in
+          subst (λ z. StarvedExchange holdings events reads z source left first sink) (sym h.0) (record {
+            more = y.more;
+            read = y.read;
+            written = y.written;
+            starves = unhanded y.exchanges (one.1 holdings (y.more ++ events) y.after);
+            after = y.after;
+            consumed = y.consumed;
+            appended = y.appended;
+          });
+    },
+    h.1,
+  )
+
+  pub replies_result : (r : Result (Unit {0}) AnswerError) → AfterWriteReplies r mid new sink held → AfterReplyAll r old new sink held
+  replies_result (Ok u) h = replies_on h
+  replies_result (Err e) h = replies_failed e h
+
+-- ---- a piece is read
+
+pub on_fed : (old new : HostState) (piece : List ℕ) (l l2 : DeviceState) → HostRecorded (HostFed piece) old new
     → Consumes l.octets l2.octets piece → HasNoFailure l l2 → 0 < length piece → length piece ≤ 4096
-    → ExchangeStep suc old new l l2 k k
-on_fed old new piece l l2 k u consumed sound some few = record {
-  on = λ holdings events reads source sink x. record {
+    → PieceStep old new l l2
+on_fed old new piece l l2 u consumed sound some few = record {
+  on = λ holdings events reads source sink held x ready. record {
     more = HostFed piece ∷ x.more;
     read = x.read ++ piece;
     written = x.written;
-    exchanges = fed piece x.exchanges some few;
+    exchanges = fed piece old x.exchanges x.after ready some few;
     after = u holdings (x.more ++ events) x.after;
     consumed = Consumes-trans source.octets l.octets l2.octets x.read piece x.consumed consumed;
     appended = x.appended;
   };
   reader = sound;
-  writer = refl;
 }
 
 -- No memory is found for a piece.
-pub starves_unfed : (old new : HostState) (piece : List ℕ) (l l2 k : DeviceState) → HostRecorded (HostFedPart piece) old new
+pub starves_unfed : (old new : HostState) (piece : List ℕ) (l l2 : DeviceState) → HostRecorded (HostFedPart piece) old new
     → new.stopped ≡ true → Consumes l.octets l2.octets piece → HasNoFailure l l2 → 0 < length piece
-    → length piece ≤ 4096 → StarvedStep suc old new l l2 k k
-starves_unfed old new piece l l2 k u stopped consumed sound some few = record {
-  on = λ holdings events reads source sink x. record {
+    → length piece ≤ 4096 → UnfedPiece old new l l2
+starves_unfed old new piece l l2 u stopped consumed sound some few = record {
+  on = λ holdings events reads source sink held x ready. record {
     more = HostFedPart piece ∷ x.more;
     read = x.read ++ piece;
     written = x.written;
-    starves = unfed piece x.exchanges some few stopped;
+    starves = unfed piece old x.exchanges x.after ready some few stopped;
     after = u holdings (x.more ++ events) x.after;
     consumed = Consumes-trans source.octets l.octets l2.octets x.read piece x.consumed consumed;
     appended = x.appended;
   };
   reader = sound;
-  writer = refl;
 }
-
--- No memory is found for a reply to the piece.
-pub starves_unserved : (E : Type 0) (e : E) (old mid new : HostState) (l l2 k : DeviceState)
-    → ExchangeStep suc old mid l l2 k k → AfterReleaseAll {E = E} (Err e) mid new → StarvedStep suc old new l l2 k k
-starves_unserved E e old mid new l l2 k one off = starves_after suc same old mid new l l2 l2 k k k one (off l2 k)
-
-pub on_handed : (old new : HostState) (octets : List ℕ) (l k k2 : DeviceState) → HostRecorded (HostHandedOut octets) old new
-    → Appends k.octets k2.octets octets → HasNoFailure k k2 → ExchangeStep same old new l l k k2
-on_handed old new octets l k k2 u appended sound = record {
-  on = λ holdings events reads source sink x. record {
-    more = HostHandedOut octets ∷ x.more;
-    read = x.read;
-    written = x.written ++ octets;
-    exchanges = handed octets x.exchanges;
-    after = u holdings (x.more ++ events) x.after;
-    consumed = x.consumed;
-    appended = Appends-trans sink.octets k.octets k2.octets x.written octets x.appended appended;
-  };
-  reader = refl;
-  writer = sound;
-}
-
--- A write fails after an exchange that went on.
-pub on_unwritten : (old mid new : HostState) (l l2 k k2 k3 : DeviceState) → ExchangeStep suc old mid l l2 k k2
-    → UnwrittenReplies mid new k2 k3 → FailedPiece old new l l2 k k3
-on_unwritten old mid new l l2 k k2 k3 one u = record {
-  on = λ holdings events reads source sink x. record {
-    host = mid;
-    before = k2;
-    exchange = one.on holdings events reads source sink x;
-    unwritten = u;
-  };
-  reader = one.reader;
-  failed = subst (λ z. HasFailed z k3.failures) one.writer u.failed;
-}
-
--- A write fails, or no memory is found.
-pub piece_failed : (e : AnswerError) (old mid new : HostState) (l l2 k k2 k3 : DeviceState)
-    → ExchangeStep suc old mid l l2 k k2 → AfterWriteReplies (Err e) mid new k2 k3 → AfterAnswerPiece (Err e) old new l l2 k k3
-piece_failed errors.Read old mid new l l2 k k2 k3 one h = absurd h
-piece_failed errors.Write old mid new l l2 k k2 k3 one h = on_unwritten old mid new l l2 k k2 k3 one h
-piece_failed errors.Turns old mid new l l2 k k2 k3 one h = absurd h
-piece_failed errors.Memory old mid new l l2 k k2 k3 one h =
-    starves_after suc same old mid new l l2 l2 k k2 k3 one (h l2)
-
--- ---- from the start
-
--- After every history that can have left the serving end, there is an exchange with n reads.
-pub record Begun (n : ℕ) (old new : HostState) (source left sink held : DeviceState) : Type 0 where
-  pub on : (holdings : Holdings) (events : List HostEvent) → HostAfter holdings events old
-      → Exchange holdings events n new source left sink held
-  pub reader : HasNoFailure source left
-  pub writer : HasNoFailure sink held
-
-pub begun : (h : HostState) (source sink : DeviceState) → Begun 0 h h source source sink sink
-begun h source sink = record {
-  on = λ holdings events a. from_start holdings events h source sink a;
-  reader = refl;
-  writer = refl;
-}
-
-begun_on : (n : ℕ) (f : ℕ → ℕ) (a b d : HostState) (l l2 l3 k k2 k3 : DeviceState) → Begun n a b l l2 k k2
-    → ExchangeStep f b d l2 l3 k2 k3 → Begun (f n) a d l l3 k k3
-begun_on n f a b d l l2 l3 k k2 k3 one two = record {
-  on = λ holdings events x. two.on holdings events n l k (one.on holdings events x);
-  reader = two.reader ∙ one.reader;
-  writer = two.writer ∙ one.writer;
-}
-
--- A piece was read and answered.
-pub piece_on : (n : ℕ) (a b d : HostState) (l l2 l3 k k2 k3 : DeviceState) → Begun n a b l l2 k k2
-    → (r : Bool) → AfterAnswerPiece (Ok r) b d l2 l3 k2 k3 → r ≡ true → Begun (n + 1) a d l l3 k k3
-piece_on n a b d l l2 l3 k k2 k3 one true p e =
-    let one_more : suc n ≡ n + 1 = omega arith in
-    subst (λ z. Begun z a d l l3 k k3) one_more (begun_on n suc a b d l l2 l3 k k2 k3 one p)
-piece_on n a b d l l2 l3 k k2 k3 one false p e = absurd (true≢false (sym e))
-
--- ---- how it ends
-
--- The input ends.
-pub answers_end : (n reads : ℕ) (a b d : HostState) (l l2 l3 k k2 k3 : DeviceState) → n < reads → Begun n a b l l2 k k2
-    → (r : Bool) → AfterAnswerPiece (Ok r) b d l2 l3 k2 k3 → r ≡ false → AfterAnswer reads (Ok tt) a d l l3 k k3
-answers_end n reads a b d l l2 l3 k k2 k3 few one true p e = absurd (true≢false e)
-answers_end n reads a b d l l2 l3 k k2 k3 few one false p e =
-    let all = begun_on n same a b d l l2 l3 k k2 k3 one p.0 in
-    record {
-      on = λ holdings events x. (n, inl (few, p.1), all.on holdings events x);
-      end = (inl p.1, all.reader, all.writer);
-    }
-
-module _ (n reads : ℕ) (old new : HostState) (l l2 k k2 : DeviceState) (one : Begun n old new l l2 k k2) where
-  done : (a b : Bool) → (a || b) ≡ true → (a ≡ true) ⊎ (b ≡ true)
-  done true b e = inl refl
-  done false b e = inr e
-
-  undone : (a b : Bool) → (a || b) ≡ false → (a ≡ false) × (b ≡ false)
-  undone true b e = absurd (true≢false e)
-  undone false b e = (refl, e)
-
-  pub answers_done : n ≤ reads → (new.stopped || new.closed) ≡ true → AfterAnswer reads (Ok tt) old new l l2 k k2
-  answers_done few e =
-      let served : IsServed new = done new.stopped new.closed e in
-      record {
-        on = λ holdings events x. (n, inr (few, served), one.on holdings events x);
-        end = (inr served, one.reader, one.writer);
-      }
-
-  pub answers_turns : n ≡ reads → (new.stopped || new.closed) ≡ false
-      → AfterAnswer reads (Err errors.Turns) old new l l2 k k2
-  answers_turns all e =
-      let goes_on = undone new.stopped new.closed e in
-      record {
-        on = λ holdings events x. subst (λ z. Exchange holdings events z new l l2 k k2) all (one.on holdings events x);
-        end = (goes_on.0, goes_on.1, one.reader, one.writer);
-      }
-
-  -- A read of nothing more, with a failing device.
-  unread : (l3 : DeviceState) → Keeps l2.octets l3.octets → (holdings : Holdings) (events : List HostEvent)
-      → HostAfter holdings events old → Exchange holdings events n new l l3 k k2
-  unread l3 still holdings events a =
-      let x = one.on holdings events a in
-      record {
-        more = x.more;
-        read = x.read;
-        written = x.written;
-        exchanges = x.exchanges;
-        after = x.after;
-        consumed = Consumes-kept l.octets l2.octets l3.octets x.read x.consumed still;
-        appended = x.appended;
-      }
-
-  pub answers_failed : n < reads → (e : AnswerError) (later : HostState) (l3 k3 : DeviceState)
-      → AfterAnswerPiece (Err e) new later l2 l3 k2 k3 → AfterAnswer reads (Err e) old later l l3 k k3
-  answers_failed few errors.Read later l3 k3 p = record {
-    on = λ holdings events a. (
-      n,
-      few,
-      subst (λ z. Exchange holdings events n later l l3 k z) (sym p.1)
-          (subst (λ z. Exchange holdings events n z l l3 k k2) (sym p.0) (unread l3 p.2 holdings events a)),
-    );
-    end = (subst (λ z. HasFailed z l3.failures) one.reader p.3, subst (HasNoFailure k) (sym p.1) one.writer);
-  }
-  answers_failed few errors.Write later l3 k3 p = record {
-    on = λ holdings events a. (suc n, omega (arith, few), p.on holdings events n l k (one.on holdings events a));
-    end = (subst (λ z. HasFailed z k3.failures) one.writer p.failed, p.reader ∙ one.reader);
-  }
-  answers_failed few errors.Turns later l3 k3 p = absurd p
-  answers_failed few errors.Memory later l3 k3 p = record {
-    on = λ holdings events a. (suc n, omega (arith, few), p.on holdings events n l k (one.on holdings events a));
-    end = (p.reader ∙ one.reader, p.writer ∙ one.writer);
-  }

@@ -9,8 +9,8 @@ use Rattle.zoom_pool.specs.declared.answer.Step.{Step}
 use Rattle.zoom_pool.specs.Transcripts.{Event, Called, Fed, Took, InputEnded, HandedOut, Transcript, IsTranscript, given, is_lost}
 use Rattle.zoom_pool.specs.Connections.{ConnectionAfter}
 use Rattle.zoom_pool.specs.Links.{Links}
-use Rattle.zoom_pool.specs.History.{History, events_on, After}
-use Rattle.zoom_pool.specs.Metas.{MetaLinks, MetaAfter, call_events, settings_of}
+use Rattle.zoom_pool.specs.History.{History, events_on, AfterUpTo}
+use Rattle.zoom_pool.specs.Metas.{MetaLinks, MetaAfterUpTo, call_events, settings_of}
 use Rattle.zoom_pool.proofs.Pools.{only_same, only_other, only_append}
 use Rattle.zoom_io.specs.TalkTraces.{Stage, TalkTrace, beginning, due_sent, message_taken, none_taken, stop_taken, piece_read, input_end, IsIdle, IsAllHandedOut, IsNextStep, IsStoppedAt}
 
@@ -60,24 +60,26 @@ pub transcript_alike : (settings : Settings) (c : ℕ) (h k : History) (p : Tran
     → IsTranscript settings (events_on c k) p → IsTranscript settings (events_on c h) p
 transcript_alike settings c h k p e transcript = subst (λ z. IsTranscript settings z p) (sym e) transcript
 
-pool_alike : (settings : Settings) (h k : History) (pool : Links) → AreAlike h k → After settings h pool → After settings k pool
-pool_alike settings h k pool alike a = record {
+pool_alike : (settings : Settings) (partial : List ℕ) (h k : History) (pool : Links) → AreAlike h k
+    → AfterUpTo settings partial h pool → AfterUpTo settings partial k pool
+pool_alike settings partial h k pool alike a = record {
   transcript = a.transcript;
   stands = record {
     each = λ c link is. subst (λ z. ConnectionAfter settings z (a.transcript c) link) (alike c) (a.stands.each c link is);
     others = λ c le. (sym (alike c) ∙ (a.stands.others c le).0, (a.stands.others c le).1);
   };
-  known = a.known;
+  has = a.has;
+  within = a.within;
   lawful = a.lawful;
 }
 
 -- What one history can have left, the other can.
-pub after_alike : (q : List Question) (s : MetaSettings) (h k : History) (meta : MetaLinks) → AreAlike h k
-    → MetaAfter q s h meta → MetaAfter q s k meta
-after_alike q s h k meta alike a = record {
+pub after_alike : (q : List Question) (s : MetaSettings) (partial : List ℕ) (h k : History) (meta : MetaLinks)
+    → AreAlike h k → MetaAfterUpTo q s partial h meta → MetaAfterUpTo q s partial k meta
+after_alike q s partial h k meta alike a = record {
   fit = a.fit;
   askable = a.askable;
-  pool = pool_alike (settings_of s) h k meta.pool alike a.pool;
+  pool = pool_alike (settings_of s) partial h k meta.pool alike a.pool;
   driven = record {
     size = a.driven.size;
     each = λ c question d p asks drives transcript.

@@ -10,30 +10,31 @@ use Rattle.zoom_pool.specs.declared.state.State.{State}
 use Rattle.zoom_pool.specs.declared.state.State.TheVariants as states
 use Rattle.zoom_pool.specs.States.{is_stopped}
 use Rattle.zoom_pool.specs.Transcripts.{Fed, Took, InputEnded, Stopped, state_at}
-use Rattle.zoom_pool.specs.Links.{stop_at, SameOthers}
+use Rattle.zoom_pool.specs.Links.{stop_at}
 use Rattle.zoom_pool.specs.PoolSteps.{IsStateAt}
-use Rattle.zoom_pool.specs.Laws.{OneTranscript, OneInput, UpToLaw}
+use Rattle.zoom_pool.specs.Laws.{OneTranscript, OneInput}
 use Rattle.zoom_pool.specs.History.{History}
-use Rattle.zoom_pool.specs.Metas.{MetaLinks, MetaAfter, MetaAfterUpTo, MetaRecorded, MetaTakeStep, settings_of}
+use Rattle.zoom_pool.specs.Metas.{MetaLinks, MetaAfterUpTo, MetaRecorded, MetaTakeStep}
 use Rattle.zoom_pool.proofs.Metas.{state_tells}
+use Rattle.zoom_pool.proofs.MetaTakes.{took_within}
 use Rattle.zoom_io.specs.declared.conversation.TalkError.TheVariants as errors
 use Rattle.zoom_io.specs.Devices.{DeviceState, HasFailed, IsUntouched}
-use Rattle.zoom_io.specs.TalkTraces.{reason_of, ended_well, IsStoppedFor, Stage, Due, Waiting, Over, Ended, Talk, TalkStep, StoppedTalk, AfterTalk, piece_read, input_end, same}
+use Rattle.zoom_io.specs.TalkTraces.{ended_well, Stage, Due, Waiting, Over, Ended, Talk, TalkStep, StoppedTalk, AfterTalk, piece_read, input_end, same}
 use Rattle.zoom_io.specs.TalkSteps.{TalkStepAlone}
 use Rattle.zoom_io.specs.declared.conversation.TalkError.{TalkError}
 use Rattle.zoom_io.specs.declared.outgoing.PushError.{PushError}
 use Rattle.zoom_io.specs.declared.outgoing.PushError.TheVariants as pushes
 use Rattle.zoom_io.specs.Pushing.{IsBroken}
-use Rattle.zoom_io.specs.Talking.{IsWellEnded, AfterSettle, AfterListen, AfterFinish, talk_error}
+use Rattle.zoom_io.specs.Talking.{IsWellEnded, AfterSettle, AfterListen, AfterFinish, AfterConverse, talk_error}
 use Rattle.zoom_io.proofs.Taking.{ends_stopped}
 use Rattle.zoom_io.proofs.Sending.{Begun, begun_on}
 
 -- The same talk, with a reader that gave nothing more.
 kept : (c n : ℕ) (stage : Stage) (a b : MetaLinks) (l l2 l3 k k2 : DeviceState)
     → Begun c n stage a b l l2 k k2 → Keeps l2.octets l3.octets
-    → (q : List Question) (s : MetaSettings) (h : History) → MetaAfter q s h a → Talk q s c h n stage b l l3 k k2
-kept c n stage a b l l2 l3 k k2 one still q s h x =
-    let t = one.on q s h x in
+    → (q : List Question) (s : MetaSettings) (partial : List ℕ) (h : History) → MetaAfterUpTo q s partial h a → Talk q s partial c h n stage b l l3 k k2
+kept c n stage a b l l2 l3 k k2 one still q s partial h x =
+    let t = one.on q s partial h x in
     record {
       more = t.more;
       read = t.read;
@@ -50,12 +51,12 @@ pub fed_on : (c : ℕ) (old new : MetaLinks) (piece : List ℕ) (l l2 : DeviceSt
     → Consumes l.octets l2.octets piece → l2.failures ≡ l.failures → 0 < length piece → length piece ≤ 4096
     → (held : DeviceState) → TalkStep c Waiting Due suc old new l l2 held held
 fed_on c old new piece l l2 recorded consumed sound some few held = record {
-  on = λ q s h n source sink t. record {
+  on = λ q s partial h n source sink t. record {
     more = (c, Fed piece) ∷ t.more;
     read = t.read ++ piece;
     written = t.written;
     trace = piece_read piece t.trace some few;
-    after = recorded q s (t.more ++ h) t.after;
+    after = recorded q s partial (t.more ++ h) t.after;
     stands = tt;
     consumed = Consumes-trans source.octets l.octets l2.octets t.read piece t.consumed consumed;
     appended = t.appended;
@@ -69,10 +70,10 @@ fed_on c old new piece l l2 recorded consumed sound some few held = record {
 -- The connection is Closed or Failed after taking a message.
 pub ends_over : (c n turns : ℕ) (a b d : MetaLinks) (l l2 k k2 k3 : DeviceState) → n ≤ turns
     → Begun c n Due a b l l2 k k2 → (r : Bool) → AfterSettle c (Ok r) b d k2 k3 → r ≡ true
-    → AfterTalk c turns (Ok tt) a d l l2 k k3
+    → AfterConverse c turns (Ok tt) a d l l2 k k3
 ends_over c n turns a b d l l2 k k2 k3 few one true s e = record {
-  on = λ q s' h x.
-      let t = (s l2).on q s' h n l k (one.on q s' h x) in
+  on = λ q s' partial h x.
+      let t = (s l2).on q s' partial h n l k (one.on q s' partial h x) in
       record { reads = n; stage = Over; talk = t; at = few; over = t.stands };
   blamed = (one.reader, (s l2).writer ∙ one.writer);
   stopped = tt;
@@ -89,33 +90,33 @@ waits_on c n a b d l l2 k k2 k3 one false s e =
 -- A write failed, or no memory was found.
 pub ends_unsettled : (c n turns : ℕ) (a b d : MetaLinks) (l l2 k k2 k3 : DeviceState) → n ≤ turns
     → Begun c n Due a b l l2 k k2 → (e : PushError) → AfterSettle c (Err e) b d k2 k3 → IsBroken {A = Bool} c (Err e) d
-    → AfterTalk c turns (Err (talk_error e)) a d l l2 k k3
+    → AfterConverse c turns (Err (talk_error e)) a d l l2 k k3
 ends_unsettled c n turns a b d l l2 k k2 k3 few one pushes.Write off broken = record {
-  on = λ q s h x. (n, few, off.on q s h n l l2 k (one.on q s h x));
+  on = λ q s partial h x. (n, few, off.on q s partial h n l l2 k (one.on q s partial h x));
   blamed = (subst (λ z. HasFailed z k3.failures) one.writer off.failed, one.reader);
   stopped = broken;
 }
 ends_unsettled c n turns a b d l l2 k k2 k3 few one pushes.Memory off broken = record {
-  on = λ q s h x. record { meta = d; halted = off q s h n l l2 k (one.on q s h x); known = refl; others = λ i far. refl; drivers = refl };
+  on = λ q s partial h x. off q s partial h n l l2 k (one.on q s partial h x);
   blamed = tt;
   stopped = tt;
 }
 
 stopped_by : (c n : ℕ) (stage : Stage) (reason : Reason) (a b d : MetaLinks) (l l2 k k2 : DeviceState)
-    → ((q : List Question) (s : MetaSettings) (h : History) → MetaAfter q s h a → Talk q s c h n stage b l l2 k k2)
+    → ((q : List Question) (s : MetaSettings) (partial : List ℕ) (h : History) → MetaAfterUpTo q s partial h a → Talk q s partial c h n stage b l l2 k k2)
     → MetaRecorded c (Stopped reason) b d
-    → (q : List Question) (s : MetaSettings) (h : History) → MetaAfter q s h a
-    → StoppedTalk q s c h n stage reason d l l2 k k2
-stopped_by c n stage reason a b d l l2 k k2 talk recorded q s h x =
-    let t = talk q s h x in
-    record { meta = b; talk = t; after = recorded q s (t.more ++ h) t.after }
+    → (q : List Question) (s : MetaSettings) (partial : List ℕ) (h : History) → MetaAfterUpTo q s partial h a
+    → StoppedTalk q s partial c h n stage reason d l l2 k k2
+stopped_by c n stage reason a b d l l2 k k2 talk recorded q s partial h x =
+    let t = talk q s partial h x in
+    record { meta = b; talk = t; after = recorded q s partial (t.more ++ h) t.after }
 
 -- As many reads gave octets as the limit allows.
 pub ends_at_limit : (c n : ℕ) (a b d : MetaLinks) (l l2 k k2 : DeviceState) → Begun c n Waiting a b l l2 k k2
     → MetaRecorded c (Stopped reasons.Turns) b d → stop_at d.pool c ≡ Some (states.Failed reasons.Turns)
-    → AfterTalk c n (Err errors.Turns) a d l l2 k k2
+    → AfterConverse c n (Err errors.Turns) a d l l2 k k2
 ends_at_limit c n a b d l l2 k k2 one recorded is = record {
-  on = λ q s h x. stopped_by c n Waiting reasons.Turns a b d l l2 k k2 (λ q s h x. one.on q s h x) recorded q s h x;
+  on = λ q s partial h x. stopped_by c n Waiting reasons.Turns a b d l l2 k k2 (λ q s partial h x. one.on q s partial h x) recorded q s partial h x;
   blamed = (one.reader, one.writer);
   stopped = is;
 }
@@ -123,12 +124,12 @@ ends_at_limit c n a b d l l2 k k2 one recorded is = record {
 -- A read failed, or no memory was found.
 pub ends_unread : (c n turns : ℕ) (a b d : MetaLinks) (l l2 l3 k k2 : DeviceState) → n < turns
     → Begun c n Waiting a b l l2 k k2 → (e : TalkError) → AfterListen c (Err e) b d l2 l3
-    → AfterTalk c turns (Err e) a d l l3 k k2
+    → AfterConverse c turns (Err e) a d l l3 k k2
 ends_unread c n turns a b d l l2 l3 k k2 few one errors.Read h = record {
-  on = λ q s g x. (
+  on = λ q s partial g x. (
     n,
     few,
-    stopped_by c n Waiting reasons.Read a b d l l3 k k2 (kept c n Waiting a b l l2 l3 k k2 one h.1) h.0 q s g x,
+    stopped_by c n Waiting reasons.Read a b d l l3 k k2 (kept c n Waiting a b l l2 l3 k k2 one h.1) h.0 q s partial g x,
   );
   blamed = (subst (λ z. HasFailed z l3.failures) one.reader h.2, one.writer);
   stopped = h.3;
@@ -137,7 +138,7 @@ ends_unread c n turns a b d l l2 l3 k k2 few one errors.Write h = absurd h
 ends_unread c n turns a b d l l2 l3 k k2 few one errors.Ended h = absurd h
 ends_unread c n turns a b d l l2 l3 k k2 few one errors.Turns h = absurd h
 ends_unread c n turns a b d l l2 l3 k k2 few one errors.Memory h = record {
-  on = λ q s g x. record { meta = d; halted = h k2 q s g n l l2 k (one.on q s g x); known = refl; others = λ i far. refl; drivers = refl };
+  on = λ q s partial g x. h k2 q s partial g n l l2 k (one.on q s partial g x);
   blamed = tt;
   stopped = tt;
 }
@@ -172,33 +173,33 @@ module _ (c n turns : ℕ) (a b : MetaLinks) (l l2 l3 k k2 : DeviceState) (few :
     (one : Begun c n Waiting a b l l2 k k2) (still : IsUntouched l2 l3) (end : IsAtEnd l3.octets)
   where
     at_end : (d : MetaLinks) → TalkStepAlone c Waiting Ended b d
-        → (q : List Question) (s : MetaSettings) (h : History) → MetaAfter q s h a → Talk q s c h n Ended d l l3 k k2
-    at_end d goes q s h x =
-        (goes l3 k2).on q s h n l k (kept c n Waiting a b l l2 l3 k k2 one still.octets q s h x)
+        → (q : List Question) (s : MetaSettings) (partial : List ℕ) (h : History) → MetaAfterUpTo q s partial h a → Talk q s partial c h n Ended d l l3 k k2
+    at_end d goes q s partial h x =
+        (goes l3 k2).on q s partial h n l k (kept c n Waiting a b l l2 l3 k k2 one still.octets q s partial h x)
 
-    finished : (d : MetaLinks) (r : Result (Unit {0}) TalkError) → AfterFinish c r b d → AfterTalk c turns r a d l l3 k k2
+    finished : (d : MetaLinks) (r : Result (Unit {0}) TalkError) → AfterFinish c r b d → AfterConverse c turns r a d l l3 k k2
     finished d (Ok u) f = record {
-      on = λ q s h x.
-          let t = at_end d f.0 q s h x in
+      on = λ q s partial h x.
+          let t = at_end d f.0 q s partial h x in
           record {
             reads = n;
             stage = Ended;
             talk = t;
-            at = (few, end, λ p transcript. sym (f.1 q s (t.more ++ h) p t.after transcript));
+            at = (few, end, λ p transcript. sym (f.1 q s partial (t.more ++ h) p t.after transcript));
             over = t.stands;
           };
       blamed = (still.failures ∙ one.reader, one.writer);
       stopped = tt;
     }
     finished d (Err errors.Ended) f = record {
-      on = λ q s h x.
-          let t = at_end f.0.0 f.0.1 q s h x in
+      on = λ q s partial h x.
+          let t = at_end f.0.0 f.0.1 q s partial h x in
           record {
             reads = n;
             few = few;
-            stopped = record { meta = f.0.0; talk = t; after = f.0.3 q s (t.more ++ h) t.after };
+            stopped = record { meta = f.0.0; talk = t; after = f.0.3 q s partial (t.more ++ h) t.after };
             cut = λ p transcript.
-                cut_off (state_at p) (t.stands p transcript) (sym (f.0.2 q s (t.more ++ h) p t.after transcript));
+                cut_off (state_at p) (t.stands p transcript) (sym (f.0.2 q s partial (t.more ++ h) p t.after transcript));
           };
       blamed = (end, still.failures ∙ one.reader, one.writer);
       stopped = f.1;
@@ -207,50 +208,61 @@ module _ (c n turns : ℕ) (a b : MetaLinks) (l l2 l3 k k2 : DeviceState) (few :
     finished d (Err errors.Write) f = absurd f
     finished d (Err errors.Turns) f = absurd f
     finished d (Err errors.Memory) f = record {
-      on = λ q s h x. record { meta = d; halted = f k2 q s h n l l2 k (one.on q s h x); known = refl; others = λ i far. refl; drivers = refl };
+      on = λ q s partial h x. f k2 q s partial h n l l2 k (one.on q s partial h x);
       blamed = tt;
       stopped = tt;
     }
 
 pub ends_finished : (c n turns : ℕ) (a b d g : MetaLinks) (l l2 l3 k k2 : DeviceState) → n < turns
     → Begun c n Waiting a b l l2 k k2 → (r : Bool) → AfterListen c (Ok r) b d l2 l3 → r ≡ false
-    → (f : Result (Unit {0}) TalkError) → AfterFinish c f d g → AfterTalk c turns f a g l l3 k k2
+    → (f : Result (Unit {0}) TalkError) → AfterFinish c f d g → AfterConverse c turns f a g l l3 k k2
 ends_finished c n turns a b d g l l2 l3 k k2 few one true h e f fin = absurd (true≢false e)
 ends_finished c n turns a b d g l l2 l3 k k2 few one false h e f fin =
     finished c n turns a b l l2 l3 k k2 few one h.1 h.2 g f (subst (λ z. AfterFinish c f z g) h.0 fin)
 
 -- No memory was found, and the connection was stopped for `Memory`.
 pub ends_starved : (c turns : ℕ) (a b d : MetaLinks) (l l2 k k2 : DeviceState)
-    → AfterTalk c turns (Err errors.Memory) a b l l2 k k2 → d.pool.knowledge ≡ b.pool.knowledge
-    → SameOthers c b.pool d.pool → d.drivers ≡ b.drivers → AfterTalk c turns (Err errors.Memory) a d l l2 k k2
-ends_starved c turns a b d l l2 k k2 t same_known stay same_drivers = record {
-  on = λ q s h x.
-      let starved = t.on q s h x in
+    → AfterConverse c turns (Err errors.Memory) a b l l2 k k2 → MetaRecorded c (Stopped reasons.Memory) b d
+    → stop_at d.pool c ≡ Some (states.Failed reasons.Memory) → AfterTalk c turns (Err errors.Memory) a d l l2 k k2
+ends_starved c turns a b d l l2 k k2 t recorded is = record {
+  on = λ q s partial h x.
+      let halted = t.on q s partial h x in
       record {
-        meta = starved.meta;
-        halted = starved.halted;
-        known = same_known ∙ starved.known;
-        others = λ i far. stay i far ∙ starved.others i far;
-        drivers = same_drivers ∙ starved.drivers;
+        more = halted.more;
+        others = halted.others;
+        after = recorded q s (c ∷ partial) (halted.more ++ h) halted.after;
       };
   blamed = tt;
-  stopped = tt;
+  stopped = is;
 }
+
+-- The conversation ended by itself, or for another reason.
+pub ends_well : (c turns : ℕ) (a b : MetaLinks) (l l2 k k2 : DeviceState)
+    → AfterConverse c turns (Ok tt) a b l l2 k k2 → AfterTalk c turns (Ok tt) a b l l2 k k2
+ends_well c turns a b l l2 k k2 t = record { on = t.on; blamed = t.blamed; stopped = tt }
+
+pub ends_refused : (c turns : ℕ) (e : TalkError) (a b : MetaLinks) (l l2 k k2 : DeviceState) → (e ≡ errors.Memory → ⊥)
+    → AfterConverse c turns (Err e) a b l l2 k k2 → AfterTalk c turns (Err e) a b l l2 k k2
+ends_refused c turns errors.Read a b l l2 k k2 other t = record { on = t.on; blamed = t.blamed; stopped = t.stopped }
+ends_refused c turns errors.Write a b l l2 k k2 other t = record { on = t.on; blamed = t.blamed; stopped = t.stopped }
+ends_refused c turns errors.Ended a b l l2 k k2 other t = record { on = t.on; blamed = t.blamed; stopped = t.stopped }
+ends_refused c turns errors.Turns a b l l2 k k2 other t = record { on = t.on; blamed = t.blamed; stopped = t.stopped }
+ends_refused c turns errors.Memory a b l l2 k k2 other t = absurd (other refl)
 
 -- ---- the end of the input
 
 -- What was left of the input was taken.
-pub goes_ended : UpToLaw → OneInput → (c : ℕ) (old mid new : MetaLinks) → MetaRecorded c InputEnded old mid
+pub goes_ended : OneInput → (c : ℕ) (old mid new : MetaLinks) → MetaRecorded c InputEnded old mid
     → MetaTakeStep c mid new → TalkStepAlone c Waiting Ended old new
-goes_ended law meeting c old mid new recorded took left held = record {
-  on = λ q s h n source sink t.
-      let a : MetaAfter q s ((c, InputEnded) ∷ (t.more ++ h)) mid = recorded q s (t.more ++ h) t.after in
+goes_ended meeting c old mid new recorded took left held = record {
+  on = λ q s partial h n source sink t.
+      let a : MetaAfterUpTo q s partial ((c, InputEnded) ∷ (t.more ++ h)) mid = recorded q s partial (t.more ++ h) t.after in
       record {
         more = (c, Took) ∷ (c, InputEnded) ∷ t.more;
         read = t.read;
         written = t.written;
         trace = input_end t.trace;
-        after = took q s ((c, InputEnded) ∷ (t.more ++ h)) (up q s ((c, InputEnded) ∷ (t.more ++ h)) a);
+        after = took_within c mid new took q s partial ((c, InputEnded) ∷ (t.more ++ h)) a;
         stands = ends_stopped meeting t.trace refl;
         consumed = t.consumed;
         appended = t.appended;
@@ -258,28 +270,9 @@ goes_ended law meeting c old mid new recorded took left held = record {
   reader = refl;
   writer = refl;
 }
-  where
-    up : (q : List Question) (s : MetaSettings) (h : History) → MetaAfter q s h mid → MetaAfterUpTo q s c h mid
-    up q s h a = record {
-      fit = a.fit;
-      askable = a.askable;
-      pool = law (settings_of s) c h mid.pool a.pool;
-      driven = a.driven;
-      size = a.size;
-    }
 
 -- What the state of the connection says of how it ended.
-pub well_tells : UpToLaw → OneTranscript → (c : ℕ) (meta : MetaLinks) (state : State) (well : Bool)
+pub well_tells : OneTranscript → (c : ℕ) (meta : MetaLinks) (state : State) (well : Bool)
     → c < length meta.pool.connections → IsStateAt c meta.pool state → ended_well state ≡ well → IsWellEnded c meta well
-well_tells law hearing c meta state well lt is e q s h p a transcript =
-    sym e ∙ state_tells law hearing ended_well c meta state lt is q s h p a transcript
-
--- ---- the reason
-
-pub stopped_as : (c : ℕ) (e : TalkError) (new : MetaLinks) → (e ≡ errors.Memory → ⊥) → IsStoppedFor c (Err e) new
-    → stop_at new.pool c ≡ Some (states.Failed (reason_of e))
-stopped_as c errors.Read new other s = s
-stopped_as c errors.Write new other s = s
-stopped_as c errors.Ended new other s = s
-stopped_as c errors.Turns new other s = s
-stopped_as c errors.Memory new other s = absurd (other refl)
+well_tells hearing c meta state well lt is e q s partial h p a transcript =
+    sym e ∙ state_tells hearing ended_well c meta state lt is q s partial h p a transcript

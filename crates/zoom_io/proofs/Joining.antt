@@ -11,14 +11,14 @@ use Rattle.zoom_pool.specs.declared.state.Reason.TheVariants as reasons
 use Rattle.zoom_pool.specs.States.{is_stopped}
 use Rattle.zoom_pool.specs.Transcripts.{HandedOut, Stopped, IsTranscript, state_at}
 use Rattle.zoom_pool.specs.History.{History, events_on}
-use Rattle.zoom_pool.specs.Metas.{MetaLinks, MetaAfter, MetaRecorded, settings_of}
+use Rattle.zoom_pool.specs.Metas.{MetaLinks, MetaAfterUpTo, MetaRecorded, settings_of}
 use Rattle.zoom_pool.proofs.Pools.{only_same, only_other}
 use Rattle.zoom_io.specs.declared.among.TalkPhase.{TalkPhase}
 use Rattle.zoom_io.specs.declared.among.TalkPhase.TheVariants as phases
 use Rattle.zoom_io.specs.Devices.{DeviceState, HasFailed, IsUntouched, HasRisen, most_failures, next_count}
 use Rattle.zoom_io.specs.TalkTraces.{Stage, Due, Waiting, Over, Ended, Talk, TalkStep, BrokenTalk, IsAtStage, IsStoppedAt, IsCutOff, same}
 use Rattle.zoom_io.specs.TalkSteps.{WriteFailureStep}
-use Rattle.zoom_io.specs.Arrivals.{AfterArrive, AfterDrain}
+use Rattle.zoom_io.specs.Arrivals.{AfterArrive, AfterDrain, polls_at}
 use Rattle.zoom_io.specs.declared.among.Arrival.{Arrival}
 use Rattle.zoom_io.specs.declared.among.Arrival.TheVariants as arrivals
 use Rattle.zoom_io.specs.TalksAmong.{View, TalkAmong, OngoingTalkAmong, StoppedTalkAmong, stopped_by_itself, input_ended, read_failed, write_failed, cut_short, out_of_turns, PhaseAmong, IsAmong, StepAmong}
@@ -52,40 +52,40 @@ stopped_over s c reason h p transcript = at (subst (λ z. IsTranscript (settings
 -- ---- a talk goes on
 
 record AfterTalkStepAmong
-    (q : List Question) (s : MetaSettings) (c : ℕ) (h now : History) (reads : ℕ) (stage : Stage) (first last : View)
-    (new : MetaLinks)
+    (q : List Question) (s : MetaSettings) (partial : List ℕ) (c : ℕ) (h now : History) (reads : ℕ) (stage : Stage)
+    (first last : View) (new : MetaLinks)
     : Type 0 where
   pub later : History
-  pub after : MetaAfter q s later new
+  pub after : MetaAfterUpTo q s partial later new
   pub talk : TalkAmong q s c h later reads stage first last
   pub stands : IsAtStage stage s c later
   pub others : (i : ℕ) → (c == i) ≡ false → events_on i later ≡ events_on i now
 
 -- The talk, with its events last in the history.
-talk_last : (q : List Question) (s : MetaSettings) (c : ℕ) (h now : History) (reads : ℕ) (stage : Stage)
+pub talk_last : (q : List Question) (s : MetaSettings) (partial : List ℕ) (c : ℕ) (h now : History) (reads : ℕ) (stage : Stage)
     (first last : View) (old : MetaLinks) → ((k : History) → IsAtStage stage s c k)
-    → MetaAfter q s now old → TalkAmong q s c h now reads stage first last
-    → Talk q s c (rest c now h) reads stage old first.source last.source first.sink last.sink
-talk_last q s c h now reads stage first last old stands a t = record {
+    → MetaAfterUpTo q s partial now old → TalkAmong q s c h now reads stage first last
+    → Talk q s partial c (rest c now h) reads stage old first.source last.source first.sink last.sink
+talk_last q s partial c h now reads stage first last old stands a t = record {
   more = t.more;
   read = t.read;
   written = t.written;
   trace = follows_alike (rest c now h) (sym (rest_mine c now h)) t.trace;
-  after = after_alike q s now (t.more ++ rest c now h) old
+  after = after_alike q s partial now (t.more ++ rest c now h) old
       (reordered c t.more now h t.mine (λ i far. others_follow i t.trace far)) a;
   stands = stands (t.more ++ rest c now h);
   consumed = t.consumed;
   appended = t.appended;
 }
 
-goes_among : (q : List Question) (s : MetaSettings) (c : ℕ) (h now : History) (reads : ℕ) (from to : Stage)
+goes_among : (q : List Question) (s : MetaSettings) (partial : List ℕ) (c : ℕ) (h now : History) (reads : ℕ) (from to : Stage)
     (f : ℕ → ℕ) (first before last : View) (old new : MetaLinks) → ((k : History) → IsAtStage from s c k)
     → TalkStep c from to f old new before.source last.source before.sink last.sink
-    → MetaAfter q s now old → TalkAmong q s c h now reads from first before
-    → AfterTalkStepAmong q s c h now (f reads) to first last new
-goes_among q s c h now reads from to f first before last old new stands goes a t =
-    let next = goes.on q s (rest c now h) reads first.source first.sink
-    (talk_last q s c h now reads from first before old stands a t) in
+    → MetaAfterUpTo q s partial now old → TalkAmong q s c h now reads from first before
+    → AfterTalkStepAmong q s partial c h now (f reads) to first last new
+goes_among q s partial c h now reads from to f first before last old new stands goes a t =
+    let next = goes.on q s partial (rest c now h) reads first.source first.sink
+    (talk_last q s partial c h now reads from first before old stands a t) in
     record {
       later = next.more ++ rest c now h;
       after = next.after;
@@ -144,7 +144,7 @@ abbrev pub with_source : View → DeviceState → ℕ → TalkPhase → View
 with_source before left polls phase = record { source = left; polls = polls; sink = before.sink; phase = phase }
 
 -- What the known phase of a view says.
-as_phase : (phase : TalkPhase) (q : List Question) (s : MetaSettings) (c : ℕ) (h now : History) (n turns : ℕ)
+pub as_phase : (phase : TalkPhase) (q : List Question) (s : MetaSettings) (c : ℕ) (h now : History) (n turns : ℕ)
     (first last : View) → last.phase ≡ phase → IsAmong q s c h now n turns first last
     → PhaseAmong phase q s c h now n turns first last
 as_phase phase q s c h now n turns first last is among =
@@ -153,7 +153,7 @@ as_phase phase q s c h now n turns first last is among =
 pub over_steps : (c n m turns : ℕ) (meta : MetaLinks) (before : View) → before.phase ≡ phases.Over
     → StepAmong c n m turns meta meta before before
 over_steps c n m turns meta before is = record {
-  on = λ q s h now first a among. record {
+  on = λ q s partial h now first a among. record {
     later = now;
     after = a;
     among = subst (λ z. PhaseAmong z q s c h now m turns first before) (sym is)
@@ -165,9 +165,9 @@ over_steps c n m turns meta before is = record {
 pub steps_trans : (c n m k turns : ℕ) (a b d : MetaLinks) (x y z : View) → StepAmong c n m turns a b x y
     → StepAmong c m k turns b d y z → StepAmong c n k turns a d x z
 steps_trans c n m k turns a b d x y z one two = record {
-  on = λ q s h now first after among.
-      let mid = one.on q s h now first after among in
-      let end = two.on q s h mid.later first mid.after mid.among in
+  on = λ q s partial h now first after among.
+      let mid = one.on q s partial h now first after among in
+      let end = two.on q s partial h mid.later first mid.after mid.among in
       record {
         later = end.later;
         after = end.after;
@@ -184,10 +184,10 @@ module _ (c n turns : ℕ) (le : n ≤ turns) (old new : MetaLinks) (before : Vi
     pub settled_waiting : ((left : DeviceState) → TalkStep c Due Waiting same old new left left before.sink held)
         → StepAmong c n n turns old new before (with_sink before held phases.Waiting)
     settled_waiting goes = record {
-      on = λ q s h now first a among.
+      on = λ q s partial h now first a among.
           let g : OngoingTalkAmong q s c h now n Due first before =
           as_phase phases.Due q s c h now n turns first before is among in
-          let w = goes_among q s c h now g.reads Due Waiting same first before
+          let w = goes_among q s partial c h now g.reads Due Waiting same first before
           (with_sink before held phases.Waiting) old new (λ k. tt) (goes before.source) a g.talk in
           record {
             later = w.later;
@@ -207,10 +207,10 @@ module _ (c n turns : ℕ) (le : n ≤ turns) (old new : MetaLinks) (before : Vi
     pub settled_over : ((left : DeviceState) → TalkStep c Due Over same old new left left before.sink held)
         → StepAmong c n n turns old new before (with_sink before held phases.Over)
     settled_over goes = record {
-      on = λ q s h now first a among.
+      on = λ q s partial h now first a among.
           let g : OngoingTalkAmong q s c h now n Due first before =
           as_phase phases.Due q s c h now n turns first before is among in
-          let w = goes_among q s c h now g.reads Due Over same first before
+          let w = goes_among q s partial c h now g.reads Due Over same first before
           (with_sink before held phases.Over) old new (λ k. tt) (goes before.source) a g.talk in
           let less : g.reads ≤ n = g.few in
           record {
@@ -232,13 +232,13 @@ module _ (c n turns : ℕ) (le : n ≤ turns) (old new : MetaLinks) (before : Vi
     pub settled_broken : WriteFailureStep c Due old new before.sink held
         → StepAmong c n n turns old new before (with_sink before held phases.Over)
     settled_broken off = record {
-      on = λ q s h now first a among.
+      on = λ q s partial h now first a among.
           let g : OngoingTalkAmong q s c h now n Due first before =
           as_phase phases.Due q s c h now n turns first before is among in
           let base = rest c now h in
-          let b : BrokenTalk q s c base g.reads new first.source before.source first.sink held =
-          off.on q s base g.reads first.source before.source first.sink
-          (talk_last q s c h now g.reads Due first before old (λ k. tt) a g.talk) in
+          let b : BrokenTalk q s partial c base g.reads new first.source before.source first.sink held =
+          off.on q s partial base g.reads first.source before.source first.sink
+          (talk_last q s partial c h now g.reads Due first before old (λ k. tt) a g.talk) in
           let given : History = (c, HandedOut b.octets) ∷ b.more in
           let less : g.reads ≤ n = g.few in
           record {
@@ -276,18 +276,23 @@ module _ (c n turns : ℕ) (le : n ≤ turns) (old new : MetaLinks) (before : Vi
 -- ---- polling
 
 module _ (c n turns : ℕ) (lt : n < turns) (old new : MetaLinks) (before : View) (is : before.phase ≡ phases.Waiting)
-    (left : DeviceState) (polls : ℕ) (counted : polls ≡ next_count before.polls)
+    (left : DeviceState) (polls : ℕ)
   where
-    polled_more : (first : View) → HasRisen n first.polls before.polls → HasRisen (n + 1) first.polls polls
-    polled_more first was = subst (HasRisen (n + 1) first.polls) (sym counted) (risen_more n first.polls before.polls was)
+    polled_more : polls ≡ next_count before.polls → (first : View) → HasRisen n first.polls before.polls
+        → HasRisen (n + 1) first.polls polls
+    polled_more counted first was =
+        subst (HasRisen (n + 1) first.polls) (sym counted) (risen_more n first.polls before.polls was)
 
-    pub polled_octets : ((held : DeviceState) → TalkStep c Waiting Due suc old new before.source left held held)
+    polled_same : polls ≡ before.polls → (first : View) → HasRisen n first.polls before.polls → HasRisen n first.polls polls
+    polled_same counted first was = subst (HasRisen n first.polls) (sym counted) was
+
+    pub polled_octets : polls ≡ next_count before.polls → ((held : DeviceState) → TalkStep c Waiting Due suc old new before.source left held held)
         → StepAmong c n (n + 1) turns old new before (with_source before left polls phases.Due)
-    polled_octets goes = record {
-      on = λ q s h now first a among.
+    polled_octets counted goes = record {
+      on = λ q s partial h now first a among.
           let g : OngoingTalkAmong q s c h now n Waiting first before =
           as_phase phases.Waiting q s c h now n turns first before is among in
-          let w = goes_among q s c h now g.reads Waiting Due suc first before
+          let w = goes_among q s partial c h now g.reads Waiting Due suc first before
           (with_source before left polls phases.Due) old new (λ k. tt) (goes before.sink) a g.talk in
           let less : g.reads ≤ n = g.few in
           record {
@@ -297,7 +302,7 @@ module _ (c n turns : ℕ) (lt : n < turns) (old new : MetaLinks) (before : View
               reads = suc g.reads;
               talk = w.talk;
               few = omega (arith, less);
-              polled = polled_more first g.polled;
+              polled = polled_more counted first g.polled;
               reader = (goes before.sink).reader ∙ g.reader;
               writer = g.writer;
             };
@@ -305,10 +310,10 @@ module _ (c n turns : ℕ) (lt : n < turns) (old new : MetaLinks) (before : View
           };
     }
 
-    pub polled_nothing : IsUntouched before.source left
+    pub polled_nothing : polls ≡ next_count before.polls → IsUntouched before.source left
         → StepAmong c n (n + 1) turns old old before (with_source before left polls phases.Waiting)
-    polled_nothing rests = record {
-      on = λ q s h now first a among.
+    polled_nothing counted rests = record {
+      on = λ q s partial h now first a among.
           let g : OngoingTalkAmong q s c h now n Waiting first before =
           as_phase phases.Waiting q s c h now n turns first before is among in
           let less : g.reads ≤ n = g.few in
@@ -320,7 +325,7 @@ module _ (c n turns : ℕ) (lt : n < turns) (old new : MetaLinks) (before : View
               talk = kept q s c h now g.reads Waiting first before (with_source before left polls phases.Waiting)
                   rests.octets refl g.talk;
               few = omega (arith, less);
-              polled = polled_more first g.polled;
+              polled = polled_more counted first g.polled;
               reader = rests.failures ∙ g.reader;
               writer = g.writer;
             };
@@ -329,23 +334,24 @@ module _ (c n turns : ℕ) (lt : n < turns) (old new : MetaLinks) (before : View
     }
 
     -- The poll failed.
-    pub polled_failure : MetaRecorded c (Stopped reasons.Read) old new → Keeps before.source.octets left.octets
+    pub polled_failure : polls ≡ next_count before.polls → MetaRecorded c (Stopped reasons.Read) old new
+        → Keeps before.source.octets left.octets
         → HasFailed before.source.failures left.failures
         → StepAmong c n (n + 1) turns old new before (with_source before left polls phases.Over)
-    polled_failure recorded still failed = record {
-      on = λ q s h now first a among.
+    polled_failure counted recorded still failed = record {
+      on = λ q s partial h now first a among.
           let g : OngoingTalkAmong q s c h now n Waiting first before =
           as_phase phases.Waiting q s c h now n turns first before is among in
           let less : g.reads ≤ n = g.few in
           record {
             later = (c, Stopped reasons.Read) ∷ now;
-            after = recorded q s now a;
+            after = recorded q s partial now a;
             among = record {
               reads = g.reads;
               polls = n + 1;
               given = omega (arith, less);
               few = omega (arith, lt);
-              polled = polled_more first g.polled;
+              polled = polled_more counted first g.polled;
               ended = read_failed
                   (stopped q s c h now g.reads Waiting reasons.Read first (with_source before left polls phases.Over)
                   (kept q s c h now g.reads Waiting first before (with_source before left polls phases.Over) still
@@ -358,14 +364,14 @@ module _ (c n turns : ℕ) (lt : n < turns) (old new : MetaLinks) (before : View
     }
 
     -- The input ended.
-    pub polled_end : IsUntouched before.source left → IsAtEnd left.octets → AfterDrain c old new
+    pub polled_end : polls ≡ before.polls → IsUntouched before.source left → IsAtEnd left.octets → AfterDrain c old new
         → StepAmong c n (n + 1) turns old new before (with_source before left polls phases.Over)
-    polled_end rests end (inl f) = record {
-      on = λ q s h now first a among.
+    polled_end counted rests end (inl f) = record {
+      on = λ q s partial h now first a among.
           let g : OngoingTalkAmong q s c h now n Waiting first before =
           as_phase phases.Waiting q s c h now n turns first before is among in
           let quiet = with_source before left polls phases.Over in
-          let w = goes_among q s c h now g.reads Waiting Ended same first quiet quiet old new (λ k. tt)
+          let w = goes_among q s partial c h now g.reads Waiting Ended same first quiet quiet old new (λ k. tt)
           (f.0 left before.sink) a
           (kept q s c h now g.reads Waiting first before quiet rests.octets refl g.talk) in
           let t = w.talk in
@@ -375,42 +381,43 @@ module _ (c n turns : ℕ) (lt : n < turns) (old new : MetaLinks) (before : View
             after = w.after;
             among = record {
               reads = g.reads;
-              polls = n + 1;
-              given = omega (arith, less);
+              polls = n;
+              given = less;
               few = omega (arith, lt);
-              polled = polled_more first g.polled;
+              polled = polled_same counted first g.polled;
               ended = input_ended t
                   (λ p transcript.
-                  sym (f.1 q s w.later p w.after (transcript_alike (settings_of s) c w.later (t.more ++ h) p t.mine transcript)))
-                  end (record { reader = rests.failures ∙ g.reader; writer = g.writer });
+                  sym (f.1 q s partial w.later p w.after (transcript_alike (settings_of s) c w.later (t.more ++ h) p t.mine transcript)))
+                  (end, (n, lt, polled_same counted first g.polled))
+                  (record { reader = rests.failures ∙ g.reader; writer = g.writer });
               over = w.stands;
             };
             others = w.others;
           };
     }
-    polled_end rests end (inr f) = record {
-      on = λ q s h now first a among.
+    polled_end counted rests end (inr f) = record {
+      on = λ q s partial h now first a among.
           let g : OngoingTalkAmong q s c h now n Waiting first before =
           as_phase phases.Waiting q s c h now n turns first before is among in
           let quiet = with_source before left polls phases.Over in
           let mid = f.0.0 in
-          let w = goes_among q s c h now g.reads Waiting Ended same first quiet quiet old mid (λ k. tt)
+          let w = goes_among q s partial c h now g.reads Waiting Ended same first quiet quiet old mid (λ k. tt)
           (f.0.1 left before.sink) a
           (kept q s c h now g.reads Waiting first before quiet rests.octets refl g.talk) in
           let t = w.talk in
           let less : g.reads ≤ n = g.few in
           let cut : IsCutOff s c (t.more ++ h) = λ p transcript.
           let then = transcript_alike (settings_of s) c w.later (t.more ++ h) p t.mine transcript in
-          cut_off (state_at p) (w.stands p then) (sym (f.0.2 q s w.later p w.after then)) in
+          cut_off (state_at p) (w.stands p then) (sym (f.0.2 q s partial w.later p w.after then)) in
           record {
             later = (c, Stopped reasons.Ended) ∷ w.later;
-            after = f.0.3 q s w.later w.after;
+            after = f.0.3 q s partial w.later w.after;
             among = record {
               reads = g.reads;
-              polls = n + 1;
-              given = omega (arith, less);
+              polls = n;
+              given = less;
               few = omega (arith, lt);
-              polled = polled_more first g.polled;
+              polled = polled_same counted first g.polled;
               ended = cut_short
                   (record {
                     more = t.more;
@@ -421,7 +428,8 @@ module _ (c n turns : ℕ) (lt : n < turns) (old new : MetaLinks) (before : View
                     consumed = t.consumed;
                     appended = t.appended;
                   })
-                  cut end (record { reader = rests.failures ∙ g.reader; writer = g.writer });
+                  cut (end, (n, lt, polled_same counted first g.polled))
+                  (record { reader = rests.failures ∙ g.reader; writer = g.writer });
               over = stopped_over s c reasons.Ended w.later;
             };
             others = λ i far. only_other c i (Stopped reasons.Ended) w.later far ∙ w.others i far;
@@ -429,37 +437,41 @@ module _ (c n turns : ℕ) (lt : n < turns) (old new : MetaLinks) (before : View
     }
 
     -- What each result of a poll says.
-    pub arrived_octets : (arrival : Arrival) → AfterArrive c arrival old new before.source left → arrival ≡ arrivals.Octets
+    pub arrived_octets : (arrival : Arrival) → polls ≡ polls_at before.polls arrival
+        → AfterArrive c arrival old new before.source left → arrival ≡ arrivals.Octets
         → StepAmong c n (n + 1) turns old new before (with_source before left polls phases.Due)
-    arrived_octets arrivals.Octets a e = polled_octets a
-    arrived_octets arrivals.Nothing a e = absurd cc
-    arrived_octets arrivals.End a e = absurd cc
-    arrived_octets arrivals.Failure a e = absurd cc
+    arrived_octets arrivals.Octets counted a e = polled_octets counted a
+    arrived_octets arrivals.Nothing counted a e = absurd cc
+    arrived_octets arrivals.End counted a e = absurd cc
+    arrived_octets arrivals.Failure counted a e = absurd cc
 
-    pub arrived_nothing : (arrival : Arrival) → AfterArrive c arrival old new before.source left → arrival ≡ arrivals.Nothing
+    pub arrived_nothing : (arrival : Arrival) → polls ≡ polls_at before.polls arrival
+        → AfterArrive c arrival old new before.source left → arrival ≡ arrivals.Nothing
         → StepAmong c n (n + 1) turns old new before (with_source before left polls before.phase)
-    arrived_nothing arrivals.Nothing a e =
+    arrived_nothing arrivals.Nothing counted a e =
         subst (λ z. StepAmong c n (n + 1) turns old z before (with_source before left polls before.phase)) (sym a.0)
         (subst (λ z. StepAmong c n (n + 1) turns old old before (with_source before left polls z)) (sym is)
-        (polled_nothing a.1))
-    arrived_nothing arrivals.Octets a e = absurd cc
-    arrived_nothing arrivals.End a e = absurd cc
-    arrived_nothing arrivals.Failure a e = absurd cc
+        (polled_nothing counted a.1))
+    arrived_nothing arrivals.Octets counted a e = absurd cc
+    arrived_nothing arrivals.End counted a e = absurd cc
+    arrived_nothing arrivals.Failure counted a e = absurd cc
 
-    pub arrived_failure : (arrival : Arrival) → AfterArrive c arrival old new before.source left → arrival ≡ arrivals.Failure
+    pub arrived_failure : (arrival : Arrival) → polls ≡ polls_at before.polls arrival
+        → AfterArrive c arrival old new before.source left → arrival ≡ arrivals.Failure
         → StepAmong c n (n + 1) turns old new before (with_source before left polls phases.Over)
-    arrived_failure arrivals.Failure a e = polled_failure a.0 a.1 a.2
-    arrived_failure arrivals.Octets a e = absurd cc
-    arrived_failure arrivals.End a e = absurd cc
-    arrived_failure arrivals.Nothing a e = absurd cc
+    arrived_failure arrivals.Failure counted a e = polled_failure counted a.0 a.1 a.2
+    arrived_failure arrivals.Octets counted a e = absurd cc
+    arrived_failure arrivals.End counted a e = absurd cc
+    arrived_failure arrivals.Nothing counted a e = absurd cc
 
-    pub arrived_end : (arrival : Arrival) (mid : MetaLinks) → AfterArrive c arrival old mid before.source left
-        → arrival ≡ arrivals.End → AfterDrain c mid new
+    pub arrived_end : (arrival : Arrival) → polls ≡ polls_at before.polls arrival → (mid : MetaLinks)
+        → AfterArrive c arrival old mid before.source left → arrival ≡ arrivals.End → AfterDrain c mid new
         → StepAmong c n (n + 1) turns old new before (with_source before left polls phases.Over)
-    arrived_end arrivals.End mid a e drained = polled_end a.1 a.2 (subst (λ z. AfterDrain c z new) a.0 drained)
-    arrived_end arrivals.Octets mid a e drained = absurd cc
-    arrived_end arrivals.Nothing mid a e drained = absurd cc
-    arrived_end arrivals.Failure mid a e drained = absurd cc
+    arrived_end arrivals.End counted mid a e drained =
+        polled_end counted a.1 a.2 (subst (λ z. AfterDrain c z new) a.0 drained)
+    arrived_end arrivals.Octets counted mid a e drained = absurd cc
+    arrived_end arrivals.Nothing counted mid a e drained = absurd cc
+    arrived_end arrivals.Failure counted mid a e drained = absurd cc
 
 -- ---- taking leave
 
@@ -467,14 +479,14 @@ pub stopped_at_limit : (c n : ℕ) (old new : MetaLinks) (before : View) → bef
     → MetaRecorded c (Stopped reasons.Turns) old new
     → StepAmong c n n n old new before (at_phase before phases.Over)
 stopped_at_limit c n old new before is recorded = record {
-  on = λ q s h now first a among.
+  on = λ q s partial h now first a among.
       let g : OngoingTalkAmong q s c h now n Waiting first before =
       as_phase phases.Waiting q s c h now n n first before is among in
       let last = at_phase before phases.Over in
       let quiet : Keeps before.source.octets before.source.octets = Keeps-refl before.source.octets in
       record {
         later = (c, Stopped reasons.Turns) ∷ now;
-        after = recorded q s now a;
+        after = recorded q s partial now a;
         among = record {
           reads = g.reads;
           polls = n;

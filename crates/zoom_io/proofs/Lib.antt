@@ -2,7 +2,13 @@ pub mod Taking
 pub mod Sending
 pub mod Devices
 pub mod Ending
+pub mod LastClose
 pub mod Answering
+pub mod AnswerEnds
 pub mod Apart
 pub mod Joining
 pub mod Together
+pub mod Halting
+pub mod Others
+pub mod Looks
+pub mod Blameless

@@ -8,8 +8,8 @@ use Rattle.zoom_questions.specs.declared.question.MetaSettings.{MetaSettings}
 use Rattle.zoom_pool.specs.declared.state.Reason.TheVariants as reasons
 use Rattle.zoom_pool.specs.Transcripts.{IsTranscript, InputEnded, HandedOut, Stopped, past_of, given, is_lost, sent}
 use Rattle.zoom_pool.specs.History.{History, events_on}
-use Rattle.zoom_pool.specs.Laws.{UpToLaw, OneTranscript}
-use Rattle.zoom_pool.specs.Metas.{MetaLinks, MetaAfter, MetaRecorded, MetaIncompleteTake, DriveResult, CompleteDrive, Progress, call_events, settings_of}
+use Rattle.zoom_pool.specs.Laws.{OneTranscript}
+use Rattle.zoom_pool.specs.Metas.{MetaLinks, MetaAfterUpTo, MetaRecorded, MetaIncompleteTake, DriveResult, CompleteDrive, Progress, call_events, settings_of}
 use Rattle.zoom_io.specs.Devices.{DeviceState, HasAppendedFront, HasFailed}
 use Rattle.zoom_io.specs.declared.outgoing.PushError.{PushError}
 use Rattle.zoom_io.specs.declared.outgoing.PushError.TheVariants as pushes
@@ -18,7 +18,8 @@ use Rattle.zoom_io.specs.declared.talk_steps.Receipt.TheVariants as receipts
 use Rattle.zoom_io.specs.Pushing.{MetaWriteFailed, AfterPush}
 use Rattle.zoom_io.specs.TalkTraces.{Stage, Due, Listening, Waiting, Over, Talk, TalkStep, HaltStep, IsAllHandedOut, beginning, due_sent, same}
 use Rattle.zoom_pool.specs.Links.{waiting_at, waiting_in}
-use Rattle.zoom_pool.proofs.Metas.{slice_some, up_to_meta}
+use Rattle.zoom_pool.proofs.Metas.{slice_some}
+use Rattle.zoom_pool.proofs.MetaTakes.{more_partial}
 use Rattle.zoom_pool.proofs.Pools.{only_same, only_other}
 use Rattle.zoom_io.specs.Talking.{AfterSettle}
 use Rattle.zoom_io.specs.TalkSteps.{WriteFailureStep, HaltStepAlone, AfterSendDue, AfterTakeMessage, AfterSendAndTake}
@@ -27,9 +28,9 @@ use Rattle.zoom_io.proofs.Apart.{none_both, others_made, others_follow}
 -- ---- sending
 
 -- Handing out what waits leaves everything sent handed out.
-pub all_handed_out : OneTranscript → (q : List Question) (s : MetaSettings) (c : ℕ) (h : History) (meta : MetaLinks)
-    → c < length meta.pool.connections → MetaAfter q s h meta → IsAllHandedOut s c ((c, HandedOut (waiting_at meta.pool c)) ∷ h)
-all_handed_out hearing q s c h meta lt a p transcript kept =
+pub all_handed_out : OneTranscript → (q : List Question) (s : MetaSettings) (partial : List ℕ) (c : ℕ) (h : History) (meta : MetaLinks)
+    → c < length meta.pool.connections → MetaAfterUpTo q s partial h meta → IsAllHandedOut s c ((c, HandedOut (waiting_at meta.pool c)) ∷ h)
+all_handed_out hearing q s partial c h meta lt a p transcript kept =
     let waiting : List ℕ = waiting_at meta.pool c in
     let mine = only_same c (HandedOut waiting) h in
     let then = subst (λ z. IsTranscript (settings_of s) z p) mine transcript in
@@ -44,11 +45,11 @@ module _ (hearing : OneTranscript) (E : Type 0) (c n : ℕ) (old mid new : MetaL
     (drove : DriveResult {E = E} c (Ok n) old mid)
   where
     -- The history with the calls and the octets handed out.
-    spoken : (q : List Question) (s : MetaSettings) (h more : History) (calls : List Call) (octets : List ℕ)
-        → MetaAfter q s ((c, HandedOut octets) ∷ (call_events c calls ++ (more ++ h))) new
-        → MetaAfter q s ((c, HandedOut octets) ∷ (call_events c calls ++ more) ++ h) new
-    spoken q s h more calls octets a =
-        subst (λ z. MetaAfter q s ((c, HandedOut octets) ∷ z) new) (sym (append_assoc (call_events c calls) more h)) a
+    spoken : (q : List Question) (s : MetaSettings) (partial : List ℕ) (h more : History) (calls : List Call) (octets : List ℕ)
+        → MetaAfterUpTo q s partial ((c, HandedOut octets) ∷ (call_events c calls ++ (more ++ h))) new
+        → MetaAfterUpTo q s partial ((c, HandedOut octets) ∷ (call_events c calls ++ more) ++ h) new
+    spoken q s partial h more calls octets a =
+        subst (λ z. MetaAfterUpTo q s partial ((c, HandedOut octets) ∷ z) new) (sym (append_assoc (call_events c calls) more h)) a
 
     abbrev octets : List ℕ
     octets = waiting_at mid.pool c
@@ -57,18 +58,18 @@ module _ (hearing : OneTranscript) (E : Type 0) (c n : ℕ) (old mid new : MetaL
         → Appends sink.octets held.octets octets → held.failures ≡ sink.failures
         → (left : DeviceState) → TalkStep c Due Listening same old new left left sink held
     sent_on sink held recorded appended sound left = record {
-      on = λ q s h reads source first t.
-          let d : CompleteDrive q s c (t.more ++ h) n mid = drove q s (t.more ++ h) t.after in
+      on = λ q s partial h reads source first t.
+          let d : CompleteDrive q s partial c (t.more ++ h) n mid = drove q s partial (t.more ++ h) t.after in
           let calls = d.progress.calls in
-          let all = all_handed_out hearing q s c (call_events c calls ++ (t.more ++ h)) mid lt d.progress.after in
+          let all = all_handed_out hearing q s partial c (call_events c calls ++ (t.more ++ h)) mid lt d.progress.after in
           record {
             more = (c, HandedOut octets) ∷ (call_events c calls ++ t.more);
             read = t.read;
             written = t.written ++ octets;
             trace = due_sent calls octets t.trace
                 (λ question p asks transcript. (d.rests question p asks transcript, d.tried p transcript)) all;
-            after = spoken q s h t.more calls octets
-                (recorded q s (call_events c calls ++ (t.more ++ h)) d.progress.after);
+            after = spoken q s partial h t.more calls octets
+                (recorded q s partial (call_events c calls ++ (t.more ++ h)) d.progress.after);
             stands = tt;
             consumed = t.consumed;
             appended = Appends-trans first.octets sink.octets held.octets t.written octets t.appended appended;
@@ -81,10 +82,10 @@ module _ (hearing : OneTranscript) (E : Type 0) (c n : ℕ) (old mid new : MetaL
         → HasAppendedFront sink.octets held.octets octets → HasFailed sink.failures held.failures
         → WriteFailureStep c Due old new sink held
     sent_broken sink held write_failed_after front failed = record {
-      on = λ q s h reads source left first t.
-          let d : CompleteDrive q s c (t.more ++ h) n mid = drove q s (t.more ++ h) t.after in
+      on = λ q s partial h reads source left first t.
+          let d : CompleteDrive q s partial c (t.more ++ h) n mid = drove q s partial (t.more ++ h) t.after in
           let calls = d.progress.calls in
-          let all = all_handed_out hearing q s c (call_events c calls ++ (t.more ++ h)) mid lt d.progress.after in
+          let all = all_handed_out hearing q s partial c (call_events c calls ++ (t.more ++ h)) mid lt d.progress.after in
           record {
             more = call_events c calls ++ t.more;
             read = t.read;
@@ -92,9 +93,9 @@ module _ (hearing : OneTranscript) (E : Type 0) (c n : ℕ) (old mid new : MetaL
             octets = octets;
             trace = due_sent calls octets t.trace
                 (λ question p asks transcript. (d.rests question p asks transcript, d.tried p transcript)) all;
-            after = subst (λ z. MetaAfter q s ((c, Stopped reasons.Write) ∷ (c, HandedOut octets) ∷ z) new)
+            after = subst (λ z. MetaAfterUpTo q s partial ((c, Stopped reasons.Write) ∷ (c, HandedOut octets) ∷ z) new)
                 (sym (append_assoc (call_events c calls) t.more h))
-                (write_failed_after q s (call_events c calls ++ (t.more ++ h)) d.progress.after);
+                (write_failed_after q s partial (call_events c calls ++ (t.more ++ h)) d.progress.after);
             consumed = t.consumed;
             before = sink;
             appended = t.appended;
@@ -106,75 +107,74 @@ module _ (hearing : OneTranscript) (E : Type 0) (c n : ℕ) (old mid new : MetaL
 -- ---- no memory is found
 
 -- Nothing was done.
-pub halts_same : UpToLaw → (c : ℕ) (from : Stage) (old new : MetaLinks) → new ≡ old → HaltStepAlone c from old new
-halts_same law c from old new e held q s h n source left sink t = record {
+pub halts_same : (c : ℕ) (from : Stage) (old new : MetaLinks) → new ≡ old → HaltStepAlone c from old new
+halts_same c from old new e held q s partial h n source left sink t = record {
   more = t.more;
   others = λ i far. others_follow i t.trace far;
-  after = up_to_meta law q s c (t.more ++ h) new (subst (MetaAfter q s (t.more ++ h)) (sym e) t.after);
+  after = more_partial q s partial c (t.more ++ h) new (subst (MetaAfterUpTo q s partial (t.more ++ h)) (sym e) t.after);
 }
 
 -- A take was not completed.
-pub halts_keeps : UpToLaw → (c : ℕ) (from : Stage) (old new : MetaLinks) → MetaIncompleteTake c old new
+pub halts_keeps : (c : ℕ) (from : Stage) (old new : MetaLinks) → MetaIncompleteTake c old new
     → HaltStepAlone c from old new
-halts_keeps law c from old new keeps held q s h n source left sink t = record {
+halts_keeps c from old new keeps held q s partial h n source left sink t = record {
   more = t.more;
   others = λ i far. others_follow i t.trace far;
-  after = keeps q s (t.more ++ h) (up_to_meta law q s c (t.more ++ h) old t.after);
+  after = keeps q s partial (t.more ++ h) t.after;
 }
 
 -- A take after the end of the input was not completed.
-pub halts_ended : UpToLaw → (c : ℕ) (from : Stage) (old mid new : MetaLinks) → MetaRecorded c InputEnded old mid
+pub halts_ended : (c : ℕ) (from : Stage) (old mid new : MetaLinks) → MetaRecorded c InputEnded old mid
     → MetaIncompleteTake c mid new → HaltStepAlone c from old new
-halts_ended law c from old mid new recorded keeps held q s h n source left sink t = record {
+halts_ended c from old mid new recorded keeps held q s partial h n source left sink t = record {
   more = (c, InputEnded) ∷ t.more;
   others = λ i far. only_other c i InputEnded t.more far ∙ others_follow i t.trace far;
-  after = keeps q s ((c, InputEnded) ∷ (t.more ++ h))
-      (up_to_meta law q s c ((c, InputEnded) ∷ (t.more ++ h)) mid (recorded q s (t.more ++ h) t.after));
+  after = keeps q s partial ((c, InputEnded) ∷ (t.more ++ h)) (recorded q s partial (t.more ++ h) t.after);
 }
 
 -- Calls were made.
-halts_made : UpToLaw → (c : ℕ) (from : Stage) (old new : MetaLinks)
-    → ((q : List Question) (s : MetaSettings) (h : History) → MetaAfter q s h old → (m : ℕ) × Progress q s c h m new)
+halts_made : (c : ℕ) (from : Stage) (old new : MetaLinks)
+    → ((q : List Question) (s : MetaSettings) (partial : List ℕ) (h : History) → MetaAfterUpTo q s partial h old → (m : ℕ) × Progress q s partial c h m new)
     → HaltStepAlone c from old new
-halts_made law c from old new drove held q s h n source left sink t =
-    let d = (drove q s (t.more ++ h) t.after).1 in
+halts_made c from old new drove held q s partial h n source left sink t =
+    let d = (drove q s partial (t.more ++ h) t.after).1 in
     record {
       more = call_events c d.calls ++ t.more;
       others = λ i far.
           none_both i (call_events c d.calls) t.more (others_made c i d.calls far) (others_follow i t.trace far);
-      after = up_to_meta law q s c ((call_events c d.calls ++ t.more) ++ h) new
-          (subst (λ z. MetaAfter q s z new) (sym (append_assoc (call_events c d.calls) t.more h)) d.after);
+      after = more_partial q s partial c ((call_events c d.calls ++ t.more) ++ h) new
+          (subst (λ z. MetaAfterUpTo q s partial z new) (sym (append_assoc (call_events c d.calls) t.more h)) d.after);
     }
 
 -- Not all due calls were made.
-pub halts_driven : UpToLaw → (E : Type 0) (e : E) (c : ℕ) (old new : MetaLinks) → DriveResult {E = E} c (Err e) old new
+pub halts_driven : (E : Type 0) (e : E) (c : ℕ) (old new : MetaLinks) → DriveResult {E = E} c (Err e) old new
     → HaltStepAlone c Due old new
-halts_driven law E e c old new drove = halts_made law c Due old new (λ q s h a. drove q s h a)
+halts_driven E e c old new drove = halts_made c Due old new (λ q s partial h a. drove q s partial h a)
 
 -- All due calls were made, and what waits was not handed out.
-halts_unsaid : UpToLaw → (E : Type 0) (c n : ℕ) (old mid new : MetaLinks) → DriveResult {E = E} c (Ok n) old mid
+halts_unsaid : (E : Type 0) (c n : ℕ) (old mid new : MetaLinks) → DriveResult {E = E} c (Ok n) old mid
     → new ≡ mid → HaltStepAlone c Due old new
-halts_unsaid law E c n old mid new drove e =
-    halts_made law c Due old new
-    (λ q s h a. (n, subst (λ z. Progress q s c h n z) (sym e) (drove q s h a).progress))
+halts_unsaid E c n old mid new drove e =
+    halts_made c Due old new
+    (λ q s partial h a. (n, subst (λ z. Progress q s partial c h n z) (sym e) (drove q s partial h a).progress))
 
 -- The talk halts after steps that went on.
 pub halts_after : (c : ℕ) (from mid : Stage) (f : ℕ → ℕ) (a b d : MetaLinks) (k k2 : DeviceState)
     → ((left : DeviceState) → TalkStep c from mid f a b left left k k2) → HaltStep c mid b d k2 → HaltStep c from a d k
-halts_after c from mid f a b d k k2 one off q s h n source left sink t =
-    off q s h (f n) source left sink ((one left).on q s h n source sink t)
+halts_after c from mid f a b d k k2 one off q s partial h n source left sink t =
+    off q s partial h (f n) source left sink ((one left).on q s partial h n source sink t)
 
 -- ---- one after the other
 
 pub goes_same : (c : ℕ) (stage : Stage) (m : MetaLinks) (left held : DeviceState)
     → TalkStep c stage stage same m m left left held held
-goes_same c stage m left held = record { on = λ q s h reads source sink t. t; reader = refl; writer = refl }
+goes_same c stage m left held = record { on = λ q s partial h reads source sink t. t; reader = refl; writer = refl }
 
 pub goes_trans : (c : ℕ) (from mid to : Stage) (f g : ℕ → ℕ) (a b d : MetaLinks) (l l2 l3 k k2 k3 : DeviceState)
     → TalkStep c from mid f a b l l2 k k2 → TalkStep c mid to g b d l2 l3 k2 k3
     → TalkStep c from to (λ n. g (f n)) a d l l3 k k3
 goes_trans c from mid to f g a b d l l2 l3 k k2 k3 one two = record {
-  on = λ q s h reads source sink t. two.on q s h (f reads) source sink (one.on q s h reads source sink t);
+  on = λ q s partial h reads source sink t. two.on q s partial h (f reads) source sink (one.on q s partial h reads source sink t);
   reader = two.reader ∙ one.reader;
   writer = two.writer ∙ one.writer;
 }
@@ -183,8 +183,8 @@ pub breaks_after : (c : ℕ) (from : Stage) (a b d : MetaLinks) (k k2 k3 : Devic
     → ((left : DeviceState) → TalkStep c from Due same a b left left k k2)
     → WriteFailureStep c Due b d k2 k3 → WriteFailureStep c from a d k k3
 breaks_after c from a b d k k2 k3 one off = record {
-  on = λ q s h reads source left first t.
-      off.on q s h reads source left first ((one left).on q s h reads source first t);
+  on = λ q s partial h reads source left first t.
+      off.on q s partial h reads source left first ((one left).on q s partial h reads source first t);
   failed = subst (λ z. HasFailed z k3.failures) (one k).writer off.failed;
 }
 
@@ -194,14 +194,14 @@ breaks_after c from a b d k k2 k3 one off = record {
 pub record Begun
     (c reads : ℕ) (stage : Stage) (old new : MetaLinks) (source left sink held : DeviceState)
     : Type 0 where
-  pub on : (q : List Question) (s : MetaSettings) (h : History) → MetaAfter q s h old
-      → Talk q s c h reads stage new source left sink held
+  pub on : (q : List Question) (s : MetaSettings) (partial : List ℕ) (h : History) → MetaAfterUpTo q s partial h old
+      → Talk q s partial c h reads stage new source left sink held
   pub reader : left.failures ≡ source.failures
   pub writer : held.failures ≡ sink.failures
 
 pub begun : (c : ℕ) (m : MetaLinks) (source sink : DeviceState) → Begun c 0 Due m m source source sink sink
 begun c m source sink = record {
-  on = λ q s h a. record {
+  on = λ q s partial h a. record {
     more = [];
     read = [];
     written = [];
@@ -218,7 +218,7 @@ begun c m source sink = record {
 pub begun_on : (c n : ℕ) (from to : Stage) (f : ℕ → ℕ) (a b d : MetaLinks) (l l2 l3 k k2 k3 : DeviceState)
     → Begun c n from a b l l2 k k2 → TalkStep c from to f b d l2 l3 k2 k3 → Begun c (f n) to a d l l3 k k3
 begun_on c n from to f a b d l l2 l3 k k2 k3 one two = record {
-  on = λ q s h x. two.on q s h n l k (one.on q s h x);
+  on = λ q s partial h x. two.on q s partial h n l k (one.on q s partial h x);
   reader = two.reader ∙ one.reader;
   writer = two.writer ∙ one.writer;
 }
@@ -228,18 +228,18 @@ begun_on c n from to f a b d l l2 l3 k k2 k3 one two = record {
 -- What waited was handed out, and a write failed.
 pub write_failed_after : (c : ℕ) (octets : List ℕ) (old mid new : MetaLinks) → MetaRecorded c (HandedOut octets) old mid
     → MetaRecorded c (Stopped reasons.Write) mid new → MetaWriteFailed c octets old new
-write_failed_after c octets old mid new one two q s h a = two q s ((c, HandedOut octets) ∷ h) (one q s h a)
+write_failed_after c octets old mid new one two q s partial h a = two q s partial ((c, HandedOut octets) ∷ h) (one q s partial h a)
 
 -- Calls were made, and what waited was written or not.
-pub sent_by : UpToLaw → OneTranscript → (E : Type 0) (c n : ℕ) (old mid new : MetaLinks) (sink held : DeviceState)
+pub sent_by : OneTranscript → (E : Type 0) (c n : ℕ) (old mid new : MetaLinks) (sink held : DeviceState)
     (r : Result (Unit {0}) PushError) → c < length mid.pool.connections
     → DriveResult {E = E} c (Ok n) old mid → AfterPush c r mid new sink held → AfterSendDue c r old new sink held
-sent_by law hearing E c n old mid new sink held (Ok u) lt d p =
+sent_by hearing E c n old mid new sink held (Ok u) lt d p =
     sent_on hearing E c n old mid new lt d sink held p.0 p.1 p.2
-sent_by law hearing E c n old mid new sink held (Err pushes.Write) lt d p =
+sent_by hearing E c n old mid new sink held (Err pushes.Write) lt d p =
     sent_broken hearing E c n old mid new lt d sink held p.0 p.1 p.2
-sent_by law hearing E c n old mid new sink held (Err pushes.Memory) lt d p =
-    halts_unsaid law E c n old mid new d p.0 sink
+sent_by hearing E c n old mid new sink held (Err pushes.Memory) lt d p =
+    halts_unsaid E c n old mid new d p.0 sink
 
 -- And then a message was taken.
 pub sent_and_taken : (c : ℕ) (receipt : Receipt) (old mid new : MetaLinks) (sink held : DeviceState)

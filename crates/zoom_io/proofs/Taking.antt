@@ -17,12 +17,13 @@ use Rattle.zoom_pool.specs.declared.answer.TakeError.TheVariants as errors
 use Rattle.zoom_pool.specs.States.{is_stopped, is_closing}
 use Rattle.zoom_pool.specs.Inputs.{Input, AlreadyStopped, Message, Foreign, Fault, Rest, Nothing}
 use Rattle.zoom_pool.specs.Transcripts.{Transcript, IsTranscript, Took, InputEnded, NextInput, take_result, take_result_of_verdict, after_take, after_reply, after_stop, end_by, truncated, state_at, past_of, is_message, IsDone}
-use Rattle.zoom_pool.specs.History.{History, events_on, AfterUpTo}
+use Rattle.zoom_pool.specs.History.{History, events_on}
 use Rattle.zoom_pool.specs.PoolSteps.{IsTakeResult}
-use Rattle.zoom_pool.specs.Laws.{OneInput, OneTranscript, UpToLaw}
-use Rattle.zoom_pool.specs.Metas.{MetaLinks, MetaAfter, MetaTakeStep, settings_of}
+use Rattle.zoom_pool.specs.Laws.{OneInput, OneTranscript}
+use Rattle.zoom_pool.specs.Metas.{MetaLinks, MetaAfterUpTo, MetaTakeStep, settings_of}
 use Rattle.zoom_pool.proofs.Pools.{only_same}
-use Rattle.zoom_pool.proofs.Metas.{transcript_at, up_to_meta}
+use Rattle.zoom_pool.proofs.Metas.{transcript_at}
+use Rattle.zoom_pool.proofs.MetaTakes.{took_within}
 use Rattle.zoom_io.specs.declared.talk_steps.Receipt.TheVariants as receipts
 use Rattle.zoom_io.specs.TalkTraces.{Stage, Due, Listening, Waiting, Over, IsAtStage, IsNextStep, IsStoppedAt, TalkTrace, beginning, due_sent, message_taken, none_taken, stop_taken, piece_read, input_end}
 use Rattle.zoom_io.specs.TalkSteps.{AfterTakeMessage, TalkStepAlone, receipt_of}
@@ -150,44 +151,44 @@ ends_stopped meeting (input_end f) is = absurd cc
 
 -- ---- what a take returns
 
-module _ (law : UpToLaw) (hearing : OneTranscript) (meeting : OneInput) (c : ℕ) (old new : MetaLinks)
+module _ (hearing : OneTranscript) (meeting : OneInput) (c : ℕ) (old new : MetaLinks)
     (lt : c < length old.pool.connections) (answer : Result Step TakeError) (done : IsDone answer)
     (is_answer : IsTakeResult c old.pool answer) (took : MetaTakeStep c old new)
   where
-    answered : (q : List Question) (s : MetaSettings) (h : History) → MetaAfter q s h old
+    answered : (q : List Question) (s : MetaSettings) (partial : List ℕ) (h : History) → MetaAfterUpTo q s partial h old
         → (p : Transcript) → IsTranscript (settings_of s) (events_on c h) p → (input : Input) × NextInput p input × (answer ≡ take_result p input)
-    answered q s h a p transcript =
-        let up : AfterUpTo (settings_of s) c h old.pool = law (settings_of s) c h old.pool a.pool in
-        let now = transcript_at (settings_of s) h up.transcript old.pool.connections c up.stands lt in
-        let is : up.transcript c ≡ p = hearing (settings_of s) (events_on c h) (up.transcript c) p now transcript in
-        subst (λ z. (input : Input) × NextInput z input × (answer ≡ take_result z input)) is (is_answer (settings_of s) c h up done)
+    answered q s partial h a p transcript =
+        let now = transcript_at (settings_of s) h a.pool.transcript old.pool.connections c a.pool.stands lt in
+        let is : a.pool.transcript c ≡ p = hearing (settings_of s) (events_on c h) (a.pool.transcript c) p now transcript in
+        subst (λ z. (input : Input) × NextInput z input × (answer ≡ take_result z input)) is
+        (is_answer (settings_of s) partial h a.pool done)
 
-    stopped_after : IsLast answer → (q : List Question) (s : MetaSettings) (h : History) → MetaAfter q s h old
+    stopped_after : IsLast answer → (q : List Question) (s : MetaSettings) (partial : List ℕ) (h : History) → MetaAfterUpTo q s partial h old
         → IsStoppedAt s c ((c, Took) ∷ h)
-    stopped_after last q s h a p transcript =
+    stopped_after last q s partial h a p transcript =
         let then = subst (λ z. IsTranscript (settings_of s) z p) (only_same c Took h) transcript in
         let was : Transcript = then.0 in
-        let t = answered q s h a was then.1 in
+        let t = answered q s partial h a was then.1 in
         let m = then.2 in
         let one : t.0 ≡ m.0 = meeting was t.0 m.0 t.1 m.1 in
         let halves = take_last was t.0 t.1 (subst IsLast t.2 last) in
         subst (λ z. is_stopped (state_at z) ≡ true) (sym (m.2 ∙ ap (after_take was) (sym one))) halves
 
     goes : (to : Stage)
-        → ((q : List Question) (s : MetaSettings) (h : History) → MetaAfter q s h old
+        → ((q : List Question) (s : MetaSettings) (partial : List ℕ) (h : History) → MetaAfterUpTo q s partial h old
         → IsAtStage to s c ((c, Took) ∷ h))
-        → ((q : List Question) (s : MetaSettings) (h more : History) (read written : List ℕ) (reads : ℕ)
-        → MetaAfter q s (more ++ h) old → TalkTrace q s c h more read written reads Listening
+        → ((q : List Question) (s : MetaSettings) (partial : List ℕ) (h more : History) (read written : List ℕ) (reads : ℕ)
+        → MetaAfterUpTo q s partial (more ++ h) old → TalkTrace q s c h more read written reads Listening
         → TalkTrace q s c h ((c, Took) ∷ more) read written reads to)
         → TalkStepAlone c Listening to old new
     goes to stands trace left held = record {
-      on = λ q s h reads source sink t. record {
+      on = λ q s partial h reads source sink t. record {
         more = (c, Took) ∷ t.more;
         read = t.read;
         written = t.written;
-        trace = trace q s h t.more t.read t.written reads t.after t.trace;
-        after = took q s (t.more ++ h) (up_to_meta law q s c (t.more ++ h) old t.after);
-        stands = stands q s (t.more ++ h) t.after;
+        trace = trace q s partial h t.more t.read t.written reads t.after t.trace;
+        after = took_within c old new took q s partial (t.more ++ h) t.after;
+        stands = stands q s partial (t.more ++ h) t.after;
         consumed = t.consumed;
         appended = t.appended;
       };
@@ -196,40 +197,40 @@ module _ (law : UpToLaw) (hearing : OneTranscript) (meeting : OneInput) (c : ℕ
     }
 
     over : IsLast answer → TalkStepAlone c Listening Over old new
-    over last = goes Over (stopped_after last) (λ q s h more read written reads a f. stop_taken f)
+    over last = goes Over (stopped_after last) (λ q s partial h more read written reads a f. stop_taken f)
 
-    next_step : (step : Step) → answer ≡ Ok step → (q : List Question) (s : MetaSettings) (h : History) → MetaAfter q s h old
+    next_step : (step : Step) → answer ≡ Ok step → (q : List Question) (s : MetaSettings) (partial : List ℕ) (h : History) → MetaAfterUpTo q s partial h old
         → IsNextStep s c h step
-    next_step step is q s h a p transcript = let t = answered q s h a p transcript in (t.0, t.1, sym t.2 ∙ is)
+    next_step step is q s partial h a p transcript = let t = answered q s partial h a p transcript in (t.0, t.1, sym t.2 ∙ is)
 
     message : (step : Step) → answer ≡ Ok step → is_message step ≡ true → TalkStepAlone c Listening Due old new
-    message step is m = goes Due (λ q s h a. tt)
-        (λ q s h more read written reads a f. message_taken step f (next_step step is q s (more ++ h) a) m)
+    message step is m = goes Due (λ q s partial h a. tt)
+        (λ q s partial h more read written reads a f. message_taken step f (next_step step is q s partial (more ++ h) a) m)
 
     nothing : answer ≡ Ok steps.Nothing → TalkStepAlone c Listening Waiting old new
-    nothing is = goes Waiting (λ q s h a. tt)
-        (λ q s h more read written reads a f. none_taken f (next_step steps.Nothing is q s (more ++ h) a))
+    nothing is = goes Waiting (λ q s partial h a. tt)
+        (λ q s partial h more read written reads a f. none_taken f (next_step steps.Nothing is q s partial (more ++ h) a))
 
 -- A take that returned a step.
-pub taken_step : UpToLaw → OneTranscript → OneInput → (c : ℕ) (old new : MetaLinks) → c < length old.pool.connections
+pub taken_step : OneTranscript → OneInput → (c : ℕ) (old new : MetaLinks) → c < length old.pool.connections
     → (step : Step) → IsTakeResult c old.pool (Ok step) → MetaTakeStep c old new → AfterTakeMessage c (receipt_of step) old new
-taken_step law hearing meeting c old new lt steps.Opened a t =
-    message law hearing meeting c old new lt (Ok steps.Opened) tt a t steps.Opened refl refl
-taken_step law hearing meeting c old new lt steps.Rejected a t =
-    message law hearing meeting c old new lt (Ok steps.Rejected) tt a t steps.Rejected refl refl
-taken_step law hearing meeting c old new lt steps.Answered a t =
-    message law hearing meeting c old new lt (Ok steps.Answered) tt a t steps.Answered refl refl
-taken_step law hearing meeting c old new lt steps.Closed a t =
-    message law hearing meeting c old new lt (Ok steps.Closed) tt a t steps.Closed refl refl
-taken_step law hearing meeting c old new lt steps.Nothing a t =
-    nothing law hearing meeting c old new lt (Ok steps.Nothing) tt a t refl
-taken_step law hearing meeting c old new lt steps.Ended a t =
-    over law hearing meeting c old new lt (Ok steps.Ended) tt a t tt
-taken_step law hearing meeting c old new lt steps.Stopped a t =
-    over law hearing meeting c old new lt (Ok steps.Stopped) tt a t tt
+taken_step hearing meeting c old new lt steps.Opened a t =
+    message hearing meeting c old new lt (Ok steps.Opened) tt a t steps.Opened refl refl
+taken_step hearing meeting c old new lt steps.Rejected a t =
+    message hearing meeting c old new lt (Ok steps.Rejected) tt a t steps.Rejected refl refl
+taken_step hearing meeting c old new lt steps.Answered a t =
+    message hearing meeting c old new lt (Ok steps.Answered) tt a t steps.Answered refl refl
+taken_step hearing meeting c old new lt steps.Closed a t =
+    message hearing meeting c old new lt (Ok steps.Closed) tt a t steps.Closed refl refl
+taken_step hearing meeting c old new lt steps.Nothing a t =
+    nothing hearing meeting c old new lt (Ok steps.Nothing) tt a t refl
+taken_step hearing meeting c old new lt steps.Ended a t =
+    over hearing meeting c old new lt (Ok steps.Ended) tt a t tt
+taken_step hearing meeting c old new lt steps.Stopped a t =
+    over hearing meeting c old new lt (Ok steps.Stopped) tt a t tt
 
 -- A take that was refused, except for `Memory`.
-pub taken_refusal : UpToLaw → OneTranscript → OneInput → (c : ℕ) (old new : MetaLinks) → c < length old.pool.connections
+pub taken_refusal : OneTranscript → OneInput → (c : ℕ) (old new : MetaLinks) → c < length old.pool.connections
     → (e : TakeError) → IsDone {A = Step} (Err e) → IsTakeResult c old.pool (Err e) → MetaTakeStep c old new
     → AfterTakeMessage c receipts.Over old new
-taken_refusal law hearing meeting c old new lt e done a t = over law hearing meeting c old new lt (Err e) done a t tt
+taken_refusal hearing meeting c old new lt e done a t = over hearing meeting c old new lt (Err e) done a t tt

@@ -9,7 +9,7 @@ use Rattle.zoom_questions.specs.declared.question.Question.{Question}
 use Rattle.zoom_questions.specs.declared.question.MetaSettings.{MetaSettings}
 use Rattle.zoom_pool.specs.declared.state.Reason.{Reason}
 use Rattle.zoom_pool.specs.History.{History, events_on}
-use Rattle.zoom_pool.specs.Metas.{MetaLinks, MetaAfter}
+use Rattle.zoom_pool.specs.Metas.{MetaLinks, MetaAfterUpTo}
 use Rattle.zoom_io.specs.declared.among.Halves.{Halves}
 use Rattle.zoom_io.specs.declared.among.TalkPhase.{TalkPhase}
 use Rattle.zoom_io.specs.declared.among.TalkPhase.TheVariants as phases
@@ -122,7 +122,7 @@ module _ (q : List Question) (s : MetaSettings) (c : ℕ) (h now later : History
 -- ---- one connection of many
 
 module _ {E : Type 0} (view : E → View) (q : List Question) (s : MetaSettings) (h : History) where
-  among_same : (c n turns : ℕ) (now later : History) (first last : Option E) → events_on c later ≡ events_on c now
+  pub among_same : (c n turns : ℕ) (now later : History) (first last : Option E) → events_on c later ≡ events_on c now
       → IsAmongIf view q s c h now n turns first last → IsAmongIf view q s c h later n turns first last
   among_same c n turns now later None None e a = e ∙ a
   among_same c n turns now later (Some x) (Some y) e a =
@@ -137,31 +137,31 @@ module _ {E : Type 0} (view : E → View) (q : List Question) (s : MetaSettings)
   among_none c n m turns now (Some x) a = absurd a
 
 record AfterOptionStep {E : Type 0}
-    (view : E → View) (q : List Question) (s : MetaSettings) (c : ℕ) (h now : History) (n turns : ℕ)
+    (view : E → View) (q : List Question) (s : MetaSettings) (partial : List ℕ) (c : ℕ) (h now : History) (n turns : ℕ)
     (first last : Option E) (new : MetaLinks)
     : Type 0 where
   pub later : History
-  pub after : MetaAfter q s later new
+  pub after : MetaAfterUpTo q s partial later new
   pub among : IsAmongIf view q s c h later n turns first last
   pub others : (i : ℕ) → (c == i) ≡ false → events_on i later ≡ events_on i now
 
-option_step : {E : Type 0} (view : E → View) (q : List Question) (s : MetaSettings) (c : ℕ) (h now : History)
+option_step : {E : Type 0} (view : E → View) (q : List Question) (s : MetaSettings) (partial : List ℕ) (c : ℕ) (h now : History)
     (n m turns : ℕ) (old new : MetaLinks) (first before last : Option E)
-    → OptionStep view c n m turns before last old new → MetaAfter q s now old
-    → IsAmongIf view q s c h now n turns first before → AfterOptionStep view q s c h now m turns first last new
-option_step view q s c h now n m turns old new None None None e a among = record {
+    → OptionStep view c n m turns before last old new → MetaAfterUpTo q s partial now old
+    → IsAmongIf view q s c h now n turns first before → AfterOptionStep view q s partial c h now m turns first last new
+option_step view q s partial c h now n m turns old new None None None e a among = record {
   later = now;
-  after = subst (λ z. MetaAfter q s now z) (sym e) a;
+  after = subst (λ z. MetaAfterUpTo q s partial now z) (sym e) a;
   among = among;
   others = λ i far. refl;
 }
-option_step view q s c h now n m turns old new (Some x) (Some y) (Some z) steps a among =
-    let r = steps.on q s h now (view x) a among in
+option_step view q s partial c h now n m turns old new (Some x) (Some y) (Some z) steps a among =
+    let r = steps.on q s partial h now (view x) a among in
     record { later = r.later; after = r.after; among = r.among; others = r.others }
-option_step view q s c h now n m turns old new None None (Some z) steps a among = absurd steps
-option_step view q s c h now n m turns old new (Some x) (Some y) None steps a among = absurd steps
-option_step view q s c h now n m turns old new None (Some y) last steps a among = absurd among
-option_step view q s c h now n m turns old new (Some x) None last steps a among = absurd among
+option_step view q s partial c h now n m turns old new None None (Some z) steps a among = absurd steps
+option_step view q s partial c h now n m turns old new (Some x) (Some y) None steps a among = absurd steps
+option_step view q s partial c h now n m turns old new None (Some y) last steps a among = absurd among
+option_step view q s partial c h now n m turns old new (Some x) None last steps a among = absurd among
 
 -- ---- one element of a list
 
@@ -183,6 +183,11 @@ set_length xs c x = length-set xs c x
 
 -- ---- all connections
 
+-- the other connections keep their devices
+pub there : {E : Type 0} (c : ℕ) (halves : List (Option E)) (last : Option E) (i : ℕ) → (c == i) ≡ false
+    → halves_at (slice_set halves c last) i ≡ halves_at halves i
+there c halves last i far = ap flat (set_other halves c i last far)
+
 module _ {E : Type 0} (view : E → View) (c k m : ℕ) (n next : ℕ → ℕ) (turns : ℕ) (halves : List (Option E))
     (before last : Option E) (old new : MetaLinks) (lt : c < length halves) (is : slice_get halves c ≡ Some before)
     (at : n c ≡ k) (to : next c ≡ m) (others : (i : ℕ) → (c == i) ≡ false → next i ≡ n i)
@@ -191,39 +196,36 @@ module _ {E : Type 0} (view : E → View) (c k m : ℕ) (n next : ℕ → ℕ) (
     here : halves_at (slice_set halves c last) c ≡ last
     here = ap flat (set_same halves c last lt)
 
-    there : (i : ℕ) → (c == i) ≡ false → halves_at (slice_set halves c last) i ≡ halves_at halves i
-    there i far = ap flat (set_other halves c i last far)
-
-    step_on : (q : List Question) (s : MetaSettings) (h : History) (first : List (Option E))
-        → AreAmong view q s h n turns first halves old → AreAmong view q s h next turns first (slice_set halves c last) new
-    step_on q s h first all =
+    step_on : (q : List Question) (s : MetaSettings) (partial : List ℕ) (h : History) (first : List (Option E))
+        → AreAmong view q s partial h n turns first halves old → AreAmong view q s partial h next turns first (slice_set halves c last) new
+    step_on q s partial h first all =
         let was : IsAmongIf view q s c h all.now k turns (halves_at first c) before =
         subst (λ z. IsAmongIf view q s c h all.now k turns (halves_at first c) z) (ap flat is)
         (subst (λ z. IsAmongIf view q s c h all.now z turns (halves_at first c) (halves_at halves c)) at (all.each c)) in
-        let r : AfterOptionStep view q s c h all.now m turns (halves_at first c) last new =
-        option_step view q s c h all.now k m turns old new (halves_at first c) before last steps all.after was in
+        let r : AfterOptionStep view q s partial c h all.now m turns (halves_at first c) last new =
+        option_step view q s partial c h all.now k m turns old new (halves_at first c) before last steps all.after was in
         let mine : IsAmongIf view q s c h r.later (next c) turns (halves_at first c) (halves_at (slice_set halves c last) c) =
         subst (λ z. IsAmongIf view q s c h r.later z turns (halves_at first c) (halves_at (slice_set halves c last) c)) (sym to)
         (subst (λ z. IsAmongIf view q s c h r.later m turns (halves_at first c) z) (sym here) r.among) in
         let by : (i : ℕ) (b : Bool) → (c == i) ≡ b
         → IsAmongIf view q s i h r.later (next i) turns (halves_at first i) (halves_at (slice_set halves c last) i) =
-        λ i b e. each q s h first all r mine i b e in
+        λ i b e. each q s partial h first all r mine i b e in
         record { now = r.later; after = r.after; each = λ i. by i (c == i) refl }
       where
-        each : (q : List Question) (s : MetaSettings) (h : History) (first : List (Option E))
-            (all : AreAmong view q s h n turns first halves old)
-            (r : AfterOptionStep view q s c h all.now m turns (halves_at first c) last new)
+        each : (q : List Question) (s : MetaSettings) (partial : List ℕ) (h : History) (first : List (Option E))
+            (all : AreAmong view q s partial h n turns first halves old)
+            (r : AfterOptionStep view q s partial c h all.now m turns (halves_at first c) last new)
             → IsAmongIf view q s c h r.later (next c) turns (halves_at first c) (halves_at (slice_set halves c last) c)
             → (i : ℕ) (b : Bool) → (c == i) ≡ b
             → IsAmongIf view q s i h r.later (next i) turns (halves_at first i) (halves_at (slice_set halves c last) i)
-        each q s h first all r mine i true e =
+        each q s partial h first all r mine i true e =
             let same : c ≡ i = grind (arith, nat_tests) in
             subst (λ z. IsAmongIf view q s z h r.later (next z) turns (halves_at first z) (halves_at (slice_set halves c last) z))
             same mine
-        each q s h first all r mine i false e =
+        each q s partial h first all r mine i false e =
             subst (λ z. IsAmongIf view q s i h r.later z turns (halves_at first i) (halves_at (slice_set halves c last) i))
             (sym (others i e))
-            (subst (λ z. IsAmongIf view q s i h r.later (n i) turns (halves_at first i) z) (sym (there i e))
+            (subst (λ z. IsAmongIf view q s i h r.later (n i) turns (halves_at first i) z) (sym (there c halves last i e))
             (among_same view q s h i (n i) turns all.now r.later (halves_at first i) (halves_at halves i) (r.others i e)
             (all.each i)))
 
@@ -233,7 +235,7 @@ module _ {E : Type 0} (view : E → View) (c k m : ℕ) (n next : ℕ → ℕ) (
 pub goes_trans : {E : Type 0} (view : E → View) (n m k : ℕ → ℕ) (turns : ℕ) (x y z : List (Option E)) (a b d : MetaLinks)
     → RoundStep view n m turns x y a b → RoundStep view m k turns y z b d → RoundStep view n k turns x z a d
 goes_trans view n m k turns x y z a b d one two = record {
-  on = λ q s h first all. two.on q s h first (one.on q s h first all);
+  on = λ q s partial h first all. two.on q s partial h first (one.on q s partial h first all);
 }
 
 pub below_here : (n c : ℕ) → one_more_below c n c ≡ n
@@ -264,19 +266,19 @@ pub round_ends : {E : Type 0} (view : E → View) (i n turns : ℕ) (x halves : 
     → RoundStep view (for_each n) (for_each (n + 1)) turns x halves a b
 round_ends {E = E} view i n turns x halves a b le goes = goes_trans view (for_each n) (one_more_below i n) (for_each (n + 1)) turns x halves halves a b b goes
     (record {
-      on = λ q s h first all. record {
+      on = λ q s partial h first all. record {
         now = all.now;
         after = all.after;
-        each = λ c. counted q s h first all c (cases_lt c i);
+        each = λ c. counted q s partial h first all c (cases_lt c i);
       };
     })
   where
-    counted : (q : List Question) (s : MetaSettings) (h : History) (first : List (Option E))
-        (all : AreAmong view q s h (one_more_below i n) turns first halves b) (c : ℕ) → (c < i) ⊎ (i ≤ c)
+    counted : (q : List Question) (s : MetaSettings) (partial : List ℕ) (h : History) (first : List (Option E))
+        (all : AreAmong view q s partial h (one_more_below i n) turns first halves b) (c : ℕ) → (c < i) ⊎ (i ≤ c)
         → IsAmongIf view q s c h all.now (n + 1) turns (halves_at first c) (halves_at halves c)
-    counted q s h first all c (inl lt) =
+    counted q s partial h first all c (inl lt) =
         subst (λ z. IsAmongIf view q s c h all.now z turns (halves_at first c) (halves_at halves c)) (below_all n i c lt) (all.each c)
-    counted q s h first all c (inr past) =
+    counted q s partial h first all c (inr past) =
         let none : halves_at halves c ≡ None = ap flat (slice_get_past halves c (omega (arith, le, past))) in
         subst (λ z. IsAmongIf view q s c h all.now (n + 1) turns (halves_at first c) z) (sym none)
         (among_none view q s h c (one_more_below i n c) (n + 1) turns all.now (halves_at first c)
@@ -295,7 +297,7 @@ leave_goes view c n x halves before last a b d lt is goes steps =
 pub rounds_go : {E : Type 0} (view : E → View) (n turns : ℕ) (x y z : List (Option E)) (a b d : MetaLinks)
     → AfterRounds view n turns x y a b → RoundStep view (for_each n) (for_each (n + 1)) turns y z b d
     → AfterRounds view (n + 1) turns x z a d
-rounds_go view n turns x y z a b d one two = record { on = λ q s h after. two.on q s h x (one.on q s h after) }
+rounds_go view n turns x y z a b d one two = record { on = λ q s partial h after. two.on q s partial h x (one.on q s partial h after) }
 
 -- ---- the phase of each talk
 
@@ -326,7 +328,7 @@ module _ {R W : Type 0} (state : R → DeviceState) (polls : R → ℕ) (held : 
   pub rounds_begin : (turns : ℕ) (halves : List (Option (Halves R W))) (meta : MetaLinks) → AreAtPhase phases.Due halves
       → AfterRounds (view_of state polls held) 0 turns halves halves meta meta
   rounds_begin turns halves meta at = record {
-    on = λ q s h after. record {
+    on = λ q s partial h after. record {
       now = h;
       after = after;
       each = λ c. begun_at q s h c turns (halves_at halves c) (at c);
@@ -356,8 +358,8 @@ module _ {R W : Type 0} (state : R → DeviceState) (polls : R → ℕ) (held : 
   pub rounds_over : (n m turns : ℕ) (x y : List (Option (Halves R W))) (a b : MetaLinks) → AreAtPhase phases.Over y
       → AfterRounds (view_of state polls held) n turns x y a b → AfterRounds (view_of state polls held) m turns x y a b
   rounds_over n m turns x y a b over rounds = record {
-    on = λ q s h after.
-        let all = rounds.on q s h after in
+    on = λ q s partial h after.
+        let all = rounds.on q s partial h after in
         record {
           now = all.now;
           after = all.after;
@@ -373,8 +375,8 @@ module _ {R W : Type 0} (state : R → DeviceState) (polls : R → ℕ) (held : 
       → RoundStep (view_of state polls held) (for_each turns) (for_each turns) turns y z b d → AreAtPhase phases.Over z
       → AfterTalkAtOnce (view_of state polls held) turns x z a d
   talks_done turns x y z a b d rounds leaves over = record {
-    on = λ q s h after.
-        let all = leaves.on q s h x (rounds.on q s h after) in
+    on = λ q s partial h after.
+        let all = leaves.on q s partial h x (rounds.on q s partial h after) in
         record {
           now = all.now;
           after = all.after;

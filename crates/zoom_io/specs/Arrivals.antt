@@ -6,7 +6,7 @@ use Rattle.zoom_pool.specs.Transcripts.{Stopped}
 use Rattle.zoom_pool.specs.Metas.{MetaLinks, MetaRecorded}
 use Rattle.zoom_io.specs.declared.among.Arrival.{Arrival}
 use Rattle.zoom_io.specs.declared.among.Arrival.TheVariants as arrivals
-use Rattle.zoom_io.specs.Devices.{DeviceState, HasFailed, IsUntouched}
+use Rattle.zoom_io.specs.Devices.{DeviceState, HasFailed, IsUntouched, next_count}
 use Rattle.zoom_io.specs.TalkTraces.{Due, Waiting, TalkStep}
 use Rattle.zoom_io.specs.Talking.{AfterFinish}
 use Rattle.zoom_io.specs.declared.conversation.TalkError.TheVariants as errors
@@ -21,6 +21,11 @@ AfterArrive c arrivals.End old new source left = (new ≡ old) × IsUntouched so
 AfterArrive c arrivals.Failure old new source left =
     MetaRecorded c (Stopped reasons.Read) old new × Keeps source.octets left.octets
     × HasFailed source.failures left.failures
+
+-- The count of polls after this arrival: a poll that finds the end does not count.
+abbrev pub polls_at : ℕ → Arrival → ℕ
+polls_at n arrivals.End = n
+polls_at n _ = next_count n
 
 -- The input ended, and what was left of it was taken: the connection ended otherwise, or it was not Closing.
 abbrev pub AfterDrain : ℕ → MetaLinks → MetaLinks → Type 0

@@ -1,5 +1,5 @@
 -- What reading and writing do to a device.
-use Rattle.std.specs.Prelude.{◌≡◌, ◌⊎◌, ℕ, ◌+◌, ◌-◌, ◌^◌, min, List, ◌++◌, Option, None, Some, Result, Ok, Err}
+use Rattle.std.specs.Prelude.{◌≡◌, ◌⊎◌, ℕ, zero, ◌+◌, ◌-◌, ◌^◌, ◌<◌, min, List, ◌++◌, Option, None, Some, Result, Ok, Err}
 use Rattle.std.specs.Io.{ReadsAtMost}
 use Rattle.std.specs.Io.KnownBytes.{Keeps, Appends, ReadConsumes, WriteAppends}
 
@@ -34,6 +34,10 @@ pub record AfterWrite {E : Type 0} (old new : DeviceState) (answer : Result ℕ 
 -- The count rose by n, or is the largest count.
 abbrev pub HasRisen : ℕ → ℕ → ℕ → Type 0
 HasRisen n old new = (new ≡ old + n) ⊎ (new ≡ most_failures)
+
+-- The count rose by fewer than n.
+abbrev pub HasRisenBelow : ℕ → ℕ → ℕ → Type 0
+HasRisenBelow n old new = (m : ℕ) × (m < n) × HasRisen m old new
 
 -- The count rose by one failure, or is the largest count.
 abbrev pub HasFailed : ℕ → ℕ → Type 0
@@ -73,3 +77,8 @@ abbrev pub AfterPoll : {E : Type 0} → DeviceState → DeviceState → Result (
 AfterPoll {E} old new (Ok (Some n)) piece = AfterRead {E = E} old new (Ok n) piece
 AfterPoll old new (Ok None) piece = IsUntouched old new
 AfterPoll {E} old new (Err e) piece = AfterRead {E = E} old new (Err e) piece
+
+-- The count of polls after a poll. One that returned `Some(0)`, as it does at the end, does not count.
+abbrev pub polls_after : {E : Type 0} → ℕ → Result (Option ℕ) E → ℕ
+polls_after n (Ok (Some zero)) = n
+polls_after n _ = next_count n

@@ -3,9 +3,11 @@ pub mod Streams
 pub mod TalkTraces
 pub mod TalkSteps
 pub mod Talking
+pub mod Blameless
 pub mod Pushing
 pub mod Answering
 pub mod TalksAmong
 pub mod Arrivals
 pub mod PollRounds
+pub mod Looks
 pub mod AtOnce

@@ -1,10 +1,10 @@
 -- What rounds do: each polls the source of each connection once, unless it is over.
-use Rattle.std.specs.Prelude.{◌≡◌, ◌+◌, ◌<◌, ℕ, nat_lt, if◌then◌else◌, List, Option, None, Some}
+use Rattle.std.specs.Prelude.{◌≡◌, ◌+◌, ◌<◌, ◌==◌, ℕ, false, nat_lt, if◌then◌else◌, List, ◌∷◌, Option, None, Some}
 use Rattle.zoom_questions.specs.declared.question.Question.{Question}
 use Rattle.zoom_questions.specs.declared.question.MetaSettings.{MetaSettings}
 use Rattle.zoom_pool.specs.History.{History, events_on}
-use Rattle.zoom_pool.specs.Metas.{MetaLinks, MetaAfter}
-use Rattle.zoom_io.specs.TalksAmong.{View, IsAmong, StepAmong, halves_at}
+use Rattle.zoom_pool.specs.Metas.{MetaLinks, MetaAfterUpTo}
+use Rattle.zoom_io.specs.TalksAmong.{View, IsAmong, StepAmong, HaltAmong, halves_at}
 
 -- A connection with devices is among the talks; one without has no new events.
 abbrev pub IsAmongIf : {E : Type 0} → (E → View) → List Question → MetaSettings → ℕ → History → History → ℕ → ℕ
@@ -15,11 +15,11 @@ IsAmongIf view q s c h now n turns _ _ = ⊥
 
 -- Some history left the connections, after n c polls of each connection c.
 pub record AreAmong {E : Type 0}
-    (view : E → View) (q : List Question) (s : MetaSettings) (h : History) (n : ℕ → ℕ) (turns : ℕ)
-    (first last : List (Option E)) (new : MetaLinks)
+    (view : E → View) (q : List Question) (s : MetaSettings) (partial : List ℕ) (h : History) (n : ℕ → ℕ)
+    (turns : ℕ) (first last : List (Option E)) (new : MetaLinks)
     : Type 0 where
   pub now : History
-  pub after : MetaAfter q s now new
+  pub after : MetaAfterUpTo q s partial now new
   pub each : (c : ℕ) → IsAmongIf view q s c h now (n c) turns (halves_at first c) (halves_at last c)
 
 -- The same number for each connection.
@@ -41,8 +41,8 @@ OptionStep view c n m turns _ _ old new = ⊥
 pub record RoundStep {E : Type 0}
     (view : E → View) (n m : ℕ → ℕ) (turns : ℕ) (before last : List (Option E)) (old new : MetaLinks)
     : Type 0 where
-  pub on : (q : List Question) (s : MetaSettings) (h : History) (first : List (Option E))
-      → AreAmong view q s h n turns first before old → AreAmong view q s h m turns first last new
+  pub on : (q : List Question) (s : MetaSettings) (partial : List ℕ) (h : History) (first : List (Option E))
+      → AreAmong view q s partial h n turns first before old → AreAmong view q s partial h m turns first last new
 
 -- After one round, of at most `turns`: each connection goes from n polls to n + 1.
 abbrev pub AfterRound : {E : Type 0} → (E → View) → List (Option E) → List (Option E) → MetaLinks → MetaLinks → Type 0
@@ -53,10 +53,43 @@ AfterRound view before last old new =
 pub record AfterRounds {E : Type 0}
     (view : E → View) (n turns : ℕ) (first last : List (Option E)) (old new : MetaLinks)
     : Type 0 where
-  pub on : (q : List Question) (s : MetaSettings) (h : History) → MetaAfter q s h old
-      → AreAmong view q s h (for_each n) turns first last new
+  pub on : (q : List Question) (s : MetaSettings) (partial : List ℕ) (h : History) → MetaAfterUpTo q s partial h old
+      → AreAmong view q s partial h (for_each n) turns first last new
 
--- After all have taken leave: each connection that was not over is stopped, at the limit on reads.
+-- After the last round: each connection whose talk is not over is stopped for `Turns`.
 abbrev pub AfterLeaveAll : {E : Type 0} → (E → View) → List (Option E) → List (Option E) → MetaLinks → MetaLinks
     → Type 0
 AfterLeaveAll view before last old new = (n : ℕ) → RoundStep view (for_each n) (for_each n) n before last old new
+
+-- ---- no memory is found
+
+-- The talk of a connection with devices halts.
+abbrev pub OptionHalt : {E : Type 0} → (E → View) → (c n turns : ℕ) → Option E → MetaLinks → MetaLinks → Type 0
+OptionHalt view c n turns None old new = ⊥
+OptionHalt view c n turns (Some before) old new = HaltAmong c n turns old new (view before)
+
+-- No memory was found on connection `halted`. Each other connection is among the talks after some polls, or has no
+-- devices and no new events. A part of what the next message of `halted` says may be known.
+pub record AreHalted {E : Type 0}
+    (view : E → View) (q : List Question) (s : MetaSettings) (partial : List ℕ) (h : History) (turns : ℕ)
+    (first last : List (Option E)) (new : MetaLinks)
+    : Type 0 where
+  pub now : History
+  pub halted : ℕ
+  pub after : MetaAfterUpTo q s (halted ∷ partial) now new
+  pub each : (c : ℕ) → (halted == c) ≡ false
+      → (n : ℕ) × IsAmongIf view q s c h now n turns (halves_at first c) (halves_at last c)
+
+-- No memory was found in a round that began after n c polls of each connection c.
+pub record RoundHalt {E : Type 0}
+    (view : E → View) (n : ℕ → ℕ) (turns : ℕ) (before last : List (Option E)) (old new : MetaLinks)
+    : Type 0 where
+  pub on : (q : List Question) (s : MetaSettings) (partial : List ℕ) (h : History) (first : List (Option E))
+      → AreAmong view q s partial h n turns first before old → AreHalted view q s partial h turns first last new
+
+-- No memory was found in some round, of at most `turns`, after every history before the talks.
+pub record HaltAtOnce {E : Type 0}
+    (view : E → View) (turns : ℕ) (first last : List (Option E)) (old new : MetaLinks)
+    : Type 0 where
+  pub on : (q : List Question) (s : MetaSettings) (partial : List ℕ) (h : History) → MetaAfterUpTo q s partial h old
+      → AreHalted view q s partial h turns first last new

@@ -7,7 +7,7 @@ use Rattle.zoom_pool.specs.declared.state.Reason.TheVariants as reasons
 use Rattle.zoom_pool.specs.Transcripts.{HandedOut, Stopped}
 use Rattle.zoom_pool.specs.History.{History}
 use Rattle.zoom_pool.specs.Links.{waiting_at, stop_at}
-use Rattle.zoom_pool.specs.Metas.{MetaLinks, MetaAfter, MetaRecorded}
+use Rattle.zoom_pool.specs.Metas.{MetaLinks, MetaAfterUpTo, MetaRecorded}
 use Rattle.zoom_io.specs.Devices.{DeviceState, HasAppendedFront, HasFailed}
 use Rattle.zoom_io.specs.declared.outgoing.PushError.{PushError}
 use Rattle.zoom_io.specs.declared.outgoing.PushError.TheVariants as errors
@@ -16,8 +16,9 @@ use Rattle.std.specs.Io.KnownBytes.{Appends}
 -- Octets were handed out, a write failed, and the connection was stopped for `Write`.
 abbrev pub MetaWriteFailed : ℕ → List ℕ → MetaLinks → MetaLinks → Type 0
 MetaWriteFailed c octets old new =
-    (questions : List Question) (s : MetaSettings) (h : History) → MetaAfter questions s h old
-    → MetaAfter questions s ((c, Stopped reasons.Write) ∷ (c, HandedOut octets) ∷ h) new
+    (questions : List Question) (s : MetaSettings) (partial : List ℕ) (h : History)
+    → MetaAfterUpTo questions s partial h old
+    → MetaAfterUpTo questions s partial ((c, Stopped reasons.Write) ∷ (c, HandedOut octets) ∷ h) new
 
 -- After a push: all that waited was written; a write failed after a front of it; or no memory was found, and nothing
 -- changed.

@@ -39,9 +39,9 @@ AfterTakeMessage c receipts.Over old new = TalkStepAlone c Listening Over old ne
 
 -- A write failed, after every talk that leads to the old state.
 pub record WriteFailureStep (c : ℕ) (from : Stage) (old new : MetaLinks) (sink held : DeviceState) : Type 0 where
-  pub on : (questions : List Question) (s : MetaSettings) (h : History) (reads : ℕ) (source left first : DeviceState)
-      → Talk questions s c h reads from old source left first sink
-      → BrokenTalk questions s c h reads new source left first held
+  pub on : (questions : List Question) (s : MetaSettings) (partial : List ℕ) (h : History) (reads : ℕ)
+      (source left first : DeviceState) → Talk questions s partial c h reads from old source left first sink
+      → BrokenTalk questions s partial c h reads new source left first held
   pub failed : HasFailed sink.failures held.failures
 
 -- After making the calls that are due, and writing what waits.

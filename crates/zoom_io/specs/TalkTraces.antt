@@ -14,9 +14,9 @@ use Rattle.zoom_pool.specs.States.{is_stopped}
 use Rattle.zoom_pool.specs.Inputs.{Input}
 use Rattle.zoom_pool.specs.Transcripts.{Transcript, IsTranscript, Fed, Took, InputEnded, HandedOut, Stopped, NextInput, take_result, state_at, past_of, given, is_lost, is_message, sent}
 use Rattle.zoom_pool.specs.History.{History, events_on}
-use Rattle.zoom_pool.specs.Links.{stop_at, SameOthers}
+use Rattle.zoom_pool.specs.Links.{stop_at}
 use Rattle.zoom_pool.specs.Steering.{errand_of}
-use Rattle.zoom_pool.specs.Metas.{MetaLinks, MetaAfter, MetaAfterUpTo, NoneIsNext, WasTried, call_events, settings_of}
+use Rattle.zoom_pool.specs.Metas.{MetaLinks, MetaAfterUpTo, NoneIsNext, WasTried, call_events, settings_of}
 use Rattle.zoom_io.specs.Devices.{DeviceState, HasAppendedFront, HasFailed, HasNoFailure}
 use Rattle.zoom_io.specs.declared.conversation.TalkError.{TalkError}
 use Rattle.zoom_io.specs.declared.conversation.TalkError.TheVariants as errors
@@ -106,16 +106,17 @@ pub data TalkTrace (questions : List Question) (s : MetaSettings) (c : ℕ) (h :
       → TalkTrace questions s c h more read written reads Waiting
       → TalkTrace questions s c h ((c, Took) ∷ (c, InputEnded) ∷ more) read written reads Ended
 
--- A talk so far: its trace after a history, what its devices gave and took, and the pool it has left.
+-- A talk so far: its trace after a history, what its devices gave and took, and the pool it has left. Before the talk,
+-- takes of the connections `partial` may have found no memory.
 pub record Talk
-    (questions : List Question) (s : MetaSettings) (c : ℕ) (h : History) (reads : ℕ) (stage : Stage)
+    (questions : List Question) (s : MetaSettings) (partial : List ℕ) (c : ℕ) (h : History) (reads : ℕ) (stage : Stage)
     (meta : MetaLinks) (source left sink held : DeviceState)
     : Type 0 where
   pub more : History
   pub read : List ℕ
   pub written : List ℕ
   pub trace : TalkTrace questions s c h more read written reads stage
-  pub after : MetaAfter questions s (more ++ h) meta
+  pub after : MetaAfterUpTo questions s partial (more ++ h) meta
   pub stands : IsAtStage stage s c (more ++ h)
   pub consumed : Consumes source.octets left.octets read
   pub appended : Appends sink.octets held.octets written
@@ -124,9 +125,9 @@ pub record Talk
 pub record TalkStep
     (c : ℕ) (from to : Stage) (more : ℕ → ℕ) (old new : MetaLinks) (left then_left held then_held : DeviceState)
     : Type 0 where
-  pub on : (questions : List Question) (s : MetaSettings) (h : History) (reads : ℕ) (source sink : DeviceState)
-      → Talk questions s c h reads from old source left sink held
-      → Talk questions s c h (more reads) to new source then_left sink then_held
+  pub on : (questions : List Question) (s : MetaSettings) (partial : List ℕ) (h : History) (reads : ℕ)
+      (source sink : DeviceState) → Talk questions s partial c h reads from old source left sink held
+      → Talk questions s partial c h (more reads) to new source then_left sink then_held
   pub reader : then_left.failures ≡ left.failures
   pub writer : then_held.failures ≡ held.failures
 
@@ -137,51 +138,50 @@ same n = n
 -- ---- no memory is found
 
 -- This connection alone had new events, and a part of what its next take makes known may be known.
-pub record HaltedTalk (questions : List Question) (s : MetaSettings) (c : ℕ) (h : History)
+pub record HaltedTalk (questions : List Question) (s : MetaSettings) (partial : List ℕ) (c : ℕ) (h : History)
     (new : MetaLinks) : Type 0 where
   pub more : History
   pub others : (i : ℕ) → (c == i) ≡ false → events_on i more ≡ []
-  pub after : MetaAfterUpTo questions s c (more ++ h) new
+  pub after : MetaAfterUpTo questions s (c ∷ partial) (more ++ h) new
 
 -- The talk halts, after every talk at this stage that wrote to this device.
 abbrev pub HaltStep : ℕ → Stage → MetaLinks → MetaLinks → DeviceState → Type 0
 HaltStep c from old new held =
-    (questions : List Question) (s : MetaSettings) (h : History) (reads : ℕ) (source left sink : DeviceState)
-    → Talk questions s c h reads from old source left sink held → HaltedTalk questions s c h new
+    (questions : List Question) (s : MetaSettings) (partial : List ℕ) (h : History) (reads : ℕ)
+    (source left sink : DeviceState)
+    → Talk questions s partial c h reads from old source left sink held → HaltedTalk questions s partial c h new
 
--- No memory was found, and the caller then stopped the connection. What is known is unchanged by that, and so are the
--- other connections.
+-- No memory was found, and the caller then stopped the connection for `Memory`. This connection alone had new events.
+-- A part of what its next message says may be known; all calls on the others keep their promises.
 pub record OutOfMemory
-    (questions : List Question) (s : MetaSettings) (c : ℕ) (h : History) (new : MetaLinks)
+    (questions : List Question) (s : MetaSettings) (partial : List ℕ) (c : ℕ) (h : History) (new : MetaLinks)
     : Type 0 where
-  pub meta : MetaLinks
-  pub halted : HaltedTalk questions s c h meta
-  pub known : new.pool.knowledge ≡ meta.pool.knowledge
-  pub others : SameOthers c meta.pool new.pool
-  pub drivers : new.drivers ≡ meta.drivers
+  pub more : History
+  pub others : (i : ℕ) → (c == i) ≡ false → events_on i more ≡ []
+  pub after : MetaAfterUpTo questions s (c ∷ partial) ((c, Stopped reasons.Memory) ∷ (more ++ h)) new
 
 -- ---- how it ends
 
 -- The talk reached this stage, and the caller then stopped the connection for this reason.
 pub record StoppedTalk
-    (questions : List Question) (s : MetaSettings) (c : ℕ) (h : History) (reads : ℕ) (stage : Stage) (reason : Reason)
-    (new : MetaLinks) (source left sink held : DeviceState)
+    (questions : List Question) (s : MetaSettings) (partial : List ℕ) (c : ℕ) (h : History) (reads : ℕ) (stage : Stage)
+    (reason : Reason) (new : MetaLinks) (source left sink held : DeviceState)
     : Type 0 where
   pub meta : MetaLinks
-  pub talk : Talk questions s c h reads stage meta source left sink held
-  pub after : MetaAfter questions s ((c, Stopped reason) ∷ (talk.more ++ h)) new
+  pub talk : Talk questions s partial c h reads stage meta source left sink held
+  pub after : MetaAfterUpTo questions s partial ((c, Stopped reason) ∷ (talk.more ++ h)) new
 
 -- A write failed: a front of the octets handed out last was written, and the connection was stopped for `Write`.
 pub record BrokenTalk
-    (questions : List Question) (s : MetaSettings) (c : ℕ) (h : History) (reads : ℕ) (new : MetaLinks)
-    (source left sink held : DeviceState)
+    (questions : List Question) (s : MetaSettings) (partial : List ℕ) (c : ℕ) (h : History) (reads : ℕ)
+    (new : MetaLinks) (source left sink held : DeviceState)
     : Type 0 where
   pub more : History
   pub read : List ℕ
   pub written : List ℕ
   pub octets : List ℕ
   pub trace : TalkTrace questions s c h ((c, HandedOut octets) ∷ more) read (written ++ octets) reads Listening
-  pub after : MetaAfter questions s ((c, Stopped reasons.Write) ∷ (c, HandedOut octets) ∷ (more ++ h)) new
+  pub after : MetaAfterUpTo questions s partial ((c, Stopped reasons.Write) ∷ (c, HandedOut octets) ∷ (more ++ h)) new
   pub consumed : Consumes source.octets left.octets read
   pub before : DeviceState
   pub appended : Appends sink.octets before.octets written
@@ -196,44 +196,46 @@ IsEndAt _ n turns s c h left = ⊥
 
 -- The talk ended by itself: the connection is Closed or Failed.
 pub record EndedTalk
-    (questions : List Question) (s : MetaSettings) (c : ℕ) (h : History) (turns : ℕ) (meta : MetaLinks)
-    (source left sink held : DeviceState)
+    (questions : List Question) (s : MetaSettings) (partial : List ℕ) (c : ℕ) (h : History) (turns : ℕ)
+    (meta : MetaLinks) (source left sink held : DeviceState)
     : Type 0 where
   pub reads : ℕ
   pub stage : Stage
-  pub talk : Talk questions s c h reads stage meta source left sink held
+  pub talk : Talk questions s partial c h reads stage meta source left sink held
   pub at : IsEndAt stage reads turns s c (talk.more ++ h) left
   pub over : IsStoppedAt s c (talk.more ++ h)
 
 -- The input ended after fewer than `turns` reads, and cut the connection off: it was not Closing, and no part of a
 -- message was left.
 pub record CutTalk
-    (questions : List Question) (s : MetaSettings) (c : ℕ) (h : History) (turns : ℕ) (new : MetaLinks)
-    (source left sink held : DeviceState)
+    (questions : List Question) (s : MetaSettings) (partial : List ℕ) (c : ℕ) (h : History) (turns : ℕ)
+    (new : MetaLinks) (source left sink held : DeviceState)
     : Type 0 where
   pub reads : ℕ
   pub few : reads < turns
-  pub stopped : StoppedTalk questions s c h reads Ended reasons.Ended new source left sink held
+  pub stopped : StoppedTalk questions s partial c h reads Ended reasons.Ended new source left sink held
   pub cut : IsCutOff s c (stopped.talk.more ++ h)
 
 -- What each result of a talk says, for a history that can have left the connections before it. `Read`, `Write`: a
 -- read or a write failed. `Ended`: the input ended, and the connection was not Closing. `Turns`: `turns` reads gave
--- octets, and the connection did not end after them. `Memory`: no memory was found; what is known is what the events,
--- and perhaps a part of the next take, make known.
+-- octets, and the connection did not end after them. `Memory`: no memory was found, and what is known is what the
+-- events, and perhaps a part of the next message, make known.
 abbrev pub TalkResult
-    : List Question → MetaSettings → ℕ → History → ℕ → Result (Unit {0}) TalkError → MetaLinks
+    : List Question → MetaSettings → List ℕ → ℕ → History → ℕ → Result (Unit {0}) TalkError → MetaLinks
     → DeviceState → DeviceState → DeviceState → DeviceState → Type 0
-TalkResult questions s c h turns (Ok _) new source left sink held =
-    EndedTalk questions s c h turns new source left sink held
-TalkResult questions s c h turns (Err errors.Read) new source left sink held =
-    (reads : ℕ) × (reads < turns) × StoppedTalk questions s c h reads Waiting reasons.Read new source left sink held
-TalkResult questions s c h turns (Err errors.Write) new source left sink held =
-    (reads : ℕ) × (reads ≤ turns) × BrokenTalk questions s c h reads new source left sink held
-TalkResult questions s c h turns (Err errors.Ended) new source left sink held =
-    CutTalk questions s c h turns new source left sink held
-TalkResult questions s c h turns (Err errors.Turns) new source left sink held =
-    StoppedTalk questions s c h turns Waiting reasons.Turns new source left sink held
-TalkResult questions s c h turns (Err errors.Memory) new source left sink held = OutOfMemory questions s c h new
+TalkResult questions s partial c h turns (Ok _) new source left sink held =
+    EndedTalk questions s partial c h turns new source left sink held
+TalkResult questions s partial c h turns (Err errors.Read) new source left sink held =
+    (reads : ℕ) × (reads < turns)
+    × StoppedTalk questions s partial c h reads Waiting reasons.Read new source left sink held
+TalkResult questions s partial c h turns (Err errors.Write) new source left sink held =
+    (reads : ℕ) × (reads ≤ turns) × BrokenTalk questions s partial c h reads new source left sink held
+TalkResult questions s partial c h turns (Err errors.Ended) new source left sink held =
+    CutTalk questions s partial c h turns new source left sink held
+TalkResult questions s partial c h turns (Err errors.Turns) new source left sink held =
+    StoppedTalk questions s partial c h turns Waiting reasons.Turns new source left sink held
+TalkResult questions s partial c h turns (Err errors.Memory) new source left sink held =
+    OutOfMemory questions s partial c h new
 
 -- What each result, except `Memory`, says of the devices. If one is blamed, one call of it failed and none of the
 -- other; if none is blamed, no call failed. After `Ended`, the source has no octets left.
@@ -256,17 +258,17 @@ reason_of errors.Ended = reasons.Ended
 reason_of errors.Turns = reasons.Turns
 reason_of errors.Memory = reasons.Memory
 
--- Each refusal, except `Memory`, leaves the connection failed for its reason.
+-- Each refusal leaves the connection failed for its reason.
 abbrev pub IsStoppedFor : ℕ → Result (Unit {0}) TalkError → MetaLinks → Type 0
 IsStoppedFor c (Ok _) new = Unit {0}
-IsStoppedFor c (Err errors.Memory) new = Unit {0}
 IsStoppedFor c (Err e) new = stop_at new.pool c ≡ Some (states.Failed (reason_of e))
 
 -- What a talk with at most `turns` reads does, after every history before it.
 pub record AfterTalk
     (c turns : ℕ) (answer : Result (Unit {0}) TalkError) (old new : MetaLinks) (source left sink held : DeviceState)
     : Type 0 where
-  pub on : (questions : List Question) (s : MetaSettings) (h : History) → MetaAfter questions s h old
-      → TalkResult questions s c h turns answer new source left sink held
+  pub on : (questions : List Question) (s : MetaSettings) (partial : List ℕ) (h : History)
+      → MetaAfterUpTo questions s partial h old
+      → TalkResult questions s partial c h turns answer new source left sink held
   pub blamed : IsErrorOf answer source left sink held
   pub stopped : IsStoppedFor c answer new

@@ -1,17 +1,20 @@
 -- What the parts of a talk do.
-use Rattle.std.specs.Prelude.{◌≡◌, ℕ, suc, Bool, true, false, Some, Result, Ok, Err}
+use Rattle.std.specs.Prelude.{◌≡◌, ℕ, suc, Bool, true, false, List, Some, Result, Ok, Err}
 use Rattle.std.specs.Io.KnownBytes.{Keeps, IsAtEnd}
+use Rattle.zoom_questions.specs.declared.question.Question.{Question}
+use Rattle.zoom_questions.specs.declared.question.MetaSettings.{MetaSettings}
 use Rattle.zoom_pool.specs.declared.state.State.TheVariants as states
 use Rattle.zoom_pool.specs.declared.state.Reason.TheVariants as reasons
 use Rattle.zoom_pool.specs.Transcripts.{Stopped, state_at}
 use Rattle.zoom_pool.specs.Links.{stop_at}
-use Rattle.zoom_pool.specs.Metas.{MetaLinks, MetaRecorded, IsTranscriptValue}
+use Rattle.zoom_pool.specs.History.{History}
+use Rattle.zoom_pool.specs.Metas.{MetaLinks, MetaAfterUpTo, MetaRecorded, IsTranscriptValueUpTo}
 use Rattle.zoom_io.specs.declared.outgoing.PushError.{PushError}
 use Rattle.zoom_io.specs.declared.outgoing.PushError.TheVariants as pushes
 use Rattle.zoom_io.specs.declared.conversation.TalkError.{TalkError}
 use Rattle.zoom_io.specs.declared.conversation.TalkError.TheVariants as errors
 use Rattle.zoom_io.specs.Devices.{DeviceState, HasFailed, IsUntouched}
-use Rattle.zoom_io.specs.TalkTraces.{Due, Waiting, Over, Ended, TalkStep, HaltStep, ended_well, same}
+use Rattle.zoom_io.specs.TalkTraces.{Due, Waiting, Over, Ended, TalkStep, HaltedTalk, HaltStep, TalkResult, IsErrorOf, IsStoppedFor, ended_well, same}
 use Rattle.zoom_io.specs.TalkSteps.{TalkStepAlone, HaltStepAlone, WriteFailureStep}
 
 -- The refusal of a talk for the refusal of a push.
@@ -40,7 +43,7 @@ AfterListen c (Err _) old new source left = ⊥
 
 -- Whether every history that can have left the connection leaves it well ended.
 abbrev pub IsWellEnded : ℕ → MetaLinks → Bool → Type 0
-IsWellEnded c meta well = IsTranscriptValue c meta (λ p. ended_well (state_at p)) well
+IsWellEnded c meta well = IsTranscriptValueUpTo c meta (λ p. ended_well (state_at p)) well
 
 -- After the end of the input: the connection ended otherwise; it was not Closing; or no memory was found.
 abbrev pub AfterFinish : ℕ → Result (Unit {0}) TalkError → MetaLinks → MetaLinks → Type 0
@@ -51,3 +54,28 @@ AfterFinish c (Err errors.Ended) old new =
     × (stop_at new.pool c ≡ Some (states.Failed reasons.Ended))
 AfterFinish c (Err errors.Memory) old new = HaltStepAlone c Waiting old new
 AfterFinish c (Err _) old new = ⊥
+
+-- What each result of a conversation says, for a history before it: what that of a talk says. After `Memory` the
+-- connection is not stopped yet.
+abbrev pub ConverseResult
+    : List Question → MetaSettings → List ℕ → ℕ → History → ℕ → Result (Unit {0}) TalkError → MetaLinks
+    → DeviceState → DeviceState → DeviceState → DeviceState → Type 0
+ConverseResult questions s partial c h turns (Err errors.Memory) new source left sink held =
+    HaltedTalk questions s partial c h new
+ConverseResult questions s partial c h turns answer new source left sink held =
+    TalkResult questions s partial c h turns answer new source left sink held
+
+-- Each refusal, except `Memory`, leaves the connection failed for its reason.
+abbrev pub IsStoppedUnlessHalted : ℕ → Result (Unit {0}) TalkError → MetaLinks → Type 0
+IsStoppedUnlessHalted c (Err errors.Memory) new = Unit {0}
+IsStoppedUnlessHalted c answer new = IsStoppedFor c answer new
+
+-- What a conversation with at most `turns` reads does, after every history before it.
+pub record AfterConverse
+    (c turns : ℕ) (answer : Result (Unit {0}) TalkError) (old new : MetaLinks) (source left sink held : DeviceState)
+    : Type 0 where
+  pub on : (questions : List Question) (s : MetaSettings) (partial : List ℕ) (h : History)
+      → MetaAfterUpTo questions s partial h old
+      → ConverseResult questions s partial c h turns answer new source left sink held
+  pub blamed : IsErrorOf answer source left sink held
+  pub stopped : IsStoppedUnlessHalted c answer new

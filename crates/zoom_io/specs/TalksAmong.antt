@@ -8,11 +8,11 @@ use Rattle.zoom_pool.specs.declared.state.Reason.{Reason}
 use Rattle.zoom_pool.specs.declared.state.Reason.TheVariants as reasons
 use Rattle.zoom_pool.specs.Transcripts.{HandedOut, Stopped}
 use Rattle.zoom_pool.specs.History.{History, events_on}
-use Rattle.zoom_pool.specs.Metas.{MetaLinks, MetaAfter}
+use Rattle.zoom_pool.specs.Metas.{MetaLinks, MetaAfterUpTo}
 use Rattle.zoom_io.specs.declared.among.Halves.{Halves}
 use Rattle.zoom_io.specs.declared.among.TalkPhase.{TalkPhase}
 use Rattle.zoom_io.specs.declared.among.TalkPhase.TheVariants as phases
-use Rattle.zoom_io.specs.Devices.{DeviceState, HasAppendedFront, HasFailed, HasRisen, HasNoFailure}
+use Rattle.zoom_io.specs.Devices.{DeviceState, HasAppendedFront, HasFailed, HasRisen, HasRisenBelow, HasNoFailure}
 use Rattle.zoom_io.specs.TalkTraces.{Stage, Due, Listening, Waiting, Over, Ended, TalkTrace, IsStoppedAt, HasEndedWell, IsCutOff}
 
 -- The devices of a connection as a contract sees them, and the phase of its talk.
@@ -98,7 +98,8 @@ pub data TalkEndAmong
   stopped_by_itself : TalkAmong questions s c h now reads Over first last → AreSound first last
       → TalkEndAmong questions s c h now reads turns first last
   input_ended : (talk : TalkAmong questions s c h now reads Ended first last) → HasEndedWell s c (talk.more ++ h)
-      → IsAtEnd last.source.octets → AreSound first last → TalkEndAmong questions s c h now reads turns first last
+      → IsAtEnd last.source.octets × HasRisenBelow turns first.polls last.polls → AreSound first last
+      → TalkEndAmong questions s c h now reads turns first last
   read_failed : StoppedTalkAmong questions s c h now reads Waiting reasons.Read first last
       → HasFailed first.source.failures last.source.failures → HasNoFailure first.sink last.sink
       → TalkEndAmong questions s c h now reads turns first last
@@ -106,8 +107,8 @@ pub data TalkEndAmong
       → HasFailed first.sink.failures last.sink.failures → HasNoFailure first.source last.source
       → TalkEndAmong questions s c h now reads turns first last
   cut_short : (talk : StoppedTalkAmong questions s c h now reads Ended reasons.Ended first last)
-      → IsCutOff s c (talk.more ++ h) → IsAtEnd last.source.octets → AreSound first last
-      → TalkEndAmong questions s c h now reads turns first last
+      → IsCutOff s c (talk.more ++ h) → IsAtEnd last.source.octets × HasRisenBelow turns first.polls last.polls
+      → AreSound first last → TalkEndAmong questions s c h now reads turns first last
   out_of_turns : StoppedTalkAmong questions s c h now reads Waiting reasons.Turns first last
       → HasRisen turns first.polls last.polls → AreSound first last
       → TalkEndAmong questions s c h now reads turns first last
@@ -140,19 +141,36 @@ IsAmong q s c h now n turns first last = PhaseAmong last.phase q s c h now n tur
 
 -- The talk of this connection goes on, and the other connections have no new events.
 pub record AfterStepAmong
-    (q : List Question) (s : MetaSettings) (c : ℕ) (h now : History) (n turns : ℕ) (first last : View)
-    (new : MetaLinks)
+    (q : List Question) (s : MetaSettings) (partial : List ℕ) (c : ℕ) (h now : History) (n turns : ℕ)
+    (first last : View) (new : MetaLinks)
     : Type 0 where
   pub later : History
-  pub after : MetaAfter q s later new
+  pub after : MetaAfterUpTo q s partial later new
   pub among : IsAmong q s c h later n turns first last
   pub others : (i : ℕ) → (c == i) ≡ false → events_on i later ≡ events_on i now
 
 -- The connection goes from n to m polls, for every history before.
 pub record StepAmong (c n m turns : ℕ) (old new : MetaLinks) (before last : View) : Type 0 where
-  pub on : (q : List Question) (s : MetaSettings) (h now : History) (first : View)
-      → MetaAfter q s now old → IsAmong q s c h now n turns first before
-      → AfterStepAmong q s c h now m turns first last new
+  pub on : (q : List Question) (s : MetaSettings) (partial : List ℕ) (h now : History) (first : View)
+      → MetaAfterUpTo q s partial now old → IsAmong q s c h now n turns first before
+      → AfterStepAmong q s partial c h now m turns first last new
+
+-- ---- no memory is found
+
+-- No memory was found on this connection, which alone had new events. A part of what its next message says may be
+-- known.
+pub record HaltedTalkAmong
+    (q : List Question) (s : MetaSettings) (partial : List ℕ) (c : ℕ) (now : History) (new : MetaLinks)
+    : Type 0 where
+  pub later : History
+  pub after : MetaAfterUpTo q s (c ∷ partial) later new
+  pub others : (i : ℕ) → (c == i) ≡ false → events_on i later ≡ events_on i now
+
+-- The talk of this connection halts after n polls, for every history before.
+pub record HaltAmong (c n turns : ℕ) (old new : MetaLinks) (before : View) : Type 0 where
+  pub on : (q : List Question) (s : MetaSettings) (partial : List ℕ) (h now : History) (first : View)
+      → MetaAfterUpTo q s partial now old → IsAmong q s c h now n turns first before
+      → HaltedTalkAmong q s partial c now new
 
 -- ---- all connections
 

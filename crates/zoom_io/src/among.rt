@@ -1,8 +1,10 @@
 //! One connection's part in talks that go on at once.
-ghost use Rattle.std.specs.Prelude.{◌≡◌, ◌<◌, ◌≤◌, ℕ, ◌+◌, length, if◌then◌else◌, IfOk, OnOk};
+ghost use Rattle.std.specs.Prelude.{◌≡◌, ◌<◌, ◌≤◌, ℕ, ◌+◌, length, if◌then◌else◌, IfOk, OnOk, OnErr};
 ghost use Rattle.zoom_io.specs.declared.among.TalkPhase.TheVariants as phases;
-ghost use Rattle.zoom_io.specs.TalksAmong.{view_of, StepAmong};
-ghost use Rattle.zoom_io.specs.Arrivals.{AfterArrive, AfterDrain};
+ghost use Rattle.zoom_io.specs.TalkTraces.{Waiting};
+ghost use Rattle.zoom_io.specs.TalkSteps.{HaltStepAlone};
+ghost use Rattle.zoom_io.specs.TalksAmong.{view_of, StepAmong, HaltAmong};
+ghost use Rattle.zoom_io.specs.Arrivals.{AfterArrive, AfterDrain, polls_at};
 ghost use Rattle.zoom_io.specs.Devices.{next_count};
 
 use crate::conversation::{TalkError, finish, settle};
@@ -85,7 +87,8 @@ fn arrive<R: NonBlocking>(
     requires { c < length meta.old.pool.connections }
     ensures arrives { IfOk result (λ arrival. AfterArrive c arrival meta.old meta.new
         (R.state source.old) (R.state source.new)) }
-    ensures counts { R.polls source.new ≡ next_count (R.polls source.old) }
+    ensures counts { IfOk result (λ arrival. R.polls source.new ≡ polls_at (R.polls source.old) arrival) }
+    ensures err { OnErr result ((meta.new ≡ meta.old) × (R.polls source.new ≡ next_count (R.polls source.old))) }
     ensures size { length meta.new.pool.connections ≡ length meta.old.pool.connections }
 {
     let mut piece = [0u8; PIECE];
@@ -115,6 +118,8 @@ fn settle_halves<R: NonBlocking, W: Sink>(
     requires phase { halves.old.phase ≡ phases.Due }
     ensures steps { OnOk result ((n turns : ℕ) → n ≤ turns → StepAmong c n n turns meta.old meta.new
         (view_of R.state R.polls W.state halves.old) (view_of R.state R.polls W.state halves.new)) }
+    ensures halts { OnErr result ((n turns : ℕ) → HaltAmong c n turns meta.old meta.new
+        (view_of R.state R.polls W.state halves.old)) }
     ensures phase { IfOk result (λ on. halves.new.phase ≡ (if on then phases.Waiting else phases.Over)) }
     ensures size { length meta.new.pool.connections ≡ length meta.old.pool.connections }
 {
@@ -141,6 +146,7 @@ fn settle_halves<R: NonBlocking, W: Sink>(
 fn drain(meta: &mut Meta, c: u32) -> Result<(), AllocError>
     requires { c < length meta.old.pool.connections }
     ensures drains { OnOk result (AfterDrain c meta.old meta.new) }
+    ensures halts { OnErr result (HaltStepAlone c Waiting meta.old meta.new) }
     ensures size { length meta.new.pool.connections ≡ length meta.old.pool.connections }
 {
     match finish(meta, c) {
@@ -163,6 +169,8 @@ fn poll_halves<R: NonBlocking, W: Sink>(
     requires phase { halves.old.phase ≡ phases.Waiting }
     ensures steps { OnOk result ((n turns : ℕ) → n < turns → StepAmong c n (n + 1) turns meta.old meta.new
         (view_of R.state R.polls W.state halves.old) (view_of R.state R.polls W.state halves.new)) }
+    ensures halts { OnErr result ((n turns : ℕ) → n < turns → HaltAmong c n turns meta.old meta.new
+        (view_of R.state R.polls W.state halves.old)) }
     ensures size { length meta.new.pool.connections ≡ length meta.old.pool.connections }
 {
     match arrive(meta, c, &mut halves.source, wait)? {
@@ -186,7 +194,8 @@ fn poll_halves<R: NonBlocking, W: Sink>(
 /// Takes part in a round of `talk_at_once`: writes what is due, then polls the source once for up to 4,096 octets. If
 /// `wait` holds, the poll may wait. A connection whose talk is over takes no part.
 ///
-/// The steps are those of a talk, for each number of polls below `turns`. Returns an error only if no memory is found.
+/// The steps are those of a talk, for each number of polls below `turns`. Returns an error only if no memory is found;
+/// the talk then halts, as in `talk_at_once`.
 pub fn take_part<R: NonBlocking, W: Sink>(
     alloc: Global,
     meta: &mut Meta,
@@ -197,6 +206,8 @@ pub fn take_part<R: NonBlocking, W: Sink>(
     requires { c < length meta.old.pool.connections }
     ensures steps { OnOk result ((n turns : ℕ) → n < turns → StepAmong c n (n + 1) turns meta.old meta.new
         (view_of R.state R.polls W.state halves.old) (view_of R.state R.polls W.state halves.new)) }
+    ensures halts { OnErr result ((n turns : ℕ) → n < turns → HaltAmong c n turns meta.old meta.new
+        (view_of R.state R.polls W.state halves.old)) }
     ensures size { length meta.new.pool.connections ≡ length meta.old.pool.connections }
 {
     match halves.phase {
@@ -225,8 +236,9 @@ fn stop_at_limit<R: NonBlocking, W: Sink>(meta: &mut Meta, c: u32, halves: &mut 
     halves.phase = TalkPhase::Over;
 }
 
-/// Takes leave after the last round of `talk_at_once`: writes what is due, then stops the connection for `Turns` if it
-/// is not over. The talk is then in phase `Over`. Returns an error only if no memory is found.
+/// Ends a talk after the last round of `talk_at_once`: writes what is due, then stops the connection for `Turns` if it
+/// is not over. The talk is then in phase `Over`. Returns an error only if no memory is found; the talk then halts, as
+/// in `talk_at_once`.
 pub fn take_leave<R: NonBlocking, W: Sink>(
     alloc: Global,
     meta: &mut Meta,
@@ -236,6 +248,8 @@ pub fn take_leave<R: NonBlocking, W: Sink>(
     requires { c < length meta.old.pool.connections }
     ensures steps { OnOk result ((n : ℕ) → StepAmong c n n n meta.old meta.new
         (view_of R.state R.polls W.state halves.old) (view_of R.state R.polls W.state halves.new)) }
+    ensures halts { OnErr result ((n : ℕ) → HaltAmong c n n meta.old meta.new
+        (view_of R.state R.polls W.state halves.old)) }
     ensures phase { OnOk result (halves.new.phase ≡ phases.Over) }
     ensures size { length meta.new.pool.connections ≡ length meta.old.pool.connections }
 {

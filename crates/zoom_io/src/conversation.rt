@@ -1,19 +1,21 @@
 //! Drives one connection over its devices until it ends.
 ghost use Rattle.std.specs.Prelude.{◌≡◌, ◌<◌, length, Some, IfErr, OnOk, OnErr};
 ghost use Rattle.zoom_pool.specs.declared.state.State.TheVariants as states;
-ghost use Rattle.zoom_pool.specs.Links.{stop_at};
+ghost use Rattle.zoom_pool.specs.Links.{stop_at, SameOthers};
 ghost use Rattle.zoom_pool.specs.Metas.{MetaTakeStep, MetaIncompleteTake};
 ghost use Rattle.zoom_io.specs.declared.conversation.TalkError.TheVariants as errors;
+ghost use Rattle.zoom_io.specs.Devices.{HasNoFailure};
 ghost use Rattle.zoom_io.specs.Pushing.{IsBroken};
+ghost use Rattle.zoom_io.specs.Blameless.{IfPushMemory, IfTalkMemory};
 ghost use Rattle.zoom_io.specs.TalkTraces.{AfterTalk, ended_well, reason_of};
-ghost use Rattle.zoom_io.specs.Talking.{talk_error, AfterSettle, AfterListen, AfterFinish};
+ghost use Rattle.zoom_io.specs.Talking.{talk_error, AfterSettle, AfterListen, AfterFinish, AfterConverse};
 
 use crate::device::{Sink, Source};
 use crate::outgoing::PushError;
 use crate::talk_steps::{Receipt, send_and_take};
 use std::alloc::{AllocError, Global};
 use thiserror::Error;
-use zoom_pool::laws::{one_input, one_transcript, up_to};
+use zoom_pool::laws::{one_input, one_transcript};
 use zoom_pool::{Meta, Reason, State, TakeError};
 
 /// The most octets of one read.
@@ -69,10 +71,10 @@ pub(crate) fn settle<W: Sink>(
 ) -> Result<bool, PushError>
     requires { c < length meta.old.pool.connections }
     ensures settles { AfterSettle c result meta.old meta.new (W.state sink.old) (W.state sink.new) }
+    ensures sound { IfPushMemory result (HasNoFailure (W.state sink.old) (W.state sink.new)) }
     ensures stopped { IsBroken c result meta.new }
-    ensures size { length meta.new.pool.connections ≡ length meta.old.pool.connections }
+    ensures others { SameOthers c meta.old.pool meta.new.pool }
 {
-    up_to();
     for _ in 0..u64::MAX {
         match send_and_take(alloc, meta, c, sink)? {
             Receipt::Message => {}
@@ -88,9 +90,9 @@ pub(crate) fn settle<W: Sink>(
 fn listen<R: Source>(meta: &mut Meta, c: u32, source: &mut R) -> Result<bool, TalkError>
     requires { c < length meta.old.pool.connections }
     ensures listens { AfterListen c result meta.old meta.new (R.state source.old) (R.state source.new) }
-    ensures size { length meta.new.pool.connections ≡ length meta.old.pool.connections }
+    ensures sound { IfTalkMemory result (HasNoFailure (R.state source.old) (R.state source.new)) }
+    ensures others { SameOthers c meta.old.pool meta.new.pool }
 {
-    up_to();
     let mut piece = [0u8; PIECE];
     match source.read(&mut piece) {
         Ok(0) => Ok(false),
@@ -121,7 +123,7 @@ fn take_last(meta: &mut Meta, c: u32) -> Result<(), AllocError>
     requires { c < length meta.old.pool.connections }
     ensures took { OnOk result (MetaTakeStep c meta.old meta.new) }
     ensures keeps { OnErr result (MetaIncompleteTake c meta.old meta.new) }
-    ensures size { length meta.new.pool.connections ≡ length meta.old.pool.connections }
+    ensures others { SameOthers c meta.old.pool meta.new.pool }
 {
     match meta.take(c) {
         Ok(_) => Ok(()),
@@ -137,9 +139,8 @@ fn take_last(meta: &mut Meta, c: u32) -> Result<(), AllocError>
 pub(crate) fn finish(meta: &mut Meta, c: u32) -> Result<(), TalkError>
     requires { c < length meta.old.pool.connections }
     ensures finishes { AfterFinish c result meta.old meta.new }
-    ensures size { length meta.new.pool.connections ≡ length meta.old.pool.connections }
+    ensures others { SameOthers c meta.old.pool meta.new.pool }
 {
-    up_to();
     one_transcript();
     one_input();
     meta.end(c);
@@ -152,7 +153,7 @@ pub(crate) fn finish(meta: &mut Meta, c: u32) -> Result<(), TalkError>
 }
 
 /// Drives a connection over its devices until it ends, a device fails, the limit on reads is reached, or no memory is
-/// found.
+/// found. After `Memory` it does not stop the connection.
 fn converse<R: Source, W: Sink>(
     alloc: Global,
     meta: &mut Meta,
@@ -162,9 +163,11 @@ fn converse<R: Source, W: Sink>(
     turns: u32,
 ) -> Result<(), TalkError>
     requires { c < length meta.old.pool.connections }
-    ensures talks { AfterTalk c turns result meta.old meta.new (R.state source.old) (R.state source.new)
+    ensures talks { AfterConverse c turns result meta.old meta.new (R.state source.old) (R.state source.new)
         (W.state sink.old) (W.state sink.new) }
-    ensures size { length meta.new.pool.connections ≡ length meta.old.pool.connections }
+    ensures sound { IfTalkMemory result (HasNoFailure (R.state source.old) (R.state source.new)
+        × HasNoFailure (W.state sink.old) (W.state sink.new)) }
+    ensures others { SameOthers c meta.old.pool meta.new.pool }
 {
     for _ in 0..turns {
         if settle(alloc, meta, c, sink)? {
@@ -187,17 +190,18 @@ fn converse<R: Source, W: Sink>(
 /// connection's input ends.
 ///
 /// Returns `Ok` if the connection is Closed, failed for its messages, or was stopped before. The octets read are
-/// those that the connection was fed; the octets written are those that it handed out. Before each take, everything
-/// sent by then is handed out and written.
+/// those that the connection was fed; the octets written are those that it handed out. This is promised of a device
+/// whose octets are known. Before each take, everything sent by then is handed out and written.
 ///
-/// Each refusal leaves the connection failed for the same reason. `Memory` aside, at most one call of a device fails:
+/// Each refusal leaves the connection failed for the same reason. At most one call of a device fails:
 ///
 /// - `Read`, `Write`: one call of that device failed, and none of the other. After `Write`, a front of the octets
 ///   handed out last was written.
 /// - `Ended`: the input ended after a whole message, and the connection was not Closing.
 /// - `Turns`: `turns` reads gave octets, and the connection did not end after them.
-/// - `Memory`: no memory was found. What is known is what the messages taken say, and perhaps a part of what the next
-///   message says.
+/// - `Memory`: no memory was found, and no call of a device failed. What is known is what the messages taken say, and
+///   perhaps a part of what the next message says. All calls on the other connections keep their promises, as after a
+///   take that found no memory.
 ///
 /// The other connections are unchanged, whatever the result.
 pub fn talk<R: Source, W: Sink>(
@@ -211,8 +215,10 @@ pub fn talk<R: Source, W: Sink>(
     requires { c < length meta.old.pool.connections }
     ensures talks { AfterTalk c turns result meta.old meta.new (R.state source.old) (R.state source.new)
         (W.state sink.old) (W.state sink.new) }
+    ensures sound { IfTalkMemory result (HasNoFailure (R.state source.old) (R.state source.new)
+        × HasNoFailure (W.state sink.old) (W.state sink.new)) }
     ensures stopped { IfErr result (λ e. stop_at meta.new.pool c ≡ Some (states.Failed (reason_of e))) }
-    ensures size { length meta.new.pool.connections ≡ length meta.old.pool.connections }
+    ensures others { SameOthers c meta.old.pool meta.new.pool }
 {
     match converse(alloc, meta, c, source, sink, turns) {
         Ok(()) => Ok(()),

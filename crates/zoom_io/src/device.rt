@@ -2,7 +2,7 @@
 //! failures.
 ghost use Rattle.std.specs.Prelude.{◌≡◌, ◌<◌, ℕ, length, IfOk};
 ghost use Rattle.std.specs.Io.{ReadsAtMost, WritesAtMost};
-ghost use Rattle.zoom_io.specs.Devices.{DeviceState, AfterRead, AfterWrite, IsBoundedPoll, AfterPoll, next_count};
+ghost use Rattle.zoom_io.specs.Devices.{DeviceState, AfterRead, AfterWrite, IsBoundedPoll, AfterPoll, polls_after};
 
 use thiserror::Error;
 
@@ -32,7 +32,7 @@ pub trait NonBlocking {
     /// The octets left, if they are known, and the number of failed calls.
     ghost state: { Self → DeviceState };
 
-    /// The number of polls, at most `u64::MAX`.
+    /// The number of polls, at most `u64::MAX`. A poll that returned `Some(0)` does not count.
     ghost polls: { Self → ℕ };
 
     /// Reads the octets that have come into the front of `piece`, and returns how many. Returns `Some(0)` only if
@@ -41,7 +41,11 @@ pub trait NonBlocking {
     fn poll(&mut self, piece: &mut [u8], wait: bool) -> Result<Option<usize>, Failed>
         ensures bound { IsBoundedPoll result piece.new }
         ensures reads { AfterPoll (state self.old) (state self.new) result piece.new }
-        ensures counts { polls self.new ≡ next_count (polls self.old) };
+        ensures counts { polls self.new ≡ polls_after (polls self.old) result };
+
+    /// The number of failed calls, at most `u64::MAX`. It allocates nothing.
+    fn failures(&self) -> u64
+        ensures { result ≡ (state self.now).failures };
 }
 
 /// A device that octets are written to.

@@ -1,6 +1,6 @@
 //! Writes the octets that wait on a connection to a device.
 ghost use Rattle.std.specs.Prelude.{◌≡◌, ◌<◌, [], length, OnOk};
-ghost use Rattle.zoom_pool.specs.Links.{waiting_at};
+ghost use Rattle.zoom_pool.specs.Links.{waiting_at, SameElse};
 ghost use Rattle.zoom_io.specs.declared.outgoing.PushError.TheVariants as errors;
 ghost use Rattle.zoom_io.specs.Devices.{AfterWriteAll};
 ghost use Rattle.zoom_io.specs.Pushing.{AfterPush, IsBroken};
@@ -51,8 +51,7 @@ pub fn push<W: Sink>(alloc: Global, meta: &mut Meta, c: u32, sink: &mut W) -> Re
     ensures pushes { AfterPush c result meta.old meta.new (W.state sink.old) (W.state sink.new) }
     ensures none { OnOk result (waiting_at meta.new.pool c ≡ []) }
     ensures stopped { IsBroken c result meta.new }
-    ensures known { meta.new.pool.knowledge ≡ meta.old.pool.knowledge }
-    ensures size { length meta.new.pool.connections ≡ length meta.old.pool.connections }
+    ensures rest { SameElse c meta.old.pool meta.new.pool }
 {
     let mut octets = Vec::new(alloc);
     meta.outgoing(c, &mut octets)?;

@@ -1,7 +1,7 @@
 //! Lets a target in memory answer over devices.
 ghost use Rattle.std.specs.Prelude.{◌≡◌, ◌||◌};
 ghost use Rattle.zoom_io.specs.declared.replies.AnswerError.TheVariants as errors;
-ghost use Rattle.zoom_io.specs.Answering.{AfterReleaseAll, AfterWriteReplies, AfterAnswerPiece, AfterAnswer};
+ghost use Rattle.zoom_io.specs.Answering.{AfterReleaseAll, AfterWriteReplies, AfterReplyAll, AfterReadPiece, AfterAnswer};
 
 use crate::device::{Sink, Source};
 use crate::outgoing::write_all;
@@ -46,7 +46,8 @@ fn release_all(host: &mut Host) -> Result<(), AllocError>
             return Ok(());
         }
     }
-    Ok(())
+    // More replies were pending than memory can hold.
+    Err(AllocError)
 }
 
 /// Writes the octets that wait at the serving end.
@@ -61,6 +62,14 @@ fn write_replies<W: Sink>(alloc: Global, host: &mut Host, sink: &mut W) -> Resul
     }
 }
 
+/// Releases all replies, in order, and writes what waits at the serving end.
+fn reply_all<W: Sink>(alloc: Global, host: &mut Host, sink: &mut W) -> Result<(), AnswerError>
+    ensures { AfterReplyAll result host.old host.new (W.state sink.old) (W.state sink.new) }
+{
+    release_all(host)?;
+    write_replies(alloc, host, sink)
+}
+
 /// Whether the serving end stopped, or put its Close out.
 fn is_done(host: &Host) -> bool
     ensures { result ≡ (host.now.stopped || host.now.closed) }
@@ -68,42 +77,37 @@ fn is_done(host: &Host) -> bool
     host.stopped() || host.closed()
 }
 
-/// Reads a piece of octets, feeds it to the serving end, and writes the replies. Returns `false` if the input has
-/// ended.
-fn answer_piece<R: Source, W: Sink>(
-    alloc: Global,
-    host: &mut Host,
-    source: &mut R,
-    sink: &mut W,
-) -> Result<bool, AnswerError>
-    ensures { AfterAnswerPiece result host.old host.new (R.state source.old) (R.state source.new)
-        (W.state sink.old) (W.state sink.new) }
+/// Reads a piece of octets, and feeds it to the serving end. Returns `false` if the input has ended.
+fn read_piece<R: Source>(host: &mut Host, source: &mut R) -> Result<bool, AnswerError>
+    ensures { AfterReadPiece result host.old host.new (R.state source.old) (R.state source.new) }
 {
     let mut piece = [0u8; PIECE];
     match source.read(&mut piece) {
         Ok(0) => Ok(false),
         Ok(count) => {
             host.feed(&piece[..count])?;
-            release_all(host)?;
-            write_replies(alloc, host, sink)?;
             Ok(true)
         }
         Err(_) => Err(AnswerError::Read),
     }
 }
 
-/// Lets a target in memory answer what is read. Reads up to 4,096 octets, feeds them to the serving end, releases all
-/// its replies in order, and writes them. At most `reads` reads give octets.
+/// Lets a target in memory answer what is read. Releases all replies of the serving end in order, and writes what waits
+/// there, first and after each piece. Then reads up to 4,096 octets and feeds them to it, unless it is done. At most
+/// `reads` reads give octets.
 ///
 /// Returns `Ok` if the input ended, the serving end put its Close out (Z39.50-2003, 3.2.11.1), or it stopped. The
-/// octets read are those that it was fed; the octets written are those that it handed out.
+/// octets read are those that it was fed; the octets written are those that it handed out. This is promised of a
+/// device whose octets are known. All replies are written:
+/// nothing waits to go out, and no reply is pending unless the serving end stopped. The same holds before each read.
 ///
 /// After a refusal, the octets fed and the replies released by then stay in effect. At most one call of a device
 /// fails:
 ///
-/// - `Read`, `Write`: one call of that device failed, and none of the other. After `Write`, a front of the octets
-///   handed out last was written.
-/// - `Turns`: `reads` reads gave octets, and the serving end neither stopped nor put its Close out.
+/// - `Read`, `Write`: one call of that device failed, and none of the other. After `Read`, all replies are written.
+///   After `Write`, all are released, and a front of the octets handed out last was written.
+/// - `Turns`: `reads` reads gave octets, and the serving end neither stopped nor put its Close out. All replies are
+///   written.
 /// - `Memory`: no memory was found. If it was lacking for a piece or a reply, the serving end stopped.
 pub fn answer<R: Source, W: Sink>(
     alloc: Global,
@@ -116,13 +120,15 @@ pub fn answer<R: Source, W: Sink>(
         (W.state sink.old) (W.state sink.new) }
 {
     for _ in 0..reads {
+        reply_all(alloc, host, sink)?;
         if is_done(host) {
             return Ok(());
         }
-        if !answer_piece(alloc, host, source, sink)? {
+        if !read_piece(host, source)? {
             return Ok(());
         }
     }
+    reply_all(alloc, host, sink)?;
     if is_done(host) {
         return Ok(());
     }

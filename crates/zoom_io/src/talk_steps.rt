@@ -1,13 +1,16 @@
 //! The steps of a talk: writing what is due, and taking one message.
 ghost use Rattle.std.specs.Prelude.{◌≡◌, ◌<◌, length, IfOk, OnErr};
+ghost use Rattle.zoom_pool.specs.Links.{SameOthers};
+ghost use Rattle.zoom_io.specs.Devices.{HasNoFailure};
 ghost use Rattle.zoom_io.specs.Pushing.{IsBroken};
+ghost use Rattle.zoom_io.specs.Blameless.{IfPushMemory};
 ghost use Rattle.zoom_io.specs.TalkTraces.{Listening};
 ghost use Rattle.zoom_io.specs.TalkSteps.{receipt_of, HaltStepAlone, AfterTakeMessage, AfterSendDue, AfterSendAndTake};
 
 use crate::device::Sink;
 use crate::outgoing::{PushError, push};
 use std::alloc::{AllocError, Global};
-use zoom_pool::laws::{one_input, one_transcript, up_to};
+use zoom_pool::laws::{one_input, one_transcript};
 use zoom_pool::{Meta, Step, TakeError};
 
 /// The result of taking a message.
@@ -37,9 +40,8 @@ fn take_message(meta: &mut Meta, c: u32) -> Result<Receipt, AllocError>
     requires { c < length meta.old.pool.connections }
     ensures after { IfOk result (λ receipt. AfterTakeMessage c receipt meta.old meta.new) }
     ensures err { OnErr result (HaltStepAlone c Listening meta.old meta.new) }
-    ensures size { length meta.new.pool.connections ≡ length meta.old.pool.connections }
+    ensures others { SameOthers c meta.old.pool meta.new.pool }
 {
-    up_to();
     one_transcript();
     one_input();
     match meta.take(c) {
@@ -55,10 +57,10 @@ fn take_message(meta: &mut Meta, c: u32) -> Result<Receipt, AllocError>
 fn send_due<W: Sink>(alloc: Global, meta: &mut Meta, c: u32, sink: &mut W) -> Result<(), PushError>
     requires { c < length meta.old.pool.connections }
     ensures after { AfterSendDue c result meta.old meta.new (W.state sink.old) (W.state sink.new) }
+    ensures sound { IfPushMemory result (HasNoFailure (W.state sink.old) (W.state sink.new)) }
     ensures stopped { IsBroken c result meta.new }
-    ensures size { length meta.new.pool.connections ≡ length meta.old.pool.connections }
+    ensures others { SameOthers c meta.old.pool meta.new.pool }
 {
-    up_to();
     one_transcript();
     meta.drive(c)?;
     push(alloc, meta, c, sink)
@@ -73,8 +75,9 @@ pub(crate) fn send_and_take<W: Sink>(
 ) -> Result<Receipt, PushError>
     requires { c < length meta.old.pool.connections }
     ensures receipt { AfterSendAndTake c result meta.old meta.new (W.state sink.old) (W.state sink.new) }
+    ensures sound { IfPushMemory result (HasNoFailure (W.state sink.old) (W.state sink.new)) }
     ensures stopped { IsBroken c result meta.new }
-    ensures size { length meta.new.pool.connections ≡ length meta.old.pool.connections }
+    ensures others { SameOthers c meta.old.pool meta.new.pool }
 {
     send_due(alloc, meta, c, sink)?;
     Ok(take_message(meta, c)?)

@@ -5,3 +5,4 @@ pub mod Members
 pub mod Presents
 pub mod Replied
 pub mod Brought
+pub mod Skipped

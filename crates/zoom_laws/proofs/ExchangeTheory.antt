@@ -15,3 +15,4 @@ pub mod Over
 pub mod Answering
 pub mod Ended
 pub mod Tried
+pub mod Closing

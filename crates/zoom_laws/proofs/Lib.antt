@@ -2,3 +2,4 @@ pub mod AccordTheory
 pub mod ExchangeTheory
 pub mod ScheduleTheory
 pub mod CatalogueTheory
+pub mod LengthTheory

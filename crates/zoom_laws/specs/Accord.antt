@@ -109,7 +109,8 @@ OwedCloseLaw =
 abbrev pub FittingLaw : Type 0
 FittingLaw =
     (databases : List Database) (target : TargetSettings) (settings : Settings) (log : Log) (q : Asked) (reply : Apdu)
-    → Contains (replies_due databases target settings log) reply → IsReplyTo settings log reply q → IsFitReply q.what reply
+    → Contains (replies_due databases target settings log) reply → IsReplyTo settings log reply q
+    → IsFitReply q.what reply
 
 -- the laws of a conversation
 pub record AccordLaws : Type 0 where

@@ -22,7 +22,7 @@ use Rattle.zoom_questions.specs.declared.question.MetaSettings.{MetaSettings}
 use Rattle.zoom_pool.specs.Steering.{ask_of}
 use Rattle.zoom_pool.specs.Transcripts.{Transcript, IsTranscript, past_of}
 use Rattle.zoom_pool.specs.History.{History, events_on, accepted, facts_at}
-use Rattle.zoom_pool.specs.Metas.{MetaLinks, MetaAfter, settings_of}
+use Rattle.zoom_pool.specs.Metas.{MetaLinks, MetaAfter, is_skipped, settings_of}
 use Rattle.zoom_laws.specs.Schedules.{IsCompleteTranscript}
 
 -- ---- the facts of the catalogue
@@ -73,10 +73,11 @@ AreOwed databases settings p =
 abbrev pub size_given : TargetSettings → ℕ
 size_given settings = natural (int_min settings.size (pos 1048576))
 
--- each record that is due is within this size
+-- If the target accepts the association and supports the search, each record that is due is within this size.
 abbrev pub HasFittingRecords : Question → List Database → TargetSettings → Type 0
 HasFittingRecords q databases settings =
-    (p : ℕ) (f : Found) → IsIn p (positions_due q (entries_for q databases))
+    settings.refuse ≡ false → match_fault databases q.databases q.query ≡ None
+    → (p : ℕ) (f : Found) → IsIn p (positions_due q (entries_for q databases))
     → IsIn f (at_positions (entries_for q databases) (p ∷ []))
     → size_of (in_syntax q.syntax f) ≤ size_given settings
 
@@ -106,7 +107,17 @@ UnaskedLaw =
     → is_unsendable (search_request settings.named 1 1 (ask_of q)) ≡ true
     → (f : Fact) → Contains (facts_at c p) f → ⊥
 
+-- no search was skipped on a complete connection, if and only if the search can be sent or the target refuses
+abbrev pub SkippedLaw : Type 0
+SkippedLaw =
+    (questions : List Question) (s : MetaSettings) (h : History) (meta : MetaLinks) (c : ℕ) (q : Question)
+    (p : Transcript)
+    (databases : List Database) (settings : TargetSettings)
+    → MetaAfter questions s h meta → slice_get questions c ≡ Some q → IsTranscript (settings_of s) (events_on c h) p
+    → IsCompleteTranscript p → AreOwed databases settings p → (is_skipped p ≡ false) ↔ CanAsk q settings
+
 -- the laws of what a question brings
 pub record CatalogueLaws : Type 0 where
   pub answers : CatalogueLaw
   pub unasked : UnaskedLaw
+  pub skipped : SkippedLaw

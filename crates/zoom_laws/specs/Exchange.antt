@@ -47,7 +47,7 @@ got_in (Made call ∷ log) = got_in log
 pub record IsSoundExchange (holdings : Holdings) (settings : Settings) (events : List Event) (p : Transcript)
     (host_events : List HostEvent)
     (host : HostState) : Type 0 where
-  -- the transcript of the connection's host_events, and the state after those of the serving end
+  -- the transcript of the connection's events, and what the events of the serving end have left
   pub transcript : IsTranscript settings events p
   pub served : HostAfter holdings host_events host
   pub plain : ArePlain host_events
@@ -73,13 +73,13 @@ pub record IsSoundExchange (holdings : Holdings) (settings : Settings) (events :
 
 -- ---- what keeps an exchange sound
 
--- if each piece was fed whole, the host_events of a serving end have one transcript
+-- if each piece was fed whole, the events of a serving end have one transcript
 abbrev pub OneServedLaw : Type 0
 OneServedLaw =
     (holdings : Holdings) (host_events : List HostEvent) (p q : HostTranscript)
     → ArePlain host_events → IsHostTranscript holdings host_events p → IsHostTranscript holdings host_events q → p ≡ q
 
--- an exchange without host_events is sound
+-- an exchange without events is sound
 abbrev pub StartLaw : Type 0
 StartLaw =
     (holdings : Holdings) (settings : Settings) (host : HostState)

@@ -2,3 +2,4 @@ pub mod Accord
 pub mod Exchange
 pub mod Schedules
 pub mod Catalogue
+pub mod Lengths

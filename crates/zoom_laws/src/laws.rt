@@ -2,6 +2,7 @@
 ghost use Rattle.zoom_laws.specs.Accord.{AccordLaws};
 ghost use Rattle.zoom_laws.specs.Catalogue.{CatalogueLaws};
 ghost use Rattle.zoom_laws.specs.Exchange.{ExchangeLaws};
+ghost use Rattle.zoom_laws.specs.Lengths.{LengthLaws};
 ghost use Rattle.zoom_laws.specs.Schedules.{ScheduleLaws};
 
 use zoom_pool::driving::driven_laws;
@@ -67,3 +68,13 @@ pub fn catalogue_laws()
     kept_sets();
     what_fits();
 }
+
+/// The laws of the lengths of the replies that a target owes to the requests for a question (Z39.50-2003, 3.3).
+///
+/// - None is longer than a message may be, whatever replies the connection accepted. The premises: each record that is
+///   due fits, or its database has a name of at most 2,000,000 octets. If the target does not support the search, the
+///   text that says why has at most 2,000,000 octets.
+/// - The first premise holds if all records that are due fit, and if all databases have such names.
+pub fn length_laws()
+    ensures { LengthLaws }
+{}

@@ -13,7 +13,7 @@ use Rattle.zorigin.specs.Calls.{call_result, call_result_by, refusal}
 use Rattle.zorigin.specs.Sending.{encoding_of, request_of, sent_of, IsReadBack}
 use Rattle.zorigin.specs.Log.{Made, Past, standing, request_list, admit_unless, After as OriginAfter}
 use Rattle.zoom_pool.specs.Links.{Link}
-use Rattle.zoom_pool.specs.Transcripts.{Transcript, Event, Called, past_of, after_call, given, joined}
+use Rattle.zoom_pool.specs.Transcripts.{Transcript, Event, Called, past_of, after_call, given, joined, request_octets}
 use Rattle.zoom_pool.specs.Connections.{AreConsistent, WaitingAfter, AreReadBack, ConnectionAfter}
 
 no_err : {A E : Type 0} {x : A} {e : E} → Ok x ≡ Err e → ⊥
@@ -51,6 +51,20 @@ grown_read : (p : Past) (call : Call) (x : Sent) (r : Option CallRefused) → Ar
     → Ok x ≡ call_result_by r (request_of (standing p) call) → AreReadBack (admit_unless p call r).sent
 grown_read p call x (Some reason) a b q = absurd (no_err q)
 grown_read p call x None a b q = requested_read p.sent x (request_of (standing p) call) a b q
+
+sent_is : (x : Sent) (r : Option CallRefused) (o : Option Apdu) → Ok x ≡ call_result_by r o
+    → x.octets ≡ flat_map encoding_of (request_list o)
+sent_is x (Some reason) o q = absurd (no_err q)
+sent_is x None None q = absurd (no_err q)
+sent_is x None (Some apdu) q =
+    let same : x ≡ sent_of apdu = cc in
+    ap (λ (z : Sent). z.octets) same ∙ sym (append-nil (encoding_of apdu))
+
+-- the octets of an admitted call are those of its request
+pub sent_octets : (p : Transcript) (call : Call) (x : Sent) → Ok x ≡ call_result (standing (past_of p)) call
+    → x.octets ≡ request_octets p call
+sent_octets p call x q =
+    sent_is x (refusal (standing (past_of p)) call) (request_of (standing (past_of p)) call) q
 
 -- the origin admitted the call
 pub called : (settings : Settings) (events : List Event) (p : Transcript) (c d : Link) (call : Call) (x : Sent)

@@ -712,7 +712,7 @@ knows_sent laws driven number (origin.Search op set ask) old new s er sk co l = 
     let to : new.phase ≡ phases.Searching f.0 f.1 = subst (λ z. SendStep (origin.Search op set ask) z new.phase) f.2 s in
     let is : new.left ≡ 0 = left ∙ ap (left_in e.window) to in
     let a : AtOpened e settings log f.0 f.1 = subst (IsAtPhase e settings log) f.2 k.at in
-    let n : IsNextCall e settings log (origin.Search op set ask) = subst (λ r. IsSteeredCall e settings log r (origin.Search op set ask)) q o.steers in
+    let n : IsNextCall e settings log (origin.Search op set ask) = (subst (λ r. IsSteeredCall e settings log r (origin.Search op set ask)) q o.steers).0 in
     let c : origin.Search op set ask ≡ origin.Search 1 1 e.ask = search_as op set ask e.ask f.4 f.5 f.6 in
     let can : a.search ≡ true = sym (a.can f.3) ∙ ap is_none (ap (refusal (standing (past settings log))) (sym c) ∙ q) in
     sent_driver e settings log (origin.Search op set ask) old new o q n n.next.0 er sk co left (omega (arith, was, is))

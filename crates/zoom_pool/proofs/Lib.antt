@@ -5,6 +5,8 @@ pub mod Stopping
 pub mod Taking
 pub mod Outcomes
 pub mod Uniqueness
+pub mod Stops
+pub mod Pending
 pub mod Metas
 pub mod Advancing
 pub mod Phases
@@ -15,6 +17,8 @@ pub mod TakenReplies
 pub mod Wants
 pub mod Starts
 pub mod Pools
+pub mod PoolTakes
+pub mod MetaTakes
 pub mod Orders
 pub mod Steps
 pub mod Rows
@@ -24,3 +28,5 @@ pub mod MetaLaws
 pub mod Drivings
 pub mod DueRows
 pub mod Due
+pub mod Fewest
+pub mod DriveLaws

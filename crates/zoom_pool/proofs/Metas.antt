@@ -1,8 +1,8 @@
 -- Driven connections after one more event.
 use Rattle.std.proofs.Common.{◌≡◌, ℕ, zero, suc, ◌<◌, ◌≤◌, ◌==◌, Bool, true, false, cond}
-use Rattle.std.proofs.Common.{List, [], ◌∷◌, ◌++◌, length, slice_get, slice_set, Option, None, Some}
-use Rattle.std.proofs.Common.{Result, Ok, Err, refl, sym, ap, subst, ◌∙◌, arith, true≢false}
-use Rattle.std.specs.Prelude.{is_some, ◌||◌}
+use Rattle.std.proofs.Common.{List, [], ◌∷◌, ◌++◌, length, slice_get, slice_set, Some}
+use Rattle.std.proofs.Common.{Result, Ok, Err, refl, sym, ap, subst, ◌∙◌, arith}
+use Rattle.std.specs.Prelude.{◌||◌}
 use Rattle.std.proofs.lemmas.Bool.Decides.{nat_tests}
 use Rattle.std.proofs.lemmas.Option.{same_Some, slice_get_within}
 use Rattle.std.proofs.Math.ListN.{length-set}
@@ -11,87 +11,28 @@ use Rattle.zapdu.specs.declared.apdu.Apdu.{Apdu}
 use Rattle.zorigin.specs.declared.settings.Settings.{Settings}
 use Rattle.zorigin.specs.declared.answer.Taken.{Taken}
 use Rattle.zorigin.specs.declared.refusal.Refused.{Refused}
-use Rattle.zorigin.specs.Standings.{Call}
 use Rattle.zorigin.specs.Replies.{verdict}
-use Rattle.zorigin.specs.Log.{Made, Got, standing, state_of}
+use Rattle.zorigin.specs.Log.{Got, standing}
 use Rattle.zoom_questions.specs.declared.question.Question.{Question}
 use Rattle.zoom_questions.specs.declared.question.MetaSettings.{MetaSettings}
 use Rattle.zoom_pool.specs.declared.state.State.{State}
-use Rattle.zoom_pool.specs.declared.state.State.TheVariants as states
-use Rattle.zoom_pool.specs.declared.state.Reason.{Reason}
 use Rattle.zoom_pool.specs.declared.answer.Outcome.{Outcome}
 use Rattle.zoom_pool.specs.declared.answer.Outcome.TheVariants as outcome
 use Rattle.zoom_pool.specs.declared.answer.TakeError.{TakeError}
 use Rattle.zoom_pool.specs.declared.answer.TakeError.TheVariants as errors
-use Rattle.zoom_pool.specs.States.{state_as, or_else, is_stopped, is_closing}
+use Rattle.zoom_pool.specs.States.{is_stopped}
 use Rattle.zoom_pool.specs.Inputs.{Input, AlreadyStopped, Message, Foreign, Fault, Rest, Nothing}
 use Rattle.zoom_pool.specs.Transcripts.{Transcript, IsTranscript, EventStep, Event, Called, Fed, Took, InputEnded, HandedOut, Stopped, NextInput, after_take, after_reply}
-use Rattle.zoom_pool.specs.Transcripts.{after_call, after_feed, after_stop, end_by, truncated, past_of, state_at, outcome_of_reply, outcome_of, IsDone}
+use Rattle.zoom_pool.specs.Transcripts.{after_feed, after_stop, end_by, truncated, past_of, state_at, outcome_of_reply, outcome_of, IsDone}
 use Rattle.zoom_pool.specs.Links.{Link}
 use Rattle.zoom_pool.specs.History.{History, events_on, AreTranscripts, After, AfterUpTo}
 use Rattle.zoom_questions.specs.Askable.{IsAskable, AreFit, AreAskable}
 use Rattle.zoom_pool.specs.Steering.{Errand, errand_with, errand_of}
 use Rattle.zoom_pool.specs.Drivers.{DriverState, IsDriver, NoteReplyStep, RefusedLaw}
-use Rattle.zoom_pool.specs.Metas.{MetaLinks, settings_of, AreDriven, MetaAfter, MetaAfterUpTo, MetaTakeStep, DriverTakeStep, NoteTakeStep, AreNewDrivers, IsTranscriptValue}
-use Rattle.zoom_pool.specs.Laws.{OneInput, OneTranscript, UpToLaw}
+use Rattle.zoom_pool.specs.Metas.{MetaLinks, settings_of, AreDriven, MetaAfter, MetaAfterUpTo, MetaTakeStep, DriverTakeStep, NoteTakeStep, AreNewDrivers, IsTranscriptValueUpTo}
+use Rattle.zoom_pool.specs.Laws.{OneInput, OneTranscript}
 use Rattle.zoom_pool.specs.PoolSteps.{IsStateAt, IsTakeOutcome, TakeStep}
-use Rattle.zoom_pool.proofs.Pools.{only_same, only_other, get_same}
-
--- ---- what stopped a connection
-
-abbrev IsStop : Option State → Type 0
-IsStop None = Unit {0}
-IsStop (Some state) = is_stopped state ≡ true
-
-stops_call : (p : Transcript) (call : Call) → IsStop p.stop → IsStop (after_call p call).stop
-stops_call p call s = elim (is_some p.stop) as (λ b. IsStop (cond b p (record p { log = Made call ∷ p.log })).stop)
-    [ true ↦ s | false ↦ s ]
-
-stops_piece : (p : Transcript) (piece : List ℕ) → IsStop p.stop → IsStop (after_feed p piece).stop
-stops_piece p piece s = elim (is_stopped (state_at p) || p.ended) as
-    (λ b. IsStop (cond b p (record p { stream = p.stream ++ piece })).stop) [ true ↦ s | false ↦ s ]
-
-stops_process : (p : Transcript) (v : Result Taken Refused) → IsStop p.stop → IsStop (after_reply p v).stop
-stops_process p (Ok x) s = s
-stops_process p (Err reason) s = refl
-
-ended_state : (b : Bool) (reason : Reason) → is_stopped (cond b states.Closed (states.Failed reason)) ≡ true
-ended_state true reason = refl
-ended_state false reason = refl
-
-stops_take : (p : Transcript) (input : Input) → IsStop p.stop → IsStop (after_take p input).stop
-stops_take p AlreadyStopped s = s
-stops_take p (Message v) s = stops_process (record p { taken = suc p.taken; log = Got v ∷ p.log })
-    (verdict (standing (past_of p)) v) s
-stops_take p (Foreign error) s = refl
-stops_take p (Fault kind at) s = refl
-stops_take p (Rest n) s = elim p.ended as (λ b. IsStop (cond b (after_stop p (truncated n)) p).stop) [ true ↦ refl | false ↦ s ]
-stops_take p Nothing s = elim p.ended as (λ b. IsStop (cond b (end_by p) p).stop)
-    [ true ↦ ended_state (is_closing (state_at p)) _ | false ↦ s ]
-
-stops_more : (event : Event) (p q : Transcript) → EventStep event p q → IsStop p.stop → IsStop q.stop
-stops_more (Called call) p q e s = subst (λ z. IsStop z.stop) (sym e) (stops_call p call s)
-stops_more (Fed piece) p q e s = subst (λ z. IsStop z.stop) (sym e) (stops_piece p piece s)
-stops_more Took p q e s = subst (λ z. IsStop z.stop) (sym e.2) (stops_take p e.0 s)
-stops_more InputEnded p q e s = subst (λ z. IsStop z.stop) (sym e) s
-stops_more (HandedOut octets) p q e s = subst (λ z. IsStop z.stop) (sym e) s
-stops_more (Stopped reason) p q e s = subst (λ z. IsStop z.stop) (sym e) refl
-
-stop_stands : (settings : Settings) (events : List Event) (p : Transcript) → IsTranscript settings events p → IsStop p.stop
-stop_stands settings [] p e = subst (λ z. IsStop z.stop) (sym e) tt
-stop_stands settings (event ∷ events) p e = stops_more event e.0 p e.2 (stop_stands settings events e.0 e.1)
-
--- nothing stopped a connection that goes on
-pub goes : (settings : Settings) (events : List Event) (p : Transcript) → IsTranscript settings events p
-    → is_stopped (state_at p) ≡ false → p.stop ≡ None
-goes settings events p transcript s = by p.stop refl
-  where
-    by : (o : Option State) → p.stop ≡ o → p.stop ≡ None
-    by None e = e
-    by (Some state) e =
-        let t : is_stopped state ≡ true = subst IsStop e (stop_stands settings events p transcript) in
-        let f : is_stopped state ≡ false = subst (λ z. is_stopped (or_else (state_as (state_of (past_of p))) z) ≡ false) e s in
-        absurd (true≢false (sym t ∙ f))
+use Rattle.zoom_pool.proofs.Pools.{only_same, only_other, get_same, get_other}
 
 -- ---- one more event
 
@@ -149,11 +90,12 @@ pub known_still : (e : Errand) (d : DriverState) (p r : Transcript) → IsSameLo
 known_still e d p r same k = subst (λ z. IsDriver e z r.log d) (sym same.0)
     (subst (λ z. IsDriver e p.settings z d) (sym same.1) k)
 
-pub quiet_after : (questions : List Question) (s : MetaSettings) (h : History) (old new : MetaLinks) (c : ℕ) (event : Event)
-    → IsQuiet event → MetaAfter questions s h old → After (settings_of s) ((c, event) ∷ h) new.pool
+pub quiet_after : (questions : List Question) (s : MetaSettings) (partial : List ℕ) (h : History) (old new : MetaLinks)
+    (c : ℕ) (event : Event)
+    → IsQuiet event → MetaAfterUpTo questions s partial h old → AfterUpTo (settings_of s) partial ((c, event) ∷ h) new.pool
     → new.drivers ≡ old.drivers → length new.pool.connections ≡ length old.pool.connections
-    → MetaAfter questions s ((c, event) ∷ h) new
-quiet_after questions s h old new c event is a pool drivers size = record {
+    → MetaAfterUpTo questions s partial ((c, event) ∷ h) new
+quiet_after questions s partial h old new c event is a pool drivers size = record {
   fit = a.fit;
   askable = a.askable;
   pool = pool;
@@ -241,50 +183,29 @@ pub transcript_at : (settings : Settings) (h : History) (transcript : ℕ → Tr
     → AreTranscripts settings h transcript cs → c < length cs → IsTranscript settings (events_on c h) (transcript c)
 transcript_at settings h transcript cs c s lt = let k = slice_some cs c lt in (s.each c k.0 k.1).transcript
 
--- what a history can have left, it can have left up to the next Take of the connection
-pub up_to_meta : UpToLaw → (q : List Question) (s : MetaSettings) (c : ℕ) (h : History) (meta : MetaLinks)
-    → MetaAfter q s h meta → MetaAfterUpTo q s c h meta
-up_to_meta law q s c h meta a = record {
-  fit = a.fit;
-  askable = a.askable;
-  pool = law (settings_of s) c h meta.pool a.pool;
-  driven = a.driven;
-  size = a.size;
-}
-
 -- a value of the connection's state is a value of its transcript
-pub state_tells : UpToLaw → OneTranscript → (value : State → Bool) (c : ℕ) (meta : MetaLinks) (state : State)
+pub state_tells : OneTranscript → (value : State → Bool) (c : ℕ) (meta : MetaLinks) (state : State)
     → c < length meta.pool.connections → IsStateAt c meta.pool state
-    → IsTranscriptValue c meta (λ p. value (state_at p)) (value state)
-state_tells law hearing value c meta state lt is q s h p a transcript =
-    let up : AfterUpTo (settings_of s) c h meta.pool = law (settings_of s) c h meta.pool a.pool in
-    let now = transcript_at (settings_of s) h up.transcript meta.pool.connections c up.stands lt in
-    let same : up.transcript c ≡ p = hearing (settings_of s) (events_on c h) (up.transcript c) p now transcript in
-    ap value (is (settings_of s) c h up ∙ ap state_at same)
-
--- the slices
-pub get_other : {X : Type 0} (xs : List X) (c i : ℕ) (x : X) → (c == i) ≡ false
-    → slice_get (slice_set xs c x) i ≡ slice_get xs i
-get_other [] c i x f = refl
-get_other (y ∷ xs) zero zero x f = absurd (true≢false f)
-get_other (y ∷ xs) zero (suc i) x f = refl
-get_other (y ∷ xs) (suc c) zero x f = refl
-get_other (y ∷ xs) (suc c) (suc i) x f = get_other xs c i x (let g : (c == i) ≡ false = grind (arith, nat_tests) in g)
+    → IsTranscriptValueUpTo c meta (λ p. value (state_at p)) (value state)
+state_tells hearing value c meta state lt is q s partial h p a transcript =
+    let now = transcript_at (settings_of s) h a.pool.transcript meta.pool.connections c a.pool.stands lt in
+    let same : a.pool.transcript c ≡ p = hearing (settings_of s) (events_on c h) (a.pool.transcript c) p now transcript in
+    ap value (is (settings_of s) partial h a.pool ∙ ap state_at same)
 
 -- a Take with this outcome
-pub taken_more : OneInput → OneTranscript → (questions : List Question) (s : MetaSettings) (h : History) (old : MetaLinks)
-    (drivers : List DriverState) (c : ℕ) (answer : Result Outcome TakeError)
-    → MetaAfterUpTo questions s c h old → IsTakeOutcome c old.pool answer → IsDone answer
+pub taken_more : OneInput → OneTranscript → (questions : List Question) (s : MetaSettings) (partial : List ℕ) (h : History)
+    (old : MetaLinks) (drivers : List DriverState) (c : ℕ) (answer : Result Outcome TakeError)
+    → MetaAfterUpTo questions s partial h old → IsTakeOutcome c old.pool answer → IsDone answer
     → c < length old.pool.connections → length drivers ≡ length old.drivers
     → ((i : ℕ) → (c == i) ≡ false → slice_get drivers i ≡ slice_get old.drivers i)
     → ((d : DriverState) → slice_get drivers c ≡ Some d
     → (was : DriverState) × (slice_get old.drivers c ≡ Some was) × DriverTakeStep answer was d)
     → AreDriven questions s ((c, Took) ∷ h) drivers
-taken_more meeting hearing questions s h old drivers c answer a outcome done lt size same knows =
+taken_more meeting hearing questions s partial h old drivers c answer a outcome done lt size same knows =
     driven_more questions s h old.drivers drivers c Took a.driven size same (λ q d p r asked drives transcript is_step.
     let now = transcript_at (settings_of s) h a.pool.transcript old.pool.connections c a.pool.stands lt in
     let is : a.pool.transcript c ≡ p = hearing (settings_of s) (events_on c h) (a.pool.transcript c) p now transcript in
-    let t = outcome (settings_of s) c h a.pool done in
+    let t = outcome (settings_of s) partial h a.pool done in
     let input : t.0 ≡ is_step.0 = meeting p t.0 is_step.0 (subst (λ z. NextInput z t.0) is t.1) is_step.1 in
     let answers : answer ≡ outcome_of p is_step.0 = subst (λ z. answer ≡ outcome_of p z) input
     (subst (λ z. answer ≡ outcome_of z t.0) is t.2) in
@@ -298,12 +219,12 @@ pub took_meta : OneInput → OneTranscript → (c : ℕ) (old new : MetaLinks) (
     → DriverTakeStep answer was x → new.drivers ≡ slice_set old.drivers c x
     → length new.pool.connections ≡ length old.pool.connections → MetaTakeStep c old new
 took_meta meeting hearing c old new was x answer outcome done took lt at knows ds size =
-    λ questions s h a. record {
+    λ questions s partial h a. record {
       fit = a.fit;
       askable = a.askable;
-      pool = took (settings_of s) h a.pool;
+      pool = took (settings_of s) partial h a.pool;
       driven = subst (AreDriven questions s ((c, Took) ∷ h)) (sym ds)
-          (taken_more meeting hearing questions s h old (slice_set old.drivers c x) c answer a outcome done lt
+          (taken_more meeting hearing questions s partial h old (slice_set old.drivers c x) c answer a outcome done lt
           (length-set old.drivers c x) (λ i f. get_other old.drivers c i x f) (λ d is. (
             was,
             at,
@@ -319,12 +240,12 @@ pub refused_meta : OneInput → OneTranscript → RefusedLaw → (c : ℕ) (old 
     → c < length old.pool.connections → new.drivers ≡ old.drivers
     → length new.pool.connections ≡ length old.pool.connections → MetaTakeStep c old new
 refused_meta meeting hearing law c old new error outcome done took lt ds size =
-    λ questions s h a. record {
+    λ questions s partial h a. record {
       fit = a.fit;
       askable = a.askable;
-      pool = took (settings_of s) h a.pool;
+      pool = took (settings_of s) partial h a.pool;
       driven = subst (AreDriven questions s ((c, Took) ∷ h)) (sym ds)
-          (taken_more meeting hearing questions s h old old.drivers c (Err error) a outcome done lt refl (λ i f. refl)
+          (taken_more meeting hearing questions s partial h old old.drivers c (Err error) a outcome done lt refl (λ i f. refl)
           (λ d is. (d, is, knows_other law (Err error) d (λ taken e. absurd (cc)))));
       size = size ∙ a.size;
     }

@@ -22,7 +22,7 @@ use Rattle.zoom_pool.specs.declared.phase.Phase.TheVariants as phases
 use Rattle.zoom_pool.specs.CallsOf.{call_of}
 use Rattle.zoom_pool.specs.States.{state_as, is_stopped}
 use Rattle.zoom_pool.specs.Driving.{plan_of, DrivenLaws}
-use Rattle.zoom_pool.specs.Steering.{Errand, IsNextCall, IsSteeredCall, room_in, may_call, is_rejected, IsTried}
+use Rattle.zoom_pool.specs.Steering.{Errand, IsNextCall, HasFewestRanges, IsSteeredCall, room_in, may_call, is_rejected, IsTried}
 use Rattle.zoom_pool.specs.Drivers.{DriverState, IsDriver, IsAtPhase, AtFresh, AtOpening, AtOpened, AtSearching, AtAsking, AtClosed, HasOpening, HasFound, events_at, opened_events, IsOffer, IsOffered, HasNoNextCall, NextCallResult, GiveResult, IsGivenIf, NextAskedResult, IsGivenInRoom, IsFirstPresent, room_for, has_room, is_fresh_state}
 use Rattle.zoom_pool.specs.Due.{DueLaws, CanAskFor}
 use Rattle.zoom_pool.proofs.Wants.{few_ranges}
@@ -76,11 +76,11 @@ no_some e = cc
 -- ---- which call is next
 
 offer_next : (e : Errand) (settings : Settings) (log : Log) (d : DriverState) → IsDriver e settings log d → (call : origin.Call)
-    → refusal (standing (past settings log)) call ≡ None → IsNextCall e settings log call → IsOffered e settings log d.phase call
-    → IsOffer e settings log d call
-offer_next e settings log d k call admitted n o = record {
+    → refusal (standing (past settings log)) call ≡ None → IsNextCall e settings log call → HasFewestRanges call
+    → IsOffered e settings log d.phase call → IsOffer e settings log d call
+offer_next e settings log d k call admitted n few o = record {
   knows = k;
-  steers = subst (λ r. IsSteeredCall e settings log r call) (sym admitted) n;
+  steers = subst (λ r. IsSteeredCall e settings log r call) (sym admitted) (n, few);
   offered = o;
 }
 
@@ -125,7 +125,7 @@ offer_search due e settings log d k present three is a rd = record {
   where
     by : (r : Option CallRefused) → refusal (standing (past settings log)) (origin.Search 1 1 e.ask) ≡ r
         → IsSteeredCall e settings log r (origin.Search 1 1 e.ask)
-    by None q = search_next e settings log present three k.room a (sym (a.can rd) ∙ ap is_none q) rd
+    by None q = (search_next e settings log present three k.room a (sym (a.can rd) ∙ ap is_none q) rd, tt)
     by (Some reason) q = (due.skips e settings log d present three reason k is rd q, (refl, refl), refl)
 
 -- if nothing is due, only Close is next, and only if no operation is outstanding
@@ -198,12 +198,12 @@ module _ (next : NextLaws) (laws : DrivenLaws) (due : DueLaws) (bounds : BoundLa
   asking_some e settings log d k a room is at rd r call (inl x) =
       let n = present_next next e settings log a room (call_of call) k.wanted k.steps (laws.driven e.ask e.wanted e.step settings log k.driven) at rd r x in
       let admitted = due.admits e settings log d _ k n (asks_ranges e settings log d k a room at (call_of call) x n) in
-      subst (IsOffer e settings log d) (sym x.is) (offer_next e settings log d k _ admitted n (a, is, x.ready, n))
+      subst (IsOffer e settings log d) (sym x.is) (offer_next e settings log d k _ admitted n x.gaps (a, is, x.ready, n))
   asking_some e settings log d k a room is at rd r call (inr x) =
       let n = close_next e settings log rd (next.closes e.wanted e.step (room_in e.window (past settings log)) (events_at e settings log) a k.wanted k.steps
       at.agenda x.none at.init at.search (at.outstanding ∙ x.idle)) in
       let admitted = due.admits e settings log d origin.Close k n tt in
-      subst (IsOffer e settings log d) (sym x.is) (offer_next e settings log d k origin.Close admitted n (inr (a, is), n))
+      subst (IsOffer e settings log d) (sym x.is) (offer_next e settings log d k origin.Close admitted n tt (inr (a, is), n))
 
 -- ---- at each phase
 
@@ -278,7 +278,7 @@ given_in next laws due bounds e settings log d k phases.Fresh is a (Some call) g
     let p = past settings log in
     let x = given_some (is_fresh_state (state_as (state_of p))) origin.Init call g in
     let n = init_next e settings log k.room a (sym (fresh_as (state_of p)) ∙ x.0) in
-    subst (IsOffer e settings log d) (sym x.1) (offer_next e settings log d k origin.Init (due.admits e settings log d origin.Init k n tt) n (is, n))
+    subst (IsOffer e settings log d) (sym x.1) (offer_next e settings log d k origin.Init (due.admits e settings log d origin.Init k n tt) n tt (is, n))
 given_in next laws due bounds e settings log d k phases.Opening is a None g =
     unopened_rests e settings log a.opening (opening_none e settings log a)
 given_in next laws due bounds e settings log d k phases.Opening is a (Some call) g = absurd (no_some g)
@@ -311,7 +311,7 @@ given_in next laws due bounds e settings log d k phases.Done is a None g =
 given_in next laws due bounds e settings log d k phases.Done is a (Some call) g =
     let x = given_some (has_room (room_for e.window (state_as (state_of (past settings log))))) origin.Close call g in
     let n = close_next e settings log (standing_ready e settings log x.0) (a.none, a.outstanding) in
-    subst (IsOffer e settings log d) (sym x.1) (offer_next e settings log d k origin.Close (due.admits e settings log d origin.Close k n tt) n (inl is, n))
+    subst (IsOffer e settings log d) (sym x.1) (offer_next e settings log d k origin.Close (due.admits e settings log d origin.Close k n tt) n tt (inl is, n))
 given_in next laws due bounds e settings log d k phases.Closed is a None g = closed_rests e settings log a
 given_in next laws due bounds e settings log d k phases.Closed is a (Some call) g = absurd (no_some g)
 

@@ -17,6 +17,7 @@ use Rattle.zorigin.specs.Facts.{facts_by, facts_of}
 use Rattle.zoom_pool.specs.Links.{Links}
 use Rattle.zoom_pool.specs.History.{History, accepted, After}
 use Rattle.zoom_pool.specs.Laws.{plain, plain_answer, AreAmong, AreSameAccepted, OrderLaw}
+use Rattle.zoom_pool.proofs.Pools.{known_exactly}
 
 -- facts do not depend on the reference id
 facts_plain : (target set : ℕ) (w : What) (reply : Apdu) → facts_by target set w reply
@@ -73,11 +74,11 @@ among target xs ys q m k =
 same_knowledge : (settings others : Settings) (h1 h2 : History) (p1 p2 : Links) (a : After settings h1 p1)
     (b : After others h2 p2) → AreSameAccepted a.transcript b.transcript → p1.knowledge ≡ p2.knowledge
 same_knowledge settings others h1 h2 p1 p2 a b same = same_facts p1.knowledge p2.knowledge a.lawful b.lawful (λ q. (
-  λ k. (let known = (a.known q).0 k in (b.known q).1 (
+  λ k. (let known = (known_exactly settings h1 p1 a q).0 k in (known_exactly others h2 p2 b q).1 (
     known.0,
     among known.0 (accepted (a.transcript known.0)) (accepted (b.transcript known.0)) q (same known.0).0 known.1,
   )),
-  λ k. (let known = (b.known q).0 k in (a.known q).1 (
+  λ k. (let known = (known_exactly others h2 p2 b q).0 k in (known_exactly settings h1 p1 a q).1 (
     known.0,
     among known.0 (accepted (b.transcript known.0)) (accepted (a.transcript known.0)) q (same known.0).1 known.1,
   )),

@@ -22,6 +22,7 @@ use Rattle.zoom_pool.specs.Transcripts.{Transcript}
 use Rattle.zoom_pool.specs.History.{accepted, IsKnown}
 use Rattle.zoom_pool.specs.Conflicts.{IsShownBy, DifferingRecords, ConflictLaw}
 use Rattle.zoom_pool.proofs.Orders.{from_answer, of_answer}
+use Rattle.zoom_pool.proofs.Pools.{known_exactly}
 
 -- all these facts are of the target
 abbrev AreOf : ℕ → List Fact → Type 0
@@ -108,8 +109,8 @@ conflicts places lists settings h pool a c set position =
     let laws = places.records c set position facts in
     let seen : (r : Record) → Contains facts (Seen c set position r) ↔ IsShownBy a.transcript c set position r =
     λ r. (
-      λ has. shown a.transcript c set position r ((a.known (Seen c set position r)).0 has),
-      λ s. (a.known (Seen c set position r)).1 (known a.transcript c set position r s),
+      λ has. shown a.transcript c set position r ((known_exactly settings h pool a (Seen c set position r)).0 has),
+      λ s. (known_exactly settings h pool a (Seen c set position r)).1 (known a.transcript c set position r s),
     ) in
     let two = laws.conflict a.lawful in
     let back : DifferingRecords a.transcript c set position → _ =

@@ -550,7 +550,7 @@ knows_outcome laws driven numbers orderly (taken.Answered a) old new s er sk co 
         → a.asked.what ≡ what.Present ranges → a.asked.op ≡ first_of (positions ranges) + 1 → (was : Agenda) → AtAsking e settings log was
         → (ph : Phase) → IsAnsweredAgenda (a.asked.op - 1) (length (records_in v.records)) was ph → IsAtPhase e settings (Got reply ∷ log) ph
     shown e settings log reply k acc v ranges r w op was at (phases.Asking is) to =
-        shown_at laws driven numbers orderly e settings log reply a v ranges was is k.wanted k.steps acc r w op to at
+        shown_at laws driven numbers orderly e settings log reply a v ranges was is k.wanted k.steps acc r w op to.0 at
     shown e settings log reply k acc v ranges r w op was at phases.Fresh to = absurd to
     shown e settings log reply k acc v ranges r w op was at phases.Opening to = absurd to
     shown e settings log reply k acc v ranges r w op was at (phases.Opened present three) to = absurd to

@@ -1,5 +1,5 @@
 -- The driver of one connection: it gives the calls for the connection's question.
-use Rattle.std.specs.Prelude.{◌≡◌, ◌⊎◌, ℕ, ℤ, ◌+◌, ◌-◌, ◌<◌, ◌≤◌, Bool, true, false, ◌&&◌, if◌then◌else◌, List, [], ◌∷◌, length, Option, None, Some, Ok, Err}
+use Rattle.std.specs.Prelude.{◌≡◌, ◌⊎◌, ℕ, ℤ, ◌+◌, ◌-◌, ◌<◌, ◌≤◌, Bool, true, false, ◌&&◌, if◌then◌else◌, List, [], ◌∷◌, map, length, Option, None, Some, Ok, Err}
 use Rattle.std.specs.List.{find, flat_map}
 use Rattle.zapdu.specs.declared.apdu.Apdu.{Apdu}
 use Rattle.zapdu.specs.declared.apdu.Apdu.TheVariants as apdus
@@ -19,7 +19,7 @@ use Rattle.zorigin.specs.declared.refusal.Refused.{Refused}
 use Rattle.zorigin.specs.Standings.{is_ready}
 use Rattle.zorigin.specs.Standings as origin
 use Rattle.zorigin.specs.Ranges.{are_ranges}
-use Rattle.zplan.specs.Ranges.{natural, positions}
+use Rattle.zplan.specs.Ranges.{natural, positions, span_of, IsApart}
 use Rattle.zorigin.specs.Fitting.{records_in}
 use Rattle.zorigin.specs.Changes.{force_in, outcome_in, unanswered}
 use Rattle.zorigin.specs.Sending.{is_unsendable, search_request}
@@ -303,6 +303,8 @@ pub record IsFirstPresent (room : ℕ) (a : Agenda) (call : origin.Call) : Type 
   pub is : call ≡ origin.Present (first_of (positions ranges) + 1) 1 ranges
   pub due : a.due ≡ positions ranges ∷ others
   pub asked : are_ranges ranges ≡ true
+  -- a gap is between any two ranges, so they are the fewest
+  pub gaps : IsApart 1 (map span_of ranges)
   -- one range, if version 3 is not in force
   pub single : a.three ≡ false → length ranges ≡ 1
   pub ready : a.ready ≡ true
@@ -368,19 +370,19 @@ pub record PrepareStep (old new : DriverState) : Type 0 where
   pub skipped : new.skipped ≡ old.skipped
   pub complete : new.complete ≡ old.complete
 
--- the Present that was ready was sent
+-- if a Present was ready, it was sent; if none was, nothing changed
 abbrev pub IsSentAgenda : Bool → Agenda → Phase → Type 0
 IsSentAgenda true a (phases.Asking b) = AfterNoteSent a b
 IsSentAgenda true a _ = ⊥
-IsSentAgenda false a new = Unit {0}
+IsSentAgenda false a new = new ≡ phases.Asking a
 
--- the phase after a call that the driver gave and the origin admitted
+-- the phase after a call that the origin admitted: it changes if the driver gave the call at that phase
 abbrev pub SendStep : origin.Call → Phase → Phase → Type 0
 SendStep origin.Init old new = new ≡ phases.Opening
 SendStep (origin.Search op set ask) (phases.Opened present three) new = new ≡ phases.Searching present three
 SendStep (origin.Present op set ranges) (phases.Asking a) new = IsSentAgenda a.ready a new
 SendStep origin.Close old new = new ≡ phases.Closed
-SendStep _ old new = Unit {0}
+SendStep _ old new = new ≡ old
 
 -- ---- replies
 
@@ -394,18 +396,20 @@ abbrev pub counted_phase : Bool → Option ℕ → Phase
 counted_phase three None = phases.Done
 counted_phase three (Some count) = phases.Counted three count
 
--- if a list that begins at `first` is awaited, it was answered with so many records
+-- if a list that begins at `first` is awaited, it was answered with so many records; if not, nothing changed
 abbrev pub IsAnsweredAgenda : ℕ → ℕ → Agenda → Phase → Type 0
-IsAnsweredAgenda first records a (phases.Asking b) = HasWaiting first a → AfterNoteAnswered first records a b
+IsAnsweredAgenda first records a (phases.Asking b) =
+    (HasWaiting first a → AfterNoteAnswered first records a b) × ((HasWaiting first a → ⊥) → b ≡ a)
 IsAnsweredAgenda first records a _ = ⊥
 
--- the phase after a response; the number of a Present's operation is its first position plus 1
+-- The phase after a response; the number of a Present's operation is its first position plus 1. A response that the
+-- phase does not wait for changes nothing.
 abbrev pub AnswerStep : ℕ → Apdu → Phase → Phase → Type 0
 AnswerStep op (apdus.SearchResponse v) (phases.Searching present three) new =
     new ≡ counted_phase three (counted (v.search_status && present) v.result_count)
 AnswerStep op (apdus.PresentResponse v) (phases.Asking a) new =
     IsAnsweredAgenda (op - 1) (length (records_in v.records)) a new
-AnswerStep op _ old new = Unit {0}
+AnswerStep op _ old new = new ≡ old
 
 -- the phase after the origin accepted a reply
 abbrev pub TakenStep : Taken → Phase → Phase → Type 0

@@ -1,12 +1,13 @@
 -- The history of a pool, and what it amounts to.
-use Rattle.std.specs.Prelude.{◌≡◌, ◌⊎◌, ◌↔◌, ℕ, ◌≤◌, ◌==◌, List, [], map, filter, length, slice_get, Some, Contains}
+use Rattle.std.specs.Prelude.{◌≡◌, ◌⊎◌, ℕ, ◌≤◌, ◌==◌, not, ◌||◌, List, [], map, filter, length, slice_get, Some, None, Contains}
 use Rattle.std.specs.List.{flat_map}
 use Rattle.zknow.specs.declared.fact.Fact.{Fact}
 use Rattle.zknow.specs.Facts.{AreFacts}
 use Rattle.zorigin.specs.declared.settings.Settings.{Settings}
 use Rattle.zorigin.specs.declared.answer.Answer.{Answer}
 use Rattle.zorigin.specs.Facts.{facts_of}
-use Rattle.zoom_pool.specs.Transcripts.{Event, Transcript, empty_transcript, past_of, IsNews}
+use Rattle.zoom_pool.specs.States.{is_stopped}
+use Rattle.zoom_pool.specs.Transcripts.{Event, Transcript, empty_transcript, past_of, state_at, IsNews}
 use Rattle.zoom_pool.specs.Connections.{ConnectionAfter}
 use Rattle.zoom_pool.specs.Links.{Link, Links}
 
@@ -37,17 +38,30 @@ pub record AreTranscripts (settings : Settings) (h : History) (transcript : ℕ 
       → ConnectionAfter settings (events_on c h) (transcript c) k
   pub others : (c : ℕ) → length connections ≤ c → (events_on c h ≡ []) × (transcript c ≡ empty_transcript settings)
 
--- The history can have left this pool; the facts known are exactly those of the answers.
-pub record After (settings : Settings) (h : History) (pool : Links) : Type 0 where
-  pub transcript : ℕ → Transcript
-  pub stands : AreTranscripts settings h transcript pool.connections
-  pub known : (q : Fact) → Contains pool.knowledge q ↔ IsKnown transcript q
-  pub lawful : AreFacts pool.knowledge
+-- the next message of connection `c` says this: the next Take adds it, or would add it if the connection had not
+-- been stopped
+abbrev pub IsPendingAt : ℕ → Transcript → Fact → Type 0
+IsPendingAt c p q = IsNews c (record p { stop = None }) q
 
--- The same, but some facts that the next Take of `c` adds may be known already.
-pub record AfterUpTo (settings : Settings) (c : ℕ) (h : History) (pool : Links) : Type 0 where
+-- the next message of one of these connections says this
+abbrev pub IsPending : List ℕ → (ℕ → Transcript) → Fact → Type 0
+IsPending partial transcript q = (c : ℕ) × Contains partial c × IsPendingAt c (transcript c) q
+
+-- The history can have left this pool. Each fact of the answers is known. A Take of each of the connections `partial`
+-- may have found no memory since its last message, so some facts of its next message may be known too; no others are.
+pub record AfterUpTo (settings : Settings) (partial : List ℕ) (h : History) (pool : Links) : Type 0 where
   pub transcript : ℕ → Transcript
   pub stands : AreTranscripts settings h transcript pool.connections
   pub has : (q : Fact) → IsKnown transcript q → Contains pool.knowledge q
-  pub within : (q : Fact) → Contains pool.knowledge q → IsKnown transcript q ⊎ IsNews c (transcript c) q
+  pub within : (q : Fact) → Contains pool.knowledge q → IsKnown transcript q ⊎ IsPending partial transcript q
   pub lawful : AreFacts pool.knowledge
+
+-- The history can have left this pool, and there is no such connection: the facts known are exactly those of the
+-- answers (`ExactLaw`).
+abbrev pub After : Settings → History → Links → Type 0
+After settings h pool = AfterUpTo settings [] h pool
+
+-- the connections of `partial` after a Take of `c`, which had this transcript: `c` is none of them any more, unless
+-- it was stopped before
+abbrev pub partial_after : ℕ → Transcript → List ℕ → List ℕ
+partial_after c p partial = filter (λ d. is_stopped (state_at p) || not (c == d)) partial

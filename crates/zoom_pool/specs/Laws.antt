@@ -5,6 +5,7 @@ use Rattle.zber.specs.Unfinished.{IsUnfinished}
 use Rattle.zapdu.specs.declared.apdu.Apdu.{Apdu}
 use Rattle.zapdu.specs.declared.apdu.Apdu.TheVariants as apdus
 use Rattle.zber.specs.declared.text.Mode.{Mode}
+use Rattle.zknow.specs.declared.fact.Fact.{Fact}
 use Rattle.zknow.specs.List.Listing.{listing}
 use Rattle.zorigin.specs.declared.settings.Settings.{Settings}
 use Rattle.zorigin.specs.declared.answer.Answer.{Answer}
@@ -14,7 +15,7 @@ use Rattle.zoom_pool.specs.Inputs.{Input, IsBehind}
 use Rattle.zber.specs.declared.framer.TheConstants.{MESSAGE_LIMIT}
 use Rattle.zoom_pool.specs.Transcripts.{Event, Transcript, IsTranscript, NextInput, state_at, take_result}
 use Rattle.zoom_pool.specs.Links.{Links}
-use Rattle.zoom_pool.specs.History.{History, accepted, After, AfterUpTo}
+use Rattle.zoom_pool.specs.History.{History, accepted, IsKnown, After, AfterUpTo}
 
 -- the events of a connection have one transcript
 abbrev pub OneTranscript : Type 0
@@ -41,10 +42,18 @@ pub record TakeLaws : Type 0 where
   pub stopped : (p : Transcript) (input : Input)
       → NextInput p input → (take_result p input ≡ Ok steps.Stopped) ↔ (is_stopped (state_at p) ≡ true)
 
--- if a history can have left a pool, it can have left it up to the next Take of any connection
+-- if a history can have left a pool after Takes of some connections that found no memory, it can also have left it
+-- after such Takes of those and of others
 abbrev pub UpToLaw : Type 0
 UpToLaw =
-    (settings : Settings) (c : ℕ) (h : History) (pool : Links) → After settings h pool → AfterUpTo settings c h pool
+    (settings : Settings) (some more : List ℕ) (h : History) (pool : Links)
+    → ((c : ℕ) → Contains some c → Contains more c) → AfterUpTo settings some h pool → AfterUpTo settings more h pool
+
+-- if no Take is left that found no memory, the facts known are exactly those of the accepted replies
+abbrev pub ExactLaw : Type 0
+ExactLaw =
+    (settings : Settings) (h : History) (pool : Links) (a : After settings h pool) (q : Fact)
+    → Contains pool.knowledge q ↔ IsKnown a.transcript q
 
 -- an APDU without its reference id
 abbrev pub plain : Apdu → Apdu

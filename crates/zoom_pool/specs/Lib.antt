@@ -19,3 +19,4 @@ pub mod Drivers
 pub mod Due
 pub mod Metas
 pub mod MetaLaws
+pub mod DriveLaws

@@ -1,5 +1,5 @@
 -- A connection and a pool, as contracts see them.
-use Rattle.std.specs.Prelude.{◌≡◌, ℕ, ◌==◌, Bool, false, List, [], Option, Some, None, slice_get}
+use Rattle.std.specs.Prelude.{◌≡◌, ℕ, ◌==◌, Bool, false, List, [], length, Option, Some, None, slice_get}
 use Rattle.zber.specs.Elements.{Element}
 use Rattle.zber.specs.Stream.{Stream}
 use Rattle.zknow.specs.declared.fact.Fact.{Fact}
@@ -39,6 +39,17 @@ stop_in (Some link) = link.stop
 abbrev pub stop_at : Links → ℕ → Option State
 stop_at pool c = stop_in (slice_get pool.connections c)
 
--- all connections other than `c` are unchanged
-abbrev pub SameOthers : ℕ → Links → Links → Type 0
-SameOthers c old new = (i : ℕ) → (c == i) ≡ false → slice_get new.connections i ≡ slice_get old.connections i
+-- if something stopped connection `c`, this is what
+abbrev pub IsStopAt : ℕ → Links → State → Type 0
+IsStopAt c pool state = (stopped : State) → stop_at pool c ≡ Some stopped → state ≡ stopped
+
+-- all connections other than `c`, and the number of connections, are unchanged
+pub record SameOthers (c : ℕ) (old new : Links) : Type 0 where
+  pub size : length new.connections ≡ length old.connections
+  pub others : (i : ℕ) → (c == i) ≡ false → slice_get new.connections i ≡ slice_get old.connections i
+
+-- all but connection `c` is unchanged: what is known, the other connections, and their number
+pub record SameElse (c : ℕ) (old new : Links) : Type 0 where
+  pub known : new.knowledge ≡ old.knowledge
+  pub size : length new.connections ≡ length old.connections
+  pub others : (i : ℕ) → (c == i) ≡ false → slice_get new.connections i ≡ slice_get old.connections i

@@ -14,7 +14,7 @@ use Rattle.zoom_pool.specs.States.{is_stopped}
 use Rattle.zoom_pool.specs.Inputs.{Input}
 use Rattle.zoom_pool.specs.Transcripts.{Transcript, IsTranscript, Event, Called, Took, after_take, outcome_of, past_of, state_at}
 use Rattle.zoom_pool.specs.Links.{Links}
-use Rattle.zoom_pool.specs.History.{History, events_on, After, AfterUpTo}
+use Rattle.zoom_pool.specs.History.{History, events_on, AfterUpTo, partial_after}
 use Rattle.zoom_questions.specs.Askable.{AreAskable, AreFit}
 use Rattle.zoom_pool.specs.Steering.{Errand, errand_with, errand_of, IsNextCall, IsTried, skipped_in, complete_in}
 use Rattle.zoom_pool.specs.Drivers.{DriverState, IsDriver, HasOpening, IsOffer, NoteReplyStep}
@@ -36,22 +36,20 @@ pub record AreDriven (questions : List Question) (s : MetaSettings) (h : History
       → slice_get questions c ≡ Some q → slice_get drivers c ≡ Some d → IsTranscript (settings_of s) (events_on c h) p
       → IsDriver (errand_of s q) p.settings p.log d
 
--- The history can have left the pool, and each connection is driven for its question.
-pub record MetaAfter (questions : List Question) (s : MetaSettings) (h : History) (meta : MetaLinks) : Type 0 where
-  pub fit : AreFit s
-  pub askable : AreAskable questions
-  pub pool : After (settings_of s) h meta.pool
-  pub driven : AreDriven questions s h meta.drivers
-  pub size : length meta.pool.connections ≡ length questions
-
--- the same, but some facts that the next Take of `c` adds may be known already
-pub record MetaAfterUpTo (questions : List Question) (s : MetaSettings) (c : ℕ) (h : History) (meta : MetaLinks)
+-- The history can have left the pool, and each connection is driven for its question. Some facts of the next messages
+-- of the connections `partial` may be known, as Takes of them found no memory.
+pub record MetaAfterUpTo
+    (questions : List Question) (s : MetaSettings) (partial : List ℕ) (h : History) (meta : MetaLinks)
     : Type 0 where
   pub fit : AreFit s
   pub askable : AreAskable questions
-  pub pool : AfterUpTo (settings_of s) c h meta.pool
+  pub pool : AfterUpTo (settings_of s) partial h meta.pool
   pub driven : AreDriven questions s h meta.drivers
   pub size : length meta.pool.connections ≡ length questions
+
+-- the same, and there is no such connection
+abbrev pub MetaAfter : List Question → MetaSettings → History → MetaLinks → Type 0
+MetaAfter questions s h meta = MetaAfterUpTo questions s [] h meta
 
 -- each driver is new, for its question and an empty log
 abbrev pub AreNewDrivers : List Question → ℕ → ℕ → List DriverState → Type 0
@@ -64,20 +62,21 @@ AreNewDrivers _ step window _ = ⊥
 -- each history that can have left `old`, with this event of `c` added, can have left `new`
 abbrev pub MetaRecorded : ℕ → Event → MetaLinks → MetaLinks → Type 0
 MetaRecorded c event old new =
-    (questions : List Question) (s : MetaSettings) (h : History)
-    → MetaAfter questions s h old → MetaAfter questions s ((c, event) ∷ h) new
+    (questions : List Question) (s : MetaSettings) (partial : List ℕ) (h : History)
+    → MetaAfterUpTo questions s partial h old → MetaAfterUpTo questions s partial ((c, event) ∷ h) new
 
--- the same of a Take of `c`, also after a Take of `c` that found no memory
+-- the same of a Take of `c`; it completes an earlier Take of `c` that found no memory
 abbrev pub MetaTakeStep : ℕ → MetaLinks → MetaLinks → Type 0
 MetaTakeStep c old new =
-    (questions : List Question) (s : MetaSettings) (h : History)
-    → MetaAfterUpTo questions s c h old → MetaAfter questions s ((c, Took) ∷ h) new
+    (questions : List Question) (s : MetaSettings) (partial : List ℕ) (h : History)
+    (a : MetaAfterUpTo questions s partial h old)
+    → MetaAfterUpTo questions s (partial_after c (a.pool.transcript c) partial) ((c, Took) ∷ h) new
 
 -- a Take of `c` found no memory: the history is unchanged
 abbrev pub MetaIncompleteTake : ℕ → MetaLinks → MetaLinks → Type 0
 MetaIncompleteTake c old new =
-    (questions : List Question) (s : MetaSettings) (h : History)
-    → MetaAfterUpTo questions s c h old → MetaAfterUpTo questions s c h new
+    (questions : List Question) (s : MetaSettings) (partial : List ℕ) (h : History)
+    → MetaAfterUpTo questions s partial h old → MetaAfterUpTo questions s (c ∷ partial) h new
 
 -- the driver agrees with the log after a Take with this outcome
 abbrev pub DriverTakeStep : Result Outcome TakeError → DriverState → DriverState → Type 0
@@ -106,18 +105,20 @@ WasTried p = is_stopped (state_at p) ≡ false → HasOpening (past_of p) → Is
 
 -- These calls of the connection were made, each the next one or the search that is skipped. The origin admitted
 -- `n` of them.
-pub record Progress (questions : List Question) (s : MetaSettings) (c : ℕ) (h : History) (n : ℕ) (new : MetaLinks)
+pub record Progress
+    (questions : List Question) (s : MetaSettings) (partial : List ℕ) (c : ℕ) (h : History) (n : ℕ) (new : MetaLinks)
     : Type 0 where
   pub calls : List Call
-  pub after : MetaAfter questions s (call_events c calls ++ h) new
+  pub after : MetaAfterUpTo questions s partial (call_events c calls ++ h) new
   pub count : (p q : Transcript) → IsTranscript (settings_of s) (events_on c h) p
       → IsTranscript (settings_of s) (events_on c (call_events c calls ++ h)) q
       → length (past_of q).admitted ≡ length (past_of p).admitted + n
 
 -- What driving a connection did: calls were made, and now none is next; the search was tried.
-pub record CompleteDrive (questions : List Question) (s : MetaSettings) (c : ℕ) (h : History) (n : ℕ) (new : MetaLinks)
+pub record CompleteDrive
+    (questions : List Question) (s : MetaSettings) (partial : List ℕ) (c : ℕ) (h : History) (n : ℕ) (new : MetaLinks)
     : Type 0 where
-  pub progress : Progress questions s c h n new
+  pub progress : Progress questions s partial c h n new
   pub rests : (question : Question) (q : Transcript) → slice_get questions c ≡ Some question
       → IsTranscript (settings_of s) (events_on c (call_events c progress.calls ++ h)) q
       → NoneIsNext (errand_of s question) q
@@ -125,15 +126,16 @@ pub record CompleteDrive (questions : List Question) (s : MetaSettings) (c : ℕ
       → WasTried q
 
 -- what driving a connection did; if no memory was found, some calls were made
-abbrev pub DriveResultAt : {E : Type 0} → List Question → MetaSettings → ℕ → History → Result ℕ E → MetaLinks → Type 0
-DriveResultAt questions s c h (Ok n) new = CompleteDrive questions s c h n new
-DriveResultAt questions s c h (Err e) new = (n : ℕ) × Progress questions s c h n new
+abbrev pub DriveResultAt
+    : {E : Type 0} → List Question → MetaSettings → List ℕ → ℕ → History → Result ℕ E → MetaLinks → Type 0
+DriveResultAt questions s partial c h (Ok n) new = CompleteDrive questions s partial c h n new
+DriveResultAt questions s partial c h (Err e) new = (n : ℕ) × Progress questions s partial c h n new
 
 -- the same for each history that can have left `old`
 abbrev pub DriveResult : {E : Type 0} → ℕ → Result ℕ E → MetaLinks → MetaLinks → Type 0
 DriveResult c answer old new =
-    (questions : List Question) (s : MetaSettings) (h : History)
-    → MetaAfter questions s h old → DriveResultAt questions s c h answer new
+    (questions : List Question) (s : MetaSettings) (partial : List ℕ) (h : History)
+    → MetaAfterUpTo questions s partial h old → DriveResultAt questions s partial c h answer new
 
 -- ---- one call
 
@@ -149,19 +151,20 @@ left_at meta c = left_of (slice_get meta.drivers c)
 -- what looking for the next call did: one was admitted; or the search is skipped; or none is next; or no memory
 -- was found, and none was admitted
 abbrev pub AdvanceResultAt
-    : {E : Type 0} → List Question → MetaSettings → ℕ → History → Result Advance E → MetaLinks → MetaLinks → Type 0
-AdvanceResultAt questions s c h (Ok stages.Admitted) old new =
-    Progress questions s c h 1 new × (left_at new c < left_at old c)
-AdvanceResultAt questions s c h (Ok stages.Skipped) old new =
-    Progress questions s c h 0 new × (left_at new c < left_at old c)
-AdvanceResultAt questions s c h (Ok stages.Idle) old new = CompleteDrive questions s c h 0 new
-AdvanceResultAt questions s c h (Err e) old new = Progress questions s c h 0 new
+    : {E : Type 0} → List Question → MetaSettings → List ℕ → ℕ → History → Result Advance E → MetaLinks → MetaLinks
+    → Type 0
+AdvanceResultAt questions s partial c h (Ok stages.Admitted) old new =
+    Progress questions s partial c h 1 new × (left_at new c < left_at old c)
+AdvanceResultAt questions s partial c h (Ok stages.Skipped) old new =
+    Progress questions s partial c h 0 new × (left_at new c < left_at old c)
+AdvanceResultAt questions s partial c h (Ok stages.Idle) old new = CompleteDrive questions s partial c h 0 new
+AdvanceResultAt questions s partial c h (Err e) old new = Progress questions s partial c h 0 new
 
 -- the same for each history that can have left `old`
 abbrev pub AdvanceResult : {E : Type 0} → ℕ → Result Advance E → MetaLinks → MetaLinks → Type 0
 AdvanceResult c answer old new =
-    (questions : List Question) (s : MetaSettings) (h : History)
-    → MetaAfter questions s h old → AdvanceResultAt questions s c h answer old new
+    (questions : List Question) (s : MetaSettings) (partial : List ℕ) (h : History)
+    → MetaAfterUpTo questions s partial h old → AdvanceResultAt questions s partial c h answer old new
 
 -- the driver of the connection gave this call, and nothing stopped the connection
 abbrev pub IsGivenCall : List Question → MetaSettings → ℕ → History → Call → MetaLinks → Type 0
@@ -174,9 +177,9 @@ IsGivenCall questions s c h call meta =
 -- what making the call that the driver gave did
 abbrev pub IssueResult : {E : Type 0} → ℕ → Call → Result Advance E → MetaLinks → MetaLinks → Type 0
 IssueResult c call answer old new =
-    (questions : List Question) (s : MetaSettings) (h : History)
-    → MetaAfter questions s h old → IsGivenCall questions s c h call old
-    → AdvanceResultAt questions s c h answer old new
+    (questions : List Question) (s : MetaSettings) (partial : List ℕ) (h : History)
+    → MetaAfterUpTo questions s partial h old → IsGivenCall questions s c h call old
+    → AdvanceResultAt questions s partial c h answer old new
 
 -- ---- results about one connection
 
@@ -186,11 +189,11 @@ IsTranscriptValue c meta value answer =
     (questions : List Question) (s : MetaSettings) (h : History) (p : Transcript)
     → MetaAfter questions s h meta → IsTranscript (settings_of s) (events_on c h) p → answer ≡ value p
 
--- the same, also after a Take of `d` that found no memory
+-- the same, also after Takes that found no memory
 abbrev pub IsTranscriptValueUpTo : ℕ → MetaLinks → (Transcript → Bool) → Bool → Type 0
 IsTranscriptValueUpTo c meta value answer =
-    (questions : List Question) (s : MetaSettings) (d : ℕ) (h : History) (p : Transcript)
-    → MetaAfterUpTo questions s d h meta → IsTranscript (settings_of s) (events_on c h) p → answer ≡ value p
+    (questions : List Question) (s : MetaSettings) (partial : List ℕ) (h : History) (p : Transcript)
+    → MetaAfterUpTo questions s partial h meta → IsTranscript (settings_of s) (events_on c h) p → answer ≡ value p
 
 -- the search was skipped
 abbrev pub is_skipped : Transcript → Bool
@@ -208,10 +211,11 @@ IsFinished meta answer =
     → IsTranscript (settings_of s) (events_on c h) p
     → is_stopped (state_at p) ≡ true)
 
--- the same, also after a Take of `d` that found no memory
+-- the same, also after Takes that found no memory
 abbrev pub IsFinishedUpTo : MetaLinks → Bool → Type 0
 IsFinishedUpTo meta answer =
-    (questions : List Question) (s : MetaSettings) (d : ℕ) (h : History) → MetaAfterUpTo questions s d h meta
+    (questions : List Question) (s : MetaSettings) (partial : List ℕ) (h : History)
+    → MetaAfterUpTo questions s partial h meta
     → (answer ≡ true) ↔ ((c : ℕ) (p : Transcript) → c < length questions
     → IsTranscript (settings_of s) (events_on c h) p
     → is_stopped (state_at p) ≡ true)

@@ -1,5 +1,5 @@
--- What a pool's calls say, each for every history that can have left the pool.
-use Rattle.std.specs.Prelude.{◌≡◌, ◌↔◌, ℕ, ◌<◌, Bool, true, false, ◌∷◌, length, Result}
+-- What a pool's calls say, each for every history that can have left the pool, whichever of its Takes found no memory.
+use Rattle.std.specs.Prelude.{◌≡◌, ◌↔◌, ℕ, ◌<◌, Bool, true, false, List, ◌∷◌, ◌++◌, length, Result}
 use Rattle.zorigin.specs.declared.settings.Settings.{Settings}
 use Rattle.zorigin.specs.declared.refusal.CallRefused.{CallRefused}
 use Rattle.zorigin.specs.Standings.{Call}
@@ -10,55 +10,66 @@ use Rattle.zoom_pool.specs.declared.answer.Outcome.{Outcome}
 use Rattle.zoom_pool.specs.declared.answer.TakeError.{TakeError}
 use Rattle.zoom_pool.specs.States.{is_stopped}
 use Rattle.zoom_pool.specs.Inputs.{Input}
-use Rattle.zoom_pool.specs.Transcripts.{Event, Took, NextInput, connection_call_result, take_result, outcome_of, state_at, past_of, given, is_lost, sent, IsDone}
-use Rattle.zoom_pool.specs.Links.{Links}
-use Rattle.zoom_pool.specs.History.{History, events_on, After, AfterUpTo}
+use Rattle.zoom_pool.specs.Transcripts.{Event, Took, NextInput, connection_call_result, request_octets, take_result, outcome_of, state_at, past_of, given, is_lost, sent, IsDone}
+use Rattle.zoom_pool.specs.Links.{Links, waiting_at}
+use Rattle.zoom_pool.specs.History.{History, events_on, AfterUpTo, partial_after}
 
 -- each history that can have left `old`, with this event of `c` added, can have left `new`
 abbrev pub Recorded : ℕ → Event → Links → Links → Type 0
 Recorded c event old new =
-    (settings : Settings) (h : History) → After settings h old → After settings ((c, event) ∷ h) new
+    (settings : Settings) (partial : List ℕ) (h : History)
+    → AfterUpTo settings partial h old → AfterUpTo settings partial ((c, event) ∷ h) new
 
--- this is the state of connection `c`, also after a Take of `d` that found no memory
+-- this is the state of connection `c`
 abbrev pub IsStateAt : ℕ → Links → State → Type 0
 IsStateAt c pool state =
-    (settings : Settings) (d : ℕ) (h : History) (a : AfterUpTo settings d h pool) → state ≡ state_at (a.transcript c)
+    (settings : Settings) (partial : List ℕ) (h : History) (a : AfterUpTo settings partial h pool)
+    → state ≡ state_at (a.transcript c)
 
--- the result of a call, unless no memory is found; also after a Take of `d` that found none
+-- the result of a call, unless no memory is found
 abbrev pub IsCallResult : ℕ → Call → Links → Result (Unit {0}) CallRefused → Type 0
 IsCallResult c call pool answer =
-    (settings : Settings) (d : ℕ) (h : History) (a : AfterUpTo settings d h pool) → IsMadeCall answer
-    → answer ≡ connection_call_result (a.transcript c) call
+    (settings : Settings) (partial : List ℕ) (h : History) (a : AfterUpTo settings partial h pool)
+    → IsMadeCall answer → answer ≡ connection_call_result (a.transcript c) call
 
--- the result of a Take by its input, unless no memory is found; also after a Take of `d` that found none
+-- after a call that the origin admitted, its request waits behind the octets that waited before
+abbrev pub IsRequestPut : ℕ → Call → Links → Links → Type 0
+IsRequestPut c call old new =
+    (settings : Settings) (partial : List ℕ) (h : History) (a : AfterUpTo settings partial h old)
+    → waiting_at new c ≡ waiting_at old c ++ request_octets (a.transcript c) call
+
+-- the result of a Take by its input, unless no memory is found
 abbrev pub IsTakeResult : ℕ → Links → Result Step TakeError → Type 0
 IsTakeResult c pool answer =
-    (settings : Settings) (d : ℕ) (h : History) (a : AfterUpTo settings d h pool) → IsDone answer
+    (settings : Settings) (partial : List ℕ) (h : History) (a : AfterUpTo settings partial h pool) → IsDone answer
     → (input : Input) × NextInput (a.transcript c) input × (answer ≡ take_result (a.transcript c) input)
 
 -- the same, with what the origin took
 abbrev pub IsTakeOutcome : ℕ → Links → Result Outcome TakeError → Type 0
 IsTakeOutcome c pool answer =
-    (settings : Settings) (d : ℕ) (h : History) (a : AfterUpTo settings d h pool) → IsDone answer
+    (settings : Settings) (partial : List ℕ) (h : History) (a : AfterUpTo settings partial h pool) → IsDone answer
     → (input : Input) × NextInput (a.transcript c) input × (answer ≡ outcome_of (a.transcript c) input)
 
--- a Take of `c` is added to each history, also after a Take of `c` that found no memory
+-- a Take of `c` is added to each history; it completes an earlier Take of `c` that found no memory
 abbrev pub TakeStep : ℕ → Links → Links → Type 0
 TakeStep c old new =
-    (settings : Settings) (h : History) → AfterUpTo settings c h old → After settings ((c, Took) ∷ h) new
+    (settings : Settings) (partial : List ℕ) (h : History) (a : AfterUpTo settings partial h old)
+    → AfterUpTo settings (partial_after c (a.transcript c) partial) ((c, Took) ∷ h) new
 
--- a Take of `c` found no memory: each history is unchanged, and of the facts that it adds some may be known
+-- a Take of `c` found no memory: each history is unchanged, and of the facts that the Take adds some may be known
 abbrev pub IncompleteTake : ℕ → Links → Links → Type 0
-IncompleteTake c old new = (settings : Settings) (h : History) → AfterUpTo settings c h old → AfterUpTo settings c h new
+IncompleteTake c old new =
+    (settings : Settings) (partial : List ℕ) (h : History)
+    → AfterUpTo settings partial h old → AfterUpTo settings (c ∷ partial) h new
 
 -- all octets sent on the connection were handed out, unless a write failed
 abbrev pub HasHandedOutAll : ℕ → Links → Type 0
 HasHandedOutAll c pool =
-    (settings : Settings) (h : History) (a : After settings h pool) → is_lost (events_on c h) ≡ false
-    → given (events_on c h) ≡ sent (past_of (a.transcript c))
+    (settings : Settings) (partial : List ℕ) (h : History) (a : AfterUpTo settings partial h pool)
+    → is_lost (events_on c h) ≡ false → given (events_on c h) ≡ sent (past_of (a.transcript c))
 
 -- the result says whether each connection is Closed or Failed
 abbrev pub IsPoolFinished : Links → Bool → Type 0
 IsPoolFinished pool answer =
-    (settings : Settings) (d : ℕ) (h : History) (a : AfterUpTo settings d h pool)
+    (settings : Settings) (partial : List ℕ) (h : History) (a : AfterUpTo settings partial h pool)
     → (answer ≡ true) ↔ ((c : ℕ) → c < length pool.connections → is_stopped (state_at (a.transcript c)) ≡ true)

@@ -1,5 +1,6 @@
 -- The names of reasons, in ASCII codes; a reason within others gives them its name.
-use Rattle.std.specs.Prelude.{ℕ, List, codes}
+use Rattle.std.specs.Prelude.{ℕ, List, ◌++◌, codes}
+use Rattle.std.specs.Fmt.{decimal}
 use Rattle.zber.specs.Faults.{fault_kind_name}
 use Rattle.zapdu.specs.Apdus.{apdu_error_name as apdu_word}
 use Rattle.zorigin.specs.Refusal.{reply_refusal_name}
@@ -26,3 +27,10 @@ error_name (errors.Frame kind at) = fault_kind_name kind
 error_name (errors.Decode error) = apdu_word error
 error_name (errors.Refused reason) = reply_refusal_name reason
 error_name errors.Memory = codes "Memory"
+
+-- the text that `{}` prints of it
+abbrev pub error_text : TakeError → List ℕ
+error_text (errors.Frame kind at) = fault_kind_name kind ++ codes " at " ++ decimal at
+error_text (errors.Decode error) = codes "not an APDU that is known"
+error_text (errors.Refused reason) = codes "not accepted"
+error_text errors.Memory = codes "out of memory"

@@ -1,6 +1,6 @@
 -- A connection that is driven for one question: the call that is next, and the logs of such calls (Z39.50-2003,
 -- 3.2.1.1, 3.2.2.1, 3.2.3.1 and 3.2.11.1).
-use Rattle.std.specs.Prelude.{◌≡◌, ◌≢◌, ◌⊎◌, ℕ, pos, ◌≤◌, Bool, true, false, ◌||◌, not, if◌then◌else◌, List, [], ◌∷◌, length, Option, None, Some}
+use Rattle.std.specs.Prelude.{◌≡◌, ◌≢◌, ◌⊎◌, ℕ, pos, ◌≤◌, Bool, true, false, ◌||◌, not, if◌then◌else◌, List, [], ◌∷◌, map, length, Option, None, Some}
 use Rattle.std.specs.List.{list_any, flat_map}
 use Rattle.zapdu.specs.declared.apdu.Apdu.{Apdu}
 use Rattle.zapdu.specs.declared.apdu.Apdu.TheVariants as apdus
@@ -12,7 +12,7 @@ use Rattle.zorigin.specs.declared.refusal.CallRefused.{CallRefused}
 use Rattle.zorigin.specs.declared.refusal.CallRefused.TheVariants as calls
 use Rattle.zorigin.specs.declared.state.State.{State}
 use Rattle.zorigin.specs.Standings.{Call, Init, Search, Present, Close, is_fresh, is_ready}
-use Rattle.zplan.specs.Ranges.{positions}
+use Rattle.zplan.specs.Ranges.{positions, span_of, IsApart}
 use Rattle.zorigin.specs.Calls.{refusal}
 use Rattle.zorigin.specs.Log.{Log, Made, Got, Past, past, standing, state_of, opening, force_after, is_close_call, search_in}
 use Rattle.zoom_questions.specs.declared.question.Question.{Question}
@@ -82,7 +82,18 @@ pub record IsNextCall (e : Errand) (settings : Settings) (log : Log) (call : Cal
   pub stands : may_call (state_of (past settings log)) ≡ true
   pub of : IsCallOf e call
   pub numbered : IsNumbered call
-  pub next : IsNextEvent e.wanted e.step (room_in e.window (past settings log)) (events_of e.ask settings log) (plan_of call)
+  pub next : IsNextEvent e.wanted e.step (room_in e.window (past settings log)) (events_of e.ask settings log)
+      (plan_of call)
+
+-- A Present has a gap between any two of its ranges: it asks for its positions in the fewest ranges. No other list of
+-- such ranges has the same positions.
+abbrev pub HasFewestRanges : Call → Type 0
+HasFewestRanges (Present op set ranges) = IsApart 1 (map span_of ranges)
+HasFewestRanges _ = Unit {0}
+
+-- the call that the driver makes: it is next, and its ranges are the fewest
+abbrev pub IsDriverCall : Errand → Settings → Log → Call → Type 0
+IsDriverCall e settings log call = IsNextCall e settings log call × HasFewestRanges call
 
 -- the search is refused because the target does not offer it or it cannot be sent
 abbrev pub is_skip : Option CallRefused → Call → Bool
@@ -90,13 +101,13 @@ is_skip (Some calls.NotOffered) (Search op set ask) = true
 is_skip (Some calls.Unsendable) (Search op set ask) = true
 is_skip _ _ = false
 
--- an admitted call was next; a refused call is the errand's search, which is then skipped
+-- an admitted call is the driver's; a refused call is the errand's search, which is then skipped
 abbrev pub IsSteeredCall : Errand → Settings → Log → Option CallRefused → Call → Type 0
-IsSteeredCall e settings log None call = IsNextCall e settings log call
+IsSteeredCall e settings log None call = IsDriverCall e settings log call
 IsSteeredCall e settings log (Some reason) call =
     (is_skip (Some reason) call ≡ true) × IsCallOf e call × IsNumbered call
 
--- each call was next when it was made, or was the search that is skipped
+-- each call was the driver's when it was made, or was the search that is skipped
 abbrev pub IsSteered : Errand → Settings → Log → Type 0
 IsSteered e settings [] = Unit {0}
 IsSteered e settings (Made call ∷ log) =

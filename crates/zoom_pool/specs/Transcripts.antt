@@ -14,9 +14,9 @@ use Rattle.zorigin.specs.declared.refusal.Refused.{Refused}
 use Rattle.zorigin.specs.Standings.{Call}
 use Rattle.zorigin.specs.Calls.{call_result}
 use Rattle.zorigin.specs.Replies.{verdict}
-use Rattle.zorigin.specs.Sending.{encoding_of}
+use Rattle.zorigin.specs.Sending.{encoding_of, request_of}
 use Rattle.zorigin.specs.Facts.{facts_of}
-use Rattle.zorigin.specs.Log.{Log, Made, Got, Past, past, state_of, standing}
+use Rattle.zorigin.specs.Log.{Log, Made, Got, Past, past, state_of, standing, request_list}
 use Rattle.zoom_pool.specs.declared.state.State.{State}
 use Rattle.zoom_pool.specs.declared.state.State.TheVariants as states
 use Rattle.zoom_pool.specs.declared.state.Reason.{Reason}
@@ -244,6 +244,10 @@ joined pieces = flat_map (λ piece. piece) pieces
 -- the encodings of the requests that were admitted, in order
 abbrev pub sent : Past → List ℕ
 sent p = flat_map encoding_of p.sent
+
+-- the encoding of the request of a call; none if the call has no request
+abbrev pub request_octets : Transcript → Call → List ℕ
+request_octets p call = flat_map encoding_of (request_list (request_of (standing (past_of p)) call))
 
 -- the reason for which a Take leaves the connection failed; none if no memory was found
 abbrev pub reason_of : TakeError → Option Reason

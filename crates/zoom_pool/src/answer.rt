@@ -1,10 +1,11 @@
 //! What a take returns.
-ghost use Rattle.std.specs.Prelude.{◌≡◌};
+ghost use Rattle.std.specs.Prelude.{◌≡◌, Some};
 ghost use Rattle.zoom_pool.specs.Transcripts.{reason_of, step_of};
-ghost use Rattle.zoom_pool.specs.Reasons.{error_name};
+ghost use Rattle.zoom_pool.specs.Reasons.{error_name, error_text};
 
 use crate::state::Reason;
-use thiserror::Error;
+use std::error::Error;
+use std::fmt;
 use zapdu::ApduError;
 use zber::FaultKind;
 use zorigin::{Refused, Taken};
@@ -61,22 +62,18 @@ pub(crate) fn step_of(outcome: &Outcome) -> Step
 
 /// Why a take failed. Unless it is `Memory`, the connection has failed for this reason, and what is known stays as
 /// it is.
-#[derive(Clone, Copy, Debug, PartialEq, Eq, Error)]
+#[derive(Clone, Copy, Debug, PartialEq, Eq)]
 pub enum TakeError {
     /// The octets show this fault (X.690, 8.1). `at` is the number of octets from the first of the message at
     /// fault to the faulty header. If the input ended within a message, `at` is the number of that message's
     /// octets.
-    #[error("{kind:?} at {at}")]
     Frame { kind: FaultKind, at: usize },
     /// The message is not an APDU (Z39.50-2003, 4.1).
-    #[error("not an APDU that is known")]
     Decode(ApduError),
     /// The origin did not accept the APDU, for this reason.
-    #[error("not accepted")]
     Refused(Refused),
     /// No memory was found. The connection keeps the message; call again. A part of what the message says may be
     /// known.
-    #[error("out of memory")]
     Memory,
 }
 
@@ -94,6 +91,24 @@ impl TakeError {
         }
     }
 }
+
+impl fmt::Display for TakeError {
+    ghost output = { λ error. Some (error_text error) };
+
+    fn fmt<W: fmt::Write>(&self, f: &mut fmt::Formatter<W>) -> fmt::Result {
+        match self {
+            TakeError::Frame { kind, at } => {
+                let name = kind.name();
+                write!(f, "{name} at {at}")
+            }
+            TakeError::Decode(_) => write!(f, "not an APDU that is known"),
+            TakeError::Refused(_) => write!(f, "not accepted"),
+            TakeError::Memory => write!(f, "out of memory"),
+        }
+    }
+}
+
+impl Error for TakeError {}
 
 /// Returns the reason for which the connection fails; `None` for `Memory`.
 pub(crate) fn reason_of(error: TakeError) -> Option<Reason>

@@ -1,9 +1,9 @@
 //! One connection.
-ghost use Rattle.std.specs.Prelude.{◌≡◌, true, [], ◌++◌, Some, OnOk, OnErr};
+ghost use Rattle.std.specs.Prelude.{◌≡◌, true, [], ◌++◌, Some, IfSome, OnOk, OnErr};
 ghost use Rattle.zorigin.specs.Log.{IsMadeCall};
 ghost use Rattle.zoom_pool.specs.declared.state.State.TheVariants as states;
 ghost use Rattle.zoom_pool.specs.CallsOf.{call_of};
-ghost use Rattle.zoom_pool.specs.Transcripts.{Transcript, Called, Fed, InputEnded, HandedOut, Stopped, empty_transcript, after_call, after_feed, after_stop, state_at};
+ghost use Rattle.zoom_pool.specs.Transcripts.{Transcript, Called, Fed, InputEnded, HandedOut, Stopped, empty_transcript, after_call, after_feed, after_stop, state_at, request_octets};
 ghost use Rattle.zoom_pool.specs.Connections.{AreConsistent, ConnectionAfter};
 ghost use Rattle.zoom_pool.specs.Steps.{IsLinkCallResult, LinkRecorded};
 
@@ -71,7 +71,8 @@ impl Connection {
 
     /// Returns its state. It takes no memory.
     pub(crate) fn state(&self) -> State
-        ensures { (p : Transcript) → AreConsistent p self.now → result ≡ state_at p }
+        ensures state { (p : Transcript) → AreConsistent p self.now → result ≡ state_at p }
+        ensures stopped { IfSome self.now.stop (λ stopped. result ≡ stopped) }
     {
         match self.stop {
             Some(state) => state,
@@ -85,6 +86,8 @@ impl Connection {
         ensures answer { IsLinkCallResult (call_of call.now) result self.old }
         ensures after { IsMadeCall result
             → LinkRecorded (Called (call_of call.now)) (λ p. after_call p (call_of call.now)) self.old self.new }
+        ensures put { OnOk result ((p : Transcript)
+            → AreConsistent p self.old → self.new.waiting ≡ self.old.waiting ++ request_octets p (call_of call.now)) }
         ensures err { OnErr result (self.new ≡ self.old) }
     {
         if self.stop.is_some() {
@@ -103,6 +106,7 @@ impl Connection {
     pub(crate) fn feed(&mut self, piece: &[u8]) -> Result<(), AllocError>
         ensures after { OnOk result (LinkRecorded (Fed piece.now) (λ p. after_feed p piece.now) self.old self.new) }
         ensures err { OnErr result (self.new ≡ self.old) }
+        ensures waiting { self.new.waiting ≡ self.old.waiting }
     {
         if is_stopped(self.state()) || self.ended {
             return Ok(());
@@ -113,7 +117,8 @@ impl Connection {
 
     /// Notes that no more octets come. It takes no memory.
     pub(crate) fn end(&mut self)
-        ensures { LinkRecorded InputEnded (λ p. record p { ended = true }) self.old self.new }
+        ensures after { LinkRecorded InputEnded (λ p. record p { ended = true }) self.old self.new }
+        ensures waiting { self.new.waiting ≡ self.old.waiting }
     {
         self.ended = true;
     }
@@ -122,6 +127,7 @@ impl Connection {
     pub(crate) fn stop(&mut self, reason: Reason)
         ensures after { LinkRecorded (Stopped reason) (λ p. after_stop p reason) self.old self.new }
         ensures stop { self.new.stop ≡ Some (states.Failed reason) }
+        ensures waiting { self.new.waiting ≡ self.old.waiting }
     {
         self.stop = Some(State::Failed(reason));
     }

@@ -1,12 +1,14 @@
 //! Laws of the definitions. Each is the contract of a function that does nothing.
-ghost use Rattle.zoom_pool.specs.Laws.{OneInput, OneTranscript, TakeLaws, UpToLaw, OrderLaw};
+ghost use Rattle.zoom_pool.specs.Laws.{OneInput, OneTranscript, TakeLaws, UpToLaw, ExactLaw, OrderLaw};
 ghost use Rattle.zoom_pool.specs.Conflicts.{ConflictLaw};
 ghost use Rattle.zoom_pool.specs.MetaLaws.{MetaLaws};
+ghost use Rattle.zoom_pool.specs.DriveLaws.{DriveLaws};
 
 use crate::driving::driven_laws;
 use zapdu::laws::{one_refusal, one_value};
 use zber::laws::one_answer;
 use zknow::laws::{list_laws, place_laws};
+use zplan::laws::number_law;
 
 /// A take has one input.
 pub fn one_input()
@@ -32,9 +34,15 @@ pub fn take_laws()
     one_input();
 }
 
-/// A history that can have left a pool can also have left it up to the next take of any connection.
+/// A history that can have left a pool, after takes of some connections that found no memory, can also have left it
+/// after such takes of those and of others.
 pub fn up_to()
     ensures { UpToLaw }
+{}
+
+/// If no take is left that found no memory, exactly the facts of the accepted replies are known.
+pub fn exactly_known()
+    ensures { ExactLaw }
 {}
 
 /// Two histories with the same accepted replies, reference ids aside, leave the same knowledge and print the same
@@ -60,4 +68,14 @@ pub fn meta_laws()
 {
     driven_laws();
     order_does_not_matter();
+}
+
+/// What a driven connection sends is decided by its history. At most one call is the driver's, and a Present has the
+/// fewest ranges. Two drives after the same history that return `Ok` send the same requests in the same order.
+pub fn drive_laws()
+    ensures { DriveLaws }
+{
+    driven_laws();
+    number_law();
+    one_transcript();
 }

@@ -1,5 +1,5 @@
 //! Adds to what is known what replies say.
-ghost use Rattle.std.specs.Prelude.{IfOk, OnOk};
+ghost use Rattle.std.specs.Prelude.{◌≡◌, ◌≢◌, Ok, IfOk, IfErr, OnOk};
 ghost use Rattle.std.specs.List.{AllByRecursion};
 ghost use Rattle.zknow.specs.Facts.{IsFact};
 ghost use Rattle.zorigin.specs.Facts.{facts_of};
@@ -50,6 +50,7 @@ fn learn(
     requires { HasLearnable taken.now }
     ensures ok { OnOk result (AreAdded knowledge.old (facts_in target (answer_in taken.now)) knowledge.new) }
     ensures part { ArePartlyAdded knowledge.old (facts_in target (answer_in taken.now)) knowledge.new }
+    ensures closed { taken.now ≡ Taken.Closed → result ≡ Ok tt }
 {
     match taken {
         Taken::Opened(answer) => add_answer(alloc, target, knowledge, answer),
@@ -59,20 +60,24 @@ fn learn(
     }
 }
 
-/// Adds what the reply says if the origin would take it, and nothing if the origin would refuse it. Returns an
-/// error if no memory is found, be it by the origin; a part may then be added.
+/// Adds what the reply says if the origin accepts it, and nothing if the origin refuses it. Returns an error if no
+/// memory is found, be it by the origin; a part may then be added.
 pub(crate) fn learn_verdict(
     alloc: Global,
     target: u32,
     knowledge: &mut Knowledge,
-    peeked: &Result<Taken, Refused>,
+    judged: &Result<Taken, Refused>,
 ) -> Result<(), AllocError>
-    requires { IfOk peeked.now HasLearnable }
-    ensures taken { OnOk result (IsTakenReply peeked.now) }
-    ensures ok { OnOk result (AreAdded knowledge.old (facts_of_verdict target peeked.now) knowledge.new) }
-    ensures part { ArePartlyAdded knowledge.old (facts_of_verdict target peeked.now) knowledge.new }
+    requires { IfOk judged.now HasLearnable }
+    // what is added
+    ensures taken { OnOk result (IsTakenReply judged.now) }
+    ensures ok { OnOk result (AreAdded knowledge.old (facts_of_verdict target judged.now) knowledge.new) }
+    ensures part { ArePartlyAdded knowledge.old (facts_of_verdict target judged.now) knowledge.new }
+    // when no memory is needed
+    ensures closed { judged.now ≡ Ok Taken.Closed → result ≡ Ok tt }
+    ensures refused { IfErr judged.now (λ reason. reason ≢ Refused.Memory → result ≡ Ok tt) }
 {
-    match peeked {
+    match judged {
         Ok(taken) => learn(alloc, target, knowledge, taken),
         Err(reason) => match reason {
             Refused::Memory => Err(AllocError),

@@ -4,7 +4,7 @@ ghost use Rattle.zoom_pool.specs.declared.state.State.TheVariants as states;
 ghost use Rattle.zoom_pool.specs.CallsOf.{call_of};
 ghost use Rattle.zoom_pool.specs.Transcripts.{Fed, InputEnded, HandedOut, Stopped, IsDone};
 ghost use Rattle.zoom_pool.specs.Learned.{AreStillKnown};
-ghost use Rattle.zoom_pool.specs.Links.{waiting_at, stop_at, SameOthers};
+ghost use Rattle.zoom_pool.specs.Links.{waiting_at, stop_at, IsStopAt, SameOthers, SameElse};
 ghost use Rattle.zoom_pool.specs.PoolSteps.{IsStateAt, IsTakeResult, HasHandedOutAll};
 ghost use Rattle.zoom_questions.specs.Askable.{AreFit, AreAskable};
 ghost use Rattle.zoom_pool.specs.Metas.{MetaAfter, MetaRecorded, MetaTakeStep, MetaIncompleteTake, DriveResult, AdvanceResult, IssueResult, NoteTakeStep, IsTranscriptValueUpTo, AreNewDrivers, is_skipped, is_complete, IsFinishedUpTo};
@@ -93,7 +93,8 @@ impl Meta {
     /// Returns the state of a connection. It takes no memory.
     pub fn state(&self, c: u32) -> State
         requires { c < length self.now.pool.connections }
-        ensures { IsStateAt c self.now.pool result }
+        ensures state { IsStateAt c self.now.pool result }
+        ensures stopped { IsStopAt c self.now.pool result }
     {
         self.pool.state(c)
     }
@@ -112,8 +113,7 @@ impl Meta {
     pub fn drive(&mut self, c: u32) -> Result<u32, AllocError>
         requires { c < length self.old.pool.connections }
         ensures after { DriveResult c result self.old self.new }
-        ensures known { self.new.pool.knowledge ≡ self.old.pool.knowledge }
-        ensures size { length self.new.pool.connections ≡ length self.old.pool.connections }
+        ensures rest { SameElse c self.old.pool self.new.pool }
     {
         one_transcript();
         let mut admitted: u32 = 0;
@@ -131,8 +131,7 @@ impl Meta {
     fn advance(&mut self, c: u32) -> Result<Advance, AllocError>
         requires { c < length self.old.pool.connections }
         ensures after { AdvanceResult c result self.old self.new }
-        ensures known { self.new.pool.knowledge ≡ self.old.pool.knowledge }
-        ensures size { length self.new.pool.connections ≡ length self.old.pool.connections }
+        ensures rest { SameElse c self.old.pool self.new.pool }
     {
         one_transcript();
         let state = self.pool.state(c);
@@ -153,8 +152,7 @@ impl Meta {
     fn issue(&mut self, c: u32, call: &Call) -> Result<Advance, AllocError>
         requires { c < length self.old.pool.connections }
         ensures after { IssueResult c (call_of call.now) result self.old self.new }
-        ensures known { self.new.pool.knowledge ≡ self.old.pool.knowledge }
-        ensures size { length self.new.pool.connections ≡ length self.old.pool.connections }
+        ensures rest { SameElse c self.old.pool self.new.pool }
     {
         one_transcript();
         sent_requests();
@@ -179,15 +177,14 @@ impl Meta {
         requires { c < length self.old.pool.connections }
         ensures after { OnOk result (MetaRecorded c (Fed piece.now) self.old self.new) }
         ensures err { OnErr result (self.new ≡ self.old) }
-        ensures known { self.new.pool.knowledge ≡ self.old.pool.knowledge }
-        ensures size { length self.new.pool.connections ≡ length self.old.pool.connections }
+        ensures waiting { waiting_at self.new.pool c ≡ waiting_at self.old.pool c }
+        ensures rest { SameElse c self.old.pool self.new.pool }
     {
         self.pool.feed(c, piece)
     }
 
     /// Takes one message of a connection, as `Pool::take` does, with the same results and refusals. After a take
-    /// that found no memory, `state`, `finished`, `skipped`, `complete` and the next take of each connection
-    /// return what the history says.
+    /// that found no memory, all calls on each connection keep their promises, as those of a `Pool` do.
     pub fn take(&mut self, c: u32) -> Result<Step, TakeError>
         requires { c < length self.old.pool.connections }
         ensures answer { IsTakeResult c self.old.pool result }
@@ -195,7 +192,7 @@ impl Meta {
         ensures memory { result ≡ Err TakeError.Memory → MetaIncompleteTake c self.old self.new }
         ensures grows { AreStillKnown self.old.pool.knowledge self.new.pool.knowledge }
         ensures waiting { waiting_at self.new.pool c ≡ waiting_at self.old.pool c }
-        ensures size { length self.new.pool.connections ≡ length self.old.pool.connections }
+        ensures others { SameOthers c self.old.pool self.new.pool }
     {
         one_input();
         one_transcript();
@@ -213,22 +210,21 @@ impl Meta {
     pub fn end(&mut self, c: u32)
         requires { c < length self.old.pool.connections }
         ensures after { MetaRecorded c InputEnded self.old self.new }
-        ensures known { self.new.pool.knowledge ≡ self.old.pool.knowledge }
-        ensures size { length self.new.pool.connections ≡ length self.old.pool.connections }
+        ensures waiting { waiting_at self.new.pool c ≡ waiting_at self.old.pool c }
+        ensures rest { SameElse c self.old.pool self.new.pool }
     {
         self.pool.end(c);
     }
 
-    /// Makes a connection Failed for a reason of the caller's, whatever its state was. The other connections and
-    /// what is known are unchanged. It takes no memory.
+    /// Makes a connection Failed for a reason of the caller's, whatever its state was. The octets that wait, the
+    /// other connections and what is known are unchanged. It takes no memory.
     pub fn stop(&mut self, c: u32, reason: Reason)
         requires { c < length self.old.pool.connections }
         ensures after { MetaRecorded c (Stopped reason) self.old self.new }
         ensures stopped { stop_at self.new.pool c ≡ Some (states.Failed reason) }
-        ensures others { SameOthers c self.old.pool self.new.pool }
+        ensures waiting { waiting_at self.new.pool c ≡ waiting_at self.old.pool c }
         ensures drivers { self.new.drivers ≡ self.old.drivers }
-        ensures known { self.new.pool.knowledge ≡ self.old.pool.knowledge }
-        ensures size { length self.new.pool.connections ≡ length self.old.pool.connections }
+        ensures rest { SameElse c self.old.pool self.new.pool }
     {
         self.pool.stop(c, reason);
     }
@@ -243,8 +239,7 @@ impl Meta {
         ensures none { OnOk result (waiting_at self.new.pool c ≡ []) }
         ensures err { OnErr result (self.new ≡ self.old) }
         ensures out { OnErr result (out.new.items ≡ out.old.items) }
-        ensures known { self.new.pool.knowledge ≡ self.old.pool.knowledge }
-        ensures size { length self.new.pool.connections ≡ length self.old.pool.connections }
+        ensures rest { SameElse c self.old.pool self.new.pool }
     {
         self.pool.outgoing(c, out)
     }

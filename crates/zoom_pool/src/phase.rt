@@ -1,5 +1,5 @@
 //! How far a connection is with its question.
-ghost use Rattle.std.specs.Prelude.{◌≡◌, ◌^◌, ◌≤◌, true, length, IfOk};
+ghost use Rattle.std.specs.Prelude.{◌≡◌, ◌^◌, ◌≤◌, true, false, length, IfOk};
 ghost use Rattle.zplan.specs.Positions.{first_of};
 ghost use Rattle.zplan.specs.Ranges.{natural, positions, ArePresentRanges};
 ghost use Rattle.zplan.specs.Agenda.{SameAgenda, HasWaiting, AfterNoteSent, AfterNoteAnswered};
@@ -177,9 +177,10 @@ pub(crate) fn give(
     }
 }
 
-/// Notes that the Present of what is due first was sent.
+/// Notes that the Present of what is due first was sent. Changes nothing if none can be sent.
 fn send_first(schedule: &mut Schedule)
-    ensures { schedule.old.ready ≡ true → AfterNoteSent schedule.old schedule.new }
+    ensures sent { schedule.old.ready ≡ true → AfterNoteSent schedule.old schedule.new }
+    ensures same { schedule.old.ready ≡ false → schedule.new ≡ schedule.old }
 {
     if schedule.is_ready() {
         schedule.note_sent();
@@ -238,9 +239,10 @@ fn count_records(records: &Option<Records>) -> usize
     }
 }
 
-/// Notes the answer to the Present that waits and begins at position `first`.
+/// Notes the answer to the Present that waits and begins at position `first`. Changes nothing if there is none.
 fn answer_list(schedule: &mut Schedule, first: u32, records: usize)
-    ensures { HasWaiting first schedule.old → AfterNoteAnswered first records schedule.old schedule.new }
+    ensures noted { HasWaiting first schedule.old → AfterNoteAnswered first records schedule.old schedule.new }
+    ensures same { (HasWaiting first schedule.old → ⊥) → schedule.new ≡ schedule.old }
 {
     if schedule.is_waiting(first) {
         schedule.note_answered(first, records);

@@ -5,9 +5,9 @@ ghost use Rattle.zoom_pool.specs.declared.state.State.TheVariants as states;
 ghost use Rattle.zoom_pool.specs.CallsOf.{call_of};
 ghost use Rattle.zoom_pool.specs.Transcripts.{Called, Fed, InputEnded, HandedOut, Stopped, IsDone};
 ghost use Rattle.zoom_pool.specs.Learned.{AreStillKnown};
-ghost use Rattle.zoom_pool.specs.Links.{waiting_at, stop_at, SameOthers};
+ghost use Rattle.zoom_pool.specs.Links.{waiting_at, stop_at, IsStopAt, SameOthers, SameElse};
 ghost use Rattle.zoom_pool.specs.History.{After};
-ghost use Rattle.zoom_pool.specs.PoolSteps.{Recorded, IsStateAt, IsCallResult, IsTakeResult, IsTakeOutcome, TakeStep, IncompleteTake, HasHandedOutAll, IsPoolFinished};
+ghost use Rattle.zoom_pool.specs.PoolSteps.{Recorded, IsStateAt, IsCallResult, IsRequestPut, IsTakeResult, IsTakeOutcome, TakeStep, IncompleteTake, HasHandedOutAll, IsPoolFinished};
 
 use crate::answer::{Outcome, Step, TakeError, step_of};
 use crate::call::Call;
@@ -18,6 +18,7 @@ use bytes::Bytes;
 use std::alloc::{AllocError, Global};
 use std::marker::Model;
 use zber::Duplicate;
+use zber::laws::stream_laws;
 use zknow::Knowledge;
 use zorigin::{CallRefused, Settings};
 
@@ -26,8 +27,9 @@ use zorigin::{CallRefused, Settings};
 /// caller feeds octets to it, and fetches the octets that are to go out. Takes alone change what is known.
 ///
 /// Contracts hold for each history, the list of the connections' events so far, that can have left the pool. A
-/// call that is refused for want of memory is no event. After a take that found no memory, the states and results
-/// of each connection are what the history says.
+/// call that is refused for want of memory is no event. After takes that found no memory, all calls keep their
+/// promises. A part of what the messages of those takes say may then be known too. The next take of such a
+/// connection adds the rest, unless the connection was stopped before.
 #[derive(Drop)]
 pub struct Pool {
     connections: Vec<Connection>,
@@ -79,7 +81,8 @@ impl Pool {
     /// Returns the state of a connection. It takes no memory.
     pub fn state(&self, c: u32) -> State
         requires { c < length self.now.connections }
-        ensures { IsStateAt c self.now result }
+        ensures state { IsStateAt c self.now result }
+        ensures stopped { IsStopAt c self.now result }
     {
         self.connections[c as usize].state()
     }
@@ -90,9 +93,9 @@ impl Pool {
         requires { c < length self.old.connections }
         ensures answer { IsCallResult c (call_of call.now) self.old result }
         ensures after { IsMadeCall result → Recorded c (Called (call_of call.now)) self.old self.new }
+        ensures put { OnOk result (IsRequestPut c (call_of call.now) self.old self.new) }
         ensures err { OnErr result (self.new ≡ self.old) }
-        ensures known { self.new.knowledge ≡ self.old.knowledge }
-        ensures size { length self.new.connections ≡ length self.old.connections }
+        ensures rest { SameElse c self.old self.new }
     {
         self.connections[c as usize].call(call)
     }
@@ -103,9 +106,10 @@ impl Pool {
         requires { c < length self.old.connections }
         ensures after { OnOk result (Recorded c (Fed piece.now) self.old self.new) }
         ensures err { OnErr result (self.new ≡ self.old) }
-        ensures known { self.new.knowledge ≡ self.old.knowledge }
-        ensures size { length self.new.connections ≡ length self.old.connections }
+        ensures waiting { waiting_at self.new c ≡ waiting_at self.old c }
+        ensures rest { SameElse c self.old self.new }
     {
+        stream_laws();
         self.connections[c as usize].feed(piece)
     }
 
@@ -114,7 +118,8 @@ impl Pool {
     ///
     /// If it is refused as `Frame`, `Decode` or `Refused`, the connection has failed for that reason, and what is
     /// known stays as it is. If it is refused as `Memory`, the connection keeps the message for the next take, and
-    /// a part of what the message says may be known.
+    /// a part of what the message says may be known. It does so even if other connections are used, or this one
+    /// is, before the next take.
     pub fn take(&mut self, c: u32) -> Result<Step, TakeError>
         requires { c < length self.old.connections }
         ensures answer { IsTakeResult c self.old result }
@@ -122,7 +127,7 @@ impl Pool {
         ensures memory { result ≡ Err TakeError.Memory → IncompleteTake c self.old self.new }
         ensures grows { AreStillKnown self.old.knowledge self.new.knowledge }
         ensures waiting { waiting_at self.new c ≡ waiting_at self.old c }
-        ensures size { length self.new.connections ≡ length self.old.connections }
+        ensures others { SameOthers c self.old self.new }
     {
         match self.take_outcome(c) {
             Ok(outcome) => Ok(step_of(&outcome)),
@@ -138,7 +143,7 @@ impl Pool {
         ensures memory { result ≡ Err TakeError.Memory → IncompleteTake c self.old self.new }
         ensures grows { AreStillKnown self.old.knowledge self.new.knowledge }
         ensures waiting { waiting_at self.new c ≡ waiting_at self.old c }
-        ensures size { length self.new.connections ≡ length self.old.connections }
+        ensures others { SameOthers c self.old self.new }
     {
         one_input();
         let taken = self.connections[c as usize].take(c, &mut self.knowledge);
@@ -151,21 +156,20 @@ impl Pool {
     pub fn end(&mut self, c: u32)
         requires { c < length self.old.connections }
         ensures after { Recorded c InputEnded self.old self.new }
-        ensures known { self.new.knowledge ≡ self.old.knowledge }
-        ensures size { length self.new.connections ≡ length self.old.connections }
+        ensures waiting { waiting_at self.new c ≡ waiting_at self.old c }
+        ensures rest { SameElse c self.old self.new }
     {
         self.connections[c as usize].end();
     }
 
-    /// Makes a connection Failed for a reason of the caller's, whatever its state was. The other connections and
-    /// what is known are unchanged. It takes no memory.
+    /// Makes a connection Failed for a reason of the caller's, whatever its state was. The octets that wait, the
+    /// other connections and what is known are unchanged. It takes no memory.
     pub fn stop(&mut self, c: u32, reason: Reason)
         requires { c < length self.old.connections }
         ensures after { Recorded c (Stopped reason) self.old self.new }
         ensures stopped { stop_at self.new c ≡ Some (states.Failed reason) }
-        ensures others { SameOthers c self.old self.new }
-        ensures known { self.new.knowledge ≡ self.old.knowledge }
-        ensures size { length self.new.connections ≡ length self.old.connections }
+        ensures waiting { waiting_at self.new c ≡ waiting_at self.old c }
+        ensures rest { SameElse c self.old self.new }
     {
         self.connections[c as usize].stop(reason);
     }
@@ -180,8 +184,7 @@ impl Pool {
         ensures none { OnOk result (waiting_at self.new c ≡ []) }
         ensures err { OnErr result (self.new ≡ self.old) }
         ensures out { OnErr result (out.new.items ≡ out.old.items) }
-        ensures known { self.new.knowledge ≡ self.old.knowledge }
-        ensures size { length self.new.connections ≡ length self.old.connections }
+        ensures rest { SameElse c self.old self.new }
     {
         self.connections[c as usize].outgoing(out)
     }

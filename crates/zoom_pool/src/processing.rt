@@ -1,9 +1,7 @@
 //! Takes messages: adds what each says to what is known, and then gives it to the origin.
-ghost use Rattle.std.specs.Prelude.{◌≡◌, ◌∷◌, Contains, Err};
+ghost use Rattle.std.specs.Prelude.{◌≡◌, ◌≢◌, Contains, Err};
 ghost use Rattle.zknow.specs.Tables.Join.{IsPartOfUnion};
-ghost use Rattle.zorigin.specs.declared.settings.Settings.{Settings};
-ghost use Rattle.zorigin.specs.Log.{Log, Got, past, standing, After};
-ghost use Rattle.zorigin.specs.Replies.{verdict};
+ghost use Rattle.zorigin.specs.Log.{After, IsAcceptedReply};
 ghost use Rattle.zoom_pool.specs.Inputs.{Message};
 ghost use Rattle.zoom_pool.specs.Learned.{IsRead, AreStillKnown};
 ghost use Rattle.zoom_pool.specs.Transcripts.{Transcript, outcome_of_reply, news_at, IsDone};
@@ -15,26 +13,20 @@ use std::alloc::Global;
 use zapdu::{Apdu, ApduError, from_node};
 use zber::Node;
 use zknow::Knowledge;
-use zorigin::{Origin, Refused};
+use zorigin::{Origin, Refused, Taken};
 
-fn take_reply(origin: &mut Origin, reply: &Apdu) -> Result<Outcome, TakeError>
-    ensures answer { (settings : Settings) (log : Log) → After settings log origin.old → IsDone result
-        → result ≡ outcome_of_reply (verdict (standing (past settings log)) reply.now) }
-    ensures after { (settings : Settings) (log : Log) → After settings log origin.old → IsDone result
-        → After settings (Got reply.now ∷ log) origin.new }
-    ensures memory { result ≡ Err TakeError.Memory → origin.new ≡ origin.old }
+/// Returns the outcome of a message that the origin judged so.
+fn outcome_of(judged: Result<Taken, Refused>) -> Result<Outcome, TakeError>
+    ensures { result ≡ outcome_of_reply judged }
 {
-    match origin.take(reply) {
+    match judged {
         Ok(taken) => Ok(Outcome::Took(taken)),
-        Err(reason) => match reason {
-            Refused::Memory => Err(TakeError::Memory),
-            _ => Err(TakeError::Refused(reason)),
-        },
+        Err(reason) => Err(TakeError::Refused(reason)),
     }
 }
 
-/// Adds what the APDU says, and gives it to the origin. If no memory is found, the origin is unchanged, and a part
-/// of what the APDU says may be added.
+/// Adds what the APDU says, and gives it to the origin. Only an accepted reply takes memory. If none is found, the
+/// origin is unchanged, and a part of what the APDU says may be added.
 fn process_reply(
     alloc: Global,
     origin: &mut Origin,
@@ -43,18 +35,36 @@ fn process_reply(
     reply: &Apdu,
 ) -> Result<Outcome, TakeError>
     requires { IsRead reply.now }
+    // if memory is found
     ensures done { (p : Transcript) → After p.settings p.log origin.old → IsDone result
         → InputStep target p (Message reply.now) result origin.new knowledge.old knowledge.new }
+    // if no memory is found
     ensures memory { result ≡ Err TakeError.Memory → origin.new ≡ origin.old }
+    ensures accepted { result ≡ Err TakeError.Memory → IsAcceptedReply origin.old reply.now }
     ensures part { (p : Transcript) → After p.settings p.log origin.old → result ≡ Err TakeError.Memory
         → IsPartOfUnion (Contains knowledge.old) (Contains (news_at target p (Message reply.now)))
         (Contains knowledge.new) }
+    // in each case
     ensures grows { AreStillKnown knowledge.old knowledge.new }
 {
-    let peeked = origin.peek(reply);
-    match learn_verdict(alloc, target, knowledge, &peeked) {
-        Ok(()) => take_reply(origin, reply),
+    let judged = origin.judge(reply);
+    match learn_verdict(alloc, target, knowledge, &judged) {
+        Ok(()) => {
+            origin.accept(&judged);
+            outcome_of(judged)
+        }
         Err(_) => Err(TakeError::Memory),
+    }
+}
+
+/// Returns the error of the take: the message is not an APDU, or no memory is found to read it.
+fn decode_error(error: ApduError) -> TakeError
+    ensures memory { error ≡ ApduError.Memory → result ≡ TakeError.Memory }
+    ensures decode { error ≢ ApduError.Memory → result ≡ TakeError.Decode error }
+{
+    match error {
+        ApduError::Memory => TakeError::Memory,
+        _ => TakeError::Decode(error),
     }
 }
 
@@ -78,9 +88,6 @@ pub(crate) fn process(
             drop(reply);
             outcome
         }
-        Err(error) => match error {
-            ApduError::Memory => Err(TakeError::Memory),
-            _ => Err(TakeError::Decode(error)),
-        },
+        Err(error) => Err(decode_error(error)),
     }
 }

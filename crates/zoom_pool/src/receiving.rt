@@ -1,4 +1,5 @@
 //! Receives the messages of the serving end's octets, one by one.
+ghost use Rattle.std.specs.Prelude.{◌≡◌, ◌≢◌, Ok, false, IsErr};
 ghost use Rattle.zoom_pool.specs.HostSteps.{ReceiveNextResult, IsReceptionOf, ReceiveAllResult, ReceiveApduResult, ReceiveMessageResult};
 
 use std::alloc::{AllocError, Global};
@@ -17,16 +18,35 @@ pub(crate) enum Reception {
     Stopping,
 }
 
+/// Returns `false` for an APDU that the target refuses, and an error if the target finds no memory.
+fn refused_apdu(error: TargetError) -> Result<bool, AllocError>
+    ensures memory { error ≡ TargetError.Memory → IsErr result }
+    ensures refused { error ≢ TargetError.Memory → result ≡ Ok false }
+{
+    match error {
+        TargetError::Memory => Err(AllocError),
+        _ => Ok(false),
+    }
+}
+
 /// Gives an APDU to the target; returns whether the target takes it.
 fn receive_apdu(target: &mut Target, apdu: &Apdu) -> Result<bool, AllocError>
     ensures { ReceiveApduResult apdu.now result target.old target.new }
 {
     match target.receive(apdu) {
         Ok(()) => Ok(true),
-        Err(error) => match error {
-            TargetError::Memory => Err(AllocError),
-            _ => Ok(false),
-        },
+        Err(error) => refused_apdu(error),
+    }
+}
+
+/// Returns `false` for a message that is not an APDU, and an error if no memory is found to read it.
+fn refused_message(error: ApduError) -> Result<bool, AllocError>
+    ensures memory { error ≡ ApduError.Memory → IsErr result }
+    ensures refused { error ≢ ApduError.Memory → result ≡ Ok false }
+{
+    match error {
+        ApduError::Memory => Err(AllocError),
+        _ => Ok(false),
     }
 }
 
@@ -40,10 +60,7 @@ fn receive_message(alloc: Global, target: &mut Target, node: &Node) -> Result<bo
             drop(apdu);
             taken
         }
-        Err(error) => match error {
-            ApduError::Memory => Err(AllocError),
-            _ => Ok(false),
-        },
+        Err(error) => refused_message(error),
     }
 }
 

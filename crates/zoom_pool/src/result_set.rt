@@ -1,12 +1,13 @@
 //! Result sets.
-ghost use Rattle.std.specs.Prelude.{◌≡◌, ◌<◌, length, OnErr};
+ghost use Rattle.std.specs.Prelude.{◌≡◌, ◌<◌, length, OnOk, OnErr};
 ghost use Rattle.zknow.specs.Known.{IsKnownOf, counts_at, records_at};
 ghost use Rattle.zorigin.specs.Standings.{Present};
 ghost use Rattle.zorigin.specs.Ranges.{one_range};
 ghost use Rattle.zorigin.specs.Log.{IsMadeCall};
 ghost use Rattle.zoom_pool.specs.CallsOf.{call_of};
+ghost use Rattle.zoom_pool.specs.Links.{SameElse};
 ghost use Rattle.zoom_pool.specs.Transcripts.{Called};
-ghost use Rattle.zoom_pool.specs.PoolSteps.{Recorded, IsCallResult};
+ghost use Rattle.zoom_pool.specs.PoolSteps.{Recorded, IsCallResult, IsRequestPut};
 
 use crate::call::Call;
 use crate::pool::Pool;
@@ -60,9 +61,9 @@ impl ResultSet {
         ensures answer { IsCallResult self.c (Present op self.set (one_range start n)) pool.old result }
         ensures after { IsMadeCall result
             → Recorded self.c (Called (Present op self.set (one_range start n))) pool.old pool.new }
+        ensures put { OnOk result (IsRequestPut self.c (Present op self.set (one_range start n)) pool.old pool.new) }
         ensures err { OnErr result (pool.new ≡ pool.old) }
-        ensures known { pool.new.knowledge ≡ pool.old.knowledge }
-        ensures size { length pool.new.connections ≡ length pool.old.connections }
+        ensures rest { SameElse self.c pool.old pool.new }
     {
         let call = present_call(op, self.set, start, n);
         let answer = pool.call(self.c, &call);
@@ -81,9 +82,9 @@ impl ResultSet {
         requires { self.c < length pool.old.connections }
         ensures answer { IsCallResult self.c (Present op self.set ranges) pool.old result }
         ensures after { IsMadeCall result → Recorded self.c (Called (Present op self.set ranges)) pool.old pool.new }
+        ensures put { OnOk result (IsRequestPut self.c (Present op self.set ranges) pool.old pool.new) }
         ensures err { OnErr result (pool.new ≡ pool.old) }
-        ensures known { pool.new.knowledge ≡ pool.old.knowledge }
-        ensures size { length pool.new.connections ≡ length pool.old.connections }
+        ensures rest { SameElse self.c pool.old pool.new }
     {
         let call = ranges_call(op, self.set, ranges);
         let answer = pool.call(self.c, &call);

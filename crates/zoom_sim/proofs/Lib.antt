@@ -3,6 +3,7 @@ pub mod RunStops
 pub mod RunCarries
 pub mod RunWorlds
 pub mod RunSound
+pub mod RunLosses
 pub mod RunTakes
 pub mod RunTakeAll
 pub mod RunStarts
@@ -10,7 +11,12 @@ pub mod RunUnfinished
 pub mod RunTranscripts
 pub mod RunOver
 pub mod RunPeers
+pub mod RunPieces
+pub mod RunInputs
 pub mod RunReleases
 pub mod RunRounded
 pub mod RunRounds
+pub mod RunFinishes
+pub mod RunTargets
+pub mod RunMoves
 pub mod RunCatalogue

@@ -121,7 +121,7 @@ pub to_carries : (c : ℕ) (old new : MetaLinks) (was now : Peer) (octets pipe p
 to_carries c old new was now octets pipe piece k recorded fills front is_step left same = record {
   on = λ qs s h holdings host_events x y. record {
     events = (c, HandedOut octets) ∷ [];
-    after = recorded qs s h x;
+    after = recorded qs s [] h x;
     others = λ i e. other_silent c i (HandedOut octets) e;
     host_more = HostFed piece ∷ [];
     served = is_step holdings host_events y;
@@ -139,7 +139,7 @@ pub from_carries : (c : ℕ) (old new : MetaLinks) (was now : Peer) (pipe piece 
 from_carries c old new was now pipe piece k gives fills front recorded left same = record {
   on = λ qs s h holdings host_events x y. record {
     events = (c, Fed piece) ∷ [];
-    after = recorded qs s h x;
+    after = recorded qs s [] h x;
     others = λ i e. other_silent c i (Fed piece) e;
     host_more = HostHandedOut was.host.waiting ∷ [];
     served = gives holdings host_events y;

@@ -13,12 +13,12 @@ use Rattle.zoom_pool.specs.Hosts.{HostAfter, HostEvent, HostHandedOut, holdings_
 use Rattle.zoom_pool.specs.Laws.{OneTranscript}
 use Rattle.zoom_pool.specs.Links.{waiting_at}
 use Rattle.zoom_pool.specs.Metas.{MetaLinks, MetaAfter, settings_of}
-use Rattle.zoom_laws.specs.Exchange.{IsSettled, OneServedLaw, LongerLaw, SettledLaw, EndedLaw, fed_to}
+use Rattle.zoom_laws.specs.Exchange.{IsSettled, OneServedLaw, SettledLaw, EndedLaw, fed_to}
 use Rattle.zoom_sim.specs.declared.peers.Peer.{Peer}
 use Rattle.zoom_sim.specs.Run.{is_over}
-use Rattle.zoom_sim.specs.RunSound.{at_connection, IsSoundPeer, HasLongReply, SoundStep, LongReplyStep, MoreEvents, PeerStep, SoundRound, PeerRound}
+use Rattle.zoom_sim.specs.RunSound.{at_connection, IsSoundPeer, IsStoppedPeer, IsLostPeer, SoundStep, LostStep, EndedStep, PeerStep, PeerEndStep, SoundRound, PeerRound}
 use Rattle.zoom_sim.specs.RunPeers.{CarryAllStep, IsEmptied, ReleaseAllStep}
-use Rattle.zoom_sim.proofs.RunSound.{only_more, of_append, lost_then, adds_more, loses_more}
+use Rattle.zoom_sim.proofs.RunSound.{only_more, of_append, joined_events, ended_more}
 use Rattle.zoom_sim.proofs.RunCarries.{fed_to_append}
 use Rattle.zoom_sim.proofs.RunTranscripts.{whole_stream}
 use Rattle.zoom_sim.proofs.RunPeers.{nothing_behind, to_of, from_of, sent_so}
@@ -124,19 +124,23 @@ none_moved true b c e = absurd cc
 none_moved false true c e = absurd cc
 none_moved false false c e = (refl, refl, e)
 
-module _ (uniqueness : OneTranscript) (longer : LongerLaw) (one_served : OneServedLaw) (rests : SettledLaw) (ended : EndedLaw)
+module _ (uniqueness : OneTranscript) (one_served : OneServedLaw) (rests : SettledLaw) (ended : EndedLaw)
     (c : ℕ) (old mid new : MetaLinks) (was a b now : Peer) (came moved : Bool) (none : moved ≡ false → came ≡ false)
     (carries : PeerStep c true true true old mid was a) (to : a.to ≡ []) (waits : waiting_at mid.pool c ≡ [])
-    (releases : ReleaseAllStep a b) (brings : CarryAllStep b now) (takes : PeerStep c true true (not came) mid new b now) where
+    (releases : ReleaseAllStep a b) (brings : CarryAllStep b now) (takes : PeerEndStep c (not came) mid new b now) where
   module _ (questions : List Question) (s : MetaSettings) (h : History) (q : Question) (target : TargetState)
-      (p : Transcript) (host_events : List HostEvent) (at : slice_get questions c ≡ Some q) where
-    -- a reply that is too long stays so
-    long_then : (l : LongReplyStep questions s c h target mid) → LongReplyStep questions s c h target new
-    long_then l =
-        lost_then uniqueness longer questions s c h q target mid new at l
-        (takes.adds questions s (at_connection c l.events ++ h) l.after)
+      (at : slice_get questions c ≡ Some q) where
+    -- once a reply was lost, the input ends
+    lost_then : LostStep questions s c h q target true mid a → EndedStep questions s c h target new now
+    lost_then l =
+        let past : History = at_connection c l.events ++ h in
+        ended_more questions s c h q target new now l.events
+        (takes.lost questions s past q target l.after at
+        (releases.lost s q target (events_on c past)
+        (subst (λ z. IsLostPeer s q target true z a) (sym (only_more c l.events h)) l.lost)))
 
-    module _ (one : SoundStep questions s c h q target true true p host_events mid a) where
+    module _ (p : Transcript) (host_events : List HostEvent)
+        (one : SoundStep questions s c h q target true true p host_events mid a) where
       abbrev past : History
       past = at_connection c one.events ++ h
 
@@ -158,8 +162,7 @@ module _ (uniqueness : OneTranscript) (longer : LongerLaw) (one_served : OneServ
           later = three.later;
           fine = subst
               (λ z. IsSoundPeer s q target true z three.later ((three.host_more ++ (two.host_more ++ one.host_more)) ++ host_events) now)
-              (ap (λ z. three.events ++ z) (only_more c one.events h)
-              ∙ sym (append_assoc three.events one.events (events_on c h)))
+              (joined_events c one.events three.events h)
               (subst (λ z. IsSoundPeer s q target true (three.events ++ events_on c past) three.later z now)
               (ap (λ z. three.host_more ++ z) (sym (append_assoc two.host_more one.host_more host_events))
               ∙ sym (append_assoc three.host_more (two.host_more ++ one.host_more) host_events)) three.fine);
@@ -173,33 +176,32 @@ module _ (uniqueness : OneTranscript) (longer : LongerLaw) (one_served : OneServ
 
       took : (two : IsEmptied s q target (events_on c past) one.later acted b)
           → SoundStep questions s c past q target true (not came) one.later (two.host_more ++ acted) new now
-          ⊎ LongReplyStep questions s c past target new
-          → SoundRound questions s c h q target moved p host_events new now ⊎ LongReplyStep questions s c h target new
+          ⊎ EndedStep questions s c past target new now
+          → SoundRound questions s c h q target moved p host_events new now ⊎ EndedStep questions s c h target new now
       took two (inl three) = inl (well two three)
-      took two (inr l) = inr (loses_more questions s c h new target one.events l)
+      took two (inr l) = inr (ended_more questions s c h q target new now one.events l)
 
-      emptied : IsEmptied s q target (events_on c past) one.later acted b ⊎ HasLongReply (holdings_of target) one.later
-          → SoundRound questions s c h q target moved p host_events new now ⊎ LongReplyStep questions s c h target new
+      emptied : IsEmptied s q target (events_on c past) one.later acted b ⊎ IsStoppedPeer s q target true (events_on c past) b
+          → SoundRound questions s c h q target moved p host_events new now ⊎ EndedStep questions s c h target new now
       emptied (inl two) =
           took two (takes.fine questions s past q target one.later (two.host_more ++ acted) one.after at two.fine)
-      emptied (inr long) = inr (long_then (record {
-        events = one.events;
-        after = one.after;
-        lost = (one.later, one.fine.sound.transcript, long);
-      }))
+      emptied (inr stopped) =
+          inr (ended_more questions s c h q target new now one.events
+          (takes.lost questions s past q target one.after at (inl stopped)))
 
-    carried : SoundStep questions s c h q target true true p host_events mid a ⊎ LongReplyStep questions s c h target mid
-        → SoundRound questions s c h q target moved p host_events new now ⊎ LongReplyStep questions s c h target new
-    carried (inl one) =
-        emptied one
-        (releases.on questions s c (past one) q target one.later (acted one) mid one.after at (fine_mid one))
-    carried (inr l) = inr (long_then l)
+    carried : (p : Transcript) (host_events : List HostEvent)
+        → SoundStep questions s c h q target true true p host_events mid a ⊎ LostStep questions s c h q target true mid a
+        → SoundRound questions s c h q target moved p host_events new now ⊎ EndedStep questions s c h target new now
+    carried p host_events (inl one) =
+        emptied p host_events one
+        (releases.on questions s c (past p host_events one) q target one.later (acted p host_events one) mid one.after at
+        (fine_mid p host_events one))
+    carried p host_events (inr l) = inr (lost_then l)
 
   pub rounds : PeerRound c moved old new was now
   rounds = record {
     fine = λ questions s h q target p host_events after at f.
-        carried questions s h q target p host_events at (carries.fine questions s h q target p host_events after at f);
-    adds = λ questions s h after.
-        let one : MoreEvents questions s c h mid = carries.adds questions s h after in
-        adds_more questions s c h new one.events (takes.adds questions s (at_connection c one.events ++ h) one.after);
+        carried questions s h q target at p host_events (carries.fine questions s h q target p host_events after at f);
+    lost = λ questions s h q target after at l.
+        lost_then questions s h q target at (carries.lost questions s h q target after at l);
   }

@@ -1,26 +1,24 @@
 -- Worlds over a channel that loses nothing, round after round.
 use Rattle.std.proofs.Common.{◌≡◌, ◌∙◌, ◌⊎◌, inl, inr, sym, ap, subst, ℕ, suc, ◌+◌, ◌<◌, ◌≤◌, ◌==◌, Bool, true, false, List, [], ◌++◌, length, get_or, slice_get, slice_set, Some, refl, arith, true≢false}
-use Rattle.std.specs.Prelude.{nat_lt, ◌^◌, ◌-◌, ◌||◌, if◌then◌else◌}
+use Rattle.std.specs.Prelude.{nat_lt, ◌||◌, if◌then◌else◌}
 use Rattle.std.proofs.lemmas.Bool.Decides.{nat_tests}
 use Rattle.std.proofs.lemmas.Option.{slice_get_within}
 use Rattle.std.proofs.Math.ListN.{length-set}
 use Rattle.ztarget.specs.Receiving.{TargetState}
 use Rattle.zoom_questions.specs.declared.question.Question.{Question}
 use Rattle.zoom_questions.specs.declared.question.MetaSettings.{MetaSettings}
-use Rattle.zoom_pool.specs.Transcripts.{Event, Transcript, IsTranscript, past_of, sent}
+use Rattle.zoom_pool.specs.Transcripts.{Event, Transcript, past_of, sent}
 use Rattle.zoom_pool.specs.History.{History, events_on}
-use Rattle.zoom_pool.specs.Hosts.{HostEvent, holdings_of}
 use Rattle.zoom_pool.specs.Laws.{OneTranscript}
-use Rattle.zoom_pool.specs.Metas.{MetaLinks, MetaAfter, IsFinished, settings_of}
-use Rattle.zoom_pool.proofs.Pools.{only_append, got, get_same}
-use Rattle.zoom_pool.proofs.Metas.{get_other, slice_some}
-use Rattle.zoom_laws.specs.Exchange.{ExchangeLaws, LongerLaw, FewLaw}
+use Rattle.zoom_pool.specs.Metas.{MetaLinks, MetaAfter, settings_of}
+use Rattle.zoom_pool.proofs.Pools.{only_append, got, get_same, get_other}
+use Rattle.zoom_pool.proofs.Metas.{slice_some}
 use Rattle.zoom_sim.specs.declared.peers.Peer.{Peer}
 use Rattle.zoom_sim.specs.Run.{is_over}
-use Rattle.zoom_sim.specs.RunSound.{at_connection, IsSoundPeer, HasLongReplyDue, SoundStep, LongReplyStep, MoreEvents, PeerStep, SoundRound, PeerRound, MoreEventsOfUnfinished, UnfinishedOnlyStep, AreStarted}
-use Rattle.zoom_sim.specs.RunRounds.{IsAdvancedTo, IsSoundWorld, AfterSoundMoves, AfterSoundRound, AfterRoundOrEnd, IsCompleteExchange, IsCompleteRun, AfterAllSoundRounds}
+use Rattle.zoom_sim.specs.RunSound.{at_connection, IsLostPeer, SoundStep, LostStep, EndedStep, PeerStep, SoundRound, PeerRound, AreStarted}
+use Rattle.zoom_sim.specs.RunRounds.{IsAdvancedTo, IsSoundWorld, AfterSoundMoves, AfterSoundRound}
 use Rattle.zoom_sim.proofs.RunWorlds.{some_is}
-use Rattle.zoom_sim.proofs.RunSound.{only_more, none_of, lost_more, lost_by}
+use Rattle.zoom_sim.proofs.RunSound.{only_more, none_of}
 use Rattle.zoom_sim.proofs.RunOver.{over_stays}
 
 -- ---- one connection of the world
@@ -90,46 +88,51 @@ module _ (qs : List Question) (s : MetaSettings) (ts : List TargetState) (old ne
   at_both X q p t u a b d e x =
       subst (λ z. X z u) (some_is (sym a ∙ b)) (subst (λ z. X q z) (some_is (sym d ∙ e)) x)
 
-  -- a connection to which a reply is owed that is too long
-  world_lost : OneTranscript → LongerLaw → (one two : ℕ → ℕ) (w : IsSoundWorld one qs s ts old peers)
-      (q : Question) (t : TargetState) → slice_get qs c ≡ Some q → slice_get ts c ≡ Some t
-      → MoreEvents qs s c w.history new → HasLongReplyDue s t (events_on c w.history)
-      → ((i : ℕ) → (c == i) ≡ false → one i ≡ two i) → IsSoundWorld two qs s ts new (slice_set peers c r)
-  world_lost uniqueness longer one two w q t a b adds lost others =
-      world_put one two w adds.events adds.after
-      (λ p u d e. at_both (λ x y. IsAdvancedTo (two c) s x y (adds.events ++ events_on c w.history) r) q p t u a d b e
-      (inr (lost_more uniqueness longer qs s c w.history q t adds.events new adds.after a lost))) others
-
 -- ---- a step
 
-module _ (uniqueness : OneTranscript) (longer : LongerLaw) (old new : MetaLinks) (peers : List Peer) (c : ℕ) (p r : Peer)
-    (lt : c < length peers) where
-  module _ (same : Bool) (f : PeerStep c true true same old new (get_or peers c p) r) (qs : List Question)
-      (s : MetaSettings) (ts : List TargetState) (w : IsSoundWorld (λ i. 0) qs s ts old peers) where
-    put_step : (q : Question) (t : TargetState) → slice_get qs c ≡ Some q → slice_get ts c ≡ Some t
-        → IsAdvancedTo 0 s q t (events_on c w.history) (get_or peers c p) → IsSoundWorld (λ i. 0) qs s ts new (slice_set peers c r)
-    put_step q t a b (inl k) = by (f.fine qs s w.history q t k.0 k.1 w.after a k.2)
-      where
-        by : SoundStep qs s c w.history q t true same k.0 k.1 new r ⊎ LongReplyStep qs s c w.history t new
-            → IsSoundWorld (λ i. 0) qs s ts new (slice_set peers c r)
-        by (inl x) = world_put qs s ts old new peers c r lt (λ i. 0) (λ i. 0) w x.events x.after
-            (λ o u d e. at_both qs s ts old new peers c r lt (λ y z. IsAdvancedTo 0 s y z (x.events ++ events_on c w.history) r)
-            q o t u a d b e (inl (x.later, x.host_more ++ k.1, x.fine, λ on. omega arith))) (λ i far. refl)
-        by (inr x) = world_put qs s ts old new peers c r lt (λ i. 0) (λ i. 0) w x.events x.after
-            (λ o u d e. at_both qs s ts old new peers c r lt (λ y z. IsAdvancedTo 0 s y z (x.events ++ events_on c w.history) r)
-            q o t u a d b e (inr x.lost)) (λ i far. refl)
-    put_step q t a b (inr lost) =
-        world_lost qs s ts old new peers c r lt uniqueness longer (λ i. 0) (λ i. 0) w q t a b
-        (f.adds qs s w.history w.after) lost (λ i far. refl)
+-- a connection that is sound, or whose target lost a reply
+pub lost_advanced : (s : MetaSettings) (q : Question) (target : TargetState) (events : List Event) (peer : Peer)
+    → IsLostPeer s q target true events peer → IsAdvancedTo 0 s q target events peer
+lost_advanced s q target events peer (inl b) = inr (inl (b, refl))
+lost_advanced s q target events peer (inr e) = inr (inr e)
 
-  pub step_stays : (same : Bool) → PeerStep c true true same old new (get_or peers c p) r
-      → AfterSoundMoves old new peers (slice_set peers c r)
-  step_stays same f = record {
-    on = λ qs s ts w.
-        let q = asked_at qs s ts old new peers c r lt (λ i. 0) w in
-        let t = target_at qs s ts old new peers c r lt (λ i. 0) w in
-        put_step same f qs s ts w q.0 t.0 q.1 t.1 (w.kept c q.0 t.0 (get_or peers c p) q.1 t.1 (at_peer peers c p lt));
-  }
+module _ (old new : MetaLinks) (peers : List Peer) (c : ℕ) (p r : Peer) (lt : c < length peers) (same : Bool)
+    (f : PeerStep c true true same old new (get_or peers c p) r) (qs : List Question) (s : MetaSettings)
+    (ts : List TargetState) (w : IsSoundWorld (λ i. 0) qs s ts old peers) where
+  -- more events of the connection, after which it is one of these
+  put_more : (q : Question) (t : TargetState) → slice_get qs c ≡ Some q → slice_get ts c ≡ Some t → (events : List Event)
+      → MetaAfter qs s (at_connection c events ++ w.history) new
+      → IsAdvancedTo 0 s q t (events ++ events_on c w.history) r → IsSoundWorld (λ i. 0) qs s ts new (slice_set peers c r)
+  put_more q t a b events after x =
+      world_put qs s ts old new peers c r lt (λ i. 0) (λ i. 0) w events after
+      (λ o u d e. at_both qs s ts old new peers c r lt (λ y z. IsAdvancedTo 0 s y z (events ++ events_on c w.history) r)
+      q o t u a d b e x) (λ i far. refl)
+
+  put_lost : (q : Question) (t : TargetState) → slice_get qs c ≡ Some q → slice_get ts c ≡ Some t
+      → LostStep qs s c w.history q t true new r → IsSoundWorld (λ i. 0) qs s ts new (slice_set peers c r)
+  put_lost q t a b l =
+      put_more q t a b l.events l.after (lost_advanced s q t (l.events ++ events_on c w.history) r l.lost)
+
+  put_step : (q : Question) (t : TargetState) → slice_get qs c ≡ Some q → slice_get ts c ≡ Some t
+      → IsAdvancedTo 0 s q t (events_on c w.history) (get_or peers c p) → IsSoundWorld (λ i. 0) qs s ts new (slice_set peers c r)
+  put_step q t a b (inl k) = by (f.fine qs s w.history q t k.0 k.1 w.after a k.2)
+    where
+      by : SoundStep qs s c w.history q t true same k.0 k.1 new r ⊎ LostStep qs s c w.history q t true new r
+          → IsSoundWorld (λ i. 0) qs s ts new (slice_set peers c r)
+      by (inl x) = put_more q t a b x.events x.after (inl (x.later, x.host_more ++ k.1, x.fine, λ on. omega arith))
+      by (inr l) = put_lost q t a b l
+  put_step q t a b (inr (inl x)) = put_lost q t a b (f.lost qs s w.history q t w.after a (inl x.0))
+  put_step q t a b (inr (inr e)) = put_lost q t a b (f.lost qs s w.history q t w.after a (inr e))
+
+pub step_stays : (old new : MetaLinks) (peers : List Peer) (c : ℕ) (p r : Peer) → c < length peers → (same : Bool)
+    → PeerStep c true true same old new (get_or peers c p) r → AfterSoundMoves old new peers (slice_set peers c r)
+step_stays old new peers c p r lt same f = record {
+  on = λ qs s ts w.
+      let q = asked_at qs s ts old new peers c r lt (λ i. 0) w in
+      let t = target_at qs s ts old new peers c r lt (λ i. 0) w in
+      put_step old new peers c p r lt same f qs s ts w q.0 t.0 q.1 t.1
+      (w.kept c q.0 t.0 (get_or peers c p) q.1 t.1 (at_peer peers c p lt));
+}
 
 -- ---- a round
 
@@ -204,35 +207,43 @@ grown false n m p later is least grows still on e =
     absurd (let b : length (sent (past_of p)) < length (sent (past_of p)) =
     subst (λ z. length (sent (past_of p)) < length (sent (past_of z))) (still refl) (grows e) in omega (arith, b))
 
-module _ (uniqueness : OneTranscript) (longer : LongerLaw) (any moved now : Bool) (old mid new : MetaLinks)
+module _ (uniqueness : OneTranscript) (any moved now : Bool) (old mid new : MetaLinks)
     (was peers : List Peer) (c : ℕ) (p r : Peer) (lt : c < length peers) (so : moved ≡ true → now ≡ true)
     (kept : any ≡ true → now ≡ true) where
   module _ (f : PeerRound c moved mid new (get_or peers c p) r) (n m : ℕ) (qs : List Question)
       (s : MetaSettings) (ts : List TargetState) (is : now ≡ true → m ≡ suc n)
       (w : IsSoundWorld (half c m n) qs s ts mid peers) where
+    -- more events of the connection, after which it has advanced
+    put_advanced : (q : Question) (t : TargetState) → slice_get qs c ≡ Some q → slice_get ts c ≡ Some t
+        → (events : List Event) → MetaAfter qs s (at_connection c events ++ w.history) new
+        → IsAdvancedTo m s q t (events ++ events_on c w.history) r
+        → IsSoundWorld (half (c + 1) m n) qs s ts new (slice_set peers c r)
+    put_advanced q t a b events after x =
+        world_put qs s ts mid new peers c r lt (half c m n) (half (c + 1) m n) w events after
+        (λ o u d e. subst (λ z. IsAdvancedTo z s o u (events ++ events_on c w.history) r) (sym (half_here c m n))
+        (at_both qs s ts mid new peers c r lt (λ y z. IsAdvancedTo m s y z (events ++ events_on c w.history) r)
+        q o t u a d b e x)) (λ i far. half_other c m n i far)
+
+    put_ended : (q : Question) (t : TargetState) → slice_get qs c ≡ Some q → slice_get ts c ≡ Some t
+        → EndedStep qs s c w.history t new r → IsSoundWorld (half (c + 1) m n) qs s ts new (slice_set peers c r)
+    put_ended q t a b l = put_advanced q t a b l.events l.after (inr (inr l.ended))
+
     put_round : (q : Question) (t : TargetState) → slice_get qs c ≡ Some q → slice_get ts c ≡ Some t
         → IsAdvancedTo n s q t (events_on c w.history) (get_or peers c p)
         → IsSoundWorld (half (c + 1) m n) qs s ts new (slice_set peers c r)
     put_round q t a b (inl k) = by (f.fine qs s w.history q t k.0 k.1 w.after a k.2)
       where
-        by : SoundRound qs s c w.history q t moved k.0 k.1 new r ⊎ LongReplyStep qs s c w.history t new
+        by : SoundRound qs s c w.history q t moved k.0 k.1 new r ⊎ EndedStep qs s c w.history t new r
             → IsSoundWorld (half (c + 1) m n) qs s ts new (slice_set peers c r)
         by (inl y) =
             let x = y.stepped in
             let sent_on : is_over x.later ≡ false → m ≤ length (sent (past_of x.later)) =
             grown moved n m k.0 x.later (λ e. is (so e)) k.3 y.grows y.still
             (over_stays uniqueness (settings_of s) x.events (events_on c w.history) k.0 x.later k.2.sound.transcript x.fine.sound.transcript) in
-            world_put qs s ts mid new peers c r lt (half c m n) (half (c + 1) m n) w x.events x.after
-            (λ o u d e. subst (λ z. IsAdvancedTo z s o u (x.events ++ events_on c w.history) r) (sym (half_here c m n))
-            (at_both qs s ts mid new peers c r lt (λ y z. IsAdvancedTo m s y z (x.events ++ events_on c w.history) r)
-            q o t u a d b e (inl (x.later, x.host_more ++ k.1, x.fine, sent_on)))) (λ i far. half_other c m n i far)
-        by (inr x) = world_put qs s ts mid new peers c r lt (half c m n) (half (c + 1) m n) w x.events x.after
-            (λ o u d e. at_both qs s ts mid new peers c r lt
-            (λ y z. IsAdvancedTo (half (c + 1) m n c) s y z (x.events ++ events_on c w.history) r)
-            q o t u a d b e (inr x.lost)) (λ i far. half_other c m n i far)
-    put_round q t a b (inr lost) =
-        world_lost qs s ts mid new peers c r lt uniqueness longer (half c m n) (half (c + 1) m n) w q t a b
-        (f.adds qs s w.history w.after) lost (λ i far. half_other c m n i far)
+            put_advanced q t a b x.events x.after (inl (x.later, x.host_more ++ k.1, x.fine, sent_on))
+        by (inr l) = put_ended q t a b l
+    put_round q t a b (inr (inl x)) = put_ended q t a b (f.lost qs s w.history q t w.after a (inl x.0))
+    put_round q t a b (inr (inr e)) = put_ended q t a b (f.lost qs s w.history q t w.after a (inr e))
 
   pub round_more : SoundRoundSoFar c any old mid was peers → PeerRound c moved mid new (get_or peers c p) r
       → SoundRoundSoFar (c + 1) now old new was (slice_set peers c r)
@@ -243,117 +254,6 @@ module _ (uniqueness : OneTranscript) (longer : LongerLaw) (any moved now : Bool
       put_round f n m qs s ts is w q.0 t.0 q.1 t.1
       (subst (λ z. IsAdvancedTo z s q.0 t.0 (events_on c w.history) (get_or peers c p)) (half_before c m n)
       (w.kept c q.0 t.0 (get_or peers c p) q.1 t.1 (at_peer peers c p lt)))
-
--- ---- finished connections are unchanged
-
--- more octets than a connection ever sends
-abbrev pub most : ℕ
-most = 2 ^ 64 - 1
-
-module _ (uniqueness : OneTranscript) (longer : LongerLaw) (few : FewLaw) (qs : List Question) (s : MetaSettings)
-    (ts : List TargetState) (old : MetaLinks) (peers : List Peer)
-    (w : IsSoundWorld (λ i. most) qs s ts old peers) where
-  -- a connection that is sound is finished
-  over_by : (c : ℕ) (q : Question) (p : Transcript) → slice_get qs c ≡ Some q → IsTranscript (settings_of s) (events_on c w.history) p
-      → (is_over p ≡ false → most ≤ length (sent (past_of p))) → is_over p ≡ true
-  over_by c q p at transcript least = by (is_over p) refl
-    where
-      by : (b : Bool) → is_over p ≡ b → is_over p ≡ true
-      by true e = e
-      by false e = absurd (let a = least e in
-          let b = (few qs s w.history old c q p w.after at transcript).1 in omega (arith, a, b))
-
-  spared_kept : (n : ℕ) (new : MetaLinks) (x : MoreEventsOfUnfinished qs s w.history new) (c : ℕ) (q : Question) (t : TargetState)
-      (peer : Peer) → slice_get qs c ≡ Some q → IsAdvancedTo most s q t (events_on c w.history) peer
-      → IsAdvancedTo n s q t (events_on c (x.more ++ w.history)) peer
-  spared_kept n new x c q t peer at (inl k) =
-      let over = over_by c q k.0 at k.2.sound.transcript k.3 in
-      let none : events_on c x.more ≡ [] = x.none c k.0 k.2.sound.transcript over in
-      let same : events_on c (x.more ++ w.history) ≡ events_on c w.history =
-      only_append c x.more w.history ∙ ap (λ z. z ++ events_on c w.history) none in
-      subst (λ z. IsAdvancedTo n s q t z peer) (sym same)
-      (inl (k.0, k.1, k.2, λ on. absurd (true≢false (sym over ∙ on))))
-  spared_kept n new x c q t peer at (inr lost) =
-      inr (lost_by uniqueness longer qs s c w.history x.more q t new x.after at lost)
-
-  pub spared_world : (n : ℕ) (new : MetaLinks) → UnfinishedOnlyStep old new → IsSoundWorld (λ i. n) qs s ts new peers
-  spared_world n new f =
-      let x = f.on qs s w.history w.after in
-      record {
-        history = x.more ++ w.history;
-        after = x.after;
-        size = w.size;
-        equal = w.equal;
-        kept = λ c q t p a b d. spared_kept n new x c q t p a (w.kept c q t p a b d);
-      }
-
--- ---- the end
-
--- the connections are finished
-abbrev pub AreOver : List Question → MetaSettings → History → Type 0
-AreOver qs s h = (c : ℕ) (p : Transcript) → c < length qs → IsTranscript (settings_of s) (events_on c h) p → is_over p ≡ true
-
-module _ (laws : ExchangeLaws) (qs : List Question) (s : MetaSettings) (h : History) (meta : MetaLinks)
-    (after : MetaAfter qs s h meta) (c : ℕ) (q : Question) (at : slice_get qs c ≡ Some q) (t : TargetState) where
-  whole_by : (taken : Bool) (p : Transcript) (host_events : List HostEvent) (peer : Peer)
-      → IsSoundPeer s q t taken (events_on c h) p host_events peer → is_over p ≡ true → IsCompleteExchange s t (events_on c h)
-  whole_by taken p host_events peer f over =
-      let o = laws.over (holdings_of t) (settings_of s) (events_on c h) p host_events peer.host f.sound over in
-      let complete = laws.ends (holdings_of t) (settings_of s) (events_on c h) p host_events peer.host f.sound over in
-      record {
-        transcript = p;
-        host_events = host_events;
-        host = peer.host;
-        sound = f.sound;
-        over = over;
-        complete = complete;
-        tried = laws.tried qs s h meta c q p after at f.sound.transcript complete;
-        replies = f.sound.served.served.sent;
-        owed = o.0;
-        stream = o.1;
-      }
-
-  kept_whole : (n : ℕ) (peer : Peer) → IsAdvancedTo n s q t (events_on c h) peer
-      → ((p : Transcript) → IsTranscript (settings_of s) (events_on c h) p → is_over p ≡ true)
-      → IsCompleteExchange s t (events_on c h) ⊎ HasLongReplyDue s t (events_on c h)
-  kept_whole n peer (inl k) over = inl (whole_by true k.0 k.1 peer k.2 (over k.0 k.2.sound.transcript))
-  kept_whole n peer (inr lost) over = inr lost
-
-ran_by : (least : ℕ → ℕ) (qs : List Question) (s : MetaSettings) (ts : List TargetState) (meta : MetaLinks)
-    (peers : List Peer) (w : IsSoundWorld least qs s ts meta peers)
-    → ((c : ℕ) (q : Question) (t : TargetState) (p : Peer) → slice_get qs c ≡ Some q
-    → IsAdvancedTo (least c) s q t (events_on c w.history) p → IsCompleteExchange s t (events_on c w.history) ⊎ HasLongReplyDue s t (events_on c w.history))
-    → IsCompleteRun qs s ts meta
-ran_by least qs s ts meta peers w each = record {
-  history = w.history;
-  after = w.after;
-  whole = λ c t at.
-      let within : c < length ts = slice_get_within ts c t at in
-      let q = slice_some qs c (let g : c < length qs = omega (arith, within, w.equal) in g) in
-      let p = slice_some peers c (let g : c < length peers = omega (arith, within, w.size) in g) in
-      each c q.0 t p.0 q.1 (w.kept c q.0 t p.0 q.1 at p.1);
-}
-
-pub ran_whole : ExchangeLaws → (least : ℕ → ℕ) (qs : List Question) (s : MetaSettings) (ts : List TargetState)
-    (meta : MetaLinks) (peers : List Peer) (w : IsSoundWorld least qs s ts meta peers) → AreOver qs s w.history
-    → IsCompleteRun qs s ts meta
-ran_whole laws least qs s ts meta peers w over =
-    ran_by least qs s ts meta peers w (λ c q t p at kept.
-    kept_whole laws qs s w.history meta w.after c q at t (least c) p kept
-    (λ x transcript. over c x (slice_get_within qs c q at) transcript))
-
--- at this bound, each connection is finished, unless a reply that is owed is too long
-pub ran_kept : ExchangeLaws → OneTranscript → (qs : List Question) (s : MetaSettings) (ts : List TargetState)
-    (meta : MetaLinks) (peers : List Peer) → IsSoundWorld (λ i. most) qs s ts meta peers → IsCompleteRun qs s ts meta
-ran_kept laws uniqueness qs s ts meta peers w = ran_by (λ i. most) qs s ts meta peers w by
-  where
-    by : (c : ℕ) (q : Question) (t : TargetState) (p : Peer) → slice_get qs c ≡ Some q
-        → IsAdvancedTo most s q t (events_on c w.history) p
-        → IsCompleteExchange s t (events_on c w.history) ⊎ HasLongReplyDue s t (events_on c w.history)
-    by c q t p at (inl k) =
-        inl (whole_by laws qs s w.history meta w.after c q at t true k.0 k.1 p k.2
-        (over_by uniqueness laws.longer laws.few qs s ts meta peers w c q k.0 at k.2.sound.transcript k.3))
-    by c q t p at (inr lost) = inr lost
 
 -- ---- at first
 
@@ -369,66 +269,3 @@ started_fine qs s ts meta peers w size equal = record {
       let f = w.fine c q t p (slice_get_within qs c q a) a b d in
       inl (f.0, [], f.1, λ on. omega arith);
 }
-
--- ---- n rounds
-
-abbrev pub SoundRounds : ℕ → MetaLinks → MetaLinks → List Peer → List Peer → Type 0
-SoundRounds n old new was now =
-    (qs : List Question) (s : MetaSettings) (ts : List TargetState)
-    → IsSoundWorld (λ i. 0) qs s ts old was → IsSoundWorld (λ i. n) qs s ts new now
-
-pub grown_more : (n : ℕ) (old mid new : MetaLinks) (was now later : List Peer) → SoundRounds n old mid was now
-    → AfterRoundOrEnd mid new now later → SoundRounds (n + 1) old new was later
-grown_more n old mid new was now later g f qs s ts w =
-    subst (λ k. IsSoundWorld (λ i. k) qs s ts new later) (let e : suc n ≡ n + 1 = omega arith in e)
-    (f.on n qs s ts (g qs s ts w))
-
--- a round in which something was carried or released
-pub grows_moved : (old new : MetaLinks) (was now : List Peer) → AfterSoundRound true old new was now
-    → AfterRoundOrEnd old new was now
-grows_moved old new was now f = record { on = λ n qs s ts w. f.on n (suc n) qs s ts (λ e. refl) w }
-
--- a round in which nothing was, and the end of the inputs
-pub grows_ended : OneTranscript → LongerLaw → FewLaw → (old mid new : MetaLinks) (was now : List Peer)
-    → AfterSoundRound false old mid was now → UnfinishedOnlyStep mid new → AfterRoundOrEnd old new was now
-grows_ended uniqueness longer few old mid new was now f x = record {
-  on = λ n qs s ts w.
-      spared_world uniqueness longer few qs s ts mid now
-      (f.on n most qs s ts (λ e. absurd (true≢false (sym e))) w) (suc n) new x;
-}
-
--- all are finished
-pub finished_whole : ExchangeLaws → (n : ℕ) (old new : MetaLinks) (was now : List Peer) → SoundRounds n old new was now
-    → IsFinished new true → AfterAllSoundRounds old new was
-finished_whole laws n old new was now g f = record {
-  on = λ qs s ts w.
-      let x = g qs s ts w in
-      ran_whole laws (λ i. n) qs s ts new now x (λ c p lt transcript. (f qs s x.history x.after).0 refl c p lt transcript);
-}
-
--- all are finished, after n rounds
-pub most_whole : ExchangeLaws → OneTranscript → (n : ℕ) (old mid new : MetaLinks) (was now : List Peer)
-    → SoundRounds n old mid was now → most ≤ n → UnfinishedOnlyStep mid new → AfterAllSoundRounds old new was
-most_whole laws uniqueness n old mid new was now g le x = record {
-  on = λ qs s ts w.
-      let y = at_most qs s ts (g qs s ts w) in
-      let z = spared_world uniqueness laws.longer laws.few qs s ts mid now y most new x in
-      ran_kept laws uniqueness qs s ts new now z;
-}
-  where
-    lower : (qs : List Question) (s : MetaSettings) (ts : List TargetState) (w : IsSoundWorld (λ i. n) qs s ts mid now)
-        (c : ℕ) (q : Question) (t : TargetState) (p : Peer) → IsAdvancedTo n s q t (events_on c w.history) p
-        → IsAdvancedTo most s q t (events_on c w.history) p
-    lower qs s ts w c q t p (inl k) =
-        inl (k.0, k.1, k.2, λ on. let a : n ≤ length (sent (past_of k.0)) = k.3 on in omega (arith, a, le))
-    lower qs s ts w c q t p (inr lost) = inr lost
-
-    at_most : (qs : List Question) (s : MetaSettings) (ts : List TargetState) → IsSoundWorld (λ i. n) qs s ts mid now
-        → IsSoundWorld (λ i. most) qs s ts mid now
-    at_most qs s ts w = record {
-      history = w.history;
-      after = w.after;
-      size = w.size;
-      equal = w.equal;
-      kept = λ c q t p a b d. lower qs s ts w c q t p (w.kept c q t p a b d);
-    }

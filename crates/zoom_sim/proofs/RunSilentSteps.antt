@@ -6,9 +6,7 @@ use Rattle.zoom_questions.specs.declared.question.Question.{Question}
 use Rattle.zoom_questions.specs.declared.question.MetaSettings.{MetaSettings}
 use Rattle.zoom_pool.specs.Transcripts.{Event, Called, Fed, Took, InputEnded, HandedOut, Stopped, given, fed}
 use Rattle.zoom_pool.specs.History.{History, events_on}
-use Rattle.zoom_pool.specs.Laws.{UpToLaw}
 use Rattle.zoom_pool.specs.Metas.{MetaLinks, MetaAfter, MetaRecorded, MetaTakeStep, DriveResult, Progress, call_events}
-use Rattle.zoom_pool.proofs.Metas.{up_to_meta}
 use Rattle.zoom_pool.proofs.Pools.{only_append}
 use Rattle.zoom_sim.specs.RunSteps.{IsSilent, AreSilent, MoreSilentEvents, SilentStep}
 
@@ -90,20 +88,20 @@ goes_trans a b c f g = record {
 
 pub recorded_silent : (c : ℕ) (event : Event) (old new : MetaLinks) → IsSilentEvent event → MetaRecorded c event old new → SilentStep old new
 recorded_silent c event old new n b = record {
-  on = λ q s h a. record { more = (c, event) ∷ []; after = b q s h a; silent = one_silent c event n };
+  on = λ q s h a. record { more = (c, event) ∷ []; after = b q s [] h a; silent = one_silent c event n };
 }
 
-pub took_goes : UpToLaw → (c : ℕ) (old new : MetaLinks) → MetaTakeStep c old new → SilentStep old new
-took_goes law c old new t = record {
+pub took_goes : (c : ℕ) (old new : MetaLinks) → MetaTakeStep c old new → SilentStep old new
+took_goes c old new t = record {
   on = λ q s h a. record {
     more = (c, Took) ∷ [];
-    after = t q s h (up_to_meta law q s c h old a);
+    after = t q s [] h a;
     silent = one_silent c Took tt;
   };
 }
 
 progress_went : (q : List Question) (s : MetaSettings) (c : ℕ) (h : History) (n : ℕ) (new : MetaLinks)
-    → Progress q s c h n new → MoreSilentEvents q s h new
+    → Progress q s [] c h n new → MoreSilentEvents q s h new
 progress_went q s c h n new p = record {
   more = call_events c p.calls;
   after = p.after;
@@ -111,5 +109,5 @@ progress_went q s c h n new p = record {
 }
 
 pub drove_goes : {E : Type 0} (c : ℕ) (answer : Result ℕ E) (old new : MetaLinks) → DriveResult c answer old new → SilentStep old new
-drove_goes c (Ok n) old new d = record { on = λ q s h a. progress_went q s c h n new (d q s h a).progress }
-drove_goes c (Err e) old new d = record { on = λ q s h a. let w = d q s h a in progress_went q s c h w.0 new w.1 }
+drove_goes c (Ok n) old new d = record { on = λ q s h a. progress_went q s c h n new (d q s [] h a).progress }
+drove_goes c (Err e) old new d = record { on = λ q s h a. let w = d q s [] h a in progress_went q s c h w.0 new w.1 }

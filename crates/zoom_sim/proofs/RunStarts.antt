@@ -49,7 +49,7 @@ same_took p q same t = (
 module _ (laws : ExchangeLaws) (takes : TakeLaws) (uniqueness : OneTranscript) (n : ℕ) (mid new : MetaLinks)
     (questions : List Question) (s : MetaSettings) (targets : List TargetState) (peers : List Peer)
     (are : ArePeersOf targets peers) (w : AreStarted n questions s targets mid peers) (count : ℕ)
-    (drove : CompleteDrive questions s n w.history count new) where
+    (drove : CompleteDrive questions s [] n w.history count new) where
   abbrev longer : History
   longer = at_connection n (map Called drove.progress.calls) ++ w.history
 

@@ -36,7 +36,7 @@ was_stopped : (n : ℕ) (q : List Question) (s : MetaSettings) (h : History) (mi
     → AreStopped q s n h mid → MetaRecorded n (Stopped reason) mid new → AreStopped q s (n + 1) h new
 was_stopped n q s h mid new reason w recorded = record {
   more = (n, Stopped reason) ∷ w.more;
-  after = recorded q s (w.more ++ h) w.after;
+  after = recorded q s [] (w.more ++ h) w.after;
   silent = all_silent ((n, Stopped reason) ∷ []) w.more (one_silent n (Stopped reason) tt) w.silent;
   over = λ i p lt transcript. by i p lt transcript (n == i) refl;
 }

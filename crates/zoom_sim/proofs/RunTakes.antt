@@ -20,32 +20,32 @@ use Rattle.zoom_pool.specs.declared.answer.TakeError.{TakeError}
 use Rattle.zoom_pool.specs.States.{is_stopped}
 use Rattle.zoom_pool.specs.PoolSteps.{IsTakeResult}
 use Rattle.zoom_pool.specs.Inputs.{Input, AlreadyStopped, Message, Foreign, Fault, Rest, Nothing}
-use Rattle.zoom_pool.specs.Transcripts.{Event, Called, Took, Transcript, IsTranscript, NextInput, IsDone, given, fed, state_at, past_of, after_take, take_result, take_result_of_verdict, step_of_taken, is_message, after_reply, after_call}
+use Rattle.zoom_pool.specs.Transcripts.{Event, Called, Took, InputEnded, Transcript, IsTranscript, NextInput, IsDone, given, fed, state_at, past_of, after_take, take_result, take_result_of_verdict, step_of_taken, is_message, after_reply, after_call}
 use Rattle.zoom_pool.specs.History.{History, events_on}
 use Rattle.zoom_pool.specs.Hosts.{Holdings, HostEvent, HostState, holdings_of}
-use Rattle.zoom_pool.specs.Laws.{OneTranscript, TakeLaws, UpToLaw, IsWaiting}
+use Rattle.zoom_pool.specs.Laws.{OneTranscript, TakeLaws, IsWaiting}
 use Rattle.zoom_pool.specs.Connections.{AreReadBack}
-use Rattle.zoom_pool.specs.Metas.{MetaLinks, MetaAfter, MetaTakeStep, CompleteDrive, call_events, settings_of}
-use Rattle.zoom_pool.proofs.Metas.{transcript_at, slice_some, up_to_meta}
+use Rattle.zoom_pool.specs.Metas.{MetaLinks, MetaAfter, MetaRecorded, MetaTakeStep, CompleteDrive, call_events, settings_of}
+use Rattle.zoom_pool.proofs.Metas.{transcript_at, slice_some}
 use Rattle.zoom_laws.specs.Exchange.{IsSoundExchange, HasTakenAll, ExchangeLaws, CallLaw}
 use Rattle.zoom_sim.specs.declared.peers.Peer.{Peer}
-use Rattle.zoom_sim.specs.RunSound.{at_connection, DriveOneStep, TakeOneStep, is_taken, HasNoCallDue, IsSoundPeer, SoundStep, MoreEvents}
-use Rattle.zoom_sim.specs.RunTakeAll.{MoreEventsStep}
+use Rattle.zoom_sim.specs.RunSound.{at_connection, DriveOneStep, TakeOneStep, is_taken, HasNoCallDue, IsSoundPeer, SoundStep, AreQuiet, MoreQuietEvents, EndInputStep}
+use Rattle.zoom_sim.specs.RunTakeAll.{MoreEventsStep, QuietStep}
 use Rattle.zoom_sim.proofs.RunSound.{only_more, of_append}
+use Rattle.zoom_sim.proofs.RunLosses.{quiet_append, quiet_calls}
 
 -- ---- the result of a take
 
 -- there is an input, and this is its result
-pub takes_at : UpToLaw → OneTranscript → (c : ℕ) (old new : MetaLinks) (answer : Result Step TakeError) (taken : Bool)
+pub takes_at : OneTranscript → (c : ℕ) (old new : MetaLinks) (answer : Result Step TakeError) (taken : Bool)
     → c < length old.pool.connections → IsTakeResult c old.pool answer → IsDone answer → MetaTakeStep c old new
     → is_taken answer ≡ taken → TakeOneStep c taken old new
-takes_at law uniqueness c old new answer taken there value_is done took is questions s h p a transcript =
-    let up = up_to_meta law questions s c h old a in
-    let now = transcript_at (settings_of s) h up.pool.transcript old.pool.connections c up.pool.stands there in
-    let same : up.pool.transcript c ≡ p = uniqueness (settings_of s) (events_on c h) (up.pool.transcript c) p now transcript in
-    let t = value_is (settings_of s) c h up.pool done in
+takes_at uniqueness c old new answer taken there value_is done took is questions s h p a transcript =
+    let now = transcript_at (settings_of s) h a.pool.transcript old.pool.connections c a.pool.stands there in
+    let same : a.pool.transcript c ≡ p = uniqueness (settings_of s) (events_on c h) (a.pool.transcript c) p now transcript in
+    let t = value_is (settings_of s) [] h a.pool done in
     let answers : answer ≡ take_result p t.0 = subst (λ z. answer ≡ take_result z t.0) same t.2 in
-    (took questions s h up, (t.0, subst (λ z. NextInput z t.0) same t.1, sym (ap is_taken answers) ∙ is))
+    (took questions s [] h a, (t.0, subst (λ z. NextInput z t.0) same t.1, sym (ap is_taken answers) ∙ is))
 
 -- ---- the input of a take
 
@@ -203,7 +203,7 @@ sent_read uniqueness questions s h meta c p after lt transcript =
 
 -- the calls that driving made
 pub drove_after : (questions : List Question) (s : MetaSettings) (c : ℕ) (h : History) (n : ℕ) (new : MetaLinks)
-    (w : CompleteDrive questions s c h n new) → MetaAfter questions s (at_connection c (map Called w.progress.calls) ++ h) new
+    (w : CompleteDrive questions s [] c h n new) → MetaAfter questions s (at_connection c (map Called w.progress.calls) ++ h) new
 drove_after questions s c h n new w =
     subst (λ z. MetaAfter questions s (z ++ h) new) (made_of c w.progress.calls) w.progress.after
 
@@ -214,7 +214,7 @@ pub record IsDriven (s : MetaSettings) (q : Question) (holdings : Holdings) (cal
   pub idle : HasNoCallDue s q (called calls p)
 
 pub drives_sound : CallLaw → OneTranscript → (questions : List Question) (s : MetaSettings) (c : ℕ) (h : History) (n : ℕ)
-    (new : MetaLinks) (w : CompleteDrive questions s c h n new) (q : Question) (holdings : Holdings) (p : Transcript)
+    (new : MetaLinks) (w : CompleteDrive questions s [] c h n new) (q : Question) (holdings : Holdings) (p : Transcript)
     (host_events : List HostEvent) (host : HostState) → slice_get questions c ≡ Some q
     → IsSoundExchange holdings (settings_of s) (events_on c h) p host_events host
     → IsDriven s q holdings w.progress.calls (events_on c h) p host_events host
@@ -235,63 +235,96 @@ drives_sound law uniqueness questions s c h n new w q holdings p host_events hos
 
 -- ---- whatever was sound
 
-pub drive_adds : (c : ℕ) (old new : MetaLinks) → DriveOneStep c old new → MoreEventsStep c old new
+pub drive_adds : (c : ℕ) (old new : MetaLinks) → DriveOneStep c old new → QuietStep c old new
 drive_adds c old new d questions s h a =
     let drove = d questions s h a in
-    let w : CompleteDrive questions s c h drove.0 new = drove.1 in
-    record { events = map Called w.progress.calls; after = drove_after questions s c h drove.0 new w }
+    let w : CompleteDrive questions s [] c h drove.0 new = drove.1 in
+    record {
+      events = map Called w.progress.calls;
+      after = drove_after questions s c h drove.0 new w;
+      quiet = quiet_calls w.progress.calls;
+    }
 
 -- a take, whatever its input
 pub take_adds : (c : ℕ) (taken : Bool) (old new : MetaLinks) → c < length old.pool.connections → TakeOneStep c taken old new
-    → MoreEventsStep c old new
+    → QuietStep c old new
 take_adds c taken old new there t questions s h a =
     let transcript = transcript_at (settings_of s) h a.pool.transcript old.pool.connections c a.pool.stands there in
-    record { events = Took ∷ []; after = (t questions s h (a.pool.transcript c) a transcript).0 }
+    record { events = Took ∷ []; after = (t questions s h (a.pool.transcript c) a transcript).0; quiet = tt }
 
-pub adds_same : (c : ℕ) (meta : MetaLinks) → MoreEventsStep c meta meta
-adds_same c meta questions s h a = record { events = []; after = a }
+pub adds_same : (c : ℕ) (meta : MetaLinks) → QuietStep c meta meta
+adds_same c meta questions s h a = record { events = []; after = a; quiet = tt }
 
-pub adds_trans : (c : ℕ) (old mid new : MetaLinks) → MoreEventsStep c old mid → MoreEventsStep c mid new → MoreEventsStep c old new
+pub adds_trans : (c : ℕ) (old mid new : MetaLinks) → QuietStep c old mid → QuietStep c mid new → QuietStep c old new
 adds_trans c old mid new f g questions s h a =
-    let one : MoreEvents questions s c h mid = f questions s h a in
-    let two : MoreEvents questions s c (at_connection c one.events ++ h) new = g questions s (at_connection c one.events ++ h) one.after in
+    let one : MoreQuietEvents questions s c h mid = f questions s h a in
+    let two : MoreQuietEvents questions s c (at_connection c one.events ++ h) new = g questions s (at_connection c one.events ++ h) one.after in
     record {
       events = two.events ++ one.events;
       after = subst (λ z. MetaAfter questions s z new) (of_append c one.events two.events h) two.after;
+      quiet = quiet_append two.events one.events two.quiet one.quiet;
     }
 
+-- quiet events are events
+pub quiet_adds : (c : ℕ) (old new : MetaLinks) → QuietStep c old new → MoreEventsStep c old new
+quiet_adds c old new f questions s h a =
+    let m : MoreQuietEvents questions s c h new = f questions s h a in record { events = m.events; after = m.after }
+
+-- the end of the input, and a take
+pub ended_take : (c : ℕ) (taken : Bool) (old mid new : MetaLinks) → MetaRecorded c InputEnded old mid
+    → TakeOneStep c taken mid new → EndInputStep c old new
+ended_take c taken old mid new recorded t questions s h p a transcript =
+    let ended : Transcript = record p { ended = true } in
+    let later : History = at_connection c (InputEnded ∷ []) ++ h in
+    let here : events_on c later ≡ InputEnded ∷ events_on c h = only_more c (InputEnded ∷ []) h in
+    let there : IsTranscript (settings_of s) (events_on c later) ended =
+    subst (λ z. IsTranscript (settings_of s) z ended) (sym here) (p, transcript, refl) in
+    let took = t questions s later ended (recorded questions s [] h a) there in
+    (took.0, (took.1.0, took.1.1))
+
 -- ---- what was sound
+
+-- quiet events, after which what was sound is sound
+pub record QuietSoundStep (questions : List Question) (s : MetaSettings) (c : ℕ) (h : History) (q : Question)
+    (target : TargetState) (taken same : Bool) (p : Transcript) (host_events : List HostEvent) (new : MetaLinks)
+    (peer : Peer) : Type 0 where
+  pub stepped : SoundStep questions s c h q target taken same p host_events new peer
+  pub quiet : AreQuiet stepped.events
 
 -- one message was taken
 pub record Busy (questions : List Question) (s : MetaSettings) (c : ℕ) (h : History) (q : Question)
     (target : TargetState) (p : Transcript) (host_events : List HostEvent) (new : MetaLinks) (peer : Peer) : Type 0 where
   pub stepped : SoundStep questions s c h q target false false p host_events new peer
   pub more : stepped.later.taken ≡ suc p.taken
+  pub quiet : AreQuiet stepped.events
 
 module _ (laws : ExchangeLaws) (takes : TakeLaws) (c : ℕ) (peer : Peer) (questions : List Question) (s : MetaSettings)
     (h : History) (q : Question) (target : TargetState) (p : Transcript) (host_events : List HostEvent) where
   -- a take of no message
   pub idle_fine : (taken : Bool) (old new : MetaLinks) → TakeOneStep c false old new → MetaAfter questions s h old
       → IsSoundPeer s q target taken (events_on c h) p host_events peer
-      → SoundStep questions s c h q target true true p host_events new peer
+      → QuietSoundStep questions s c h q target true true p host_events new peer
   idle_fine taken old new t a f =
       let took = t questions s h p a f.sound.transcript in
       let input = took.1.0 in
       let sound = laws.takes (holdings_of target) (settings_of s) (events_on c h) p host_events peer.host input f.sound took.1.1 in
       let idle : IsIdleTake p (after_take p input) = idle_take takes p input f.sound.goes_on took.1.1 took.1.2 sound.goes in
       record {
-        events = Took ∷ [];
-        host_more = [];
-        after = took.0;
-        later = after_take p input;
-        fine = record {
-          sound = sound;
-          to = f.to;
-          from = f.from;
-          idle = subst (HasNoCallDue s q) (sym idle.same) f.idle;
-          took = λ e. subst (λ z. is_stopped (state_at z) ≡ false → HasTakenAll z) (sym idle.same) idle.took;
+        stepped = record {
+          events = Took ∷ [];
+          host_more = [];
+          after = took.0;
+          later = after_take p input;
+          fine = record {
+            sound = sound;
+            to = f.to;
+            from = f.from;
+            idle = subst (HasNoCallDue s q) (sym idle.same) f.idle;
+            took = λ e. subst (λ z. is_stopped (state_at z) ≡ false → HasTakenAll z) (sym idle.same) idle.took;
+          };
+          still = λ e. idle.same;
         };
-        still = λ e. idle.same;
+        quiet = tt;
       }
 
   -- a take of a message, and the calls that were due then
@@ -305,7 +338,7 @@ module _ (laws : ExchangeLaws) (takes : TakeLaws) (c : ℕ) (peer : Peer) (quest
       let h_took : History = at_connection c (Took ∷ []) ++ h in
       let here : events_on c h_took ≡ Took ∷ events_on c h = only_more c (Took ∷ []) h in
       let drove = d questions s h_took took.0 in
-      let w : CompleteDrive questions s c h_took drove.0 new = drove.1 in
+      let w : CompleteDrive questions s [] c h_took drove.0 new = drove.1 in
       let calls = w.progress.calls in
       let later = called calls (after_take p input) in
       let driven : IsDriven s q (holdings_of target) calls (events_on c h_took) (after_take p input) host_events peer.host =
@@ -333,4 +366,5 @@ module _ (laws : ExchangeLaws) (takes : TakeLaws) (c : ℕ) (peer : Peer) (quest
           still = λ e. absurd (true≢false (sym e));
         };
         more = (stream_called calls (after_take p input)).taken ∙ taken_grows p input took.1.2;
+        quiet = quiet_append (map Called calls) (Took ∷ []) (quiet_calls calls) tt;
       }

@@ -8,8 +8,8 @@ use Rattle.zoom_pool.specs.History.{History, events_on}
 use Rattle.zoom_pool.specs.Metas.{MetaLinks, MetaAfter, MetaRecorded, IsTranscriptValue, settings_of}
 use Rattle.zoom_pool.proofs.Pools.{only_append}
 use Rattle.zoom_sim.specs.Run.{is_over}
-use Rattle.zoom_sim.specs.RunSound.{at_connection, MoreEvents, MoreEventsOfUnfinished, UnfinishedOnlyStep}
-use Rattle.zoom_sim.specs.RunTakeAll.{MoreEventsStep}
+use Rattle.zoom_sim.specs.RunSound.{at_connection, MoreEvents, MoreEventsOfUnfinished, UnfinishedOnlyStep, AreQuiet}
+use Rattle.zoom_sim.specs.RunTakeAll.{MoreEventsStep, QuietStep}
 use Rattle.zoom_sim.proofs.RunSound.{none_of}
 
 pub spares_trans : (a b c : MetaLinks) → UnfinishedOnlyStep a b → UnfinishedOnlyStep b c → UnfinishedOnlyStep a c
@@ -53,4 +53,9 @@ adds_spares c old new value_is adds = record {
 
 -- one event
 pub recorded_adds : (c : ℕ) (event : Event) (old new : MetaLinks) → MetaRecorded c event old new → MoreEventsStep c old new
-recorded_adds c event old new b questions s h a = record { events = event ∷ []; after = b questions s h a }
+recorded_adds c event old new b questions s h a = record { events = event ∷ []; after = b questions s [] h a }
+
+-- one quiet event
+pub recorded_quiet : (c : ℕ) (event : Event) (old new : MetaLinks) → AreQuiet (event ∷ []) → MetaRecorded c event old new
+    → QuietStep c old new
+recorded_quiet c event old new a b questions s h x = record { events = event ∷ []; after = b questions s [] h x; quiet = a }

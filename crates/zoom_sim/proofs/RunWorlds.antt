@@ -1,5 +1,5 @@
 -- Worlds after moves.
-use Rattle.std.proofs.Common.{◌≡◌, ◌∙◌, sym, ap, subst, ℕ, zero, suc, ◌<◌, ◌==◌, Bool, true, false, List, [], ◌∷◌, ◌++◌, length, get_or, slice_get, slice_set}
+use Rattle.std.proofs.Common.{◌≡◌, ◌∙◌, sym, ap, append_assoc, subst, ℕ, zero, suc, ◌<◌, ◌==◌, Bool, true, false, List, [], ◌∷◌, ◌++◌, length, get_or, slice_get, slice_set}
 use Rattle.std.proofs.Common.{Some, refl, arith, append-nil}
 use Rattle.std.proofs.lemmas.Bool.Decides.{nat_tests}
 use Rattle.std.proofs.lemmas.Option.{slice_get_within}
@@ -12,12 +12,12 @@ use Rattle.zoom_pool.specs.History.{History, events_on}
 use Rattle.zoom_questions.specs.NewTargets.{IsNew, AreNew}
 use Rattle.zoom_pool.specs.Hosts.{holdings_of, handed_out}
 use Rattle.zoom_pool.specs.Metas.{MetaLinks, MetaAfter}
-use Rattle.zoom_pool.proofs.Pools.{only_append, got, get_same}
-use Rattle.zoom_pool.proofs.Metas.{get_other, slice_some}
+use Rattle.zoom_pool.proofs.Pools.{only_append, got, get_same, get_other}
+use Rattle.zoom_pool.proofs.Metas.{slice_some}
 use Rattle.zoom_sim.specs.declared.peers.Peer.{Peer}
 use Rattle.zoom_laws.specs.Exchange.{fed_to}
 use Rattle.zoom_sim.specs.Run.{IsExchange, IsRun}
-use Rattle.zoom_sim.specs.RunSteps.{IsSilent, SilentStep, MoreSilentEvents, AreStopped, StopAllStep, IsCarried, CarryStep, IsExchangeUnderway, IsReachableWorld, AfterMoves, AfterAllRounds, IsPeerOf, ArePeersOf}
+use Rattle.zoom_sim.specs.RunSteps.{IsSilent, SilentStep, MoreSilentEvents, AreStopped, StopAllStep, IsCarried, CarryStep, IsExchangeUnderway, IsReachableWorld, IsContinued, AfterMoves, AfterAllRounds, IsPeerOf, ArePeersOf}
 use Rattle.zoom_sim.proofs.RunSilentSteps.{given_append, fed_append}
 use Rattle.zoom_sim.proofs.RunCarries.{fed_to_append, handed_out_append, goes_through}
 
@@ -58,20 +58,36 @@ carried_tied q s t c h new p r tie w = record {
 
 -- ---- worlds
 
+continued : (h mid later : History) → IsContinued h mid → IsContinued mid later → IsContinued h later
+continued h mid later one two = (
+  two.0 ++ one.0,
+  two.1 ∙ ap (λ z. two.0 ++ z) one.1 ∙ sym (append_assoc two.0 one.0 h),
+)
+
 pub world_trans : (a b c : MetaLinks) (x y z : List Peer) → AfterMoves a b x y → AfterMoves b c y z → AfterMoves a c x z
-world_trans a b c x y z f g = record { on = λ q s ts w. g.on q s ts (f.on q s ts w) }
+world_trans a b c x y z f g = record {
+  on = λ q s ts w.
+      let one = f.on q s ts w in
+      let two = g.on q s ts one.0 in
+      (two.0, continued w.history one.0.history two.0.history one.1 two.1);
+}
 
 pub goes_world : (old new : MetaLinks) (peers : List Peer) → SilentStep old new → AfterMoves old new peers peers
 goes_world old new peers g = record {
   on = λ q s ts w.
-      let more : MoreSilentEvents q s w.history new = g.on q s w.history w.after in
-      record {
-        history = more.more ++ w.history;
-        after = more.after;
-        size = w.size;
-        tied = λ c t p at by. silent_tied t c w.history more.more p (more.silent c) (w.tied c t p at by);
-      };
+      let more : MoreSilentEvents q s w.history new = g.on q s w.history w.after in (
+        record {
+          history = more.more ++ w.history;
+          after = more.after;
+          size = w.size;
+          tied = λ c t p at by. silent_tied t c w.history more.more p (more.silent c) (w.tied c t p at by);
+        },
+        (more.more, refl),
+      );
 }
+
+pub same_world : (meta : MetaLinks) (peers : List Peer) → AfterMoves meta meta peers peers
+same_world meta peers = record { on = λ q s ts w. (w, ([], refl)) }
 
 -- the connection's target, and the exchange of both
 pub carries_world : (c : ℕ) (old new : MetaLinks) (peers : List Peer) (p r : Peer) → slice_get peers c ≡ Some p
@@ -81,21 +97,23 @@ carries_world c old new peers p r here f = record { on = λ q s ts w. at q s ts 
     within : c < length peers
     within = slice_get_within peers c p here
 
-    at : (q : List Question) (s : MetaSettings) (ts : List TargetState) → IsReachableWorld q s ts old peers
-        → IsReachableWorld q s ts new (slice_set peers c r)
+    at : (q : List Question) (s : MetaSettings) (ts : List TargetState) (w : IsReachableWorld q s ts old peers)
+        → (v : IsReachableWorld q s ts new (slice_set peers c r)) × IsContinued w.history v.history
     at q s ts w =
         let found = slice_some ts c (subst (λ n. c < n) w.size within) in
         let tie : IsExchangeUnderway found.0 (events_on c w.history) p = w.tied c found.0 p found.1 here in
         let more : IsCarried q s c w.history (holdings_of found.0) tie.host_events new p r =
         f.on q s w.history (holdings_of found.0) tie.host_events w.after tie.served in
         let own : IsExchangeUnderway found.0 (events_on c (more.events ++ w.history)) r =
-        carried_tied q s found.0 c w.history new p r tie more in
-        record {
-          history = more.events ++ w.history;
-          after = more.after;
-          size = length-set peers c r ∙ w.size;
-          tied = λ i t z got by. each q s ts w found.0 found.1 more.events more.others own i t z got by (c == i) refl;
-        }
+        carried_tied q s found.0 c w.history new p r tie more in (
+          record {
+            history = more.events ++ w.history;
+            after = more.after;
+            size = length-set peers c r ∙ w.size;
+            tied = λ i t z got by. each q s ts w found.0 found.1 more.events more.others own i t z got by (c == i) refl;
+          },
+          (more.events, refl),
+        )
       where
         each : (q : List Question) (s : MetaSettings) (ts : List TargetState) (w : IsReachableWorld q s ts old peers)
             (mine : TargetState) → slice_get ts c ≡ Some mine → (events : History)
@@ -136,22 +154,30 @@ pub halts_ends : (old new : MetaLinks) (peers : List Peer) → StopAllStep (leng
     → AfterAllRounds old new peers
 halts_ends old new peers f = record { on = λ q s ts w. at q s ts w }
   where
-    at : (q : List Question) (s : MetaSettings) (ts : List TargetState) → IsReachableWorld q s ts old peers → IsRun q s ts new
+    at : (q : List Question) (s : MetaSettings) (ts : List TargetState) (w : IsReachableWorld q s ts old peers)
+        → (run : IsRun q s ts new) × IsContinued w.history run.history
     at q s ts w =
-        let more : AreStopped q s (length old.pool.connections) w.history new = f.on q s w.history w.after in
-        record {
-          history = more.more ++ w.history;
-          after = more.after;
-          talked = λ c t got.
-              let mine = slice_some peers c (subst (λ n. c < n) (sym w.size) (slice_get_within ts c t got)) in
-              talked t (events_on c (more.more ++ w.history)) mine.0
-              (silent_tied t c w.history more.more mine.0 (more.silent c) (w.tied c t mine.0 got mine.1));
-          over = λ c p lt transcript. more.over c p (subst (λ n. c < n) (sym w.after.size) lt) transcript;
-        }
+        let more : AreStopped q s (length old.pool.connections) w.history new = f.on q s w.history w.after in (
+          record {
+            history = more.more ++ w.history;
+            after = more.after;
+            talked = λ c t got.
+                let mine = slice_some peers c (subst (λ n. c < n) (sym w.size) (slice_get_within ts c t got)) in
+                talked t (events_on c (more.more ++ w.history)) mine.0
+                (silent_tied t c w.history more.more mine.0 (more.silent c) (w.tied c t mine.0 got mine.1));
+            over = λ c p lt transcript. more.over c p (subst (λ n. c < n) (sym w.after.size) lt) transcript;
+          },
+          (more.more, refl),
+        )
 
 pub world_ends : (old mid new : MetaLinks) (x y : List Peer) → AfterMoves old mid x y → AfterAllRounds mid new y
     → AfterAllRounds old new x
-world_ends old mid new x y f g = record { on = λ q s ts w. g.on q s ts (f.on q s ts w) }
+world_ends old mid new x y f g = record {
+  on = λ q s ts w.
+      let one = f.on q s ts w in
+      let two = g.on q s ts one.0 in
+      (two.0, continued w.history one.0.history two.0.history one.1 two.1);
+}
 
 -- ---- at first
 

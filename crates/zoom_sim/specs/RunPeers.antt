@@ -5,10 +5,10 @@ use Rattle.zoom_questions.specs.declared.question.Question.{Question}
 use Rattle.zoom_questions.specs.declared.question.MetaSettings.{MetaSettings}
 use Rattle.zoom_pool.specs.Transcripts.{Event, Transcript}
 use Rattle.zoom_pool.specs.History.{History, events_on}
-use Rattle.zoom_pool.specs.Hosts.{HostEvent, HostHandedOut, HostRecorded, holdings_of}
+use Rattle.zoom_pool.specs.Hosts.{HostEvent, HostHandedOut, HostRecorded}
 use Rattle.zoom_pool.specs.Metas.{MetaLinks, MetaAfter}
 use Rattle.zoom_sim.specs.declared.peers.Peer.{Peer}
-use Rattle.zoom_sim.specs.RunSound.{IsSoundPeer, HasLongReply}
+use Rattle.zoom_sim.specs.RunSound.{IsSoundPeer, IsStoppedPeer, IsLostPeer}
 
 -- all octets that waited at the target, or were on their way from it, were carried to the connection
 pub record CarryAllStep (was now : Peer) : Type 0 where
@@ -24,14 +24,21 @@ pub record IsEmptied (s : MetaSettings) (q : Question) (target : TargetState) (e
   pub fine : IsSoundPeer s q target true events p (host_more ++ host_events) now
   pub none : now.host.target.pending ≡ []
 
--- all replies were released, or some reply that is owed is too long
+-- what releasing replies keeps: a target that lost a reply
+abbrev pub LostReleaseStep : Peer → Peer → Type 0
+LostReleaseStep was now =
+    (s : MetaSettings) (q : Question) (target : TargetState) (events : List Event)
+    → IsLostPeer s q target true events was → IsLostPeer s q target true events now
+
+-- all replies were released, or the target lost one that was too long
 pub record ReleaseAllStep (was now : Peer) : Type 0 where
   pub to : now.to ≡ was.to
   pub on : (questions : List Question) (s : MetaSettings) (c : ℕ) (h : History) (q : Question) (target : TargetState)
       (p : Transcript) (host_events : List HostEvent) (meta : MetaLinks)
       → MetaAfter questions s h meta → slice_get questions c ≡ Some q
       → IsSoundPeer s q target true (events_on c h) p host_events was
-      → IsEmptied s q target (events_on c h) p host_events now ⊎ HasLongReply (holdings_of target) p
+      → IsEmptied s q target (events_on c h) p host_events now ⊎ IsStoppedPeer s q target true (events_on c h) now
+  pub lost : LostReleaseStep was now
 
 -- connection and target are sound, and the serving end sent at least n replies
 pub record SoundReleaseSteps (n : ℕ) (s : MetaSettings) (q : Question) (target : TargetState) (events : List Event)
@@ -47,3 +54,4 @@ pub record ReleaseSteps (n : ℕ) (was now : Peer) : Type 0 where
   pub on : (s : MetaSettings) (q : Question) (target : TargetState) (events : List Event) (p : Transcript)
       (host_events : List HostEvent)
       → IsSoundPeer s q target true events p host_events was → SoundReleaseSteps n s q target events p host_events now
+  pub lost : LostReleaseStep was now

@@ -15,17 +15,18 @@ use Rattle.zoom_pool.specs.Steering.{complete_in, is_rejected, IsTried}
 use Rattle.zoom_laws.specs.Accord.{requests}
 use Rattle.zoom_laws.specs.Exchange.{IsSoundExchange}
 use Rattle.zoom_sim.specs.declared.peers.Peer.{Peer}
-use Rattle.zoom_sim.specs.Run.{is_over}
-use Rattle.zoom_sim.specs.RunSound.{IsSoundPeer, HasLongReplyDue}
+use Rattle.zoom_sim.specs.Run.{is_over, IsRun}
+use Rattle.zoom_sim.specs.RunSound.{IsSoundPeer, IsStoppedPeer, IsEndedEarly, IsEndedPeer}
 
 -- ---- rounds
 
--- The connection is sound with its target, and is finished or sent at least n octets; or some reply that is owed is too
--- long.
+-- The connection is sound with its target, and is finished or sent at least n octets. Or its target lost a reply that
+-- was too long: then its input ended, or n is 0.
 abbrev pub IsAdvancedTo : ℕ → MetaSettings → Question → TargetState → List Event → Peer → Type 0
 IsAdvancedTo n s q target events peer =
     ((p : Transcript) × (host_events : List HostEvent) × IsSoundPeer s q target true events p host_events peer
-    × (is_over p ≡ false → n ≤ length (sent (past_of p)))) ⊎ HasLongReplyDue s target events
+    × (is_over p ≡ false → n ≤ length (sent (past_of p))))
+    ⊎ ((IsStoppedPeer s q target true events peer × (n ≡ 0)) ⊎ IsEndedPeer s target events peer)
 
 -- Some history left the world, and each connection c has advanced to `least c` octets.
 pub record IsSoundWorld (least : ℕ → ℕ) (questions : List Question) (s : MetaSettings) (targets : List TargetState)
@@ -72,14 +73,14 @@ pub record IsCompleteExchange (s : MetaSettings) (target : TargetState) (events 
   pub owed : IsPermutation (replies_to (holdings_of target) (requests transcript.settings transcript.log)) replies
   pub stream : transcript.stream ≡ flat_map encoding_of replies
 
--- A complete run: some history left the connections, and each had a complete exchange with the target of its number.
--- The exception is a connection to which a reply is owed that is longer than a message may be.
+-- A complete run: it is a run, and in its history each connection had a complete exchange with the target of its
+-- number, or ended early: the target owes a reply of more than 2,097,152 octets to the connection's requests, and the
+-- connection is Failed for `Ended`.
 pub record IsCompleteRun (questions : List Question) (s : MetaSettings) (targets : List TargetState) (meta : MetaLinks)
     : Type 0 where
-  pub history : History
-  pub after : MetaAfter questions s history meta
+  pub run : IsRun questions s targets meta
   pub whole : (c : ℕ) (target : TargetState) → slice_get targets c ≡ Some target
-      → IsCompleteExchange s target (events_on c history) ⊎ HasLongReplyDue s target (events_on c history)
+      → IsCompleteExchange s target (events_on c run.history) ⊎ IsEndedEarly s target (events_on c run.history)
 
 -- each sound world comes to a complete run
 pub record AfterAllSoundRounds (old new : MetaLinks) (was : List Peer) : Type 0 where

@@ -102,15 +102,21 @@ pub record IsReachableWorld
       → slice_get targets c ≡ Some target → slice_get peers c ≡ Some peer
       → IsExchangeUnderway target (events_on c history) peer
 
--- each world that was reachable before is reachable after
+-- the later history has more events after the earlier one
+abbrev pub IsContinued : History → History → Type 0
+IsContinued h later = (more : History) × (later ≡ more ++ h)
+
+-- each world that was reachable before is reachable after, by a longer history
 pub record AfterMoves (old new : MetaLinks) (was now : List Peer) : Type 0 where
   pub on : (questions : List Question) (s : MetaSettings) (targets : List TargetState)
-      → IsReachableWorld questions s targets old was → IsReachableWorld questions s targets new now
+      (w : IsReachableWorld questions s targets old was)
+      → (v : IsReachableWorld questions s targets new now) × IsContinued w.history v.history
 
--- each world that was reachable before has come to a run
+-- each world that was reachable before has come to a run, whose history begins with the world's
 pub record AfterAllRounds (old new : MetaLinks) (was : List Peer) : Type 0 where
   pub on : (questions : List Question) (s : MetaSettings) (targets : List TargetState)
-      → IsReachableWorld questions s targets old was → IsRun questions s targets new
+      (w : IsReachableWorld questions s targets old was)
+      → (r : IsRun questions s targets new) × IsContinued w.history r.history
 
 -- the peer's target has received nothing, and no octets are on their way
 pub record IsPeerOf (target : TargetState) (peer : Peer) : Type 0 where

@@ -5,12 +5,13 @@ ghost use Rattle.zoom_pool.specs.States.{is_stopped};
 ghost use Rattle.zoom_pool.specs.Metas.{IsTranscriptValue};
 ghost use Rattle.zoom_sim.specs.Run.{is_over};
 ghost use Rattle.zoom_sim.specs.RunSteps.{SilentStep, StopOneStep, StopAllStep};
-ghost use Rattle.zoom_sim.specs.RunSound.{DriveOneStep, TakeOneStep, TakeAllStep, DriveAllStep, UnfinishedOnlyStep};
-ghost use Rattle.zoom_sim.specs.RunTakeAll.{MoreEventsStep};
+ghost use Rattle.zoom_sim.specs.RunSound.{DriveOneStep, TakeOneStep, TakeAllStep, EndInputStep, DriveAllStep, UnfinishedOnlyStep};
+ghost use Rattle.zoom_sim.specs.RunTakeAll.{QuietStep};
+ghost use Rattle.zoom_sim.specs.RunMoves.{DrivenStep, FailureStep};
 
 use std::alloc::AllocError;
 use zoom_laws::laws::exchange_laws;
-use zoom_pool::laws::{one_transcript, take_laws, up_to};
+use zoom_pool::laws::{one_transcript, take_laws};
 use zoom_pool::{Meta, Reason, State, Step, TakeError};
 
 /// Makes the calls that are due on connection `c`.
@@ -18,6 +19,7 @@ fn drive(meta: &mut Meta, c: u32) -> Result<(), AllocError>
     requires { c < length meta.old.pool.connections }
     ensures on { OnOk result (SilentStep meta.old meta.new) }
     ensures at { OnOk result (DriveOneStep c meta.old meta.new) }
+    ensures own { OnOk result (DrivenStep c meta.old meta.new) }
     ensures size { length meta.new.pool.connections ≡ length meta.old.pool.connections }
 {
     meta.drive(c)?;
@@ -39,9 +41,9 @@ fn take_one(meta: &mut Meta, c: u32) -> Result<bool, AllocError>
     requires { c < length meta.old.pool.connections }
     ensures on { OnOk result (SilentStep meta.old meta.new) }
     ensures at { IfOk result (λ taken. TakeOneStep c taken meta.old meta.new) }
+    ensures own { OnOk result (DrivenStep c meta.old meta.new) }
     ensures size { length meta.new.pool.connections ≡ length meta.old.pool.connections }
 {
-    up_to();
     one_transcript();
     match meta.take(c) {
         Ok(step) => Ok(is_message(step)),
@@ -57,7 +59,8 @@ pub(crate) fn take_all(meta: &mut Meta, c: u32) -> Result<(), AllocError>
     requires { c < length meta.old.pool.connections }
     ensures on { OnOk result (SilentStep meta.old meta.new) }
     ensures all { OnOk result (TakeAllStep c meta.old meta.new) }
-    ensures adds { OnOk result (MoreEventsStep c meta.old meta.new) }
+    ensures adds { OnOk result (QuietStep c meta.old meta.new) }
+    ensures own { OnOk result (DrivenStep c meta.old meta.new) }
     ensures size { length meta.new.pool.connections ≡ length meta.old.pool.connections }
 {
     exchange_laws();
@@ -103,7 +106,6 @@ fn is_over(meta: &Meta, c: u32) -> bool
     requires { c < length meta.now.pool.connections }
     ensures { IsTranscriptValue c meta.now is_over result }
 {
-    up_to();
     one_transcript();
     is_stopped(meta.state(c))
 }
@@ -120,6 +122,19 @@ fn end_input(meta: &mut Meta, c: u32) -> Result<(), AllocError>
     }
     meta.end(c);
     take_all(meta, c)
+}
+
+/// Ends the input of connection `c`, and takes once. It is for a connection of which each whole message was taken.
+pub(crate) fn end_taken(meta: &mut Meta, c: u32) -> Result<(), AllocError>
+    requires { c < length meta.old.pool.connections }
+    ensures on { OnOk result (SilentStep meta.old meta.new) }
+    ensures ends { OnOk result (EndInputStep c meta.old meta.new) }
+    ensures own { OnOk result (DrivenStep c meta.old meta.new) }
+    ensures size { length meta.new.pool.connections ≡ length meta.old.pool.connections }
+{
+    meta.end(c);
+    take_one(meta, c)?;
+    Ok(())
 }
 
 /// Ends the input of each connection that is not finished, and takes the messages that are left.
@@ -139,6 +154,7 @@ pub(crate) fn end_inputs(meta: &mut Meta) -> Result<(), AllocError>
 pub(crate) fn stop_for(meta: &mut Meta, c: u32, failure: Option<Reason>)
     requires { c < length meta.old.pool.connections }
     ensures on { SilentStep meta.old meta.new }
+    ensures stops { FailureStep c failure meta.old meta.new }
     ensures same { failure ≡ None → meta.new ≡ meta.old }
     ensures size { length meta.new.pool.connections ≡ length meta.old.pool.connections }
 {

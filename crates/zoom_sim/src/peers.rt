@@ -3,16 +3,18 @@ ghost use Rattle.std.specs.Prelude.{◌≡◌, ◌<◌, ◌^◌, ◌-◌, Bool, 
 ghost use Rattle.zoom_pool.specs.Links.{waiting_at};
 ghost use Rattle.zoom_questions.specs.NewTargets.{IsNew, AreNew};
 ghost use Rattle.zoom_sim.specs.RunSteps.{SilentStep, CarryStep, PeerReleaseStep, IsPeerOf, ArePeersOf};
-ghost use Rattle.zoom_sim.specs.RunSound.{PeerStep, PeerRound, SoundReleaseStep};
+ghost use Rattle.zoom_sim.specs.RunSound.{PeerStep, PeerRound, PeerEndStep, SoundReleaseStep};
 ghost use Rattle.zoom_sim.specs.RunPeers.{CarryAllStep, ReleaseAllStep};
+ghost use Rattle.zoom_sim.specs.RunMoves.{DrivenStep, PeerReleaseResult, AllAreReleased, AfterCarryTo, AfterFeedFrom, AfterCarryFrom, PeerRoundStep, connection_of, AfterMove};
 
 use crate::channels::Channel;
-use crate::drives::{stop_for, take_all};
+use crate::drives::{end_taken, stop_for, take_all};
 use crate::pipes::Pipe;
 use std::alloc::{AllocError, Global};
-use zoom_laws::laws::exchange_laws;
+use zoom_laws::laws::{accord_laws, exchange_laws};
 use zoom_pool::laws::one_transcript;
 use zoom_pool::{Host, Meta, Move};
+use zorigin::laws::orderly_logs;
 use ztarget::Target;
 
 /// A target in memory at the other end of a connection, with the octets on their way in both directions.
@@ -27,7 +29,9 @@ pub struct Peer {
 }
 
 /// Returns the number of the connection that the move is on.
-pub(crate) fn connection_of(step: Move) -> u32 {
+pub(crate) fn connection_of(step: Move) -> u32
+    ensures { result ≡ connection_of step }
+{
     match step {
         Move::To { c, .. } => c,
         Move::Release { c, .. } => c,
@@ -37,7 +41,8 @@ pub(crate) fn connection_of(step: Move) -> u32 {
 
 /// Returns how many octets to carry: `k` if the piece arrived, otherwise 0.
 fn count_of(came: bool, k: usize) -> usize
-    ensures { came ≡ true → result ≡ k }
+    ensures all { came ≡ true → result ≡ k }
+    ensures none { came ≡ false → result ≡ 0 }
 {
     if came { k } else { 0 }
 }
@@ -70,6 +75,8 @@ impl Peer {
             → OnOk result (PeerStep c true true true meta.old meta.new self.old self.new) }
         ensures all { W.sure ≡ true → k ≡ 2 ^ 64 - 1
             → OnOk result ((self.new.to ≡ []) × (waiting_at meta.new.pool c ≡ [])) }
+        ensures carried { OnOk result (AfterCarryTo W.carries_to c k
+            channel.old channel.new meta.old meta.new self.old self.new) }
         ensures size { length meta.new.pool.connections ≡ length meta.old.pool.connections }
     {
         exchange_laws();
@@ -96,6 +103,9 @@ impl Peer {
         ensures steps { W.sure ≡ true → IfOk result
             (λ carried. PeerStep c true (not carried) (not carried) meta.old meta.new self.old self.new) }
         ensures all { W.sure ≡ true → k ≡ 2 ^ 64 - 1 → OnOk result (CarryAllStep self.old self.new) }
+        ensures none { OnOk result (self.new.host.waiting ≡ []) }
+        ensures carried { OnOk result (AfterFeedFrom W.carries_from c k
+            channel.old channel.new meta.old meta.new self.old self.new) }
         ensures size { length meta.new.pool.connections ≡ length meta.old.pool.connections }
     {
         exchange_laws();
@@ -108,21 +118,30 @@ impl Peer {
         Ok(n > 0)
     }
 
-    /// Ends the input of connection `c` if its target stopped and none of its octets is left to be carried.
-    fn end_where_stopped(&self, meta: &mut Meta, c: u32)
+    /// Ends the input of connection `c` if its target stopped and none of its octets is left to be carried. Each whole
+    /// message was taken before.
+    fn end_where_stopped(&self, meta: &mut Meta, c: u32) -> Result<(), AllocError>
         requires { c < length meta.old.pool.connections }
-        ensures on { SilentStep meta.old meta.new }
-        ensures same { self.now.host.stopped ≡ false → meta.new ≡ meta.old }
-        ensures steps { (taken : Bool) → PeerStep c taken taken true meta.old meta.new self.now self.now }
+        ensures on { OnOk result (SilentStep meta.old meta.new) }
+        ensures steps { self.now.host.waiting ≡ []
+            → OnOk result (PeerStep c true true true meta.old meta.new self.now self.now) }
+        ensures ends { self.now.host.waiting ≡ [] → self.now.from ≡ []
+            → OnOk result (PeerEndStep c true meta.old meta.new self.now self.now) }
+        ensures own { OnOk result (DrivenStep c meta.old meta.new) }
         ensures size { length meta.new.pool.connections ≡ length meta.old.pool.connections }
     {
+        accord_laws();
+        exchange_laws();
+        orderly_logs();
         if self.host.stopped() && self.from.is_empty() {
-            meta.end(c);
+            end_taken(meta, c)?;
         }
+        Ok(())
     }
 
     /// Carries up to `k` octets that wait at the target to connection `c`, which takes each whole message. Returns
-    /// whether any arrived. If the channel failed, stops the connection.
+    /// whether any arrived. If the channel failed, stops the connection. If the target stopped and none of its octets
+    /// is left, ends the connection's input.
     fn carry_from<W: Channel>(
         &mut self,
         meta: &mut Meta,
@@ -135,14 +154,16 @@ impl Peer {
         ensures steps { W.sure ≡ true → IfOk result
             (λ carried. PeerStep c true true (not carried) meta.old meta.new self.old self.new) }
         ensures all { W.sure ≡ true → k ≡ 2 ^ 64 - 1 → OnOk result (CarryAllStep self.old self.new) }
+        ensures ends { W.sure ≡ true → k ≡ 2 ^ 64 - 1 → IfOk result
+            (λ carried. PeerEndStep c (not carried) meta.old meta.new self.old self.new) }
+        ensures carried { OnOk result (AfterCarryFrom W.carries_from W.fails c k
+            channel.old channel.new meta.old meta.new self.old self.new) }
         ensures size { length meta.new.pool.connections ≡ length meta.old.pool.connections }
     {
-        exchange_laws();
-        one_transcript();
         let carried = self.feed_from(meta, c, channel, k)?;
         stop_for(meta, c, channel.failure(c));
-        self.end_where_stopped(meta, c);
         take_all(meta, c)?;
+        self.end_where_stopped(meta, c)?;
         Ok(carried)
     }
 
@@ -150,6 +171,7 @@ impl Peer {
     fn release(&mut self, k: usize) -> Result<bool, AllocError>
         ensures releases { OnOk result (PeerReleaseStep self.old self.new) }
         ensures fine { OnOk result (SoundReleaseStep self.old self.new) }
+        ensures released { OnOk result (PeerReleaseResult k self.old self.new) }
     {
         exchange_laws();
         self.host.release(k)
@@ -160,6 +182,7 @@ impl Peer {
         ensures releases { OnOk result (PeerReleaseStep self.old self.new) }
         ensures fine { OnOk result (SoundReleaseStep self.old self.new) }
         ensures empties { OnOk result (ReleaseAllStep self.old self.new) }
+        ensures all { OnOk result (AllAreReleased self.old self.new) }
     {
         exchange_laws();
         let mut released = false;
@@ -184,6 +207,8 @@ impl Peer {
         ensures carries { OnOk result (CarryStep c meta.old meta.new self.old self.new) }
         ensures steps { W.sure ≡ true
             → OnOk result (PeerStep c true true false meta.old meta.new self.old self.new) }
+        ensures moved { OnOk result (AfterMove W.carries_to W.carries_from W.fails c step
+            channel.old channel.new meta.old meta.new self.old self.new) }
         ensures size { length meta.new.pool.connections ≡ length meta.old.pool.connections }
     {
         match step {
@@ -207,6 +232,8 @@ impl Peer {
         ensures carries { OnOk result (CarryStep c meta.old meta.new self.old self.new) }
         ensures rounds { W.sure ≡ true
             → IfOk result (λ moved. PeerRound c moved meta.old meta.new self.old self.new) }
+        ensures moved { OnOk result (PeerRoundStep W.carries_to W.carries_from W.fails c
+            channel.old channel.new meta.old meta.new self.old self.new) }
         ensures size { length meta.new.pool.connections ≡ length meta.old.pool.connections }
     {
         exchange_laws();

@@ -6,6 +6,7 @@ ghost use Rattle.zoom_questions.specs.declared.question.MetaSettings.{MetaSettin
 ghost use Rattle.zoom_pool.specs.Metas.{MetaAfter};
 ghost use Rattle.zoom_sim.specs.RunSteps.{AfterMoves, AfterAllRounds, ArePeersOf};
 ghost use Rattle.zoom_sim.specs.RunRounds.{AfterSoundMoves, AfterSoundRound, AfterRoundOrEnd, AfterAllSoundRounds, IsCompleteRun};
+ghost use Rattle.zoom_sim.specs.RunMoves.{AfterMoveIf, AreMade, MovesFirst};
 
 use crate::channels::Channel;
 use crate::drives::{drive_all, end_inputs, stop_all};
@@ -29,14 +30,14 @@ fn make_move<W: Channel>(
     requires equal { length peers.old ≡ length meta.old.pool.connections }
     ensures goes { OnOk result (AfterMoves meta.old meta.new peers.old peers.new) }
     ensures stays { W.sure ≡ true → OnOk result (AfterSoundMoves meta.old meta.new peers.old peers.new) }
+    ensures moved { OnOk result (AfterMoveIf W.carries_to W.carries_from W.fails step
+        channel.old channel.new meta.old meta.new peers.old peers.new) }
     ensures size { length meta.new.pool.connections ≡ length meta.old.pool.connections }
 {
     let c = connection_of(step);
     if c as usize >= peers.len() {
         return Ok(());
     }
-    one_transcript();
-    exchange_laws();
     peers[c as usize].make(meta, c, channel, step)?;
     Ok(())
 }
@@ -55,6 +56,8 @@ pub fn make_moves<W: Channel>(
     requires equal { length peers.old ≡ length meta.old.pool.connections }
     ensures goes { OnOk result (AfterMoves meta.old meta.new peers.old peers.new) }
     ensures stays { W.sure ≡ true → OnOk result (AfterSoundMoves meta.old meta.new peers.old peers.new) }
+    ensures moved { OnOk result (AreMade W.carries_to W.carries_from W.fails channel.old meta.old peers.old
+        moves.now channel.new meta.new peers.new) }
     ensures size { length meta.new.pool.connections ≡ length meta.old.pool.connections }
 {
     for step in moves {
@@ -77,7 +80,6 @@ fn go_round<W: Channel>(
     ensures size { length meta.new.pool.connections ≡ length meta.old.pool.connections }
 {
     one_transcript();
-    exchange_laws();
     let mut any = false;
     for c in 0..peers.len() {
         let moved = peers[c].go_round(meta, c as u32, channel)?;
@@ -94,7 +96,6 @@ fn go_on<W: Channel>(peers: &mut [Peer], meta: &mut Meta, channel: &mut W) -> Re
     ensures grows { W.sure ≡ true → OnOk result (AfterRoundOrEnd meta.old meta.new peers.old peers.new) }
     ensures size { length meta.new.pool.connections ≡ length meta.old.pool.connections }
 {
-    one_transcript();
     exchange_laws();
     if go_round(peers, meta, channel)? {
         Ok(())
@@ -138,6 +139,8 @@ pub(crate) fn carry_out<W: Channel>(
     requires few { length meta.old.pool.connections < 2 ^ 32 }
     requires equal { length peers.old ≡ length meta.old.pool.connections }
     ensures ends { OnOk result (AfterAllRounds meta.old meta.new peers.old) }
+    ensures moved { OnOk result (MovesFirst W.carries_to W.carries_from W.fails moves.now
+        channel.old meta.old meta.new peers.old) }
     ensures whole { W.sure ≡ true → OnOk result ((questions : List Question) (s : MetaSettings)
         (targets : List TargetState) → MetaAfter questions s [] meta.old → ArePeersOf targets peers.old
         → length targets ≡ length questions → IsCompleteRun questions s targets meta.new) }

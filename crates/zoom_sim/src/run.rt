@@ -5,8 +5,10 @@ ghost use Rattle.zoom_questions.specs.Askable.{AreFit, AreAskable};
 ghost use Rattle.zoom_questions.specs.NewTargets.{AreNew};
 ghost use Rattle.zoom_sim.specs.Run.{IsRun};
 ghost use Rattle.zoom_sim.specs.RunRounds.{IsCompleteRun};
+ghost use Rattle.zoom_sim.specs.RunCatalogue.{AreAnswerable, IsFaithfulRun, IsBroughtList};
 
 use crate::channels::{Channel, InMemory};
+use crate::laws::run_law;
 use crate::peers::peers_of;
 use crate::rounds::carry_out;
 use std::alloc::{AllocError, Global};
@@ -31,7 +33,12 @@ use ztarget::Target;
 ///
 /// If the channel is sure to carry each piece, each connection has had a complete exchange with its target at the end.
 /// It received exactly the replies that the target owes to its requests, each once, in some order. The exception is a
-/// connection to which a reply is owed of more octets than a message may have.
+/// connection to whose requests the target owes a reply of more than 2,097,152 octets, the most of a message. It is
+/// Failed for `Ended`.
+///
+/// A question is answerable if its search can be sent or was not skipped, each record that is due fits, and the text of
+/// a fault that its search meets has at most 2,000,000 octets. Its connection is then Closed, and exactly the facts are
+/// known of its target that it brings from the target's databases.
 ///
 /// Requires fewer than 2^32 questions that can be asked, settings that fit, and as many targets as questions. Each
 /// target must have received nothing. Returns `AllocError` only if no memory is found.
@@ -51,15 +58,23 @@ pub fn run_over<W: Channel>(
     ensures is_run { IfOk result (λ meta. IsRun questions.items settings targets.items meta) }
     ensures whole { W.sure ≡ true
         → IfOk result (λ meta. IsCompleteRun questions.items settings targets.items meta) }
+    ensures brings { W.sure ≡ true
+        → IfOk result (λ meta. IsFaithfulRun questions.items targets.items meta) }
     ensures size { IfOk result (λ meta. length meta.pool.connections ≡ length questions.items) }
 {
     let mut meta = Meta::new(alloc, Seq::from_vec(questions), settings)?;
     let mut peers = peers_of(alloc, targets)?;
     carry_out(&mut peers, &mut meta, channel, moves)?;
+    run_law();
     Ok(meta)
 }
 
 /// Does what `run_over` does, within memory, and appends the list of what is known at the end to `out`.
+///
+/// Memory carries each piece. So each connection has had a complete exchange with its target, or it is Failed for
+/// `Ended` and the target owes a reply of more than 2,097,152 octets to its requests.
+///
+/// If each question is answerable, it appends the list of exactly the facts that the questions bring.
 ///
 /// It requires what `run_over` requires. Returns `AllocError` only if no memory is found; `out` is unchanged.
 pub fn run_world(
@@ -79,9 +94,12 @@ pub fn run_world(
     requires equal { length targets.items ≡ length questions.items }
     ensures is_run { IfOk result (λ meta. IsRun questions.items settings targets.items meta) }
     ensures whole { IfOk result (λ meta. IsCompleteRun questions.items settings targets.items meta) }
+    ensures brings { IfOk result (λ meta. IsFaithfulRun questions.items targets.items meta) }
     ensures size { IfOk result (λ meta. length meta.pool.connections ≡ length questions.items) }
     ensures list { IfOk result
         (λ meta. out.new.items ≡ out.old.items ++ listing names.now mode meta.pool.knowledge) }
+    ensures brings_list { IfOk result (λ meta. AreAnswerable questions.items targets.items meta
+        → IsBroughtList questions.items targets.items names.now mode out.old.items out.new.items) }
     ensures err { OnErr result (out.new.items ≡ out.old.items) }
 {
     let meta = run_over(alloc, questions, settings, targets, &mut InMemory, moves)?;

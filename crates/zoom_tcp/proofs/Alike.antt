@@ -1,5 +1,5 @@
 -- Events of one connection: after histories with the same events on it, and in histories that go on.
-use Rattle.std.proofs.Common.{◌≡◌, ◌∙◌, sym, ap, refl, append-nil, arith, ℕ, zero, suc, ◌<◌, ◌==◌, Bool, true, false, List, [], ◌∷◌, ◌++◌, length, get_or, Option, is_some}
+use Rattle.std.proofs.Common.{◌≡◌, ◌∙◌, sym, ap, refl, append-nil, arith, ℕ, zero, suc, ◌<◌, ◌==◌, Bool, true, false, List, [], ◌∷◌, ◌++◌, length, get_or, Option, None, Some, is_some}
 use Rattle.zoom_questions.specs.declared.question.Question.{Question}
 use Rattle.zoom_questions.specs.declared.question.MetaSettings.{MetaSettings}
 use Rattle.zoom_pool.specs.declared.state.Reason.TheVariants as reasons
@@ -7,33 +7,46 @@ use Rattle.zoom_pool.specs.Transcripts.{HandedOut, Stopped}
 use Rattle.zoom_pool.specs.History.{History, events_on}
 use Rattle.zoom_pool.specs.Metas.{call_events, settings_of}
 use Rattle.zoom_pool.proofs.Pools.{only_other}
+use Rattle.zoom_io.specs.TalksAmong.{halves_at}
 use Rattle.zoom_io.specs.TalkTraces.{IsStoppedAt, IsCutOff}
 use Rattle.zoom_io.proofs.Apart.{behind, one_more, none_before, none_both, others_made, others_follow, transcript_alike, idle_alike, handed_out_alike, over_alike, follows_alike}
 use Rattle.zoom_io.proofs.Joining.{stopped_over}
-use Rattle.zoom_tcp.specs.Asking.{is_present, Opening, unreached, begun, unsent, WholeTalk, ended_itself, stopped_for_reason as was_stopped, WholeTalkIf, IsConnectionAsked, IsConnectionAskedIf}
+use Rattle.zoom_tcp.specs.Asking.{KnownOctets, is_present, Opening, unreached, begun, unsent, WholeTalk, ended_itself, stopped_for_reason as was_stopped, WholeTalkIf, IsConnectionAsked, IsConnectionAskedIf}
 use Rattle.zoom_tcp.specs.AskingSteps.{IsOpened, IsOpenedIf}
 
 -- ---- entries of a list for each connection
 
 -- The entry in place.
+pub entry_place : {A : Type 0} (xs : List (Option A)) (i : ℕ) (x : Option A) → i < length xs → x ≡ get_or xs i x
+    → halves_at xs i ≡ x
+entry_place [] i x lt is = absurd (omega (arith, lt))
+entry_place (y ∷ xs) zero x lt is = sym is
+entry_place (y ∷ xs) (suc i) x lt is = entry_place xs i x (omega (arith, lt)) is
+
 pub has_place : {A : Type 0} (xs : List (Option A)) (i : ℕ) (x : Option A) → i < length xs → x ≡ get_or xs i x
     → is_present xs i ≡ is_some x
-has_place [] i x lt is = absurd (omega (arith, lt))
-has_place (y ∷ xs) zero x lt is = ap is_some (sym is)
-has_place (y ∷ xs) (suc i) x lt is = has_place xs i x (omega (arith, lt)) is
+has_place xs i x lt is = ap is_some (entry_place xs i x lt is)
 
 -- The entry after as many others.
+pub entry_middle : {A : Type 0} (xs : List (Option A)) (x : Option A) (ys : List (Option A))
+    → halves_at (xs ++ x ∷ ys) (length xs) ≡ x
+entry_middle [] x ys = refl
+entry_middle (y ∷ xs) x ys = entry_middle xs x ys
+
 pub has_middle : {A : Type 0} (xs : List (Option A)) (x : Option A) (ys : List (Option A))
     → is_present (xs ++ x ∷ ys) (length xs) ≡ is_some x
-has_middle [] x ys = refl
-has_middle (y ∷ xs) x ys = has_middle xs x ys
+has_middle xs x ys = ap is_some (entry_middle xs x ys)
 
 -- The entries before the last.
+pub entry_front : {A : Type 0} (xs : List (Option A)) (x : Option A) (c : ℕ) → c < length xs
+    → halves_at (xs ++ x ∷ []) c ≡ halves_at xs c
+entry_front [] x c lt = absurd (omega (arith, lt))
+entry_front (y ∷ xs) x zero lt = refl
+entry_front (y ∷ xs) x (suc c) lt = entry_front xs x c (omega (arith, lt))
+
 pub has_front : {A : Type 0} (xs : List (Option A)) (x : Option A) (c : ℕ) → c < length xs
     → is_present (xs ++ x ∷ []) c ≡ is_present xs c
-has_front [] x c lt = absurd (omega (arith, lt))
-has_front (y ∷ xs) x zero lt = refl
-has_front (y ∷ xs) x (suc c) lt = has_front xs x c (omega (arith, lt))
+has_front xs x c lt = ap is_some (entry_front xs x c lt)
 
 -- Two lists that grow alike.
 pub has_push : {A B : Type 0} (xs : List (Option A)) (ys : List (Option B)) (x : Option A) (y : Option B)
@@ -52,112 +65,123 @@ none_left (x ∷ xs) is = absurd cc
 
 -- ---- a trace after one history is a trace after the other
 
-pub opening_alike : {q : List Question} {s : MetaSettings} {c : ℕ} {h more : History} {reached : Bool} (k : History)
-    → events_on c h ≡ events_on c k → Opening q s c h more reached → Opening q s c k more reached
+pub opening_alike : {IsOwn : KnownOctets → Type 0} {q : List Question} {s : MetaSettings} {c : ℕ} {h more : History}
+    {link : Option KnownOctets} (k : History)
+    → events_on c h ≡ events_on c k → Opening IsOwn q s c h more link → Opening IsOwn q s c k more link
 opening_alike k e unreached = unreached
-opening_alike {q = q} {s = s} {c = c} {h = h} k e (begun calls octets idle all) =
+opening_alike {q = q} {s = s} {c = c} {h = h} k e (begun came calls octets own idle all) =
     let same = behind c (call_events c calls) h k e in
-    begun calls octets (idle_alike q s c (call_events c calls ++ h) (call_events c calls ++ k) same idle)
+    begun came calls octets own (idle_alike q s c (call_events c calls ++ h) (call_events c calls ++ k) same idle)
     (handed_out_alike s c ((c, HandedOut octets) ∷ (call_events c calls ++ h)) ((c, HandedOut octets) ∷ (call_events c calls ++ k))
     (one_more c (HandedOut octets) (call_events c calls ++ h) (call_events c calls ++ k) same) all)
-opening_alike {q = q} {s = s} {c = c} {h = h} k e (unsent calls octets idle all) =
+opening_alike {q = q} {s = s} {c = c} {h = h} k e (unsent came calls octets own idle all) =
     let same = behind c (call_events c calls) h k e in
-    unsent calls octets (idle_alike q s c (call_events c calls ++ h) (call_events c calls ++ k) same idle)
+    unsent came calls octets own (idle_alike q s c (call_events c calls ++ h) (call_events c calls ++ k) same idle)
     (handed_out_alike s c ((c, HandedOut octets) ∷ (call_events c calls ++ h)) ((c, HandedOut octets) ∷ (call_events c calls ++ k))
     (one_more c (HandedOut octets) (call_events c calls ++ h) (call_events c calls ++ k) same) all)
+
+-- What is a link of its own for one reason is one for another.
+pub opening_for : {IsOwn IsIts : KnownOctets → Type 0} {q : List Question} {s : MetaSettings} {c : ℕ} {h more : History}
+    {link : Option KnownOctets} → ((came : KnownOctets) → IsOwn came → IsIts came) → Opening IsOwn q s c h more link
+    → Opening IsIts q s c h more link
+opening_for f unreached = unreached
+opening_for f (begun came calls octets own idle all) = begun came calls octets (f came own) idle all
+opening_for f (unsent came calls octets own idle all) = unsent came calls octets (f came own) idle all
 
 cut_alike : (s : MetaSettings) (c : ℕ) (h k : History) → events_on c h ≡ events_on c k → IsCutOff s c h → IsCutOff s c k
 cut_alike s c h k e cut p heard = cut p (transcript_alike (settings_of s) c h k p e heard)
 
-talking_alike : {q : List Question} {s : MetaSettings} {at_once : Bool} {c : ℕ} {h more : History} (k : History)
-    → events_on c h ≡ events_on c k → WholeTalk q s at_once c h more → WholeTalk q s at_once c k more
-talking_alike {s = s} {c = c} {h = h} k e (ended_itself {more = more} f over) =
-    ended_itself (follows_alike k e f) (over_alike s c (more ++ h) (more ++ k) (behind c more h k e) over)
-talking_alike {s = s} {c = c} {h = h} k e (was_stopped {more = more} reason f for cut) =
-    was_stopped reason (follows_alike k e f) for
+talking_alike : {q : List Question} {s : MetaSettings} {at_once : Bool} {came : KnownOctets} {c : ℕ} {h more : History}
+    (k : History) → events_on c h ≡ events_on c k → WholeTalk q s at_once came c h more
+    → WholeTalk q s at_once came c k more
+talking_alike {s = s} {c = c} {h = h} k e (ended_itself {more = more} f first over) =
+    ended_itself (follows_alike k e f) first (over_alike s c (more ++ h) (more ++ k) (behind c more h k e) over)
+talking_alike {s = s} {c = c} {h = h} k e (was_stopped {more = more} reason f first for cut) =
+    was_stopped reason (follows_alike k e f) first for
     (λ is. cut_alike s c (more ++ h) (more ++ k) (behind c more h k e) (cut is))
 
 -- ---- its events are on no other connection
 
-pub others_opening : {q : List Question} {s : MetaSettings} {c : ℕ} {h more : History} {reached : Bool} (i : ℕ)
-    → Opening q s c h more reached → (c == i) ≡ false → events_on i more ≡ []
+pub others_opening : {IsOwn : KnownOctets → Type 0} {q : List Question} {s : MetaSettings} {c : ℕ} {h more : History}
+    {link : Option KnownOctets} (i : ℕ) → Opening IsOwn q s c h more link → (c == i) ≡ false → events_on i more ≡ []
 others_opening {c = c} i unreached far = only_other c i (Stopped reasons.Connect) [] far
-others_opening {c = c} i (begun calls octets idle all) far =
+others_opening {c = c} i (begun came calls octets own idle all) far =
     only_other c i (HandedOut octets) (call_events c calls) far ∙ others_made c i calls far
-others_opening {c = c} i (unsent calls octets idle all) far =
+others_opening {c = c} i (unsent came calls octets own idle all) far =
     only_other c i (Stopped reasons.Write) ((c, HandedOut octets) ∷ call_events c calls) far
     ∙ only_other c i (HandedOut octets) (call_events c calls) far ∙ others_made c i calls far
 
-others_talking : {q : List Question} {s : MetaSettings} {at_once : Bool} {c : ℕ} {h more : History} (i : ℕ)
-    → WholeTalk q s at_once c h more → (c == i) ≡ false → events_on i more ≡ []
-others_talking i (ended_itself f over) far = others_follow i f far
-others_talking {c = c} i (was_stopped {more = more} reason f for cut) far =
+others_talking : {q : List Question} {s : MetaSettings} {at_once : Bool} {came : KnownOctets} {c : ℕ} {h more : History}
+    (i : ℕ) → WholeTalk q s at_once came c h more → (c == i) ≡ false → events_on i more ≡ []
+others_talking i (ended_itself f first over) far = others_follow i f far
+others_talking {c = c} i (was_stopped {more = more} reason f first for cut) far =
     only_other c i (Stopped reason) more far ∙ others_follow i f far
 
-pub others_talk : (q : List Question) (s : MetaSettings) (at_once : Bool) (c : ℕ) (h more : History) (reached : Bool)
-    (i : ℕ) → WholeTalkIf q s at_once c h reached more → (c == i) ≡ false → events_on i more ≡ []
-others_talk q s at_once c h more true i t far = others_talking i t far
-others_talk q s at_once c h more false i t far = ap (events_on i) t
+pub others_talk : (q : List Question) (s : MetaSettings) (at_once : Bool) (c : ℕ) (h more : History)
+    (link : Option KnownOctets) (i : ℕ) → WholeTalkIf q s at_once c h link more → (c == i) ≡ false
+    → events_on i more ≡ []
+others_talk q s at_once c h more (Some came) i t far = others_talking i t far
+others_talk q s at_once c h more None i t far = ap (events_on i) t
 
 -- ---- a connection that is over
 
 -- A host was not reached.
-unreached_over : {q : List Question} {s : MetaSettings} {c : ℕ} {h more : History} {reached : Bool}
-    → Opening q s c h more reached → reached ≡ false → IsStoppedAt s c (more ++ h)
+unreached_over : {IsOwn : KnownOctets → Type 0} {q : List Question} {s : MetaSettings} {c : ℕ} {h more : History}
+    {link : Option KnownOctets} → Opening IsOwn q s c h more link → link ≡ None → IsStoppedAt s c (more ++ h)
 unreached_over {s = s} {c = c} {h = h} unreached e = stopped_over s c reasons.Connect h
-unreached_over (begun calls octets idle all) e = absurd cc
-unreached_over {s = s} {c = c} {h = h} (unsent calls octets idle all) e =
+unreached_over (begun came calls octets own idle all) e = absurd cc
+unreached_over {s = s} {c = c} {h = h} (unsent came calls octets own idle all) e =
     stopped_over s c reasons.Write ((c, HandedOut octets) ∷ call_events c calls ++ h)
 
--- ---- within a history
+module _ (IsOwn : KnownOctets → Type 0) (q : List Question) (s : MetaSettings) where
+  -- ---- within a history
 
--- The host was talked with.
-pub talked_out : (q : List Question) (s : MetaSettings) (at_once : Bool) (c : ℕ) (h now more : History)
-    → IsOpened q s c true h → WholeTalk q s at_once c h more → events_on c now ≡ events_on c (more ++ h) → IsStoppedAt s c now
-    → IsConnectionAsked q s at_once c now
-talked_out q s at_once c h now more o talk mine over = record {
-  opened = o.more;
-  reached = true;
-  opening = o.opening;
-  more = more;
-  talked = talking_alike o.more o.mine talk;
-  mine = mine ∙ behind c more h o.more o.mine;
-  over = over;
-}
+  -- The host was talked with.
+  pub talked_out : (at_once : Bool) (came : KnownOctets) (c : ℕ) (h now more : History)
+      → IsOpened IsOwn q s c (Some came) h → WholeTalk q s at_once came c h more
+      → events_on c now ≡ events_on c (more ++ h) → IsStoppedAt s c now → IsConnectionAsked IsOwn q s at_once c now
+  talked_out at_once came c h now more o talk mine over = record {
+    opened = o.more;
+    link = Some came;
+    opening = o.opening;
+    more = more;
+    talked = talking_alike o.more o.mine talk;
+    mine = mine ∙ behind c more h o.more o.mine;
+    over = over;
+  }
 
--- The host was not reached.
-pub none_talked : (q : List Question) (s : MetaSettings) (at_once : Bool) (c : ℕ) (h now : History)
-    → IsOpened q s c false h → events_on c now ≡ events_on c h → IsConnectionAsked q s at_once c now
-none_talked q s at_once c h now o mine = record {
-  opened = o.more;
-  reached = false;
-  opening = o.opening;
-  more = [];
-  talked = refl;
-  mine = mine ∙ o.mine;
-  over = over_alike s c (o.more ++ []) now (sym (mine ∙ o.mine ∙ alone)) (unreached_over o.opening refl);
-}
-  where
-    alone : events_on c o.more ≡ events_on c (o.more ++ [])
-    alone = ap (events_on c) (sym (append-nil o.more))
+  -- The host was not reached.
+  pub none_talked : (at_once : Bool) (c : ℕ) (h now : History) → IsOpened IsOwn q s c None h
+      → events_on c now ≡ events_on c h → IsConnectionAsked IsOwn q s at_once c now
+  none_talked at_once c h now o mine =
+      let alone : events_on c o.more ≡ events_on c (o.more ++ []) = ap (events_on c) (sym (append-nil o.more)) in
+      record {
+        opened = o.more;
+        link = None;
+        opening = o.opening;
+        more = [];
+        talked = refl;
+        mine = mine ∙ o.mine;
+        over = over_alike s c (o.more ++ []) now (sym (mine ∙ o.mine ∙ alone)) (unreached_over o.opening refl);
+      }
 
--- ---- within a history that goes on
+  -- ---- within a history that goes on
 
-pub opened_since : (q : List Question) (s : MetaSettings) (chosen : Bool) (i : ℕ) (reached : Bool) (more h : History)
-    → events_on i more ≡ [] → IsOpenedIf chosen q s i reached h → IsOpenedIf chosen q s i reached (more ++ h)
-opened_since q s true i reached more h none o =
-    record { more = o.more; opening = o.opening; mine = none_before i more h none ∙ o.mine }
-opened_since q s false i reached more h none o = (o.0, none_both i more h none o.1)
+  pub opened_since : (chosen : Bool) (i : ℕ) (link : Option KnownOctets) (more h : History) → events_on i more ≡ []
+      → IsOpenedIf IsOwn chosen q s i link h → IsOpenedIf IsOwn chosen q s i link (more ++ h)
+  opened_since true i link more h none o =
+      record { more = o.more; opening = o.opening; mine = none_before i more h none ∙ o.mine }
+  opened_since false i link more h none o = (o.0, none_both i more h none o.1)
 
-pub talked_since : (q : List Question) (s : MetaSettings) (at_once chosen : Bool) (i : ℕ) (more h : History)
-    → events_on i more ≡ [] → IsConnectionAskedIf chosen q s at_once i h → IsConnectionAskedIf chosen q s at_once i (more ++ h)
-talked_since q s at_once true i more h none t = record {
-  opened = t.opened;
-  reached = t.reached;
-  opening = t.opening;
-  more = t.more;
-  talked = t.talked;
-  mine = none_before i more h none ∙ t.mine;
-  over = over_alike s i h (more ++ h) (sym (none_before i more h none)) t.over;
-}
-talked_since q s at_once false i more h none t = none_both i more h none t
+  pub talked_since : (at_once chosen : Bool) (i : ℕ) (more h : History) → events_on i more ≡ []
+      → IsConnectionAskedIf IsOwn chosen q s at_once i h → IsConnectionAskedIf IsOwn chosen q s at_once i (more ++ h)
+  talked_since at_once true i more h none t = record {
+    opened = t.opened;
+    link = t.link;
+    opening = t.opening;
+    more = t.more;
+    talked = t.talked;
+    mine = none_before i more h none ∙ t.mine;
+    over = over_alike s i h (more ++ h) (sym (none_before i more h none)) t.over;
+  }
+  talked_since at_once false i more h none t = none_both i more h none t

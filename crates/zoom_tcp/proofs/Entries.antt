@@ -1,6 +1,7 @@
 -- Entries of a list for each connection: where there is one.
-use Rattle.std.proofs.Common.{◌≡◌, ◌∙◌, sym, ap, subst, refl, arith, ◌⊎◌, inl, inr, ℕ, zero, suc, ◌+◌, ◌<◌, ◌≤◌, List, [], ◌∷◌, ◌++◌, length, slice_get, slice_set, Option, Some, is_some}
+use Rattle.std.proofs.Common.{◌≡◌, ◌∙◌, sym, ap, subst, refl, arith, ◌⊎◌, inl, inr, ℕ, zero, suc, ◌+◌, ◌<◌, ◌≤◌, List, [], ◌∷◌, ◌++◌, length, slice_get, slice_set, take, Option, Some, is_some}
 use Rattle.std.proofs.lemmas.Bool.{cases_lt}
+use Rattle.std.proofs.Math.Seq.{take-append_seam}
 use Rattle.zoom_tcp.specs.Asking.{is_present}
 use Rattle.zoom_tcp.proofs.Alike.{has_middle, has_front}
 
@@ -36,3 +37,7 @@ present_all (x ∷ xs) (y ∷ ys) e all zero = all zero (omega arith)
 present_all (x ∷ xs) (y ∷ ys) e all (suc c) = present_all xs ys (cc) (λ i lt. all (suc i) (omega (arith, lt))) c
 present_all [] (y ∷ ys) e all c = absurd cc
 present_all (x ∷ xs) [] e all c = absurd cc
+
+-- A slice that was written back.
+pub whole_back : {A : Type 0} (n : ℕ) (new rest : List A) → n ≡ length new → take n (new ++ rest) ≡ new
+whole_back n new rest e = subst (λ z. take z (new ++ rest) ≡ new) (sym e) (take-append_seam new rest)

@@ -20,9 +20,9 @@ use Rattle.zoom_io.proofs.Joining.{risen_none}
 use Rattle.zoom_io.proofs.Together.{phase_same, set_same, set_other, below_here, below_next, below_others, below_all}
 use Rattle.zoom_tcp.specs.declared.host_talks.HostTalk.{HostTalk}
 use Rattle.zoom_tcp.specs.declared.host_talks.HostTalk.TheVariants as talks
-use Rattle.zoom_tcp.specs.Asking.{is_present, IsConnectionAskedIf, IsAsked}
+use Rattle.zoom_tcp.specs.Asking.{KnownOctets, IsAnyLink, is_present, IsConnectionAskedIf, IsAsked}
 use Rattle.zoom_tcp.specs.AskingSteps.{OpenedWay, AfterOpen, IsOpened, IsOpenedIf}
-use Rattle.zoom_tcp.specs.HostTalks.{HostView, Out, Connecting, Talking, IsTalkAt, IsTalkedWith, IsHostAt, AfterHostStep, HostStep, IsHostOver, IsNew, is_reached, IsBegun, IsHostIn, AreHosts, EachHostStep, HostsStep, IsOverIn, AreHostsOver, IsFirstOf, AreAllBegun}
+use Rattle.zoom_tcp.specs.HostTalks.{HostView, Out, Connecting, Talking, IsTalkAt, IsTalkedWith, IsHostAt, AfterHostStep, HostStep, IsHostOver, IsNew, link_of, IsBegun, IsHostIn, AreHosts, EachHostStep, HostsStep, IsOverIn, AreHostsOver, IsFirstOf, AreAllBegun}
 use Rattle.zoom_tcp.proofs.Alike.{opening_alike, others_opening, none_talked}
 use Rattle.zoom_tcp.proofs.AtOnce.{ended}
 
@@ -40,7 +40,7 @@ module _ (q : List Question) (s : MetaSettings) (c : ℕ) (now later : History) 
   host_same false n Out o = (o.0, e ∙ o.1)
   host_same chosen n Connecting o = (o.0, e ∙ o.1)
   host_same chosen n (Talking last) o =
-      (o.0, record { h = o.1.h; opened = o.1.opened; first = o.1.first; talk = talk_same o.1.h n last.phase o.1.first last o.1.talk })
+      (o.0, record { h = o.1.h; first = o.1.first; opened = o.1.opened; talk = talk_same o.1.h n last.phase o.1.first last o.1.talk })
 
 -- ---- more polls
 
@@ -55,7 +55,7 @@ module _ (q : List Question) (s : MetaSettings) (c : ℕ) (now : History) (n m :
   host_more chosen Out o = o
   host_more chosen Connecting o = o
   host_more chosen (Talking last) o =
-      (o.0, record { h = o.1.h; opened = o.1.opened; first = o.1.first; talk = talk_more o.1.h last.phase o.1.first last o.1.talk })
+      (o.0, record { h = o.1.h; first = o.1.first; opened = o.1.opened; talk = talk_more o.1.h last.phase o.1.first last o.1.talk })
 
 -- ---- results
 
@@ -82,9 +82,9 @@ stays_step c n m old new v le is = record {
 }
 
 -- A connection is opened.
-module _ (q : List Question) (s : MetaSettings) (c : ℕ) (now : History) (reached : Bool) (new : MetaLinks)
-    (o : OpenedWay q s c now reached new) (none : events_on c now ≡ []) where
-  here : IsOpened q s c reached (o.more ++ now)
+module _ (q : List Question) (s : MetaSettings) (c : ℕ) (now : History) (link : Option KnownOctets) (new : MetaLinks)
+    (o : OpenedWay IsAnyLink q s c now link new) (none : events_on c now ≡ []) where
+  here : IsOpened IsAnyLink q s c link (o.more ++ now)
   here = record {
     more = o.more;
     opening = opening_alike [] none o.opening;
@@ -116,11 +116,11 @@ begins q s c h first is n =
       },
     )
 
-pub begun_step : (c n m : ℕ) (old new : MetaLinks) (v : HostView) → AfterOpen c (is_reached v) old new → IsNew v
+pub begun_step : (c n m : ℕ) (old new : MetaLinks) (v : HostView) → AfterOpen IsAnyLink c (link_of v) old new → IsNew v
     → HostStep c n m old new Connecting v
 begun_step c n m old new v opens is = record {
   on = λ chosen q s now a at.
-      let o : OpenedWay q s c now (is_reached v) new = opens.on q s now a in
+      let o : OpenedWay IsAnyLink q s c now (link_of v) new = opens.on q s now a in
       record {
         later = o.more ++ now;
         after = o.after;
@@ -130,17 +130,17 @@ begun_step c n m old new v opens is = record {
 }
   where
     by : (chosen : Bool) (q : List Question) (s : MetaSettings) (now : History) → chosen ≡ true → events_on c now ≡ []
-        → (v : HostView) → IsNew v → (o : OpenedWay q s c now (is_reached v) new)
+        → (v : HostView) → IsNew v → (o : OpenedWay IsAnyLink q s c now (link_of v) new)
         → IsHostAt chosen q s c (o.more ++ now) m v
     by chosen q s now picked none Out is o =
-        subst (λ z. IsOpenedIf z q s c false (o.more ++ now)) (sym picked) (here q s c now false new o none)
+        subst (λ z. IsOpenedIf IsAnyLink z q s c None (o.more ++ now)) (sym picked) (here q s c now None new o none)
     by chosen q s now picked none Connecting is o = absurd is
     by chosen q s now picked none (Talking first) is o = (
       picked,
       record {
         h = o.more ++ now;
-        opened = here q s c now true new o none;
         first = first;
+        opened = here q s c now (Some first.source.octets) new o none;
         talk = begins q s c (o.more ++ now) first is m;
       },
     )
@@ -170,7 +170,7 @@ talk_step c n m old new before last goes steps = record {
       let t : IsTalkedWith q s c now n before = at.1 in
       let was = to_among q s c t.h now n before.phase t.first before goes t.talk in
       let step = steps was.0 was.1 in
-      let r = step.4.on q s t.h now t.first a (was.2 step.1) in
+      let r = step.4.on q s [] t.h now t.first a (was.2 step.1) in
       record {
         later = r.later;
         after = r.after;
@@ -178,8 +178,8 @@ talk_step c n m old new before last goes steps = record {
           at.0,
           record {
             h = t.h;
-            opened = t.opened;
             first = t.first;
+            opened = t.opened;
             talk = from_among q s c t.h r.later step.0 m step.1 last.phase t.first last step.2 step.3 r.among;
           },
         );
@@ -372,7 +372,7 @@ module _ {B A R W : Type 0} (view : HostTalk A R W → HostView)
       → IsHostAt chosen q s c [] 0 (view y)
   first_at chosen c None talks.Out e is =
       subst (λ z. IsHostAt chosen q s c [] 0 z) (sym out)
-      (subst (λ z. IsOpenedIf z q s c false []) e (refl, refl))
+      (subst (λ z. IsOpenedIf IsAnyLink z q s c None []) e (refl, refl))
   first_at chosen c (Some x) (talks.Connecting a) e is =
       subst (λ z. IsHostAt chosen q s c [] 0 z) (sym (connecting a)) (sym e, refl)
   first_at chosen c None (talks.Connecting a) e is = absurd is
@@ -397,7 +397,7 @@ get_within (x ∷ xs) (suc i) lt is = get_within xs i (omega (arith, lt)) is
 
 module _ {E : Type 0} (view : E → HostView) (q : List Question) (s : MetaSettings) (c : ℕ) (now : History) where
   asked_talk : (chosen : Bool) (phase : TalkPhase) (last : View) → last.phase ≡ phase → phase ≡ phases.Over
-      → (chosen ≡ true) × IsTalkedWith q s c now 1000000000 last → IsConnectionAskedIf chosen q s true c now
+      → (chosen ≡ true) × IsTalkedWith q s c now 1000000000 last → IsConnectionAskedIf IsAnyLink chosen q s true c now
   asked_talk chosen phase last at over o =
       let t : IsTalkedWith q s c now 1000000000 last = o.1 in
       let is : last.phase ≡ phases.Over = at ∙ over in
@@ -406,22 +406,22 @@ module _ {E : Type 0} (view : E → HostView) (q : List Question) (s : MetaSetti
       let few = done.1 in
       let given = d.given in
       let polls = d.few in
-      subst (λ z. IsConnectionAskedIf z q s true c now) (sym o.0)
-      (ended q s c t.h now d.over t.opened d.reads done.0 t.first last (omega (arith, few, given, polls)) d.ended)
+      subst (λ z. IsConnectionAskedIf IsAnyLink z q s true c now) (sym o.0)
+      (ended q s c t.h now d.over t.first t.opened d.reads done.0 last (omega (arith, few, given, polls)) d.ended)
 
   asked_view : (chosen : Bool) (v : HostView) → IsHostOver v → IsHostAt chosen q s c now 1000000000 v
-      → IsConnectionAskedIf chosen q s true c now
-  asked_view true Out over o = none_talked q s true c now now o refl
+      → IsConnectionAskedIf IsAnyLink chosen q s true c now
+  asked_view true Out over o = none_talked IsAnyLink q s true c now now o refl
   asked_view false Out over o = o.1
   asked_view chosen Connecting over o = absurd over
   asked_view chosen (Talking last) over o = asked_talk chosen phases.Over last over refl o
 
   pub asked_in : (chosen : Bool) (hosts : List E) → c < length hosts → IsOverIn view (slice_get hosts c)
-      → IsHostIn view chosen q s c now 1000000000 (slice_get hosts c) → IsConnectionAskedIf chosen q s true c now
+      → IsHostIn view chosen q s c now 1000000000 (slice_get hosts c) → IsConnectionAskedIf IsAnyLink chosen q s true c now
   asked_in chosen hosts lt over o = by (slice_get hosts c) refl over o
     where
       by : (x : Option E) → slice_get hosts c ≡ x → IsOverIn view x → IsHostIn view chosen q s c now 1000000000 x
-          → IsConnectionAskedIf chosen q s true c now
+          → IsConnectionAskedIf IsAnyLink chosen q s true c now
       by (Some x) is over o = asked_view chosen (view x) over o
       by None is over o = absurd (get_within hosts c lt is)
 

@@ -3,4 +3,7 @@ pub mod Openings
 pub mod InOrder
 pub mod AtOnce
 pub mod HostTalks
+pub mod Serving
 pub mod Entries
+pub mod Attempts
+pub mod HostLinks

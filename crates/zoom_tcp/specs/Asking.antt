@@ -1,7 +1,8 @@
 -- Connections are asked over TCP: the order of the events of each, and that each is Closed or Failed (Z39.50-2003,
 -- 3.2).
-use Rattle.std.specs.Prelude.{◌≡◌, ℕ, ◌<◌, ◌≤◌, Bool, true, false, List, [], ◌∷◌, ◌++◌, length, Option}
+use Rattle.std.specs.Prelude.{◌≡◌, ℕ, ◌<◌, ◌≤◌, Bool, true, false, List, [], ◌∷◌, ◌++◌, length, Option, None, Some, option_map}
 use Rattle.std.specs.Option.{is_some}
+use Rattle.std.specs.Io.KnownBytes.{Consumes}
 use Rattle.zorigin.specs.Standings.{Call}
 use Rattle.zoom_questions.specs.declared.question.Question.{Question}
 use Rattle.zoom_questions.specs.declared.question.MetaSettings.{MetaSettings}
@@ -17,19 +18,42 @@ use Rattle.zoom_io.specs.TalkTraces.{Stage, Listening, Waiting, Ended, TalkTrace
 abbrev pub is_present : {A : Type 0} → List (Option A) → ℕ → Bool
 is_present xs c = is_some (halves_at xs c)
 
+-- All octets that come over a link, in order, if they are known.
+abbrev pub KnownOctets : Type 0
+KnownOctets = Option (List ℕ)
+
+-- What is known of the octets of a link, if there is one.
+abbrev pub octets_of : {A : Type 0} → Option A → (A → KnownOctets) → Option KnownOctets
+octets_of link octets = option_map octets link
+
+-- The same for the link of connection c.
+abbrev pub link_at : {A : Type 0} → List (Option A) → (A → KnownOctets) → ℕ → Option KnownOctets
+link_at links octets c = octets_of (halves_at links c) octets
+
+-- These octets came first, if it is known what came.
+abbrev pub CameFirst : KnownOctets → List ℕ → Type 0
+CameFirst came read = (left : KnownOctets) × Consumes came left read
+
 -- ---- the events of one connection
 
--- Opening a connection to a host, after a history: its events, the newest first, and whether the host was reached.
--- Unreached: the connection is stopped for `Connect`. Begun: the due calls are made, and everything that waits is
--- handed out and written. Unsent: that write failed, and the connection is stopped for `Write`.
-pub data Opening (questions : List Question) (s : MetaSettings) (c : ℕ) (h : History) : History → Bool → Type 0 where
-  unreached : Opening questions s c h ((c, Stopped reasons.Connect) ∷ []) false
-  begun : (calls : List Call) (octets : List ℕ) → IsIdle questions s c (call_events c calls ++ h)
+-- Opening a connection to a host, after a history: its events, the newest first, and the octets of its link, if there
+-- is one to talk over. `IsOwn` says which octets come over a link of its own.
+-- Unreached: the connection is stopped for `Connect`. Begun: over a link of its own, the due calls are made, and
+-- everything that waits is handed out and written. Unsent: that write failed, and the connection is stopped for
+-- `Write`.
+pub data Opening
+    (IsOwn : KnownOctets → Type 0) (questions : List Question) (s : MetaSettings) (c : ℕ) (h : History)
+    : History → Option KnownOctets → Type 0 where
+  unreached : Opening IsOwn questions s c h ((c, Stopped reasons.Connect) ∷ []) None
+  begun : (came : KnownOctets) (calls : List Call) (octets : List ℕ) → IsOwn came
+      → IsIdle questions s c (call_events c calls ++ h)
       → IsAllHandedOut s c ((c, HandedOut octets) ∷ (call_events c calls ++ h))
-      → Opening questions s c h ((c, HandedOut octets) ∷ call_events c calls) true
-  unsent : (calls : List Call) (octets : List ℕ) → IsIdle questions s c (call_events c calls ++ h)
+      → Opening IsOwn questions s c h ((c, HandedOut octets) ∷ call_events c calls) (Some came)
+  unsent : (came : KnownOctets) (calls : List Call) (octets : List ℕ) → IsOwn came
+      → IsIdle questions s c (call_events c calls ++ h)
       → IsAllHandedOut s c ((c, HandedOut octets) ∷ (call_events c calls ++ h))
-      → Opening questions s c h ((c, Stopped reasons.Write) ∷ (c, HandedOut octets) ∷ call_events c calls) false
+      → Opening IsOwn questions s c h
+      ((c, Stopped reasons.Write) ∷ (c, HandedOut octets) ∷ call_events c calls) None
 
 -- After how many reads a talk may be stopped for `Turns`: after 1,000,000 if it is alone. If talks go on at once,
 -- after at most 1,000,000,000: other polls may have found no octets yet.
@@ -45,47 +69,60 @@ CanStopFor at_once Waiting reads reasons.Turns = IsTurnLimit at_once reads
 CanStopFor at_once Ended reads reasons.Ended = Unit {0}
 CanStopFor at_once _ reads reason = ⊥
 
--- A whole talk: the connection ended by itself, or was stopped. It is stopped for `Ended` only if the end of the
--- input cut it off.
-pub data WholeTalk (questions : List Question) (s : MetaSettings) (at_once : Bool) (c : ℕ) (h : History)
+-- A whole talk: the octets that came over the link first were read, and the connection ended by itself, or was
+-- stopped. It is stopped for `Ended` only if the end of the input cut it off.
+pub data WholeTalk
+    (questions : List Question) (s : MetaSettings) (at_once : Bool) (came : KnownOctets) (c : ℕ) (h : History)
     : History → Type 0 where
   ended_itself : {more : History} {read written : List ℕ} {reads : ℕ} {stage : Stage}
-      → TalkTrace questions s c h more read written reads stage → IsStoppedAt s c (more ++ h)
-      → WholeTalk questions s at_once c h more
+      → TalkTrace questions s c h more read written reads stage → CameFirst came read → IsStoppedAt s c (more ++ h)
+      → WholeTalk questions s at_once came c h more
   stopped_for_reason : {more : History} {read written : List ℕ} {reads : ℕ} {stage : Stage} (reason : Reason)
-      → TalkTrace questions s c h more read written reads stage → CanStopFor at_once stage reads reason
-      → (reason ≡ reasons.Ended → IsCutOff s c (more ++ h))
-      → WholeTalk questions s at_once c h ((c, Stopped reason) ∷ more)
+      → TalkTrace questions s c h more read written reads stage → CameFirst came read
+      → CanStopFor at_once stage reads reason → (reason ≡ reasons.Ended → IsCutOff s c (more ++ h))
+      → WholeTalk questions s at_once came c h ((c, Stopped reason) ∷ more)
 
--- A whole talk if the host was reached, and no events otherwise.
-abbrev pub WholeTalkIf : List Question → MetaSettings → Bool → ℕ → History → Bool → History → Type 0
-WholeTalkIf questions s at_once c h true more = WholeTalk questions s at_once c h more
-WholeTalkIf questions s at_once c h false more = more ≡ []
+-- A whole talk if there is a link, and no events otherwise.
+abbrev pub WholeTalkIf : List Question → MetaSettings → Bool → ℕ → History → Option KnownOctets → History → Type 0
+WholeTalkIf questions s at_once c h (Some came) more = WholeTalk questions s at_once came c h more
+WholeTalkIf questions s at_once c h None more = more ≡ []
 
 -- ---- among the events of the others
 
--- A connection was opened, its host was talked with if it was reached, and the connection has no other events. It is
--- Closed or Failed.
-pub record IsConnectionAsked (questions : List Question) (s : MetaSettings) (at_once : Bool) (c : ℕ) (h : History)
+-- A connection was opened, its host was talked with over its link if it has one, and the connection has no other
+-- events. It is Closed or Failed.
+pub record IsConnectionAsked
+    (IsOwn : KnownOctets → Type 0) (questions : List Question) (s : MetaSettings) (at_once : Bool) (c : ℕ)
+    (h : History)
     : Type 0 where
   pub opened : History
-  pub reached : Bool
-  pub opening : Opening questions s c [] opened reached
+  pub link : Option KnownOctets
+  pub opening : Opening IsOwn questions s c [] opened link
   pub more : History
-  pub talked : WholeTalkIf questions s at_once c opened reached more
+  pub talked : WholeTalkIf questions s at_once c opened link more
   pub mine : events_on c h ≡ events_on c (more ++ opened)
   pub over : IsStoppedAt s c h
 
 -- A chosen connection is asked; another has no events.
-abbrev pub IsConnectionAskedIf : Bool → List Question → MetaSettings → Bool → ℕ → History → Type 0
-IsConnectionAskedIf true questions s at_once c h = IsConnectionAsked questions s at_once c h
-IsConnectionAskedIf false questions s at_once c h = events_on c h ≡ []
+abbrev pub IsConnectionAskedIf
+    : (KnownOctets → Type 0) → Bool → List Question → MetaSettings → Bool → ℕ → History → Type 0
+IsConnectionAskedIf IsOwn true questions s at_once c h = IsConnectionAsked IsOwn questions s at_once c h
+IsConnectionAskedIf IsOwn false questions s at_once c h = events_on c h ≡ []
 
--- Some history left the connections. In it each chosen connection is asked, in order or at once, and is Closed or
--- Failed; the others have no events.
-pub record IsAsked
-    (questions : List Question) (s : MetaSettings) (at_once : Bool) (chosen : ℕ → Bool) (meta : MetaLinks)
+-- Some history left the connections. In it each chosen connection is asked over a link of its own, in order or at
+-- once, and is Closed or Failed; the others have no events.
+pub record IsAskedOver
+    (IsOwn : ℕ → KnownOctets → Type 0) (questions : List Question) (s : MetaSettings) (at_once : Bool)
+    (chosen : ℕ → Bool) (meta : MetaLinks)
     : Type 0 where
   pub history : History
   pub after : MetaAfter questions s history meta
-  pub each : (c : ℕ) → c < length questions → IsConnectionAskedIf (chosen c) questions s at_once c history
+  pub each : (c : ℕ) → c < length questions → IsConnectionAskedIf (IsOwn c) (chosen c) questions s at_once c history
+
+-- Nothing is known of the links.
+abbrev pub IsAnyLink : KnownOctets → Type 0
+IsAnyLink came = Unit {0}
+
+-- Each chosen connection is asked, over some link.
+abbrev pub IsAsked : List Question → MetaSettings → Bool → (ℕ → Bool) → MetaLinks → Type 0
+IsAsked questions s at_once chosen meta = IsAskedOver (λ c. IsAnyLink) questions s at_once chosen meta

@@ -11,6 +11,7 @@ use Rattle.zoom_io.specs.TalkTraces.{Due, Waiting}
 use Rattle.zoom_io.specs.TalksAmong.{View, view_of, OngoingTalkAmong, IsDoneAmong}
 use Rattle.zoom_tcp.specs.declared.host_talks.HostTalk.{HostTalk}
 use Rattle.zoom_tcp.specs.declared.host_talks.HostTalk.TheVariants as talks
+use Rattle.zoom_tcp.specs.Asking.{KnownOctets, IsAnyLink}
 use Rattle.zoom_tcp.specs.AskingSteps.{IsOpened, IsOpenedIf, AfterOpen}
 
 -- How far asking a host has come, as contracts see it.
@@ -39,19 +40,19 @@ IsTalkAt phases.Due q s c h now n first last =
 IsTalkAt phases.Waiting q s c h now n first last =
     (polls : ℕ) × (polls ≤ n) × OngoingTalkAmong q s c h now polls Waiting first last
 IsTalkAt phases.Over q s c h now n first last =
-    (turns : ℕ) × (turns ≤ 1000000000) × IsDoneAmong q s c h now turns first last
+    (polls : ℕ) × (polls ≤ 1000000000) × IsDoneAmong q s c h now polls first last
 
 -- The host was reached, and the talk that began then is as its phase says.
 pub record IsTalkedWith (q : List Question) (s : MetaSettings) (c : ℕ) (now : History) (n : ℕ) (last : View)
     : Type 0 where
   pub h : History
-  pub opened : IsOpened q s c true h
   pub first : View
+  pub opened : IsOpened IsAnyLink q s c (Some first.source.octets) h
   pub talk : IsTalkAt last.phase q s c h now n first last
 
 -- What the events of a connection are, by how far asking its host has come.
 abbrev pub IsHostAt : Bool → List Question → MetaSettings → ℕ → History → ℕ → HostView → Type 0
-IsHostAt chosen q s c now n Out = IsOpenedIf chosen q s c false now
+IsHostAt chosen q s c now n Out = IsOpenedIf IsAnyLink chosen q s c None now
 IsHostAt chosen q s c now n Connecting = (chosen ≡ true) × (events_on c now ≡ [])
 IsHostAt chosen q s c now n (Talking last) = (chosen ≡ true) × IsTalkedWith q s c now n last
 
@@ -82,15 +83,15 @@ IsNew Out = Unit {0}
 IsNew Connecting = ⊥
 IsNew (Talking last) = last.phase ≡ phases.Due
 
--- whether the host was reached
-abbrev pub is_reached : HostView → Bool
-is_reached (Talking last) = true
-is_reached _ = false
+-- The octets that come over the link to the host, if there is a link.
+abbrev pub link_of : HostView → Option KnownOctets
+link_of (Talking last) = Some last.source.octets
+link_of _ = None
 
 -- What looking at an attempt did: nothing; or the connection was opened, and a talk begins if the host was reached.
 abbrev pub IsBegun : ℕ → Option HostView → MetaLinks → MetaLinks → Type 0
 IsBegun c None old new = new ≡ old
-IsBegun c (Some view) old new = AfterOpen c (is_reached view) old new × IsNew view
+IsBegun c (Some view) old new = AfterOpen IsAnyLink c (link_of view) old new × IsNew view
 
 -- ---- all hosts
 

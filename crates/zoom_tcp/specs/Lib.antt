@@ -1,4 +1,8 @@
+pub mod HostLinks
+pub mod Connecting
 pub mod Asking
 pub mod AskingSteps
-pub mod HostLinks
 pub mod HostTalks
+pub mod Clients
+pub mod Serving
+pub mod Silence

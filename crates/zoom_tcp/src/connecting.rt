@@ -1,6 +1,10 @@
 //! Connects to many hosts side by side.
-ghost use Rattle.std.specs.Prelude.{◌≡◌, ◌<◌, ◌^◌, ℕ, true, length, IfOk, is_some};
+ghost use Rattle.std.specs.Prelude.{◌≡◌, ◌+◌, ◌<◌, ◌≤◌, ◌^◌, ℕ, List, Option, Some, true, length, IfOk, IfSome, is_some};
+ghost use Rattle.std.specs.Duration.{as_nanos};
+ghost use Rattle.zoom_io.specs.TalksAmong.{halves_at};
 ghost use Rattle.zoom_tcp.specs.Asking.{is_present};
+ghost use Rattle.zoom_tcp.specs.HostLinks.{IsTried, IsHostLink};
+ghost use Rattle.zoom_tcp.specs.Connecting.{IsAttempt, AttemptStep, IsFitIf, AttemptStepIf, AreAttempts, AttemptsStep, IsEarly, IsSettled};
 
 use crate::host_link::{HostLink, HostSink, HostSource};
 use crate::host_talks::{Reach, Reached};
@@ -35,8 +39,10 @@ pub(crate) struct Attempt<'a, S: Sockets> {
     network: &'a Network<S>,
     times: Times,
     token: usize,
-    /// The addresses that were not tried yet, the next one last.
-    rest: Vec<S::Address>,
+    /// The addresses of the host, in the order in which to try them.
+    addresses: Vec<S::Address>,
+    /// How many of them were tried.
+    tried: usize,
     stage: AttemptStage<S::Socket>,
     /// The count of the network's looks when this was last looked at.
     looked: u64,
@@ -65,6 +71,8 @@ pub(crate) fn begin_attempts<'a, S: Sockets>(
 ) -> Result<Vec<Option<Attempt<'a, S>>>, AllocError>
     ensures size { IfOk result (λ attempts. length attempts.items ≡ length addresses.now) }
     ensures named { IfOk result (λ attempts. (c : ℕ) → is_present attempts.items c ≡ is_present addresses.now c) }
+    ensures own { IfOk result (λ attempts. AreAttempts (halves_at addresses.now) attempts.items
+        (λ name a. IsAttempt S.AreFound S.IsOpening S.IsConnected name a.addresses.items a.stage)) }
 {
     let begun = time_of(network).unwrap_or(Duration::ZERO);
     let mut attempts = attempts_at(alloc, network, addresses, limits, begun)?;
@@ -83,6 +91,8 @@ pub(crate) fn await_all<S: Sockets, V: Watch>(
     requires { length meta.now.pool.connections < 2 ^ 32 }
     ensures size { length attempts.new ≡ length attempts.old }
     ensures named { (c : ℕ) → is_present attempts.new c ≡ is_present attempts.old c }
+    ensures own { AttemptsStep attempts.old attempts.new
+        (λ name a. IsAttempt S.AreFound S.IsOpening S.IsConnected name a.addresses.items a.stage) }
 {
     for _ in 0..u64::MAX {
         watch.look(meta);
@@ -113,6 +123,8 @@ fn attempts_at<'a, S: Sockets>(
 ) -> Result<Vec<Option<Attempt<'a, S>>>, AllocError>
     ensures size { IfOk result (λ attempts. length attempts.items ≡ length addresses.now) }
     ensures named { IfOk result (λ attempts. (c : ℕ) → is_present attempts.items c ≡ is_present addresses.now c) }
+    ensures own { IfOk result (λ attempts. AreAttempts (halves_at addresses.now) attempts.items
+        (λ name a. IsAttempt S.AreFound S.IsOpening S.IsConnected name a.addresses.items a.stage)) }
 {
     let times = Times {
         limits,
@@ -133,7 +145,9 @@ fn attempt_if<'a, S: Sockets>(
     address: &Option<Bytes>,
     times: Times,
 ) -> Result<Option<Attempt<'a, S>>, AllocError>
-    ensures { IfOk result (λ attempt. is_some attempt ≡ is_some address.now) }
+    ensures named { IfOk result (λ attempt. is_some attempt ≡ is_some address.now) }
+    ensures own { IfOk result (λ attempt. IsFitIf address.now attempt
+        (λ name a. IsAttempt S.AreFound S.IsOpening S.IsConnected name a.addresses.items a.stage)) }
 {
     match address {
         Some(address) => Ok(Some(attempt_at(alloc, network, address.as_slice(), times)?)),
@@ -147,13 +161,16 @@ fn attempt_at<'a, S: Sockets>(
     network: &'a Network<S>,
     address: &[u8],
     times: Times,
-) -> Result<Attempt<'a, S>, AllocError> {
+) -> Result<Attempt<'a, S>, AllocError>
+    ensures { IfOk result (λ a. IsAttempt S.AreFound S.IsOpening S.IsConnected address.now a.addresses.items a.stage) }
+{
     let mut attempt = Attempt {
         alloc,
         network,
         times,
         token: usize::MAX,
-        rest: Vec::new(alloc),
+        addresses: Vec::new(alloc),
+        tried: 0,
         stage: AttemptStage::Out,
         looked: 0,
     };
@@ -161,8 +178,7 @@ fn attempt_at<'a, S: Sockets>(
         && let Ok(mut poller) = network.poller.try_borrow_mut()
     {
         attempt.token = poller.new_token()?;
-        attempt.rest = poller.sockets.resolve(alloc, text)?;
-        attempt.rest.reverse();
+        attempt.addresses = poller.sockets.resolve(alloc, text)?;
     }
     Ok(attempt)
 }
@@ -171,6 +187,8 @@ fn attempt_at<'a, S: Sockets>(
 fn begin_all<S: Sockets>(network: &Network<S>, attempts: &mut [Option<Attempt<'_, S>>])
     ensures size { length attempts.new ≡ length attempts.old }
     ensures named { (c : ℕ) → is_present attempts.new c ≡ is_present attempts.old c }
+    ensures own { AttemptsStep attempts.old attempts.new
+        (λ name a. IsAttempt S.AreFound S.IsOpening S.IsConnected name a.addresses.items a.stage) }
 {
     let Ok(mut poller) = network.poller.try_borrow_mut() else {
         return;
@@ -186,7 +204,9 @@ fn begin_all<S: Sockets>(network: &Network<S>, attempts: &mut [Option<Attempt<'_
 
 /// Begins an attempt if there is one.
 fn begin_if<S: Sockets>(poller: &mut Poller<S>, attempt: &mut Option<Attempt<'_, S>>, now: Duration)
-    ensures { is_some attempt.new ≡ is_some attempt.old }
+    ensures named { is_some attempt.new ≡ is_some attempt.old }
+    ensures own { AttemptStepIf attempt.old attempt.new
+        (λ name a. IsAttempt S.AreFound S.IsOpening S.IsConnected name a.addresses.items a.stage) }
 {
     if let Some(attempt) = attempt {
         attempt.begin(poller, now);
@@ -200,6 +220,8 @@ pub(crate) fn await_some<S: Sockets>(
 ) -> bool
     ensures size { length attempts.new ≡ length attempts.old }
     ensures named { (c : ℕ) → is_present attempts.new c ≡ is_present attempts.old c }
+    ensures own { AttemptsStep attempts.old attempts.new
+        (λ name a. IsAttempt S.AreFound S.IsOpening S.IsConnected name a.addresses.items a.stage) }
 {
     let Ok(mut poller) = network.poller.try_borrow_mut() else {
         return false;
@@ -235,7 +257,9 @@ fn advance_if<S: Sockets>(
     attempt: &mut Option<Attempt<'_, S>>,
     now: Duration,
 ) -> Option<Duration>
-    ensures { is_some attempt.new ≡ is_some attempt.old }
+    ensures named { is_some attempt.new ≡ is_some attempt.old }
+    ensures own { AttemptStepIf attempt.old attempt.new
+        (λ name a. IsAttempt S.AreFound S.IsOpening S.IsConnected name a.addresses.items a.stage) }
 {
     match attempt {
         Some(attempt) => {
@@ -254,7 +278,10 @@ fn share_of(left: Duration, others: usize) -> Duration {
 
 impl<'a, S: Sockets> Attempt<'a, S> {
     /// Begins. The host has to be connected within the patience, and within what is left of the total.
-    fn begin(&mut self, poller: &mut Poller<S>, now: Duration) {
+    fn begin(&mut self, poller: &mut Poller<S>, now: Duration)
+        ensures { AttemptStep S.AreFound S.IsOpening S.IsConnected self.old.addresses.items self.old.stage
+            self.new.addresses.items self.new.stage }
+    {
         let limits = self.times.limits;
         let left = limits
             .patience
@@ -264,44 +291,55 @@ impl<'a, S: Sockets> Attempt<'a, S> {
     }
 
     /// Begins at the next address at which it can, if there is time left.
-    fn try_next(&mut self, poller: &mut Poller<S>, now: Duration) {
+    fn try_next(&mut self, poller: &mut Poller<S>, now: Duration)
+        ensures own { AttemptStep S.AreFound S.IsOpening S.IsConnected self.old.addresses.items self.old.stage
+            self.new.addresses.items self.new.stage }
+        ensures all { IsEarly now self.old.times.deadline self.new.stage
+            → length self.new.addresses.items ≤ self.new.tried }
+    {
         self.stage = AttemptStage::Out;
         let left = self.times.deadline.saturating_sub(now);
         if left.is_zero() {
             return;
         }
-        for _ in 0..self.rest.len() {
-            let Some(address) = self.rest.pop() else {
-                return;
-            };
-            poller.set_ready(self.token, Readiness::default());
-            if let Some(socket) = poller.sockets.connect(self.token, &address) {
-                let until = now.saturating_add(share_of(left, self.rest.len()));
+        while self.tried < self.addresses.len() {
+            if let Some(socket) = self.try_one(poller) {
+                let others = self.addresses.len() - self.tried;
+                let until = now.saturating_add(share_of(left, others));
                 self.stage = AttemptStage::Pending(socket, until);
                 return;
             }
         }
     }
 
+    /// Begins at the next address. Returns its socket, if there is one.
+    fn try_one(&mut self, poller: &mut Poller<S>) -> Option<S::Socket>
+        requires { self.old.tried < length self.old.addresses.items }
+        ensures tried { IsTried S.IsOpening self.old.addresses.items self.old.tried result }
+        ensures next { self.new ≡ record self.old { tried = self.old.tried + 1 } }
+    {
+        poller.set_ready(self.token, Readiness::default());
+        let address = &self.addresses[self.tried];
+        self.tried += 1;
+        poller.sockets.connect(self.token, address)
+    }
+
     /// Notes what became of it. Tries the next address if this one refused or its time is over.
-    fn advance(&mut self, poller: &mut Poller<S>, now: Duration) {
+    fn advance(&mut self, poller: &mut Poller<S>, now: Duration)
+        ensures { AttemptStep S.AreFound S.IsOpening S.IsConnected self.old.addresses.items self.old.stage
+            self.new.addresses.items self.new.stage }
+    {
         let AttemptStage::Pending(socket, until) = &self.stage else {
             return;
         };
-        let ready = poller.ready_of(self.token);
-        let progress = if ready.writable {
-            poller.sockets.progress(socket)
-        } else {
-            ConnectProgress::Pending
-        };
-        match progress {
+        match poller.progress(self.token, socket) {
             ConnectProgress::Connected => self.settle(),
             ConnectProgress::Refused => self.try_next(poller, now),
             ConnectProgress::Pending => {
                 if *until <= now {
                     self.try_next(poller, now);
                 } else {
-                    let writable = false;
+                    let (ready, writable) = (poller.ready_of(self.token), false);
                     poller.set_ready(self.token, Readiness { writable, ..ready });
                 }
             }
@@ -319,7 +357,10 @@ impl<'a, S: Sockets> Attempt<'a, S> {
 
     /// Looks for reports, and notes what became of it. If `wait` holds, waits for a change of any host. Otherwise it
     /// does not look if another host has looked since this was last looked at.
-    fn look_around(&mut self, poller: &mut Poller<S>, wait: bool) {
+    fn look_around(&mut self, poller: &mut Poller<S>, wait: bool)
+        ensures { AttemptStep S.AreFound S.IsOpening S.IsConnected self.old.addresses.items self.old.stage
+            self.new.addresses.items self.new.stage }
+    {
         let now = poller.sockets.now().unwrap_or(Duration::MAX);
         if wait && let Some(until) = self.pending_until() {
             poller.note_deadline(until);
@@ -336,14 +377,25 @@ impl<'a, S: Sockets> Attempt<'a, S> {
     }
 
     /// Notes that the socket is connected.
-    fn settle(&mut self) {
+    fn settle(&mut self)
+        requires { IsSettled S.IsConnected self.old.stage }
+        ensures { AttemptStep S.AreFound S.IsOpening S.IsConnected self.old.addresses.items self.old.stage
+            self.new.addresses.items self.new.stage }
+    {
         if let AttemptStage::Pending(socket, _) = mem::replace(&mut self.stage, AttemptStage::Out) {
             self.stage = AttemptStage::Connected(socket);
         }
     }
 
     /// Takes out the link to the host if it is connected.
-    pub(crate) fn link(&mut self) -> Result<Option<HostLink<'a, S>>, AllocError> {
+    pub(crate) fn link(&mut self) -> Result<Option<HostLink<'a, S>>, AllocError>
+        ensures stays { AttemptStep S.AreFound S.IsOpening S.IsConnected self.old.addresses.items self.old.stage
+            self.new.addresses.items self.new.stage }
+        ensures own { (name : List ℕ)
+            → IsAttempt S.AreFound S.IsOpening S.IsConnected name self.old.addresses.items self.old.stage
+            → IfOk result (λ link. IfSome link (λ l. IsHostLink S.AreFound S.IsOpening S.IsConnected S.octets name
+            (S.octets_left l.source.timed.socket.value l.source.cursor))) }
+    {
         let socket = match mem::replace(&mut self.stage, AttemptStage::Out) {
             AttemptStage::Connected(socket) => socket,
             AttemptStage::Pending(_, _) => return Ok(None),

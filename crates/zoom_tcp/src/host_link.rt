@@ -1,7 +1,10 @@
 //! A link to a host: a source and a sink over one socket, with time limits.
-ghost use Rattle.std.specs.Prelude.{◌≡◌, ◌<◌, None, length, IfOk, IsErr};
+ghost use Rattle.std.specs.Prelude.{◌≡◌, ◌-◌, ◌<◌, None, length, IfOk, IfSome, OnOk, IsErr};
+ghost use Rattle.std.specs.Duration.{as_nanos};
 ghost use Rattle.std.specs.Io.{WritesAtMost};
-ghost use Rattle.zoom_io.specs.Devices.{IsBoundedPoll, IsCounted, next_count};
+ghost use Rattle.zoom_io.specs.Devices.{IsBoundedPoll, IsCounted, AfterPoll, polls_after};
+ghost use Rattle.zoom_tcp.specs.HostLinks.{IsPolled};
+ghost use Rattle.zoom_tcp.specs.Silence.{IsWithin, IsInTime, IfNotYet};
 
 use crate::limits::{Limits, left_of};
 use crate::network::{Network, Poller};
@@ -28,6 +31,7 @@ struct TimedSocket<'a, S: Sockets> {
 #[derive(Drop)]
 pub struct HostSource<'a, S: Sockets> {
     timed: TimedSocket<'a, S>,
+    cursor: S::Cursor,
     /// When octets came last, or when it was first polled.
     came_at: Option<Duration>,
     /// The count of the network's looks when it was last polled.
@@ -56,7 +60,10 @@ pub struct HostLink<'a, S: Sockets> {
 
 impl<'a, S: Sockets> TimedSocket<'a, S> {
     /// The time, or an error if the time for everything is over or the clock fails.
-    fn now(&self, poller: &Poller<S>) -> Result<Duration, Failed> {
+    fn now(&self, poller: &Poller<S>) -> Result<Duration, Failed>
+        ensures seen { IfOk result S.IsMoment }
+        ensures early { IfOk result (λ now. IfSome self.now.limits.total (IsWithin self.now.begun now)) }
+    {
         let Some(now) = poller.sockets.now() else {
             return Err(Failed);
         };
@@ -67,14 +74,19 @@ impl<'a, S: Sockets> TimedSocket<'a, S> {
     }
 
     /// What is left of the time for everything.
-    fn total_left(&self, now: Duration) -> Duration {
+    fn total_left(&self, now: Duration) -> Duration
+        ensures { IfSome self.now.limits.total (λ total. as_nanos result
+            ≡ as_nanos total - (as_nanos now - as_nanos self.now.begun)) }
+    {
         self.limits.total_left(self.begun, now)
     }
 
     /// A link over this socket and a second handle of it. Neither half has a failed call yet.
-    fn link(self, other: Rc<S::Socket>) -> HostLink<'a, S>
+    fn link(self, cursor: S::Cursor, other: Rc<S::Socket>) -> HostLink<'a, S>
         ensures sound { (result.source.failures ≡ 0) × (result.sink.failures ≡ 0) }
         ensures polls { result.source.polls ≡ 0 }
+        ensures socket { result.source.timed.socket.value ≡ self.entry.socket.value }
+        ensures cursor { result.source.cursor ≡ cursor }
     {
         let sink = HostSink {
             timed: TimedSocket {
@@ -89,6 +101,7 @@ impl<'a, S: Sockets> TimedSocket<'a, S> {
         HostLink {
             source: HostSource {
                 timed: self,
+                cursor,
                 came_at: None,
                 looked: 0,
                 failures: 0,
@@ -111,7 +124,10 @@ impl<'a, S: Sockets> HostLink<'a, S> {
     ) -> Result<HostLink<'a, S>, AllocError>
         ensures sound { IfOk result (λ link. (link.source.failures ≡ 0) × (link.sink.failures ≡ 0)) }
         ensures polls { IfOk result (λ link. link.source.polls ≡ 0) }
+        ensures octets { IfOk result (λ link. S.octets_left link.source.timed.socket.value link.source.cursor
+            ≡ S.octets socket.value) }
     {
+        let cursor = S::first(&socket);
         let other = socket.clone()?;
         let timed = TimedSocket {
             network,
@@ -120,7 +136,7 @@ impl<'a, S: Sockets> HostLink<'a, S> {
             limits,
             begun,
         };
-        Ok(timed.link(other))
+        Ok(timed.link(cursor, other))
     }
 }
 
@@ -129,14 +145,22 @@ impl<'a, S: Sockets> HostSource<'a, S> {
     /// holds, it first waits until octets come on any link of the network, for at most a quarter of a second.
     fn hear(&mut self, piece: &mut [u8], wait: bool) -> Result<Option<usize>, Failed>
         ensures bound { IsBoundedPoll result piece.new }
-        ensures counts { IsCounted self.old.failures self.new.failures result }
-        ensures polls { self.new.polls ≡ next_count self.old.polls }
+        ensures reads { AfterPoll
+            (record { octets = S.octets_left self.old.timed.socket.value self.old.cursor; failures = self.old.failures })
+            (record { octets = S.octets_left self.new.timed.socket.value self.new.cursor; failures = self.new.failures })
+            result piece.new }
+        ensures polls { self.new.polls ≡ polls_after self.old.polls result }
         ensures stays { 0 < self.old.failures → IsErr result }
+        ensures early { IfNotYet result (IsInTime S.IsMoment self.new.timed.limits self.new.timed.begun self.new.came_at) }
     {
-        self.polls = self.polls.saturating_add(1);
         match self.look(piece, wait) {
-            Ok(count) => Ok(count),
+            Ok(Some(0)) => Ok(Some(0)),
+            Ok(count) => {
+                self.polls = self.polls.saturating_add(1);
+                Ok(count)
+            }
             Err(error) => {
+                self.polls = self.polls.saturating_add(1);
                 self.failures = self.failures.saturating_add(1);
                 Err(error)
             }
@@ -146,9 +170,12 @@ impl<'a, S: Sockets> HostSource<'a, S> {
     /// Does what `hear` does, and counts nothing.
     fn look(&mut self, piece: &mut [u8], wait: bool) -> Result<Option<usize>, Failed>
         ensures bound { IsBoundedPoll result piece.new }
+        ensures octets { IsPolled (S.octets_left self.old.timed.socket.value self.old.cursor)
+            (S.octets_left self.new.timed.socket.value self.new.cursor) result piece.new }
         ensures failures { self.new.failures ≡ self.old.failures }
         ensures polls { self.new.polls ≡ self.old.polls }
         ensures stays { 0 < self.old.failures → IsErr result }
+        ensures early { IfNotYet result (IsInTime S.IsMoment self.new.timed.limits self.new.timed.begun self.new.came_at) }
     {
         if self.failures > 0 {
             return Err(Failed);
@@ -162,7 +189,12 @@ impl<'a, S: Sockets> HostSource<'a, S> {
         self.came_at = Some(self.came_at.unwrap_or(now));
         self.look_around(poller, now, wait);
         poller.flush(self.timed.token, &self.timed.socket)?;
-        match poller.read(self.timed.token, &self.timed.socket, piece) {
+        match poller.read(
+            self.timed.token,
+            &self.timed.socket,
+            &mut self.cursor,
+            piece,
+        ) {
             Transfer::Octets(count) => {
                 self.came_at = Some(poller.sockets.now().unwrap_or(now));
                 Ok(Some(count))
@@ -178,8 +210,7 @@ impl<'a, S: Sockets> HostSource<'a, S> {
     /// Looks for reports if this socket is not readable. If `wait` holds, waits for any link. Otherwise it does not
     /// wait, and it does not look if another link has looked since this one was last polled.
     fn look_around(&mut self, poller: &mut Poller<S>, now: Duration, wait: bool)
-        ensures failures { self.new.failures ≡ self.old.failures }
-        ensures polls { self.new.polls ≡ self.old.polls }
+        ensures { self.new ≡ record self.old { looked = self.new.looked } }
     {
         if poller.ready_of(self.timed.token).readable {
             return;
@@ -194,21 +225,28 @@ impl<'a, S: Sockets> HostSource<'a, S> {
     }
 
     /// Notes by when octets have to come. Fails if that time is over.
-    fn await_more(&self, poller: &mut Poller<S>) -> Result<(), Failed> {
+    fn await_more(&self, poller: &mut Poller<S>) -> Result<(), Failed>
+        ensures { OnOk result (IsInTime S.IsMoment self.now.timed.limits self.now.timed.begun self.now.came_at) }
+    {
         let now = self.timed.now(poller)?;
-        let deadline = self.deadline(now);
-        if deadline <= now {
+        if self.patience_left(now).is_zero() {
             return Err(Failed);
         }
-        poller.note_deadline(deadline);
+        poller.note_deadline(self.deadline(now));
         Ok(())
+    }
+
+    /// What is left of the patience.
+    fn patience_left(&self, now: Duration) -> Duration
+        ensures { IfSome self.now.came_at (λ came. as_nanos result
+            ≡ as_nanos self.now.timed.limits.patience - (as_nanos now - as_nanos came)) }
+    {
+        left_of(self.timed.limits.patience, self.came_at.unwrap_or(now), now)
     }
 
     /// The time by which octets have to come.
     fn deadline(&self, now: Duration) -> Duration {
-        let came_at = self.came_at.unwrap_or(now);
-        let patience_left = left_of(self.timed.limits.patience, came_at, now);
-        now.saturating_add(patience_left.min(self.timed.total_left(now)))
+        now.saturating_add(self.patience_left(now).min(self.timed.total_left(now)))
     }
 }
 
@@ -247,22 +285,27 @@ impl<'a, S: Sockets> HostSink<'a, S> {
 }
 
 impl<'a, S: Sockets> NonBlocking for HostSource<'a, S> {
-    ghost state = { λ p. record { octets = None; failures = p.failures } };
+    ghost state = { λ p. record { octets = S.octets_left p.timed.socket.value p.cursor; failures = p.failures } };
 
     ghost polls = { λ p. p.polls };
 
     fn poll(&mut self, piece: &mut [u8], wait: bool) -> Result<Option<usize>, Failed> {
         self.hear(piece, wait)
     }
+
+    fn failures(&self) -> u64 {
+        self.failures
+    }
 }
 
 impl<'a, S: Sockets> Source for HostSource<'a, S> {
-    ghost state = { λ p. record { octets = None; failures = p.failures } };
+    ghost state = { λ p. record { octets = S.octets_left p.timed.socket.value p.cursor; failures = p.failures } };
 
     fn read(&mut self, piece: &mut [u8]) -> Result<usize, Failed> {
         for _ in 0..u64::MAX {
-            if let Some(count) = self.hear(piece, true)? {
-                return Ok(count);
+            match self.hear(piece, true)? {
+                Some(count) => return Ok(count),
+                None => {}
             }
         }
         self.failures = self.failures.saturating_add(1);

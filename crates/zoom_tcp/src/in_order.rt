@@ -1,8 +1,10 @@
 //! Asks hosts one after the other.
-ghost use Rattle.std.specs.Prelude.{◌≡◌, ◌<◌, ◌^◌, false, true, length, is_some, IfOk, OnOk};
+ghost use Rattle.std.specs.Prelude.{◌≡◌, ◌<◌, ◌^◌, ℕ, List, Option, false, length, IfOk, OnOk};
 ghost use Rattle.zoom_questions.specs.Askable.{AreFit, AreAskable};
-ghost use Rattle.zoom_tcp.specs.Asking.{is_present, IsAsked};
+ghost use Rattle.zoom_io.specs.TalksAmong.{halves_at};
+ghost use Rattle.zoom_tcp.specs.Asking.{is_present, octets_of, IsAsked, IsAskedOver};
 ghost use Rattle.zoom_tcp.specs.AskingSteps.{AfterTalkOn, AfterTalkAll};
+ghost use Rattle.zoom_tcp.specs.HostLinks.{IsOwnLink};
 
 use crate::host_link::HostLink;
 use crate::limits::Limits;
@@ -50,7 +52,9 @@ pub fn ask<N: Net + Clock, V: Watch>(
     )
 }
 
-/// Does what `ask` does, over the sockets of a network.
+/// Does what `ask` does, over the sockets of a network. Each connection is talked with over a link of its own: its
+/// socket was opened for one of the addresses that were found for its name, and is connected. The octets that came over
+/// it first are those that were read.
 pub fn ask_over<S: Sockets, V: Watch>(
     alloc: Global,
     network: &Network<S>,
@@ -64,7 +68,9 @@ pub fn ask_over<S: Sockets, V: Watch>(
     requires askable { AreAskable questions.items }
     requires fit { AreFit settings }
     requires equal { length addresses.now ≡ length questions.items }
-    ensures asked { IfOk result (λ meta. IsAsked questions.items settings false (is_present addresses.now) meta) }
+    ensures asked { IfOk result (λ meta. IsAskedOver
+        (λ c. IsOwnLink S.AreFound S.IsOpening S.IsConnected S.octets (halves_at addresses.now c))
+        questions.items settings false (is_present addresses.now) meta) }
 {
     let mut meta = Meta::new(alloc, Seq::from_vec(questions), settings)?;
     let links = open_all(alloc, network, &mut meta, addresses, limits, watch)?;
@@ -81,7 +87,10 @@ fn talk_all<S: Sockets, V: Watch>(
 ) -> Result<(), AllocError>
     requires few { length meta.old.pool.connections < 2 ^ 32 }
     requires equal { length links.items ≡ length meta.old.pool.connections }
-    ensures talks { OnOk result (AfterTalkAll links.entry.items (length links.entry.items) meta.old meta.new) }
+    ensures talks { OnOk result ((address : ℕ → Option (List ℕ)) → AfterTalkAll links.entry.items
+        (λ l. S.octets_left l.source.timed.socket.value l.source.cursor)
+        (λ c. IsOwnLink S.AreFound S.IsOpening S.IsConnected S.octets (address c)) (length links.entry.items)
+        meta.old meta.new) }
     ensures size { length meta.new.pool.connections ≡ length meta.old.pool.connections }
 {
     let mut c = 0;
@@ -101,7 +110,8 @@ fn talk_if<S: Sockets>(
     link: Option<HostLink<'_, S>>,
 ) -> Result<(), AllocError>
     requires { c < length meta.old.pool.connections }
-    ensures talks { OnOk result (AfterTalkOn c (is_some link.entry) meta.old meta.new) }
+    ensures talks { OnOk result (AfterTalkOn c (octets_of link.entry
+        (λ l. S.octets_left l.source.timed.socket.value l.source.cursor)) meta.old meta.new) }
     ensures size { length meta.new.pool.connections ≡ length meta.old.pool.connections }
 {
     match link {
@@ -118,7 +128,8 @@ fn talk_on<S: Sockets>(
     link: HostLink<'_, S>,
 ) -> Result<(), AllocError>
     requires { c < length meta.old.pool.connections }
-    ensures talks { OnOk result (AfterTalkOn c true meta.old meta.new) }
+    ensures talks { OnOk result (AfterTalkOn c (Some (S.octets_left link.entry.source.timed.socket.value
+        link.entry.source.cursor)) meta.old meta.new) }
     ensures size { length meta.new.pool.connections ≡ length meta.old.pool.connections }
 {
     let HostLink {

@@ -2,6 +2,7 @@
 #![tactic(auto)]
 
 mod at_once;
+mod clients;
 mod connecting;
 mod host_link;
 mod host_talks;
@@ -16,11 +17,12 @@ mod sockets;
 mod tcp_sockets;
 
 pub use at_once::{ask_at_once, ask_at_once_over};
+pub use clients::{Arrival, Clients, TcpClients};
 pub use in_order::{ask, ask_over};
 pub use limits::Limits;
 pub use link::TcpLink;
 pub use loopback::run_loopback;
 pub use network::Network;
-pub use service::{ServeError, serve};
+pub use service::{ServeError, serve, serve_over};
 pub use sockets::{ConnectProgress, Readiness, Sockets, Transfer};
 pub use tcp_sockets::TcpSockets;

@@ -7,7 +7,7 @@ use std::time::Duration;
 /// The time limits of asking hosts.
 #[derive(Clone, Copy, Debug, PartialEq, Eq)]
 pub struct Limits {
-    /// The longest time for connecting to all hosts together, and the longest silence of a host.
+    /// The longest time for connecting to all hosts together, and the longest that a host may be silent.
     pub patience: Duration,
     /// The longest time for everything, from the first look-up of a name on. `None` sets no limit.
     pub total: Option<Duration>,
@@ -34,7 +34,9 @@ impl Limits {
     }
 
     /// What is left of the time for everything, if it began at `begun`.
-    pub(crate) fn total_left(&self, begun: Duration, now: Duration) -> Duration {
+    pub(crate) fn total_left(&self, begun: Duration, now: Duration) -> Duration
+        ensures { IfSome self.now.total (λ total. as_nanos result ≡ as_nanos total - (as_nanos now - as_nanos begun)) }
+    {
         match self.total {
             Some(total) => left_of(total, begun, now),
             None => Duration::MAX,

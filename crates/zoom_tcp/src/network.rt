@@ -1,9 +1,9 @@
 //! The sockets of all links, what each is ready for, and what it has not sent yet.
 ghost use Rattle.std.specs.Prelude.{◌≡◌, ◌<◌, length, IfOk};
 ghost use Rattle.std.specs.Io.{WritesAtMost};
-ghost use Rattle.zoom_tcp.specs.HostLinks.{IsBoundedTransfer};
+ghost use Rattle.zoom_tcp.specs.HostLinks.{IsBoundedTransfer, IsConnectedIf, AfterReadFrom};
 
-use crate::sockets::{Readiness, Sockets, Transfer};
+use crate::sockets::{ConnectProgress, Readiness, Sockets, Transfer};
 use bytes::BytesMut;
 use std::alloc::{AllocError, Global};
 use std::cell::RefCell;
@@ -131,15 +131,34 @@ impl<S: Sockets> Poller<S> {
         self.sockets.wait(most, &mut self.ready)
     }
 
+    /// How the attempt of a socket to connect stands. It is pending until the socket is reported writable.
+    pub(crate) fn progress(&mut self, token: usize, socket: &S::Socket) -> ConnectProgress
+        ensures { IsConnectedIf S.IsConnected socket.now result }
+    {
+        if self.ready_of(token).writable {
+            self.sockets.progress(socket)
+        } else {
+            ConnectProgress::Pending
+        }
+    }
+
     /// Reads from a socket that was reported readable.
-    pub(crate) fn read(&mut self, token: usize, socket: &S::Socket, piece: &mut [u8]) -> Transfer
-        ensures { IsBoundedTransfer result (length piece.new) }
+    pub(crate) fn read(
+        &mut self,
+        token: usize,
+        socket: &S::Socket,
+        cursor: &mut S::Cursor,
+        piece: &mut [u8],
+    ) -> Transfer
+        ensures bound { IsBoundedTransfer result (length piece.new) }
+        ensures octets { AfterReadFrom (S.octets_left socket.now cursor.old) (S.octets_left socket.now cursor.new)
+            result piece.new }
     {
         let ready = self.ready_of(token);
         if !ready.readable {
             return Transfer::NotYet;
         }
-        let moved = self.sockets.read(socket, piece);
+        let moved = self.sockets.read(socket, cursor, piece);
         let readable = match moved {
             Transfer::Octets(count) => count == 0 || count == piece.len() || ready.closed,
             Transfer::NotYet => false,

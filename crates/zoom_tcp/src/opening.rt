@@ -1,7 +1,10 @@
 //! Connects to all hosts, and then sends each the Init.
-ghost use Rattle.std.specs.Prelude.{◌≡◌, ◌<◌, ◌^◌, length, is_some, IfOk};
-ghost use Rattle.zoom_tcp.specs.Asking.{is_present};
-ghost use Rattle.zoom_tcp.specs.AskingSteps.{AfterOpen, AfterOpenIf, AfterOpenAll};
+ghost use Rattle.std.specs.Prelude.{◌≡◌, ◌<◌, ◌^◌, ℕ, List, Option, Some, length, is_some, IfOk};
+ghost use Rattle.zoom_io.specs.TalksAmong.{halves_at};
+ghost use Rattle.zoom_tcp.specs.Asking.{KnownOctets, is_present, octets_of};
+ghost use Rattle.zoom_tcp.specs.AskingSteps.{AfterOpen, AfterOpenIf, AfterOpenAll, link_when};
+ghost use Rattle.zoom_tcp.specs.Connecting.{IsAttempt, IsFitIf, AttemptStepIf, AreAttempts};
+ghost use Rattle.zoom_tcp.specs.HostLinks.{IsHostLink, IsOwnLink};
 
 use crate::connecting::{Attempt, await_all, begin_attempts};
 use crate::host_link::HostLink;
@@ -27,7 +30,10 @@ pub(crate) fn open_all<'a, S: Sockets, V: Watch>(
 ) -> Result<Vec<Option<HostLink<'a, S>>>, AllocError>
     requires few { length meta.old.pool.connections < 2 ^ 32 }
     requires equal { length addresses.now ≡ length meta.old.pool.connections }
-    ensures opens { IfOk result (λ links. AfterOpenAll (is_present addresses.now) links.items meta.old meta.new) }
+    ensures opens { IfOk result (λ links. AfterOpenAll links.items
+        (λ l. S.octets_left l.source.timed.socket.value l.source.cursor)
+        (λ c. IsOwnLink S.AreFound S.IsOpening S.IsConnected S.octets (halves_at addresses.now c))
+        (is_present addresses.now) meta.old meta.new) }
     ensures size { length meta.new.pool.connections ≡ length meta.old.pool.connections }
     ensures links { IfOk result (λ links. length links.items ≡ length addresses.now) }
 {
@@ -46,7 +52,12 @@ fn begin_all<'a, S: Sockets>(
     requires few { length meta.old.pool.connections < 2 ^ 32 }
     requires equal { length addresses.now ≡ length meta.old.pool.connections }
     requires attempts { length attempts.old ≡ length addresses.now }
-    ensures opens { IfOk result (λ links. AfterOpenAll (is_present addresses.now) links.items meta.old meta.new) }
+    requires own { AreAttempts (halves_at addresses.now) attempts.old
+        (λ name a. IsAttempt S.AreFound S.IsOpening S.IsConnected name a.addresses.items a.stage) }
+    ensures opens { IfOk result (λ links. AfterOpenAll links.items
+        (λ l. S.octets_left l.source.timed.socket.value l.source.cursor)
+        (λ c. IsOwnLink S.AreFound S.IsOpening S.IsConnected S.octets (halves_at addresses.now c))
+        (is_present addresses.now) meta.old meta.new) }
     ensures size { length meta.new.pool.connections ≡ length meta.old.pool.connections }
     ensures links { IfOk result (λ links. length links.items ≡ length addresses.now) }
 {
@@ -61,7 +72,15 @@ fn begin_all<'a, S: Sockets>(
 /// The link that an attempt has made, if there is one.
 fn link_if<'a, S: Sockets>(
     attempt: &mut Option<Attempt<'a, S>>,
-) -> Result<Option<HostLink<'a, S>>, AllocError> {
+) -> Result<Option<HostLink<'a, S>>, AllocError>
+    ensures stays { AttemptStepIf attempt.old attempt.new
+        (λ name a. IsAttempt S.AreFound S.IsOpening S.IsConnected name a.addresses.items a.stage) }
+    ensures own { (address : Option (List ℕ)) → IsFitIf address attempt.old
+        (λ name a. IsAttempt S.AreFound S.IsOpening S.IsConnected name a.addresses.items a.stage)
+        → IfOk result (λ link. IsFitIf address link
+        (λ name l. IsHostLink S.AreFound S.IsOpening S.IsConnected S.octets name
+        (S.octets_left l.source.timed.socket.value l.source.cursor))) }
+{
     match attempt {
         Some(attempt) => attempt.link(),
         None => Ok(None),
@@ -76,8 +95,13 @@ fn begin_if<'a, S: Sockets>(
     address: &Option<Bytes>,
     link: Option<HostLink<'a, S>>,
 ) -> Result<Option<HostLink<'a, S>>, AllocError>
-    requires { c < length meta.old.pool.connections }
-    ensures opens { IfOk result (λ link. AfterOpenIf (is_some address.now) c (is_some link) meta.old meta.new) }
+    requires place { c < length meta.old.pool.connections }
+    requires own { IsFitIf address.now link
+        (λ name l. IsHostLink S.AreFound S.IsOpening S.IsConnected S.octets name
+        (S.octets_left l.source.timed.socket.value l.source.cursor)) }
+    ensures opens { IfOk result (λ opened. AfterOpenIf
+        (IsOwnLink S.AreFound S.IsOpening S.IsConnected S.octets address.now) (is_some address.now) c
+        (octets_of opened (λ l. S.octets_left l.source.timed.socket.value l.source.cursor)) meta.old meta.new) }
     ensures size { length meta.new.pool.connections ≡ length meta.old.pool.connections }
 {
     match address {
@@ -95,7 +119,9 @@ fn begin_on<'a, S: Sockets>(
     link: Option<HostLink<'a, S>>,
 ) -> Result<Option<HostLink<'a, S>>, AllocError>
     requires { c < length meta.old.pool.connections }
-    ensures opens { IfOk result (λ link. AfterOpen c (is_some link) meta.old meta.new) }
+    ensures opens { IfOk result (λ opened. AfterOpen
+        (λ came. octets_of link.entry (λ l. S.octets_left l.source.timed.socket.value l.source.cursor) ≡ Some came) c
+        (octets_of opened (λ l. S.octets_left l.source.timed.socket.value l.source.cursor)) meta.old meta.new) }
     ensures size { length meta.new.pool.connections ≡ length meta.old.pool.connections }
 {
     let Some(mut link) = link else {
@@ -117,7 +143,8 @@ pub(crate) fn begin<W: Sink>(
     sink: &mut W,
 ) -> Result<bool, AllocError>
     requires { c < length meta.old.pool.connections }
-    ensures opens { IfOk result (λ reached. AfterOpen c reached meta.old meta.new) }
+    ensures opens { IfOk result (λ reached. (came : KnownOctets)
+        → AfterOpen (λ z. z ≡ came) c (link_when reached came) meta.old meta.new) }
     ensures size { length meta.new.pool.connections ≡ length meta.old.pool.connections }
 {
     one_transcript();

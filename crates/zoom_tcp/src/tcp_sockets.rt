@@ -1,5 +1,5 @@
 //! Sockets over TCP, all watched by one poll of the system.
-ghost use Rattle.std.specs.Prelude.{◌≤◌, length, IfOk};
+ghost use Rattle.std.specs.Prelude.{◌≤◌, length, None, IfOk};
 ghost use Rattle.zoom_tcp.specs.HostLinks.{IsBoundedTransfer};
 
 use crate::sockets::{ConnectProgress, Readiness, Sockets, Transfer};
@@ -101,6 +101,20 @@ impl<'a, N: Net + Clock> Sockets for TcpSockets<'a, N> {
 
     type Socket = TcpStream;
 
+    type Cursor = ();
+
+    ghost IsMoment = { λ time. Unit {0} };
+
+    ghost AreFound = { λ name addresses. Unit {0} };
+
+    ghost IsOpening = { λ address socket. Unit {0} };
+
+    ghost IsConnected = { λ socket. Unit {0} };
+
+    ghost octets = { λ socket. None };
+
+    ghost octets_left = { λ socket cursor. None };
+
     fn now(&self) -> Option<Duration> {
         match &self.origin {
             Some(origin) => origin.elapsed(self.net).ok(),
@@ -132,6 +146,8 @@ impl<'a, N: Net + Clock> Sockets for TcpSockets<'a, N> {
         }
     }
 
+    fn first(_: &TcpStream) {}
+
     fn wait(&mut self, most: Duration, ready: &mut [Readiness]) -> bool {
         let Some(poll) = &mut self.poll else {
             return false;
@@ -150,7 +166,7 @@ impl<'a, N: Net + Clock> Sockets for TcpSockets<'a, N> {
         is_new
     }
 
-    fn read(&mut self, socket: &TcpStream, piece: &mut [u8]) -> Transfer {
+    fn read(&mut self, socket: &TcpStream, _: &mut (), piece: &mut [u8]) -> Transfer {
         acknowledge(socket.as_raw_fd());
         let mut stream = socket;
         transfer(stream.read(piece), piece.len())

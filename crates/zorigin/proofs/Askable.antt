@@ -1,21 +1,20 @@
 -- The operations that are outstanding ask for positions that there can be.
-use Rattle.std.proofs.Common.{◌≡◌, ℕ, nat_eq, Bool, true, false, cond, List, [], ◌∷◌, Option, None, Some, Result, Ok, Err, sym, ap, subst}
+use Rattle.std.proofs.Common.{◌≡◌, ℕ, nat_eq, Bool, true, false, cond, List, [], ◌∷◌, Option, None, Some, Result, Ok, Err, refl, sym, subst}
 use Rattle.std.specs.Prelude.{OnOk, OnErr}
 use Rattle.std.specs.Map.{lookup}
 use Rattle.indexmap.specs.IndexMap.{insert_entry, shift_remove_entry}
 use Rattle.zapdu.specs.declared.apdu.Apdu.{Apdu}
+use Rattle.zapdu.specs.declared.apdu.Apdu.TheVariants as apdus
 use Rattle.zorigin.specs.declared.answer.Asked.{Asked}
 use Rattle.zorigin.specs.declared.answer.Answer.{Answer}
-use Rattle.zorigin.specs.declared.answer.Taken.{Taken}
 use Rattle.zorigin.specs.declared.answer.Taken.TheVariants as taken
 use Rattle.zorigin.specs.declared.refusal.CallRefused.{CallRefused}
 use Rattle.zorigin.specs.References.{operation_number}
 use Rattle.zorigin.specs.Standings.{Standing}
-use Rattle.zorigin.specs.Facts.{has_valid_ranges, IsFitAnswer, HasFitAnswer, HaveValidRanges}
-use Rattle.zorigin.specs.Replies.{only_of, numbered_as, named, verdict}
-use Rattle.zorigin.specs.Accepts.{id_of}
+use Rattle.zorigin.specs.Fitting.{fault_of}
+use Rattle.zorigin.specs.Facts.{has_valid_ranges, IsFitAnswerWith, HasFitAnswer, HaveValidRanges}
+use Rattle.zorigin.specs.Replies.{only_of, numbered_as, named, taken_by, taken_as, HasAnswer}
 use Rattle.zorigin.proofs.Fittings.{fitting}
-use Rattle.zorigin.proofs.Proper.{answer_in, verdict_found}
 
 pub asks_inserted : (es : List (ℕ × Asked)) (op : ℕ) (q : Asked) → HaveValidRanges es → has_valid_ranges q.what ≡ true → HaveValidRanges (insert_entry nat_eq es op q)
 asks_inserted [] op q h a = (a, tt)
@@ -54,14 +53,30 @@ asks_named s (Some id) q h e = by (operation_number id) e
     by None e = absurd (cc)
     by (Some op) e = asks_looked op s.outstanding q h e
 
-showable : (s : Standing) (reply : Apdu) (a : Answer) → HaveValidRanges s.outstanding → answer_in (verdict s reply) ≡ Some a → (a.reply ≡ reply) × IsFitAnswer a
-showable s reply a h e =
-    let f = verdict_found s reply a e in
-    (f.1.reply, record { fits = fitting a.asked.what a.reply f.1.fits; positions = asks_named s (id_of reply) a.asked h f.1.named })
+-- an answer to the operation that is named, which the reply fits, can be told as facts
+pub fit_answer : (s : Standing) (id : Option (List ℕ)) (q : Asked) (reply : Apdu) → HaveValidRanges s.outstanding → named s id ≡ Some q
+    → fault_of q.what reply ≡ None → HasFitAnswer reply (taken_as (record { asked = q; reply = reply }))
+fit_answer s id q reply h e f = by reply
+  where
+    fit : IsFitAnswerWith reply (record { asked = q; reply = reply })
+    fit = (refl, record { fits = fitting q.what reply f; positions = asks_named s id q h e })
 
--- what a verdict accepts can be told as facts
-pub showable_of : (s : Standing) (reply : Apdu) (x : Taken) → HaveValidRanges s.outstanding → verdict s reply ≡ Ok x → HasFitAnswer reply x
-showable_of s reply (taken.Opened a) h e = showable s reply a h (ap answer_in e)
-showable_of s reply (taken.Rejected a) h e = showable s reply a h (ap answer_in e)
-showable_of s reply (taken.Answered a) h e = showable s reply a h (ap answer_in e)
-showable_of s reply taken.Closed h e = tt
+    either : (b : Bool) → HasFitAnswer reply (cond b (taken.Opened (record { asked = q; reply = reply })) (taken.Rejected (record { asked = q; reply = reply })))
+    either true = fit
+    either false = fit
+
+    by : (v : Apdu) → HasFitAnswer reply (taken_by (record { asked = q; reply = reply }) v)
+    by (apdus.InitResponse v) = either v.result
+    by _ = fit
+
+-- an accepted reply has an answer
+pub answer_taken : (a : Answer) → HasAnswer (Ok (taken_as a))
+answer_taken a = by a.reply
+  where
+    either : (b : Bool) → HasAnswer (Ok (cond b (taken.Opened a) (taken.Rejected a)))
+    either true = tt
+    either false = tt
+
+    by : (v : Apdu) → HasAnswer (Ok (taken_by a v))
+    by (apdus.InitResponse v) = either v.result
+    by _ = tt

@@ -19,7 +19,7 @@ use Rattle.zorigin.specs.declared.refusal.Refused.{Refused}
 use Rattle.zorigin.specs.declared.state.State.{State}
 use Rattle.zorigin.specs.declared.state.State.TheVariants as states
 use Rattle.zorigin.specs.Standings.{Call, Init, Search, Present, Close, Standing, is_fresh, is_ready, search_of}
-use Rattle.zorigin.specs.Calls.{refusal, call_result}
+use Rattle.zorigin.specs.Calls.{early_refusal, refusal, call_result}
 use Rattle.zorigin.specs.Changes.{admitted_at, admitted_unless, called_at, unanswered, force_in}
 use Rattle.zorigin.specs.Log.{Made, Log, Past, past, operation_of, asked, is_answer_to, is_answered, outstanding, opening, is_init_call, is_close_call, state_by, opened_state, closing_state, state_from, state_of, force_after, outcome_by, search_in, with_outcome, searches_in, by_operation, by_set, op_of, standing, admit, admit_unless, After}
 use Rattle.zorigin.proofs.Operations.{has, or_none, or_last, any_ops, any_filter, insert_absent, find_none}
@@ -157,3 +157,6 @@ called_after {s} {t} settings log c h e = record {
 
 pub call_answered : {s : Standing} {r : Result Sent CallRefused} (settings : Settings) (log : Log) (c : Call) → After settings log s → r ≡ call_result s c → r ≡ call_result (standing (past settings log)) c
 call_answered settings log c h e = e ∙ ap (λ x. call_result x c) h.is
+
+pub call_admissible : {s : Standing} (settings : Settings) (log : Log) (c : Call) → After settings log s → early_refusal s c ≡ None → early_refusal (standing (past settings log)) c ≡ None
+call_admissible settings log c h e = ap (λ x. early_refusal x c) (sym h.is) ∙ e

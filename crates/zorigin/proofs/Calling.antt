@@ -1,5 +1,6 @@
 -- What a call answers, by the rows before its request and by the request.
-use Rattle.std.proofs.Common.{◌≡◌, ◌≢◌, ℕ, Bool, true, false, cond, is_none, List, [], ◌∷◌, Option, None, Some, Result, Ok, Err, refl, sym, ap, ◌∙◌}
+use Rattle.std.proofs.Common.{◌≡◌, ◌≢◌, ℕ, Bool, true, false, cond, is_none, List, [], ◌∷◌, Option, None, Some, Result, Ok, Err, refl, sym, ap, subst, ◌∙◌}
+use Rattle.std.specs.List.{AllByRecursion}
 use Rattle.std.specs.Option.{option_map}
 use Rattle.zber.specs.Integers.{integer_octets}
 use Rattle.zapdu.specs.declared.apdu.Apdu.{Apdu}
@@ -12,7 +13,8 @@ use Rattle.zorigin.specs.declared.refusal.CallRefused.TheVariants as refused
 use Rattle.zorigin.specs.declared.state.Searched.{Searched}
 use Rattle.zorigin.specs.Standings.{Call, Init, Search, Present, Close, Standing, is_ready, search_of}
 use Rattle.zorigin.specs.Sending.{is_unsendable, init_request, search_request, present_request, close_request, request_of, IsSendResult}
-use Rattle.zorigin.specs.Calls.{wrong_state, not_offered, op_used, set_unknown, set_not_ready, set_replaced, unsendable, early_refusal, refusal, or_unsendable, call_result_by, call_result, is_unsendable_request, IsSendResultFor}
+use Rattle.zorigin.specs.Fitting.{first_row}
+use Rattle.zorigin.specs.Calls.{wrong_state, not_offered, op_used, set_unknown, set_not_ready, set_replaced, unsendable, early_rows, early_refusal, refusal, or_unsendable, call_result_by, call_result, is_unsendable_request, IsSendResultFor}
 use Rattle.zorigin.specs.Changes.{admitted_at, called_at, admitted_unless}
 
 -- what a call answers and leaves
@@ -116,3 +118,20 @@ ready_present s op set (r ∷ rs) h =
 
 pub ready_close : (s : Standing) → is_ready s.state ≡ true → IsReady s Close close_request
 ready_close s h = record { early = close_early s h; request = refl; sendable = sym close_sendable }
+
+-- ---- memory refuses only what the rows before let pass
+
+abbrev Others : List (Bool × CallRefused) → Type 0
+Others rows = AllByRecursion (λ (row : Bool × CallRefused). row.1 ≢ refused.Memory) rows
+
+row_other : (rows : List (Bool × CallRefused)) (reason : CallRefused) → Others rows → first_row rows ≡ Some reason → reason ≢ refused.Memory
+row_other [] reason h e = absurd (cc)
+row_other (row ∷ rows) reason h e = by row.0 e (row_other rows reason h.1)
+  where
+    by : (b : Bool) → cond b (Some row.1) (first_row rows) ≡ Some reason → (first_row rows ≡ Some reason → reason ≢ refused.Memory) → reason ≢ refused.Memory
+    by true e more = let same : row.1 ≡ reason = cc in subst (λ r. r ≢ refused.Memory) same h.0
+    by false e more = more e
+
+pub early_other : (s : Standing) (c : Call) (reason : CallRefused) → early_refusal s c ≡ Some reason → reason ≢ refused.Memory
+early_other s c reason e = row_other (early_rows s c) reason
+    ((λ e. cc), ((λ e. cc), ((λ e. cc), ((λ e. cc), ((λ e. cc), ((λ e. cc), ((λ e. cc), ((λ e. cc), ((λ e. cc), tt))))))))) e

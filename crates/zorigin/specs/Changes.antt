@@ -1,6 +1,6 @@
--- How an admitted call and a taken APDU change an origin (Z39.50-2003, 3.2 and 3.4). Public clauses use `AfterFailure`
+-- How an admitted call and a taken APDU change an origin (Z39.50-2003, 3.2 and 3.4). Public clauses use `AfterRefusal`
 -- alone; all others are about logs. Log.antt imports from here what one call or reply changes.
-use Rattle.std.specs.Prelude.{◌≡◌, ◌≢◌, ℕ, nat_eq, ◌==◌, Bool, true, false, slice_index_or, if◌then◌else◌, List, Option, Some, None, Result, Ok, Err}
+use Rattle.std.specs.Prelude.{◌≡◌, ℕ, nat_eq, ◌==◌, Bool, true, false, slice_index_or, if◌then◌else◌, List, Option, Some, None, Result, Ok, Err}
 use Rattle.std.specs.Map.{set_value}
 use Rattle.indexmap.specs.IndexMap.{insert_entry, shift_remove_entry}
 use Rattle.indexmap.specs.IndexSet.{insert_key}
@@ -21,7 +21,7 @@ use Rattle.zorigin.specs.declared.state.InForce.{InForce}
 use Rattle.zorigin.specs.declared.state.Outcome.{Outcome}
 use Rattle.zorigin.specs.declared.state.Outcome.TheVariants as outcomes
 use Rattle.zorigin.specs.declared.state.Searched.{Searched}
-use Rattle.zorigin.specs.Standings.{Call, Init, Search, Present, Close, Standing, is_open, ready, search_of}
+use Rattle.zorigin.specs.Standings.{Call, Init, Search, Present, Close, Standing, ready, search_of}
 use Rattle.zorigin.specs.Calls.{refusal}
 
 -- the operation of a call
@@ -104,6 +104,13 @@ abbrev pub opened_at : Standing → Apdu → Standing
 opened_at s (apdus.InitResponse v) = record s { state = ready (force_in v); force = force_in v }
 opened_at s _ = s
 
+-- The origin after a refused APDU: it has failed for the reason, and is otherwise unchanged. After `WrongState` and
+-- `Memory` it is wholly unchanged.
+abbrev pub refused_at : Standing → Refused → Standing
+refused_at s refused.WrongState = s
+refused_at s refused.Memory = s
+refused_at s reason = record s { state = states.Failed reason }
+
 -- the origin after a verdict
 abbrev pub settled_at : Standing → Result Taken Refused → Standing
 settled_at s (Ok (taken.Opened answer)) = opened_at (without_operation s answer.asked.op) answer.reply
@@ -112,9 +119,9 @@ settled_at s (Ok (taken.Answered answer)) = record (without_operation s answer.a
   searches = noted answer.asked (outcome_in answer.reply) s.searches;
 }
 settled_at s (Ok taken.Closed) = record s { state = states.Closed }
-settled_at s (Err reason) = if is_open s.state then record s { state = states.Failed reason } else s
+settled_at s (Err reason) = refused_at s reason
 
--- unless the reason is the state or memory, the origin failed for this reason and is otherwise unchanged
-abbrev pub AfterFailure : Standing → Standing → Refused → Type 0
-AfterFailure old new reason =
-    reason ≢ refused.WrongState → reason ≢ refused.Memory → new ≡ record old { state = states.Failed reason }
+-- the origin after an APDU with this result, if the result is a refusal
+abbrev pub AfterRefusal : Standing → Result Taken Refused → Standing → Type 0
+AfterRefusal old (Ok taken) new = Unit {0}
+AfterRefusal old (Err reason) new = new ≡ refused_at old reason

@@ -23,8 +23,8 @@ use Rattle.zorigin.specs.declared.state.Searched.{Searched}
 use Rattle.zorigin.specs.declared.state.Outcome.{Outcome}
 use Rattle.zorigin.specs.Standings.{Call, Init, Search, Present, Close, Standing, is_open, nothing_in_force, ready}
 use Rattle.zorigin.specs.Sending.{request_of}
-use Rattle.zorigin.specs.Calls.{refusal, call_result}
-use Rattle.zorigin.specs.Replies.{verdict}
+use Rattle.zorigin.specs.Calls.{early_refusal, refusal, call_result}
+use Rattle.zorigin.specs.Replies.{verdict, HasAnswer}
 use Rattle.zorigin.specs.Changes.{init_asked, search_asked, present_asked, unanswered, force_in, outcome_in}
 
 -- A call that was made, or an APDU that was taken. A call or take whose result is `Memory` makes no entry.
@@ -48,7 +48,14 @@ pub record Past : Type 0 where
 
 -- the past of no entries
 abbrev pub empty_past : Settings → Past
-empty_past settings = record { settings = settings; admitted = []; sent = []; accepted = []; closed = false; fault = None }
+empty_past settings = record {
+  settings = settings;
+  admitted = [];
+  sent = [];
+  accepted = [];
+  closed = false;
+  fault = None;
+}
 
 -- ---- the operations
 
@@ -219,10 +226,14 @@ pub record After (settings : Settings) (log : Log) (origin : Standing) : Type 0 
 
 -- ---- memory aside
 
+-- the result is not this error
+abbrev pub IsNotError : {X E : Type 0} → E → Result X E → Type 0
+IsNotError error (Ok x) = Unit {0}
+IsNotError error (Err reason) = reason ≢ error
+
 -- the result is not `Memory`, so the call makes an entry
 abbrev pub IsMadeCall : {X : Type 0} → Result X CallRefused → Type 0
-IsMadeCall (Ok x) = Unit {0}
-IsMadeCall (Err reason) = reason ≢ calls.Memory
+IsMadeCall answer = IsNotError calls.Memory answer
 
 -- the result is the given one, unless it is `Memory`
 abbrev pub IsGivenResult : {X : Type 0} → Result X CallRefused → Result X CallRefused → Type 0
@@ -230,8 +241,7 @@ IsGivenResult given answer = IsMadeCall answer → answer ≡ given
 
 -- the result is not `Memory`, so the take makes an entry
 abbrev pub IsTakenReply : Result Taken Refused → Type 0
-IsTakenReply (Ok x) = Unit {0}
-IsTakenReply (Err reason) = reason ≢ refused.Memory
+IsTakenReply answer = IsNotError refused.Memory answer
 
 -- the verdict is the given one, unless it is `Memory`
 abbrev pub IsGivenVerdict : Result Taken Refused → Result Taken Refused → Type 0
@@ -245,10 +255,17 @@ IsResultOfCall origin call answer =
     (settings : Settings) (log : Log) → After settings log origin
     → IsGivenResult (call_result (standing (past settings log)) call) answer
 
+-- for each log that can have left the origin, nothing refuses the call after it, its request aside
+abbrev pub IsAdmissible : Standing → Call → Type 0
+IsAdmissible origin call =
+    (settings : Settings) (log : Log) → After settings log origin
+    → early_refusal (standing (past settings log)) call ≡ None
+
 -- before and after a call: each log that can have left the old origin, with the call, can have left the new one
 abbrev pub OriginAfterCall : Standing → Call → Result Sent CallRefused → Standing → Type 0
 OriginAfterCall old call answer new =
-    (settings : Settings) (log : Log) → After settings log old → IsMadeCall answer → After settings (Made call ∷ log) new
+    (settings : Settings) (log : Log) → After settings log old → IsMadeCall answer
+    → After settings (Made call ∷ log) new
 
 -- for each log that can have left the origin, the result is the verdict on the APDU after it
 abbrev pub IsResultOfTake : Standing → Apdu → Result Taken Refused → Type 0
@@ -259,7 +276,23 @@ IsResultOfTake origin reply answer =
 -- before and after a take: each log that can have left the old origin, with the APDU, can have left the new one
 abbrev pub OriginAfterTake : Standing → Apdu → Result Taken Refused → Standing → Type 0
 OriginAfterTake old reply answer new =
-    (settings : Settings) (log : Log) → After settings log old → IsTakenReply answer → After settings (Got reply ∷ log) new
+    (settings : Settings) (log : Log) → After settings log old → IsTakenReply answer
+    → After settings (Got reply ∷ log) new
+
+-- for each log that can have left the origin, the verdict on the APDU after it accepts a reply
+abbrev pub IsAcceptedReply : Standing → Apdu → Type 0
+IsAcceptedReply origin reply =
+    (settings : Settings) (log : Log) → After settings log origin
+    → HasAnswer (verdict (standing (past settings log)) reply)
+
+-- of some APDU, this is the result of a take
+abbrev pub IsJudgement : Standing → Result Taken Refused → Type 0
+IsJudgement origin judged = (reply : Apdu) × IsResultOfTake origin reply judged
+
+-- the origin after it accepted a judgement is the one after a take of each APDU that is judged so
+abbrev pub OriginAfterJudgement : Standing → Result Taken Refused → Standing → Type 0
+OriginAfterJudgement old judged new =
+    (reply : Apdu) → IsResultOfTake old reply judged → OriginAfterTake old reply judged new
 
 -- for each log that can have left the origin, this is its state
 abbrev pub IsState : Standing → State → Type 0

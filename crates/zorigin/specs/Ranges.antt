@@ -1,6 +1,6 @@
 -- Ranges of positions of a result set, and which ranges a Present can ask for (Z39.50-2003, 3.2.3.1).
-use Rattle.std.specs.Prelude.{ℕ, ℤ, pos, negsuc, ◌+ℤ◌, ◌-ℤ◌, int_le, int_lt, Bool, true, false, ◌&&◌, List, [], ◌∷◌}
-use Rattle.std.specs.List.{range_with_len, flat_map, list_any}
+use Rattle.std.specs.Prelude.{ℕ, ℤ, pos, ◌+ℤ◌, ◌-ℤ◌, int_le, int_lt, Bool, true, false, ◌&&◌, List, [], ◌∷◌}
+use Rattle.std.specs.List.{list_any}
 use Rattle.zplan.specs.declared.range.Range.{Range}
 
 -- the one range of `n` positions from `start` on

@@ -1,5 +1,5 @@
 -- The table of replies: which are refused, row by row, and the result of one that is accepted (Z39.50-2003, 3.4).
-use Rattle.std.specs.Prelude.{◌≡◌, ◌≢◌, ℕ, nat_eq, if◌then◌else◌, List, [], ◌∷◌, Option, Some, None, Result, Ok, Err}
+use Rattle.std.specs.Prelude.{ℕ, nat_eq, if◌then◌else◌, List, [], ◌∷◌, Option, Some, None, Result, Ok, Err}
 use Rattle.std.specs.Map.{lookup}
 use Rattle.zapdu.specs.declared.apdu.Apdu.{Apdu}
 use Rattle.zapdu.specs.declared.apdu.Apdu.TheVariants as apdus
@@ -58,13 +58,8 @@ open_verdict s _ = Err refused.WrongKind
 unfoldable pub verdict : Standing → Apdu → Result Taken Refused
 verdict s reply = if is_open s.state then open_verdict s reply else Err refused.WrongState
 
--- the result is the operation that the reply is to, or the reason of the verdict, memory aside
-abbrev pub IsOperationJudgement : Result Taken Refused → Apdu → Result Asked Refused → Type 0
-IsOperationJudgement given reply (Ok asked) = given ≡ Ok (taken_as (record { asked = asked; reply = reply }))
-IsOperationJudgement given reply (Err reason) = reason ≢ refused.Memory → given ≡ Err reason
-
--- the same for any APDU, with no operation for a Close
-abbrev pub IsJudgement : Result Taken Refused → Apdu → Result (Option Asked) Refused → Type 0
-IsJudgement given reply (Ok None) = given ≡ Ok taken.Closed
-IsJudgement given reply (Ok (Some asked)) = given ≡ Ok (taken_as (record { asked = asked; reply = reply }))
-IsJudgement given reply (Err reason) = reason ≢ refused.Memory → given ≡ Err reason
+-- the verdict accepts a reply, so the result has an answer
+abbrev pub HasAnswer : Result Taken Refused → Type 0
+HasAnswer (Ok taken.Closed) = ⊥
+HasAnswer (Ok taken) = Unit {0}
+HasAnswer (Err reason) = ⊥

@@ -160,23 +160,24 @@ element_octets (Some n) = canonical n
 unfoldable pub encoding_of : Apdu → List ℕ
 encoding_of apdu = element_octets (apdu_spelling apdu)
 
--- the result of encoding an element, memory aside
-abbrev pub IsEncodeResult : Element → Result (List ℕ) CallRefused → Type 0
-IsEncodeResult n (Ok octets) = (too_large (Some n) ≡ false) × (octets ≡ canonical n)
-IsEncodeResult n (Err refused.Unsendable) = too_large (Some n) ≡ true
-IsEncodeResult n (Err refused.Memory) = Unit {0}
-IsEncodeResult n (Err _) = ⊥
-
 -- the APDU with its canonical encoding
 abbrev pub sent_of : Apdu → Sent
 sent_of apdu = record { apdu = apdu; octets = encoding_of apdu }
 
--- the result of sending an APDU, memory aside
+-- the result of sending what can be sent unless the test holds: the value, or that it can't be sent; memory aside
+abbrev pub IsSentUnless : {X : Type 0} → Bool → X → Result X CallRefused → Type 0
+IsSentUnless unsendable value (Ok sent) = (unsendable ≡ false) × (sent ≡ value)
+IsSentUnless unsendable value (Err refused.Unsendable) = unsendable ≡ true
+IsSentUnless unsendable value (Err refused.Memory) = Unit {0}
+IsSentUnless unsendable value (Err _) = ⊥
+
+-- the result of encoding an element
+abbrev pub IsEncodeResult : Element → Result (List ℕ) CallRefused → Type 0
+IsEncodeResult n answer = IsSentUnless (too_large (Some n)) (canonical n) answer
+
+-- the result of sending an APDU
 abbrev pub IsSendResult : Apdu → Result Sent CallRefused → Type 0
-IsSendResult apdu (Ok sent) = (is_unsendable apdu ≡ false) × (sent ≡ sent_of apdu)
-IsSendResult apdu (Err refused.Unsendable) = is_unsendable apdu ≡ true
-IsSendResult apdu (Err refused.Memory) = Unit {0}
-IsSendResult apdu (Err _) = ⊥
+IsSendResult apdu answer = IsSentUnless (is_unsendable apdu) (sent_of apdu) answer
 
 -- ---- the receiver reads what was sent
 

@@ -1,10 +1,10 @@
 //! Calls: each returns the request to be sent, or why it is refused.
-ghost use Rattle.std.specs.Prelude.{◌≡◌, IfOk, OnErr};
+ghost use Rattle.std.specs.Prelude.{◌≡◌, None, Err, IfOk, OnErr};
 ghost use Rattle.zorigin.specs.Standings.{Init, Search, Present, Close};
 ghost use Rattle.zorigin.specs.Ranges.{one_range};
-ghost use Rattle.zorigin.specs.Calls.{call_result, IsSendResultFor};
+ghost use Rattle.zorigin.specs.Calls.{early_refusal, call_result, IsSendResultFor};
 ghost use Rattle.zorigin.specs.Changes.{called_at};
-ghost use Rattle.zorigin.specs.Log.{IsGivenResult, IsResultOfCall, OriginAfterCall, IsMadeCall};
+ghost use Rattle.zorigin.specs.Log.{IsGivenResult, IsResultOfCall, IsAdmissible, OriginAfterCall, IsMadeCall};
 ghost use Rattle.zorigin.specs.Sending.{IsReadBack};
 
 use crate::answer::Sent;
@@ -55,6 +55,7 @@ impl Origin {
     fn make_init(&mut self) -> Result<Sent, CallRefused>
         ensures answer { IsGivenResult (call_result self.old Init) result }
         ensures after { IsMadeCall result → self.new ≡ called_at self.old Init }
+        ensures memory { result ≡ Err CallRefused.Memory → early_refusal self.old Init ≡ None }
         ensures framed { IfOk result IsReadBack }
         ensures err { OnErr result (self.new ≡ self.old) }
     {
@@ -74,6 +75,7 @@ impl Origin {
     fn make_search(&mut self, op: u32, set: u32, ask: &Ask) -> Result<Sent, CallRefused>
         ensures answer { IsGivenResult (call_result self.old (Search op set ask.now)) result }
         ensures after { IsMadeCall result → self.new ≡ called_at self.old (Search op set ask.now) }
+        ensures memory { result ≡ Err CallRefused.Memory → early_refusal self.old (Search op set ask.now) ≡ None }
         ensures framed { IfOk result IsReadBack }
         ensures err { OnErr result (self.new ≡ self.old) }
     {
@@ -93,6 +95,7 @@ impl Origin {
     fn make_present(&mut self, op: u32, set: u32, ranges: &[Range]) -> Result<Sent, CallRefused>
         ensures answer { IsGivenResult (call_result self.old (Present op set ranges.now)) result }
         ensures after { IsMadeCall result → self.new ≡ called_at self.old (Present op set ranges.now) }
+        ensures memory { result ≡ Err CallRefused.Memory → early_refusal self.old (Present op set ranges.now) ≡ None }
         ensures framed { IfOk result IsReadBack }
         ensures err { OnErr result (self.new ≡ self.old) }
     {
@@ -112,6 +115,7 @@ impl Origin {
     fn make_close(&mut self) -> Result<Sent, CallRefused>
         ensures answer { IsGivenResult (call_result self.old Close) result }
         ensures after { IsMadeCall result → self.new ≡ called_at self.old Close }
+        ensures memory { result ≡ Err CallRefused.Memory → early_refusal self.old Close ≡ None }
         ensures framed { IfOk result IsReadBack }
         ensures err { OnErr result (self.new ≡ self.old) }
     {
@@ -132,6 +136,7 @@ impl Origin {
     pub fn init(&mut self) -> Result<Sent, CallRefused>
         ensures answer { IsResultOfCall self.old Init result }
         ensures after { OriginAfterCall self.old Init result self.new }
+        ensures memory { result ≡ Err CallRefused.Memory → IsAdmissible self.old Init }
         ensures framed { IfOk result IsReadBack }
         ensures err { OnErr result (self.new ≡ self.old) }
     {
@@ -145,6 +150,7 @@ impl Origin {
     pub fn search(&mut self, op: u32, set: u32, ask: &Ask) -> Result<Sent, CallRefused>
         ensures answer { IsResultOfCall self.old (Search op set ask.now) result }
         ensures after { OriginAfterCall self.old (Search op set ask.now) result self.new }
+        ensures memory { result ≡ Err CallRefused.Memory → IsAdmissible self.old (Search op set ask.now) }
         ensures framed { IfOk result IsReadBack }
         ensures err { OnErr result (self.new ≡ self.old) }
     {
@@ -158,6 +164,7 @@ impl Origin {
     pub fn present(&mut self, op: u32, set: u32, start: i64, n: i64) -> Result<Sent, CallRefused>
         ensures answer { IsResultOfCall self.old (Present op set (one_range start n)) result }
         ensures after { OriginAfterCall self.old (Present op set (one_range start n)) result self.new }
+        ensures memory { result ≡ Err CallRefused.Memory → IsAdmissible self.old (Present op set (one_range start n)) }
         ensures framed { IfOk result IsReadBack }
         ensures err { OnErr result (self.new ≡ self.old) }
     {
@@ -177,6 +184,7 @@ impl Origin {
     ) -> Result<Sent, CallRefused>
         ensures answer { IsResultOfCall self.old (Present op set ranges.now) result }
         ensures after { OriginAfterCall self.old (Present op set ranges.now) result self.new }
+        ensures memory { result ≡ Err CallRefused.Memory → IsAdmissible self.old (Present op set ranges.now) }
         ensures framed { IfOk result IsReadBack }
         ensures err { OnErr result (self.new ≡ self.old) }
     {
@@ -191,6 +199,7 @@ impl Origin {
     pub fn close(&mut self) -> Result<Sent, CallRefused>
         ensures answer { IsResultOfCall self.old Close result }
         ensures after { OriginAfterCall self.old Close result self.new }
+        ensures memory { result ≡ Err CallRefused.Memory → IsAdmissible self.old Close }
         ensures framed { IfOk result IsReadBack }
         ensures err { OnErr result (self.new ≡ self.old) }
     {

@@ -86,7 +86,8 @@ fn put_diagnostics(
     records: &Option<Records>,
     out: &mut Vec<Fact>,
 ) -> Result<(), AllocError>
-    ensures { OnOk result (out.new.items ≡ out.old.items ++ diagnostic_facts target set place (diagnostics_in records.now)) }
+    ensures { OnOk result (out.new.items
+        ≡ out.old.items ++ diagnostic_facts target set place (diagnostics_in records.now)) }
 {
     match records {
         Some(Records::OneDiag(diag)) => {

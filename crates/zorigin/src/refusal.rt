@@ -42,13 +42,13 @@ pub enum CallRefused {
     /// The request has no element, more than 64 levels of constructed elements, or more than 2,097,152 octets.
     #[error("the request can't be sent")]
     Unsendable,
-    /// No memory was found. It may be returned although another reason is true too.
+    /// No memory was found. No reason above but `Unsendable` is true.
     #[error("out of memory")]
     Memory,
 }
 
 /// Why an APDU is refused. Of several reasons it is the first here, with one exception: for a reply of another kind
-/// than its operation, an unknown reference comes first. The origin has then failed, if not stated otherwise.
+/// than its operation, an unknown reference comes first. After a take the origin has failed, if not stated otherwise.
 #[derive(Clone, Copy, Debug, PartialEq, Eq, Error)]
 pub enum Refused {
     /// The origin is Fresh, Closed or Failed. It is unchanged.

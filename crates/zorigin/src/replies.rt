@@ -1,12 +1,11 @@
 //! Replies: which are accepted, and what they change.
-ghost use Rattle.std.specs.Prelude.{◌≡◌, ◌==◌, Ok, Err, IfOk, IfErr};
+ghost use Rattle.std.specs.Prelude.{◌≡◌, ◌==◌, Ok, Err, IfOk};
 ghost use Rattle.std.specs.Option.{option_map};
-ghost use Rattle.zorigin.specs.declared.refusal.Refused.TheVariants.{Memory};
 ghost use Rattle.zorigin.specs.Standings.{is_open, ready};
-ghost use Rattle.zorigin.specs.Replies.{only_of, named, taken_by, taken_as, against, verdict, IsJudgement, IsOperationJudgement};
-ghost use Rattle.zorigin.specs.Changes.{force_in, outcome_in, noted_if, noted, without_operation, opened_at, settled_at, AfterFailure};
+ghost use Rattle.zorigin.specs.Replies.{only_of, named, taken_as, against, verdict, HasAnswer};
+ghost use Rattle.zorigin.specs.Changes.{force_in, outcome_in, noted_if, noted, without_operation, opened_at, refused_at, settled_at, AfterRefusal};
 ghost use Rattle.zorigin.specs.Facts.{HasFitAnswer};
-ghost use Rattle.zorigin.specs.Log.{IsTakenReply, IsGivenVerdict, IsResultOfTake, OriginAfterTake};
+ghost use Rattle.zorigin.specs.Log.{IsGivenVerdict, IsResultOfTake, IsAcceptedReply, IsJudgement, OriginAfterTake, OriginAfterJudgement};
 
 use crate::answer::{Answer, Asked, Taken};
 use crate::fitting::fault_of;
@@ -16,6 +15,7 @@ use crate::refusal::Refused;
 use crate::state::{InForce, Outcome, Searched, State};
 use bytes::Bytes;
 use indexmap::IndexMap;
+use std::alloc::{AllocError, Global};
 use zapdu::{Apdu, InitResponse};
 use zber::Duplicate;
 
@@ -102,6 +102,16 @@ fn taken_as(answer: Answer) -> Taken
     }
 }
 
+/// Returns copies of an operation and of the reply to it. Returns `AllocError` if no memory is found.
+fn copy_answer(alloc: Global, asked: &Asked, reply: &Apdu) -> Result<Answer, AllocError>
+    ensures { IfOk result (λ answer. answer ≡ record { asked = asked.now; reply = reply.now }) }
+{
+    Ok(Answer {
+        asked: asked.duplicate(alloc)?,
+        reply: reply.copy(alloc)?,
+    })
+}
+
 impl Origin {
     /// The only outstanding operation, if there is exactly one.
     fn only(&self) -> Option<&Asked>
@@ -134,9 +144,11 @@ impl Origin {
         }
     }
 
-    /// Returns the operation that a reply is to, by the reference id in it, or why the reply is refused.
-    fn against(&self, id: &Option<Bytes>, reply: &Apdu) -> Result<Asked, Refused>
-        ensures { IsOperationJudgement (against (named self.now id.now) reply.now) reply.now result }
+    /// Returns the verdict on a reply with this reference id. The answer has copies of the operation and of the reply.
+    fn against(&self, id: &Option<Bytes>, reply: &Apdu) -> Result<Taken, Refused>
+        ensures answer { IsGivenVerdict (against (named self.now id.now) reply.now) result }
+        ensures copied { result ≡ Err Refused.Memory → HasAnswer (against (named self.now id.now) reply.now) }
+        ensures showable { IfOk result (HasFitAnswer reply.now) }
     {
         let Some(asked) = self.operation_of(id) else {
             return Err(Refused::UnknownReference);
@@ -144,47 +156,28 @@ impl Origin {
         if let Some(reason) = fault_of(&asked.what, reply) {
             return Err(reason);
         }
-        match asked.duplicate(self.alloc) {
-            Ok(asked) => Ok(asked),
+        match copy_answer(self.alloc, asked, reply) {
+            Ok(answer) => Ok(taken_as(answer)),
             Err(_) => Err(Refused::Memory),
         }
     }
 
-    /// Returns the operation that an APDU is to, `None` for a Close, or why it is refused.
+    /// Returns the verdict on an APDU. The answer has copies of the operation and of the APDU.
     #[tactic(auto, unfolding(crate::specs::Replies::verdict))]
-    fn judge(&self, reply: &Apdu) -> Result<Option<Asked>, Refused>
-        ensures { IsJudgement (verdict self.now reply.now) reply.now result }
+    fn verdict(&self, reply: &Apdu) -> Result<Taken, Refused>
+        ensures answer { IsGivenVerdict (verdict self.now reply.now) result }
+        ensures copied { result ≡ Err Refused.Memory → HasAnswer (verdict self.now reply.now) }
+        ensures showable { IfOk result (HasFitAnswer reply.now) }
     {
         if !is_open(self.state) {
             return Err(Refused::WrongState);
         }
         match reply {
-            Apdu::Close(_) => Ok(None),
-            Apdu::InitResponse(response) => {
-                Ok(Some(self.against(&response.reference_id, reply)?))
-            }
-            Apdu::SearchResponse(response) => {
-                Ok(Some(self.against(&response.reference_id, reply)?))
-            }
-            Apdu::PresentResponse(response) => {
-                Ok(Some(self.against(&response.reference_id, reply)?))
-            }
+            Apdu::Close(_) => Ok(Taken::Closed),
+            Apdu::InitResponse(response) => self.against(&response.reference_id, reply),
+            Apdu::SearchResponse(response) => self.against(&response.reference_id, reply),
+            Apdu::PresentResponse(response) => self.against(&response.reference_id, reply),
             _ => Err(Refused::WrongKind),
-        }
-    }
-
-    /// Returns the verdict on an APDU, with a copy of it as the answer's reply.
-    fn verdict(&self, reply: &Apdu) -> Result<Taken, Refused>
-        ensures answer { IsGivenVerdict (verdict self.now reply.now) result }
-        ensures showable { IfOk result (HasFitAnswer reply.now) }
-    {
-        match self.judge(reply) {
-            Ok(None) => Ok(Taken::Closed),
-            Ok(Some(asked)) => match reply.copy(self.alloc) {
-                Ok(reply) => Ok(taken_as(Answer { asked, reply })),
-                Err(_) => Err(Refused::Memory),
-            },
-            Err(reason) => Err(reason),
         }
     }
 
@@ -205,8 +198,8 @@ impl Origin {
         }
     }
 
-    /// Changes the origin for an accepted APDU.
-    fn accept(&mut self, taken: &Taken)
+    /// Notes an accepted APDU.
+    fn note_taken(&mut self, taken: &Taken)
         ensures { self.new ≡ settled_at self.old (Ok taken.now) }
     {
         match taken {
@@ -226,55 +219,74 @@ impl Origin {
         }
     }
 
-    /// Makes the origin Failed for this reason, if it takes replies.
-    fn fail(&mut self, reason: Refused)
-        ensures { self.new ≡ settled_at self.old (Err reason) }
+    /// Notes a refused APDU: the origin has failed for the reason. `WrongState` and `Memory` leave it unchanged.
+    fn note_refusal(&mut self, reason: Refused)
+        ensures { self.new ≡ refused_at self.old reason }
     {
-        if is_open(self.state) {
-            self.state = State::Failed(reason);
+        match reason {
+            Refused::WrongState | Refused::Memory => {}
+            _ => self.state = State::Failed(reason),
         }
     }
 
-    /// Changes the origin for a verdict. `Memory` leaves it unchanged.
-    fn settle(&mut self, taken: &Result<Taken, Refused>)
-        ensures after { IsTakenReply taken.now → self.new ≡ settled_at self.old taken.now }
-        ensures memory { taken.now ≡ Err Memory → self.new ≡ self.old }
+    /// Changes the origin for a verdict.
+    fn settle(&mut self, judged: &Result<Taken, Refused>)
+        ensures { self.new ≡ settled_at self.old judged.now }
     {
-        match taken {
-            Ok(taken) => self.accept(taken),
-            Err(Refused::Memory) => {}
-            Err(reason) => self.fail(*reason),
+        match judged {
+            Ok(taken) => self.note_taken(taken),
+            Err(reason) => self.note_refusal(*reason),
         }
     }
 
-    /// Returns what `take` would return for this APDU, and changes nothing. The answer's reply is a copy of the APDU.
-    pub fn peek(&self, reply: &Apdu) -> Result<Taken, Refused>
+    /// Judges an APDU that came from the target (Z39.50-2003, 3.4), and changes nothing. A reply is accepted if its
+    /// reference id names an outstanding operation and it fits what that operation asked for. The id may be absent if
+    /// concurrent operations are not in force and exactly one operation is outstanding. The answer's reply is a copy
+    /// of the APDU, and `facts_of` accepts the answer. A Close is accepted whenever replies are, whatever its contents.
+    ///
+    /// `Refused` lists when the APDU is refused, in its order. Only the copy of an accepted reply can return `Memory`.
+    /// Give the result to `accept`, before any other call changes the origin.
+    pub fn judge(&self, reply: &Apdu) -> Result<Taken, Refused>
         ensures answer { IsResultOfTake self.now reply.now result }
+        ensures copied { result ≡ Err Refused.Memory → IsAcceptedReply self.now reply.now }
         ensures showable { IfOk result (HasFitAnswer reply.now) }
     {
         self.verdict(reply)
     }
 
-    /// Takes an APDU that came from the target (Z39.50-2003, 3.4). A reply is accepted if its reference id names an
-    /// outstanding operation and it fits what that operation asked for. The id may be absent if concurrent operations
-    /// are not in force and exactly one operation is outstanding. The answer's reply is a copy of the APDU, and
-    /// `facts_of` accepts the answer. A Close is accepted whenever replies are, whatever its contents; the origin is
-    /// then Closed, and sends no Close itself.
+    /// Notes what `judge` returned for an APDU. The origin has not changed since. It takes no memory, and can't fail.
     ///
-    /// `Refused` lists when the APDU is refused, in its order. The origin has then failed for that reason, and is
-    /// otherwise unchanged. After `WrongState` and `Memory` it is wholly unchanged.
-    pub fn take(&mut self, reply: &Apdu) -> Result<Taken, Refused>
-        // the result, and the origin after it
-        ensures answer { IsResultOfTake self.old reply.now result }
-        ensures after { OriginAfterTake self.old reply.now result self.new }
-        ensures showable { IfOk result (HasFitAnswer reply.now) }
-        // what a refusal leaves
-        ensures failed { IfErr result (AfterFailure self.old self.new) }
-        ensures wrong_state { result ≡ Err Refused.WrongState → self.new ≡ self.old }
-        ensures memory { result ≡ Err Refused.Memory → self.new ≡ self.old }
+    /// The operation of an answer is then answered. After a Close the origin is Closed, and sends no Close itself.
+    /// After a refusal the origin has failed for that reason, and is otherwise unchanged. After `WrongState` and
+    /// `Memory` it is wholly unchanged.
+    pub fn accept(&mut self, judged: &Result<Taken, Refused>)
+        requires { IsJudgement self.old judged.now }
+        ensures after { OriginAfterJudgement self.old judged.now self.new }
+        ensures refused { AfterRefusal self.old judged.now self.new }
     {
-        let taken = self.verdict(reply);
-        self.settle(&taken);
-        taken
+        self.settle(judged);
+    }
+
+    /// Returns what `take` would return for this APDU, and changes nothing. The answer's reply is a copy of the APDU.
+    pub fn peek(&self, reply: &Apdu) -> Result<Taken, Refused>
+        ensures answer { IsResultOfTake self.now reply.now result }
+        ensures copied { result ≡ Err Refused.Memory → IsAcceptedReply self.now reply.now }
+        ensures showable { IfOk result (HasFitAnswer reply.now) }
+    {
+        self.judge(reply)
+    }
+
+    /// Takes an APDU that came from the target (Z39.50-2003, 3.4). It returns what `judge` returns, and changes the
+    /// origin as `accept` does.
+    pub fn take(&mut self, reply: &Apdu) -> Result<Taken, Refused>
+        ensures answer { IsResultOfTake self.old reply.now result }
+        ensures copied { result ≡ Err Refused.Memory → IsAcceptedReply self.old reply.now }
+        ensures showable { IfOk result (HasFitAnswer reply.now) }
+        ensures after { OriginAfterTake self.old reply.now result self.new }
+        ensures refused { AfterRefusal self.old result self.new }
+    {
+        let judged = self.judge(reply);
+        self.accept(&judged);
+        judged
     }
 }

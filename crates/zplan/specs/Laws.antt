@@ -17,7 +17,8 @@ pub record CompleteLaws : Type 0 where
 -- two complete histories whose equal operations had equal replies have the same answered operations
 abbrev pub ReplyOrderLaw : Type 0
 ReplyOrderLaw =
-    (wanted : List ℕ) (step : ℕ) (one other : List PlanEvent) → IsComplete wanted step one → IsComplete wanted step other
+    (wanted : List ℕ) (step : ℕ) (one other : List PlanEvent)
+    → IsComplete wanted step one → IsComplete wanted step other
     → AreCompatible (replies_in one) (replies_in other)
     → (a : Operation) (r : Reply) → replies_in one a ≡ Some r → replies_in other a ≡ Some r
 
@@ -42,7 +43,8 @@ pub record ReplyLaws : Type 0 where
       → IsPlanned wanted step (replies_in events) b ⊎ IsMadeDue wanted step (replies_in events) a r b
   pub all : (wanted : List ℕ) (step : ℕ) (events : List PlanEvent) → IsDriven wanted step events
       → (a : Operation) (r : Reply) → IsIn a (asked_in events) → replies_in events a ≡ None → (b : Operation)
-      → IsMadeDue wanted step (replies_in events) a r b → IsPlanned wanted step (replies_in (ReplyAccepted a r ∷ events)) b
+      → IsMadeDue wanted step (replies_in events) a r b
+      → IsPlanned wanted step (replies_in (ReplyAccepted a r ∷ events)) b
 
 -- the positions shown are exactly the wanted ones up to the count, if each Present is answered with records
 pub record ShownLaws : Type 0 where
@@ -97,7 +99,8 @@ pub record AgendaLaws : Type 0 where
 
 -- what the driver does next, by its agenda
 pub record NextLaws : Type 0 where
-  pub asks : (wanted : List ℕ) (step window : ℕ) (events : List PlanEvent) (a : Agenda) (l : List ℕ) (ls : List (List ℕ))
+  pub asks : (wanted : List ℕ) (step window : ℕ) (events : List PlanEvent) (a : Agenda)
+      (l : List ℕ) (ls : List (List ℕ))
       → IsWanted wanted → 0 < step → IsDriven wanted step events → IsAgenda wanted step events a → a.due ≡ l ∷ ls
       → outstanding_in events < window → IsNextEvent wanted step window events (RequestSent (Present l))
   pub closes : (wanted : List ℕ) (step window : ℕ) (events : List PlanEvent) (a : Agenda) → IsWanted wanted → 0 < step

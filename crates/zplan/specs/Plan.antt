@@ -139,7 +139,8 @@ module _ (wanted : List ℕ) (step : ℕ) where
     new_cut : (three : Bool) (count i : ℕ) (l : List ℕ) → replies Init ≡ Some (InitReply true three)
         → i * step < length (up_to count wanted) → IsIn l (presents three (cut_of step (up_to count wanted) i))
         → IsMadeDue replies Search (SearchReply (Some count)) (Present l)
-    new_rest : (l : List ℕ) (k : ℕ) → 0 < k → k < length l → IsMadeDue replies (Present l) (PresentReply k) (Present (drop k l))
+    new_rest : (l : List ℕ) (k : ℕ) → 0 < k → k < length l
+        → IsMadeDue replies (Present l) (PresentReply k) (Present (drop k l))
 
   -- each planned Present was answered, with one record at least and no more than its list has positions
   abbrev pub HasRecordsForEach : Replies → Type 0

@@ -35,7 +35,8 @@ has_entry used entries places n = list_any (is_at_entry used entries n) places
 
 -- if the places are in order of their entries, `found` are those of `among` whose entries have one of the places
 abbrev pub AreEntriesAtPlaces : ℤ → List Entry → List Place → List ℕ → List ℕ → Type 0
-AreEntriesAtPlaces used entries places among found = AreInEntryOrder 0 places → found ≡ filter (has_entry used entries places) among
+AreEntriesAtPlaces used entries places among found =
+    AreInEntryOrder 0 places → found ≡ filter (has_entry used entries places) among
 
 -- no entry passes without the words in a field of the Use
 abbrev pub IsNeeded : (Entry → Bool) → Needed → Type 0

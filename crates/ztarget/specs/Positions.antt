@@ -18,7 +18,8 @@ received_additional (Some ranges) = map received_range ranges
 -- the first range, then the additional ones
 abbrev pub ranges_of : PresentRequest → List Range
 ranges_of r =
-    record { start = r.result_set_start_point; n = r.number_of_records_requested } ∷ received_additional r.additional_ranges
+    record { start = r.result_set_start_point; n = r.number_of_records_requested }
+    ∷ received_additional r.additional_ranges
 
 -- these positions, at least one, are positions of a set of `count` records
 abbrev pub is_in_set : ℕ → ℕ → ℕ → Bool

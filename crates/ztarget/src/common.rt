@@ -26,7 +26,8 @@ fn is_place_among(places: &[u32], place: u32) -> bool
 
 /// Returns the places of the first list that the second, which is in order, has too.
 fn common_places(alloc: Global, few: &[u32], many: &[u32]) -> Result<Vec<u32>, AllocError>
-    ensures { IfOk result (λ found. IsAscendingFrom 0 many.now → found.items ≡ filter (is_place_among many.now) few.now) }
+    ensures { IfOk result (λ found. IsAscendingFrom 0 many.now
+        → found.items ≡ filter (is_place_among many.now) few.now) }
 {
     let mut found = Vec::new(alloc);
     let mut left = few;

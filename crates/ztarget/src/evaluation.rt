@@ -142,7 +142,8 @@ impl<'a> Evaluation<'a> {
     #[tactic(auto, using(crate::proofs::Needs::kept_by_both))]
     fn narrow(&mut self, criterion: &'a Criterion, among: &[u32]) -> Result<Vec<u32>, AllocError>
         ensures same { self.new ≡ self.old }
-        ensures narrowed { IfOk result (λ found. IsNarrowed (is_satisfied (criterion_meaning criterion.now)) self.old among.now found.items) }
+        ensures narrowed { IfOk result (λ found. IsNarrowed
+            (is_satisfied (criterion_meaning criterion.now)) self.old among.now found.items) }
     {
         let alloc = self.alloc;
         match criterion {
@@ -185,7 +186,8 @@ impl<'a> Evaluation<'a> {
     ) -> Result<Vec<u32>, AllocError>
         requires { IsNeeded (is_satisfied (criterion_meaning criterion.now)) needed }
         ensures same { self.new ≡ self.old }
-        ensures places { IfOk result (λ places. places.items ≡ places_from (is_satisfied (criterion_meaning criterion.now)) 0 self.old) }
+        ensures places { IfOk result (λ places. places.items
+            ≡ places_from (is_satisfied (criterion_meaning criterion.now)) 0 self.old) }
     {
         let sought = Sought {
             used: needed.used,
@@ -204,7 +206,8 @@ impl<'a> Evaluation<'a> {
         may_need: bool,
     ) -> Result<SharedPlaces, AllocError>
         ensures same { self.new ≡ self.old }
-        ensures places { IfOk result (λ places. places ≡ places_from (is_satisfied (criterion_meaning criterion.now)) 0 self.old) }
+        ensures places { IfOk result (λ places. places
+            ≡ places_from (is_satisfied (criterion_meaning criterion.now)) 0 self.old) }
     {
         let alloc = self.alloc;
         match criterion {
@@ -249,7 +252,8 @@ impl<'a> Evaluation<'a> {
 
     /// Returns the places of the entries that satisfy the criterion, in order.
     pub(crate) fn evaluate(&mut self, criterion: &'a Criterion) -> Result<SharedPlaces, AllocError>
-        ensures { IfOk result (λ places. places ≡ places_from (is_satisfied (criterion_meaning criterion.now)) 0 self.old) }
+        ensures { IfOk result (λ places. places
+            ≡ places_from (is_satisfied (criterion_meaning criterion.now)) 0 self.old) }
     {
         self.found_by(criterion, true)
     }

@@ -94,7 +94,8 @@ fn put_hits(
     hits: &mut Vec<Hit>,
 ) -> Result<(), AllocError>
     requires { length numbered.database.now.entries < 2 ^ 32 }
-    ensures { OnOk result (hits.new.items ≡ hits.old.items ++ hits_in (is_satisfied (criterion_meaning criterion.now)) numbered.entry) }
+    ensures { OnOk result (hits.new.items
+        ≡ hits.old.items ++ hits_in (is_satisfied (criterion_meaning criterion.now)) numbered.entry) }
 {
     let found = numbered.database.evaluate(alloc, criterion)?;
     put_entries(numbered.number, found.as_slice(), hits)

@@ -60,7 +60,8 @@ impl Indexed {
         alloc: Global,
         criterion: &Criterion,
     ) -> Result<SharedPlaces, AllocError>
-        ensures { IfOk result (λ places. places ≡ places_from (is_satisfied (criterion_meaning criterion.now)) 0 self.now.entries) }
+        ensures { IfOk result (λ places. places
+            ≡ places_from (is_satisfied (criterion_meaning criterion.now)) 0 self.now.entries) }
     {
         let mut evaluation = Evaluation::new(alloc, &self.index, self.entries());
         evaluation.evaluate(criterion)

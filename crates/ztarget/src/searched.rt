@@ -29,7 +29,8 @@ fn put_if_called<'a>(
     ensures called { OnOk result (databases_of out.new.items ≡ databases_of out.old.items
         ++ called (numbered.entry.database.now ∷ []) name.now) }
     ensures numbered { (databases : List Database) → IsNumberedDatabase databases numbered.entry
-        → All (IsNumberedDatabase databases) out.old.items → OnOk result (All (IsNumberedDatabase databases) out.new.items) }
+        → All (IsNumberedDatabase databases) out.old.items
+        → OnOk result (All (IsNumberedDatabase databases) out.new.items) }
 {
     if numbered.database.name().as_slice() == name.as_slice() {
         out.push(numbered)?;

@@ -231,7 +231,8 @@ impl Target {
     fn search(&mut self, terms: Terms, request: &SearchRequest) -> Result<(), AllocError>
         requires { self.old.association.state ≡ Open (terms_of terms) }
         ensures ok { OnOk result (self.new
-            ≡ with_reply self.old (owed_to_search self.old.databases (terms_of terms) self.old.association.sets request.now)) }
+            ≡ with_reply self.old
+            (owed_to_search self.old.databases (terms_of terms) self.old.association.sets request.now)) }
         ensures err { OnErr result (self.new ≡ self.old) }
     {
         match search_fault(self.alloc, &self.databases, &self.sets, terms, request)? {

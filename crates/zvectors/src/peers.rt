@@ -1,5 +1,5 @@
 // Hosts in memory, under a clock that only waiting moves.
-ghost use Rattle.std.specs.Prelude.{length};
+ghost use Rattle.std.specs.Prelude.{length, None};
 ghost use Rattle.zoom.specs.HostLinks.{IsBoundedTransfer};
 
 use std::alloc::{AllocError, Global};
@@ -31,7 +31,6 @@ pub(crate) struct Peer {
     pub(crate) ends: u64,
     /// When it begins to take octets.
     pub(crate) takes: u64,
-    pub(crate) given: usize,
     pub(crate) token: usize,
     pub(crate) answers: u64,
 }
@@ -45,7 +44,6 @@ pub(crate) const PEER: Peer = Peer {
     every: 0,
     ends: u64::MAX,
     takes: 0,
-    given: 0,
     token: usize::MAX,
     answers: u64::MAX,
 };
@@ -98,19 +96,19 @@ impl Peer {
         }
     }
 
-    /// Gives octets that it has sent by a time.
-    fn give(&mut self, time: u64, piece: &mut [u8]) -> usize {
+    /// Gives octets that it has sent by a time, behind those given before.
+    fn give(&self, time: u64, given: &mut usize, piece: &mut [u8]) -> usize {
         let sent = self.sent_by(time);
         let mut count = 0usize;
         for place in piece.iter_mut() {
-            let Some(octet) = self.octets.get(self.given) else {
+            let Some(octet) = self.octets.get(*given) else {
                 break;
             };
-            if self.given >= sent {
+            if *given >= sent {
                 break;
             }
             *place = *octet;
-            self.given = self.given.saturating_add(1);
+            *given = given.saturating_add(1);
             count = count.saturating_add(1);
         }
         count
@@ -153,6 +151,20 @@ impl Sockets for Peers {
 
     type Socket = usize;
 
+    type Cursor = usize;
+
+    ghost IsMoment = { λ time. Unit {0} };
+
+    ghost AreFound = { λ name addresses. Unit {0} };
+
+    ghost IsOpening = { λ address socket. Unit {0} };
+
+    ghost IsConnected = { λ socket. Unit {0} };
+
+    ghost octets = { λ socket. None };
+
+    ghost octets_left = { λ socket cursor. None };
+
     fn now(&self) -> Option<Duration> {
         Some(Duration::from_millis(self.time))
     }
@@ -186,6 +198,10 @@ impl Sockets for Peers {
         }
     }
 
+    fn first(_: &usize) -> usize {
+        0
+    }
+
     fn wait(&mut self, most: Duration, ready: &mut [Readiness]) -> bool {
         self.waits = self.waits.saturating_add(1);
         let most = u64::try_from(most.as_millis()).unwrap_or(u64::MAX);
@@ -209,13 +225,13 @@ impl Sockets for Peers {
         is_new
     }
 
-    fn read(&mut self, socket: &usize, piece: &mut [u8]) -> Transfer {
+    fn read(&mut self, socket: &usize, cursor: &mut usize, piece: &mut [u8]) -> Transfer {
         self.moves = self.moves.saturating_add(1);
         let time = self.time;
-        let Some(peer) = self.peers.get_mut(*socket) else {
+        let Some(peer) = self.peers.get(*socket) else {
             return Transfer::Failure;
         };
-        let count = peer.give(time, piece).min(piece.len());
+        let count = peer.give(time, cursor, piece).min(piece.len());
         if count > 0 || peer.ends <= time {
             Transfer::Octets(count)
         } else {

@@ -41,15 +41,23 @@ impl NonBlocking for Late<'_> {
 
     fn poll(&mut self, piece: &mut [u8], _wait: bool) -> Result<Option<usize>, Failed> {
         let place = (self.polls % 4) as u32;
-        self.polls = self.polls.saturating_add(1);
         if (self.mask >> place) & 1 == 1 {
+            self.polls = self.polls.saturating_add(1);
             return Ok(None);
         }
         let count = self.octets.len().min(piece.len()).min(STEP);
+        if count == 0 {
+            return Ok(Some(0));
+        }
+        self.polls = self.polls.saturating_add(1);
         let (given, rest) = self.octets.split_at(count);
         piece[..count].copy_from_slice(given);
         self.octets = rest;
         Ok(Some(count))
+    }
+
+    fn failures(&self) -> u64 {
+        0
     }
 }
 

@@ -57,7 +57,8 @@ positions_at target set facts = ascending int_cmp (filter_map (fact_position tar
 
 -- a line of a block
 abbrev pub line : List (List ℕ) → SetKey → List ℕ → List ℕ
-line names b tail = codes "target " ++ target_text names b.target ++ codes " set " ++ decimal b.set ++ tail ++ codes "\n"
+line names b tail =
+    codes "target " ++ target_text names b.target ++ codes " set " ++ decimal b.set ++ tail ++ codes "\n"
 
 -- the line of a fact, empty if the fact is not in this block
 abbrev pub line_in : List (List ℕ) → SetKey → Fact → List ℕ

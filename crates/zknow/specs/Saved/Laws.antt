@@ -11,6 +11,7 @@ use Rattle.zknow.specs.Saved.Loaded.{IsLoadFault}
 pub record OneLoadResult : Type 0 where
   pub one_file : (file : List ℕ) (names others : List (List ℕ)) (facts more : List Fact) → IsSaved names facts file
       → IsSaved others more file → (names ≡ others) × (facts ≡ more)
-  pub one_fault : (file : List ℕ) (e f : LoadError) → e ≢ Memory → f ≢ Memory → IsLoadFault file e → IsLoadFault file f → e ≡ f
+  pub one_fault : (file : List ℕ) (e f : LoadError) → e ≢ Memory → f ≢ Memory → IsLoadFault file e
+      → IsLoadFault file f → e ≡ f
   pub either : (file : List ℕ) (names : List (List ℕ)) (facts : List Fact) (e : LoadError) → e ≢ Memory
       → IsSaved names facts file → IsLoadFault file e → ⊥

@@ -48,11 +48,13 @@ IsTooLongElement p x = IsSomeAnd (p.spelling x) (λ n. longest < length (canonic
 
 -- one of the elements has more levels than the limit
 abbrev pub HasTooDeep : List (List ℕ) → List Fact → Type 0
-HasTooDeep names facts = IsTooDeepElement saved_names names ⊎ ((f : Fact) × Contains facts f × IsTooDeepElement saved_fact f)
+HasTooDeep names facts =
+    IsTooDeepElement saved_names names ⊎ ((f : Fact) × Contains facts f × IsTooDeepElement saved_fact f)
 
 -- one of the elements has more octets than the limit
 abbrev pub HasTooLong : List (List ℕ) → List Fact → Type 0
-HasTooLong names facts = IsTooLongElement saved_names names ⊎ ((f : Fact) × Contains facts f × IsTooLongElement saved_fact f)
+HasTooLong names facts =
+    IsTooLongElement saved_names names ⊎ ((f : Fact) × Contains facts f × IsTooLongElement saved_fact f)
 
 -- no element has more levels or octets than the limits
 abbrev pub AreWithinLimits : List (List ℕ) → List Fact → Type 0

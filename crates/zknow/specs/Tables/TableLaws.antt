@@ -64,7 +64,8 @@ module _ {K J : Type 0} (cmp : K → K → Ordering) (total : IsTotalOrder cmp)
       left ∙ sym right
 
   by_order : (e f : K × J) (es fs : List (K × J)) → IsStrictlySortedBy cmp (keys_of (e ∷ es))
-      → IsStrictlySortedBy cmp (keys_of (f ∷ fs)) → ((q : K) → value_at_key cmp (e ∷ es) q ≡ value_at_key cmp (f ∷ fs) q)
+      → IsStrictlySortedBy cmp (keys_of (f ∷ fs))
+      → ((q : K) → value_at_key cmp (e ∷ es) q ≡ value_at_key cmp (f ∷ fs) q)
       → (((q : K) → value_at_key cmp es q ≡ value_at_key cmp fs q) → es ≡ fs) → (o : Ordering) → cmp e.0 f.0 ≡ o
       → e ∷ es ≡ f ∷ fs
   by_order e f es fs es_sorted fs_sorted same tails Less is = absurd (not_lower e f es fs fs_sorted same is)
@@ -114,4 +115,5 @@ module _ {K J : Type 0} (cmp : K → K → Ordering) (total : IsTotalOrder cmp)
     -- lawful tables with the same items are equal
     pub same_table : s ≡ t
     same_table =
-        same_entries s t ls.ordered lt.ordered (λ q. same_values q (value_at_key cmp s q) (value_at_key cmp t q) refl refl)
+        same_entries s t ls.ordered lt.ordered
+        (λ q. same_values q (value_at_key cmp s q) (value_at_key cmp t q) refl refl)

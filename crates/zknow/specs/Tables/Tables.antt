@@ -64,7 +64,8 @@ pub record AreLawfulTables (k : Tables) : Type 0 where
   pub diags : IsLawfulTable set_cmp (HasItem int_cmp Contains) (IsLawfulTable int_cmp Contains AreDiags) k.diags
 
 -- lawful tables with the same facts are equal
-pub same_tables : (a b : Tables) → AreLawfulTables a → AreLawfulTables b → ((f : Fact) → HasFact a f ↔ HasFact b f) → a ≡ b
+pub same_tables : (a b : Tables) → AreLawfulTables a → AreLawfulTables b
+    → ((f : Fact) → HasFact a f ↔ HasFact b f) → a ≡ b
 same_tables a b la lb same =
     let counts =
     same_table set_cmp set_total set_exact Contains AreCounts

@@ -106,7 +106,8 @@ impl Saving {
 
     /// Appends an element, or notes that it is too long. Returns `TooDeep`, or `Memory` if no memory is found.
     fn put<T: Tagged>(&mut self, alloc: Global, node: &Node) -> Result<(), SaveError>
-        ensures { (value : T) → T.place.spelling value ≡ Some node.now → AfterPut T.place value self.old result self.new }
+        ensures { (value : T) → T.place.spelling value ≡ Some node.now
+            → AfterPut T.place value self.old result self.new }
     {
         match node.encode(alloc, LONGEST, &mut self.octets) {
             Ok(()) => Ok(()),

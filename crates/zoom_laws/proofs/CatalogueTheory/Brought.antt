@@ -162,7 +162,7 @@ module _ (orderly : (s : Settings) (l : Log) → IsOrderly (past s l))
   abbrev fault : Option Bib1Fault
   fault = faults.match_fault databases q.databases q.query
 
-  plan_driven : IsDriven wanted s.step ask_here
+  pub plan_driven : IsDriven wanted s.step ask_here
   plan_driven = driven (ask_of q) settings wanted s.step orderly log k.driven
 
   whole : IsPlanAnswered wanted s.step ask_here
@@ -226,7 +226,7 @@ module _ (orderly : (s : Settings) (l : Log) → IsOrderly (past s l))
       (b && can_search (ask_of q) (opened_past o.0 o.1 (reply_with offers settings b))) true))
       (refuses offers settings e)
 
-  init_accepted : offers.refuse ≡ false → (b : Bool) → is_unsendable (search_request offers.named 1 1 (ask_of q)) ≡ b
+  pub init_accepted : offers.refuse ≡ false → (b : Bool) → is_unsendable (search_request offers.named 1 1 (ask_of q)) ≡ b
       → answers_in plan.Init ≡ Some (InitReply (not b) true)
   init_accepted e b can =
       let o = init_opens in
@@ -414,7 +414,7 @@ module _ (orderly : (s : Settings) (l : Log) → IsOrderly (past s l))
         let within = shows_laws.only wanted s.step answers_in k.steps seen.0 shows in
         let due : IsIn seen.0 (positions_due q entries) =
         subst (λ o. IsIn seen.0 (up_to (plan.found o) wanted)) (count_is none) within in
-        let as_it_is = shown_so (given offers).size q.syntax seen.1 (small seen.0 seen.1 due seen.3) in
+        let as_it_is = shown_so (given offers).size q.syntax seen.1 (small e none seen.0 seen.1 due seen.3) in
         inr (flat_in (shown_at c q entries) (positions_due q entries) seen.0 f due
         (subst (λ z. IsIn z (shown_at c q entries seen.0)) (sym (seen.4 ∙ ap (Seen c 1 (pos seen.0)) as_it_is))
         (to_map (λ y. Seen c 1 (pos seen.0) (in_syntax q.syntax y))
@@ -437,7 +437,7 @@ module _ (orderly : (s : Settings) (l : Log) → IsOrderly (past s l))
         let among_kept = subst (λ n. IsIn at.0 (take n l)) number shows.among in
         let seen = to_seen entries (shown_record (given offers).size q.syntax) c l
         (kept l) h.0 r.within h.1 at.0 y.0 among_kept y.1 in
-        let as_it_is = shown_so (given offers).size q.syntax y.0 (small at.0 y.0 at.1 y.1) in (
+        let as_it_is = shown_so (given offers).size q.syntax y.0 (small e none at.0 y.0 at.1 y.1) in (
           x.0,
           x.1,
           subst (IsIn f) (sym (present_facts_are x.0 x.1 l x.2))
@@ -501,7 +501,7 @@ module _ (orderly : (s : Settings) (l : Log) → IsOrderly (past s l))
 module _ (orderly : (s : Settings) (l : Log) → IsOrderly (past s l))
     (accepting : (s : Settings) (l : Log) (x : Answer) → Contains (past s l).accepted x → IsAccepted s l x)
     (sets_kept : KeptSets) (shows_laws : ShownLaws) (fits : WhatFits) where
-  talked : (databases : List Database) (offers : TargetSettings) (p : Transcript) → AreOwed databases offers p → (x : Answer)
+  pub talked : (databases : List Database) (offers : TargetSettings) (p : Transcript) → AreOwed databases offers p → (x : Answer)
       → IsIn x (accepted p) → IsIn x.reply (replies databases offers (requests p.settings p.log))
   talked databases offers p owed x i =
       among x.reply (replies databases offers (requests p.settings p.log)) (owed x (contained x (accepted p) i))

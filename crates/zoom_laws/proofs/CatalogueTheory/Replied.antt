@@ -166,7 +166,7 @@ all_ask e settings (Made call ∷ log) s =
   where
     one : (c : Call) → IsSteeredCall e settings log None c → AllAsk e.ask (c ∷ [])
     one Init h = tt
-    one (Search op set a) h = ((h.numbered, h.of.0, h.of.1), tt)
+    one (Search op set a) h = ((h.0.numbered, h.0.of.0, h.0.of.1), tt)
     one (Present op set ranges) h = tt
     one Close h = tt
 
@@ -350,7 +350,7 @@ module _ (orderly : (s : Settings) (l : Log) → IsOrderly (past s l))
       let t = before r o in
       let c = for_search (standing p) o.2.call o.0 w (requested r o) (subst (Replies o.0) is (replies_to r o)) in
       let sent = subst (λ z. IsRequest (standing p) z o.0) c.3 (requested r o) in
-      let steer = subst (λ z. IsSteeredCall (errand_of s q) settings o.2.earlier None z) c.3 o.2.steering in
+      let steer = (subst (λ z. IsSteeredCall (errand_of s q) settings o.2.earlier None z) c.3 o.2.steering).0 in
       let admits = subst (λ z. refusal (standing p) z ≡ None) c.3 o.2.admitted in
       let free_call = free (standing p) (Search c.0 c.1 c.2) admits in
       let is_open = was_ready r o (ready_if (is_ready (state_of p)) free_call.state) in
@@ -398,7 +398,7 @@ module _ (orderly : (s : Settings) (l : Log) → IsOrderly (past s l))
       let t = before r o in
       let c = for_present (standing p) o.2.call o.0 w (requested r o) (subst (Replies o.0) is (replies_to r o)) in
       let sent = subst (λ z. IsRequest (standing p) z o.0) c.3 (requested r o) in
-      let steer = subst (λ z. IsSteeredCall (errand_of s q) settings o.2.earlier None z) c.3 o.2.steering in
+      let steer = (subst (λ z. IsSteeredCall (errand_of s q) settings o.2.earlier None z) c.3 o.2.steering).0 in
       let admits = subst (λ z. refusal (standing p) z ≡ None) c.3 o.2.admitted in
       let rows = rows_of (standing p) (Present c.0 c.1 c.2) admits in
       let is_open = was_ready r o (ready_if (is_ready (state_of p)) rows.0) in

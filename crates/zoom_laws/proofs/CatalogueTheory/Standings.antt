@@ -373,9 +373,9 @@ module _ (databases : List Database) (offers : TargetSettings) (settings : Setti
           let call = Search op set a in
           let free_call = free (standing p) call admits in
           let k = ready log opened (ready_if (is_ready (state_of p)) free_call.state) in
-          let asks = steering.of.1 ∙ is in
+          let asks = steering.0.of.1 ∙ is in
           let v_is : v ≡ apdus.SearchRequest (search_by offers.named ask) =
-          request ∙ (λ i. search_request (k.force i).named (steering.numbered i) (steering.of.0 i) (asks i)) in
+          request ∙ (λ i. search_request (k.force i).named (steering.0.numbered i) (steering.0.of.0 i) (asks i)) in
           let st : (target_at p).state ≡ Open (given offers) = s.state ∙ k.stands in
           let begun = other_last is_init_call p.admitted call refl in
           let closing = other_last is_close_call p.admitted call refl in

@@ -24,6 +24,7 @@ use Rattle.zoom_pool.specs.History.{History, events_on, accepted, facts_at}
 use Rattle.zoom_pool.specs.Metas.{MetaLinks, MetaAfter, settings_of}
 use Rattle.zorigin.proofs.Members.{among, contained}
 use Rattle.zoom_pool.proofs.Drivings.{replied, driven}
+use Rattle.zoom_pool.proofs.Pools.{known_exactly}
 use Rattle.zoom_pool.proofs.Metas.{transcript_at}
 use Rattle.zoom_pool.proofs.MetaLaws.{driver_of}
 use Rattle.zoom_pool.proofs.Orders.{from_answer, of_answer}
@@ -149,9 +150,11 @@ module _ (orderly : (s : Settings) (l : Log) → IsOrderly (past s l))
       let turn = λ (c : ℕ). reversed (a.pool.transcript c) (b.pool.transcript c) (alike.equal c) in
       let there = both_at questions s t g h one other a b alike.step alike.first alike.second alike.equal in
       let back = both_at questions t s h g other one b a (sym alike.step) alike.second alike.first turn in
+      let ours = known_exactly (settings_of s) g one.pool a.pool in
+      let theirs = known_exactly (settings_of t) h other.pool b.pool in
       let known : one.pool.knowledge ≡ other.pool.knowledge =
       same_facts one.pool.knowledge other.pool.knowledge a.pool.lawful b.pool.lawful (λ f. (
-        λ i. let k = (a.pool.known f).0 i in (b.pool.known f).1 (k.0, (there k.0).1 f k.1),
-        λ i. let k = (b.pool.known f).0 i in (a.pool.known f).1 (k.0, (back k.0).1 f k.1),
+        λ i. let k = (ours f).0 i in (theirs f).1 (k.0, (there k.0).1 f k.1),
+        λ i. let k = (theirs f).0 i in (ours f).1 (k.0, (back k.0).1 f k.1),
       )) in
       (λ c. (there c).0, λ c. (back c).0, record { known = known; printed = λ names mode. ap (listing names mode) known })

@@ -54,7 +54,7 @@ of_set e settings (Made call ∷ log) s q i =
     made before None c j =
         elim (in_either q (asked (past settings log)) (operation_of call) (subst (IsIn q) (asked_more (past settings log) call) j)) [
           | inl k ↦ before k
-          | inr k ↦ of_call e call q c.of k
+          | inr k ↦ of_call e call q c.0.of k
         ]
 of_set e settings (Got reply ∷ log) s q i =
     of_set e settings log s q (subst (IsIn q) (same_asked (past settings log) (verdict (standing (past settings log)) reply)) i)

@@ -1,27 +1,27 @@
 use Rattle.std.proofs.Common.{◌≡◌, ◌∙◌, ◌↔◌, sym, ap, subst, true, ◌+◌, take, length, Contains, arith}
 use Rattle.std.proofs.lemmas.List.{take_all}
 use Rattle.zmeta_args.specs.Texts.{texts_of}
-use Rattle.zmeta_commands.specs.Catalogues.{is_of}
+use Rattle.zmeta_commands.specs.Catalogues.{is_of_chosen}
 use Rattle.zmeta_commands.proofs.Picking.{ArePicked, picked, passed}
 use Rattle.zmeta_commands.proofs.catalogues.add_facts.Goals as goal
-use Rattle.zmeta_commands.proofs.catalogues.add_facts.Goals.{then-is_of+in_ok-add, else-is_of}
+use Rattle.zmeta_commands.proofs.catalogues.add_facts.Goals.{then-is_of_chosen+in_ok-add, else-is_of_chosen}
 
 pub loop-fact-preserved : goal.loop-fact-preserved
 loop-fact-preserved c =
-    let p = is_of (texts_of c.args.only.now) c.args.names.now in
+    let p = is_of_chosen (texts_of c.args.only.now) c.args.names.now in
     let facts = c.args.facts.now in
     let i = c.loop-fact.fact-index in
     let x = c.fact-item.result in
-    elim c.if-is_of.branch [
-      | then-is_of+in_ok-add w ↦ (subst (ArePicked p facts (i + 1)) (sym w.chosen-is)
-          (picked p facts i x c.loop-fact-test.true c.fact-item.is c.loop-fact.chosen w.add.new.self (sym c.is_of.ensures ∙ w.if-is_of.true) c.loop-fact.invariant w.in_ok-add.ensures.ok))
-      | else-is_of w ↦ (subst (ArePicked p facts (i + 1)) (sym w.chosen-is)
-          (passed p facts i x c.loop-fact-test.true c.fact-item.is c.loop-fact.chosen (sym c.is_of.ensures ∙ w.if-is_of.false) c.loop-fact.invariant))
+    elim c.if-is_of_chosen.branch [
+      | then-is_of_chosen+in_ok-add w ↦ (subst (ArePicked p facts (i + 1)) (sym w.chosen-is)
+          (picked p facts i x c.loop-fact-test.true c.fact-item.is c.loop-fact.chosen w.add.new.self (sym c.is_of_chosen.ensures ∙ w.if-is_of_chosen.true) c.loop-fact.invariant w.in_ok-add.ensures.ok))
+      | else-is_of_chosen w ↦ (subst (ArePicked p facts (i + 1)) (sym w.chosen-is)
+          (passed p facts i x c.loop-fact-test.true c.fact-item.is c.loop-fact.chosen (sym c.is_of_chosen.ensures ∙ w.if-is_of_chosen.false) c.loop-fact.invariant))
     ]
 
 pub returns : goal.returns
 returns c =
-    let p = is_of (texts_of c.args.only.now) c.args.names.now in
+    let p = is_of_chosen (texts_of c.args.only.now) c.args.names.now in
     let facts = c.args.facts.now in
     let end : c.loop-fact.fact-index ≡ length facts = omega (arith, c.loop-fact-test.false, c.loop-fact.auto.fact-index-end) in
     let all : take c.loop-fact.fact-index facts ≡ facts = ap (λ n. take n facts) end ∙ take_all (length facts) facts (omega arith) in

@@ -4,8 +4,8 @@ use Rattle.zmeta_commands.proofs.input.read_pieces.Goals as goal
 
 pub returns-in_err-extend_from_slice-clause-rest : goal.returns-in_err-extend_from_slice-clause-rest
 returns-in_err-extend_from_slice-clause-rest g c =
-    let last = take c.in-Ok.count c.read.new.buf in (
+    let last = take c.in-Some.count c.read_piece.new.piece in (
       c.loop.octets.items ++ last,
       Consumes-trans (g.R.Read.remaining c.args.reader.now) (g.R.Read.remaining c.loop.reader)
-          (g.R.Read.remaining c.read.new.self) c.loop.octets.items last c.loop.invariant.0 c.in-Ok.ensures.bytes.0,
+          (g.R.Read.remaining c.read_piece.new.reader) c.loop.octets.items last c.loop.invariant.0 c.in-Some.ensures.bytes.0,
     )

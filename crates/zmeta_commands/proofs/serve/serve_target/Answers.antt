@@ -7,9 +7,10 @@ use Rattle.zmeta_commands.proofs.serve.serve_target.Goals as goal
 pub returns-clause-serves : goal.returns-clause-serves
 returns-clause-serves g c =
     let says = subst (λ z. IfSome z (λ file. IsWorld file c.in_ok-world.world)) c.file_at-file.ensures.octets c.in_ok-world.ensures.says in
-    serve_result c.args.service.name.now (g.S.Folder.octets c.args.system.now c.args.service.world.now) c.in_ok-world.world c.serve_world-served.result
-    says c.serve_world-served.ensures
+    serve_result c.args.service.name.now c.args.service.count (g.S.Folder.octets c.args.system.now c.args.service.world.now)
+    c.in_ok-world.world c.serve_world-served.result says c.serve_world-served.ensures
 
 pub returns-clause-path : goal.returns-clause-path
 returns-clause-path g c =
-    service_end c.args.service.name.now c.args.service.world.now c.in_ok-world.world c.serve_world-served.result c.serve_world-served.ensures
+    service_end c.args.service.name.now c.args.service.world.now c.args.service.count c.in_ok-world.world
+    c.serve_world-served.result c.serve_world-served.ensures

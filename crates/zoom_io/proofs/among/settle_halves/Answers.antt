@@ -2,6 +2,7 @@ use Rattle.std.proofs.Common.{Ok, Err, subst}
 use Rattle.zoom_io.specs.TalksAmong.{view_of}
 use Rattle.zoom_io.specs.Talking.{AfterSettle}
 use Rattle.zoom_io.proofs.Joining.{settled_over, settled_waiting, settled_broken}
+use Rattle.zoom_io.proofs.Halting.{halts_due}
 use Rattle.zoom_io.proofs.among.settle_halves.Goals as goal
 
 pub returns-in-Ok-true-clause-steps : goal.returns-in-Ok-true-clause-steps
@@ -29,4 +30,13 @@ returns-in-Write-clause-steps g c n turns le =
     settled_broken c.args.c n turns le c.args.meta.now c.settle.new.meta
     (view_of g.R.NonBlocking.state g.R.NonBlocking.polls g.W.Sink.state c.args.halves.now) c.requires.phase held
     (subst (λ z. AfterSettle c.args.c (Err z) c.args.meta.now c.settle.new.meta sink held) c.in-Write.is
+    c.in-Err.ensures.settles)
+
+pub returns-in-Memory-clause-halts : goal.returns-in-Memory-clause-halts
+returns-in-Memory-clause-halts g c n turns =
+    let held = g.W.Sink.state c.settle.new.sink in
+    let sink = g.W.Sink.state c.args.halves.now.sink in
+    halts_due c.args.c n turns c.args.meta.now c.settle.new.meta
+    (view_of g.R.NonBlocking.state g.R.NonBlocking.polls g.W.Sink.state c.args.halves.now) c.requires.phase
+    (subst (λ z. AfterSettle c.args.c (Err z) c.args.meta.now c.settle.new.meta sink held) c.in-Memory.is
     c.in-Err.ensures.settles)

@@ -1,16 +1,21 @@
-use Rattle.std.proofs.Common.{◌≡◌, ◌∙◌, ◌<◌, ap, subst, sym, refl, Err, arith, rules}
+use Rattle.std.proofs.Common.{◌≡◌, ◌∙◌, ◌<◌, ap, subst, sym, Bool, Err, arith, rules}
 use Rattle.std.proofs.lemmas.Result.{err_from_is_err_and}
-use Rattle.zoom_io.specs.TalkTraces.{AfterTalk, Due}
+use Rattle.zoom_io.specs.TalkTraces.{Due}
+use Rattle.zoom_io.specs.Talking.{AfterConverse}
 use Rattle.zoom_io.proofs.Sending.{Begun, begun}
+use Rattle.zoom_io.specs.Devices.{HasNoFailure}
+use Rattle.zoom_io.specs.Blameless.{IfTalkMemory}
+use Rattle.zoom_io.proofs.Blameless.{if_talk, push_to_talk, talk_memory, settled_soundly, ended_soundly}
 use Rattle.zoom_io.proofs.Ending.{ends_over, waits_on, ends_unsettled, ends_at_limit, ends_unread, listened_on, ends_finished}
+use Rattle.zoom_io.proofs.Others.{others_none, others_more, else_others}
 use Rattle.zoom_io.proofs.conversation.converse.Goals as goal
 
 pub loop-init : goal.loop-init
 loop-init g c =
-    (begun c.args.c c.args.meta.now (g.R.Source.state c.args.source.now) (g.W.Sink.state c.args.sink.now), refl)
+    (begun c.args.c c.args.meta.now (g.R.Source.state c.args.source.now) (g.W.Sink.state c.args.sink.now), others_none c.args.c c.args.meta.now.pool)
 
 pub settle-requires : goal.settle-requires
-settle-requires g c = subst (λ n. c.args.c < n) (sym c.loop.invariant.1) c.requires
+settle-requires g c = subst (λ n. c.args.c < n) (sym c.loop.invariant.1.size) c.requires
 
 pub returns-then-branch : goal.returns-then-branch
 returns-then-branch g c =
@@ -20,14 +25,16 @@ returns-then-branch g c =
           (g.R.Source.state c.args.source.now) (g.R.Source.state c.loop.source) (g.W.Sink.state c.args.sink.now)
           (g.W.Sink.state c.loop.sink) (g.W.Sink.state c.settle.new.sink) (omega (arith, few)) c.loop.invariant.0
           c.in_ok-settle.field-0 c.in_ok-settle.ensures.settles c.if-branch.true;
-      size = c.settle.ensures.size ∙ c.loop.invariant.1;
+      sound = tt;
+      others = others_more c.args.c c.args.meta.now.pool c.loop.meta.pool c.settle.new.meta.pool c.loop.invariant.1
+          c.settle.ensures.others;
     }
 
 pub returns-in_err-settle-clause-talks : goal.returns-in_err-settle-clause-talks
 returns-in_err-settle-clause-talks g c =
     let few : c.loop.counter < c.args.turns = search rules in
     let p = err_from_is_err_and c.from_residual.result c.from_residual.ensures.1 in
-    subst (λ z. AfterTalk c.args.c c.args.turns z c.args.meta.now c.settle.new.meta (g.R.Source.state c.args.source.now)
+    subst (λ z. AfterConverse c.args.c c.args.turns z c.args.meta.now c.settle.new.meta (g.R.Source.state c.args.source.now)
     (g.R.Source.state c.loop.source) (g.W.Sink.state c.args.sink.now) (g.W.Sink.state c.settle.new.sink))
     (sym (p.1 ∙ ap Err p.2))
     (ends_unsettled c.args.c c.loop.counter c.args.turns c.args.meta.now c.loop.meta c.settle.new.meta
@@ -39,7 +46,7 @@ pub returns-in_err-listen-clause-talks : goal.returns-in_err-listen-clause-talks
 returns-in_err-listen-clause-talks g c =
     let few : c.loop.counter < c.args.turns = search rules in
     let p = err_from_is_err_and c.from_residual-in_err-listen.result c.from_residual-in_err-listen.ensures.1 in
-    subst (λ z. AfterTalk c.args.c c.args.turns z c.args.meta.now c.listen.new.meta (g.R.Source.state c.args.source.now)
+    subst (λ z. AfterConverse c.args.c c.args.turns z c.args.meta.now c.listen.new.meta (g.R.Source.state c.args.source.now)
     (g.R.Source.state c.listen.new.source) (g.W.Sink.state c.args.sink.now) (g.W.Sink.state c.settle.new.sink))
     (sym (p.1 ∙ ap Err p.2))
     (ends_unread c.args.c c.loop.counter c.args.turns c.args.meta.now c.settle.new.meta c.listen.new.meta
@@ -72,14 +79,16 @@ loop-preserved g c = (
       (g.W.Sink.state c.loop.sink) (g.W.Sink.state c.settle.new.sink) c.loop.invariant.0 c.in_ok-settle.field-0
       c.in_ok-settle.ensures.settles c.if-branch.false) c.in_ok-listen.field-0 c.in_ok-listen.ensures.listens
       c.if-not-branch.false,
-  c.listen.ensures.size ∙ c.settle.ensures.size ∙ c.loop.invariant.1,
+  others_more c.args.c c.args.meta.now.pool c.settle.new.meta.pool c.listen.new.meta.pool
+      (others_more c.args.c c.args.meta.now.pool c.loop.meta.pool c.settle.new.meta.pool c.loop.invariant.1
+      c.settle.ensures.others) c.listen.ensures.others,
 )
 
 pub returns-in_err-settle-2-clause-talks : goal.returns-in_err-settle-2-clause-talks
 returns-in_err-settle-2-clause-talks g c =
     let all : c.loop.counter ≡ c.args.turns = search rules in
     let p = err_from_is_err_and c.from_residual-in_err-settle-2.result c.from_residual-in_err-settle-2.ensures.1 in
-    subst (λ z. AfterTalk c.args.c c.args.turns z c.args.meta.now c.settle-2.new.meta (g.R.Source.state c.args.source.now)
+    subst (λ z. AfterConverse c.args.c c.args.turns z c.args.meta.now c.settle-2.new.meta (g.R.Source.state c.args.source.now)
     (g.R.Source.state c.loop.source) (g.W.Sink.state c.args.sink.now) (g.W.Sink.state c.settle-2.new.sink))
     (sym (p.1 ∙ ap Err p.2))
     (ends_unsettled c.args.c c.loop.counter c.args.turns c.args.meta.now c.loop.meta c.settle-2.new.meta
@@ -108,3 +117,78 @@ returns-clause-talks g c =
     (g.R.Source.state c.loop.source) (g.W.Sink.state c.args.sink.now) (g.W.Sink.state c.loop.sink)) all
     c.loop.invariant.0) c.in_ok-settle-2.field-0
     c.in_ok-settle-2.ensures.settles c.if-branch-2.false) c.stop.ensures.after c.stop.ensures.stopped
+
+pub returns-in_err-settle-clause-others : goal.returns-in_err-settle-clause-others
+returns-in_err-settle-clause-others g c =
+    others_more c.args.c c.args.meta.now.pool c.loop.meta.pool c.settle.new.meta.pool c.loop.invariant.1
+    c.settle.ensures.others
+
+pub returns-in_err-listen-clause-others : goal.returns-in_err-listen-clause-others
+returns-in_err-listen-clause-others g c =
+    others_more c.args.c c.args.meta.now.pool c.settle.new.meta.pool c.listen.new.meta.pool
+    (others_more c.args.c c.args.meta.now.pool c.loop.meta.pool c.settle.new.meta.pool c.loop.invariant.1
+    c.settle.ensures.others) c.listen.ensures.others
+
+pub returns-then-not-branch-clause-others : goal.returns-then-not-branch-clause-others
+returns-then-not-branch-clause-others g c =
+    others_more c.args.c c.args.meta.now.pool c.listen.new.meta.pool c.finish.new.meta.pool
+    (others_more c.args.c c.args.meta.now.pool c.settle.new.meta.pool c.listen.new.meta.pool
+    (others_more c.args.c c.args.meta.now.pool c.loop.meta.pool c.settle.new.meta.pool c.loop.invariant.1
+    c.settle.ensures.others) c.listen.ensures.others) c.finish.ensures.others
+
+pub returns-in_err-settle-2-clause-others : goal.returns-in_err-settle-2-clause-others
+returns-in_err-settle-2-clause-others g c =
+    others_more c.args.c c.args.meta.now.pool c.loop.meta.pool c.settle-2.new.meta.pool c.loop.invariant.1
+    c.settle-2.ensures.others
+
+pub returns-then-branch-2-clause-others : goal.returns-then-branch-2-clause-others
+returns-then-branch-2-clause-others g c =
+    others_more c.args.c c.args.meta.now.pool c.loop.meta.pool c.settle-2.new.meta.pool c.loop.invariant.1
+    c.settle-2.ensures.others
+
+pub returns-clause-others : goal.returns-clause-others
+returns-clause-others g c =
+    others_more c.args.c c.args.meta.now.pool c.settle-2.new.meta.pool c.stop.new.self.pool
+    (others_more c.args.c c.args.meta.now.pool c.loop.meta.pool c.settle-2.new.meta.pool c.loop.invariant.1
+    c.settle-2.ensures.others)
+    (else_others c.args.c c.settle-2.new.meta.pool c.stop.new.self.pool c.stop.ensures.rest)
+
+pub returns-in_err-settle-clause-sound : goal.returns-in_err-settle-clause-sound
+returns-in_err-settle-clause-sound g c =
+    let p = err_from_is_err_and c.from_residual.result c.from_residual.ensures.1 in
+    let b = c.loop.invariant.0 in
+    subst (λ z. IfTalkMemory z (HasNoFailure (g.R.Source.state c.args.source.now) (g.R.Source.state c.loop.source)
+    × HasNoFailure (g.W.Sink.state c.args.sink.now) (g.W.Sink.state c.settle.new.sink))) (sym (p.1 ∙ ap Err p.2))
+    (push_to_talk Bool (Unit {0}) c.in_err-settle.field-0.0 (λ f. (b.reader, f ∙ b.writer)) c.in_err-settle.ensures.sound)
+
+pub returns-in_err-listen-clause-sound : goal.returns-in_err-listen-clause-sound
+returns-in_err-listen-clause-sound g c =
+    let p = err_from_is_err_and c.from_residual-in_err-listen.result c.from_residual-in_err-listen.ensures.1 in
+    let b = c.loop.invariant.0 in
+    let sink = g.W.Sink.state c.loop.sink in
+    let held = g.W.Sink.state c.settle.new.sink in
+    let written = settled_soundly c.args.c c.in_ok-settle.field-0 c.loop.meta c.settle.new.meta sink held
+    c.in_ok-settle.ensures.settles in
+    subst (λ z. IfTalkMemory z (HasNoFailure (g.R.Source.state c.args.source.now) (g.R.Source.state c.listen.new.source)
+    × HasNoFailure (g.W.Sink.state c.args.sink.now) held)) (sym (p.1 ∙ ap Err p.2))
+    (talk_memory Bool (Unit {0}) c.in_err-listen.field-0.0 (λ f. (f ∙ b.reader, written ∙ b.writer)) c.in_err-listen.ensures.sound)
+
+pub returns-then-not-branch-clause-sound : goal.returns-then-not-branch-clause-sound
+returns-then-not-branch-clause-sound g c =
+    let b = c.loop.invariant.0 in
+    let sink = g.W.Sink.state c.loop.sink in
+    let held = g.W.Sink.state c.settle.new.sink in
+    let written = settled_soundly c.args.c c.in_ok-settle.field-0 c.loop.meta c.settle.new.meta sink held
+    c.in_ok-settle.ensures.settles in
+    let read = ended_soundly c.args.c c.in_ok-listen.field-0 c.settle.new.meta c.listen.new.meta
+    (g.R.Source.state c.loop.source) (g.R.Source.state c.listen.new.source) c.in_ok-listen.ensures.listens
+    c.if-not-branch.true in
+    if_talk c.finish.result (read ∙ b.reader, written ∙ b.writer)
+
+pub returns-in_err-settle-2-clause-sound : goal.returns-in_err-settle-2-clause-sound
+returns-in_err-settle-2-clause-sound g c =
+    let p = err_from_is_err_and c.from_residual-in_err-settle-2.result c.from_residual-in_err-settle-2.ensures.1 in
+    let b = c.loop.invariant.0 in
+    subst (λ z. IfTalkMemory z (HasNoFailure (g.R.Source.state c.args.source.now) (g.R.Source.state c.loop.source)
+    × HasNoFailure (g.W.Sink.state c.args.sink.now) (g.W.Sink.state c.settle-2.new.sink))) (sym (p.1 ∙ ap Err p.2))
+    (push_to_talk Bool (Unit {0}) c.in_err-settle-2.field-0.0 (λ f. (b.reader, f ∙ b.writer)) c.in_err-settle-2.ensures.sound)

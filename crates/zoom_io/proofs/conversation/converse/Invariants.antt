@@ -1,4 +1,4 @@
-use Rattle.std.proofs.Common.{◌≡◌, length}
+use Rattle.zoom_pool.specs.Links.{SameOthers}
 use Rattle.zoom_io.specs.TalkTraces.{Due}
 use Rattle.zoom_io.proofs.Sending.{Begun}
 use Rattle.zoom_io.proofs.conversation.converse.Given as goal
@@ -7,4 +7,4 @@ abbrev pub invariant-loop : goal.invariant-loop
 invariant-loop g l =
     Begun l.c l.counter Due l.initial.meta l.meta (g.R.Source.state l.initial.source) (g.R.Source.state l.source)
     (g.W.Sink.state l.initial.sink) (g.W.Sink.state l.sink)
-    × (length l.meta.pool.connections ≡ length l.initial.meta.pool.connections)
+    × SameOthers l.c l.initial.meta.pool l.meta.pool

@@ -4,6 +4,8 @@ use Rattle.zoom_io.specs.TalkTraces.{Waiting}
 use Rattle.zoom_io.specs.Talking.{AfterListen}
 use Rattle.zoom_io.proofs.Sending.{halts_same}
 use Rattle.zoom_io.proofs.Ending.{fed_on}
+use Rattle.zoom_io.proofs.Others.{else_others}
+use Rattle.zoom_io.proofs.Blameless.{if_talk}
 use Rattle.zoom_io.proofs.conversation.listen.Goals as goal
 
 pub returns-in_ok-feed-in-Ok-clause-listens : goal.returns-in_ok-feed-in-Ok-clause-listens
@@ -21,4 +23,15 @@ returns-in_err-feed-in-Ok-clause-listens g c =
     let p = err_from_is_err_and c.from_residual.result c.from_residual.ensures.1 in
     subst (λ z. AfterListen c.args.c z c.args.meta.now c.feed.new.self (g.R.Source.state c.args.source.now)
     (g.R.Source.state c.read.new.self)) (sym (p.1 ∙ ap Err p.2))
-    (halts_same c.up_to.ensures c.args.c Waiting c.args.meta.now c.feed.new.self c.in_err-feed-in-Ok.ensures.err)
+    (halts_same c.args.c Waiting c.args.meta.now c.feed.new.self c.in_err-feed-in-Ok.ensures.err)
+
+pub returns-in_ok-feed-in-Ok-clause-others : goal.returns-in_ok-feed-in-Ok-clause-others
+returns-in_ok-feed-in-Ok-clause-others g c =
+    else_others c.args.c c.args.meta.now.pool c.feed.new.self.pool c.feed.ensures.rest
+
+pub returns-in_err-feed-in-Ok-clause-others : goal.returns-in_err-feed-in-Ok-clause-others
+returns-in_err-feed-in-Ok-clause-others g c =
+    else_others c.args.c c.args.meta.now.pool c.feed.new.self.pool c.feed.ensures.rest
+
+pub returns-in_err-feed-in-Ok-clause-sound : goal.returns-in_err-feed-in-Ok-clause-sound
+returns-in_err-feed-in-Ok-clause-sound g c = if_talk c.from_residual.result c.in-Ok.ensures.reads.count

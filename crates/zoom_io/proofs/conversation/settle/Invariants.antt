@@ -1,4 +1,4 @@
-use Rattle.std.proofs.Common.{◌≡◌, length}
+use Rattle.zoom_pool.specs.Links.{SameOthers}
 use Rattle.zoom_io.specs.Devices.{DeviceState}
 use Rattle.zoom_io.specs.TalkTraces.{Due, TalkStep, same}
 use Rattle.zoom_io.proofs.conversation.settle.Given as goal
@@ -7,4 +7,4 @@ abbrev pub invariant-loop : goal.invariant-loop
 invariant-loop g l =
     ((left : DeviceState) → TalkStep l.c Due Due same l.initial.meta l.meta left left (g.W.Sink.state l.initial.sink)
     (g.W.Sink.state l.sink))
-    × (length l.meta.pool.connections ≡ length l.initial.meta.pool.connections)
+    × SameOthers l.c l.initial.meta.pool l.meta.pool

@@ -11,5 +11,5 @@ pub returns-in_default : goal.returns-in_default
 returns-in_default c = record {
   took = c.in-Err.ensures.after c.in_default.not-Memory;
   keeps = tt;
-  size = c.take.ensures.size;
+  others = c.take.ensures.others;
 }

@@ -1,4 +1,4 @@
-use Rattle.zoom_io.proofs.Answering.{Begun}
+use Rattle.zoom_io.proofs.AnswerEnds.{Begun}
 use Rattle.zoom_io.proofs.replies.answer.Given as goal
 
 abbrev pub invariant-loop : goal.invariant-loop

@@ -8,19 +8,19 @@ use Rattle.zoom_io.proofs.talk_steps.take_message.Goals as goal
 pub returns-in-Ok-clause-after : goal.returns-in-Ok-clause-after
 returns-in-Ok-clause-after c =
     subst (λ z. AfterTakeMessage c.args.c z c.args.meta.now c.take.new.self) (sym c.receipt_of.ensures)
-    (taken_step c.up_to.ensures c.one_transcript.ensures c.one_input.ensures c.args.c c.args.meta.now c.take.new.self
+    (taken_step c.one_transcript.ensures c.one_input.ensures c.args.c c.args.meta.now c.take.new.self
     c.requires c.in-Ok.step c.in-Ok.ensures.answer (c.in-Ok.ensures.after tt))
 
 pub returns-in_default : goal.returns-in_default
 returns-in_default c = record {
-  after = taken_refusal c.up_to.ensures c.one_transcript.ensures c.one_input.ensures c.args.c c.args.meta.now
+  after = taken_refusal c.one_transcript.ensures c.one_input.ensures c.args.c c.args.meta.now
       c.take.new.self c.requires c.in-Err.error c.in_default.not-Memory c.in-Err.ensures.answer
       (c.in-Err.ensures.after c.in_default.not-Memory);
   err = tt;
-  size = c.take.ensures.size;
+  others = c.take.ensures.others;
 }
 
 pub returns-in-Memory-clause-err : goal.returns-in-Memory-clause-err
 returns-in-Memory-clause-err c =
-    halts_keeps c.up_to.ensures c.args.c Listening c.args.meta.now c.take.new.self
+    halts_keeps c.args.c Listening c.args.meta.now c.take.new.self
     (c.in-Err.ensures.memory (ap Err c.in-Memory.is))

@@ -1,11 +1,17 @@
 use Rattle.std.proofs.Common.{◌∙◌, ◌<◌, subst, sym, refl, arith}
 use Rattle.zoom_sim.specs.RunSound.{TakeOneStep}
 use Rattle.zoom_sim.proofs.RunSilentSteps.{goes_same, goes_trans}
+use Rattle.zoom_sim.proofs.RunMoves.{driven_same, driven_trans}
 use Rattle.zoom_sim.proofs.RunTakeAll.{take_steps_none, take_steps_more, take_steps_adds, take_steps_end, take_steps_out}
 use Rattle.zoom_sim.proofs.drives.take_all.Goals as goal
 
 pub loop-count-init : goal.loop-count-init
-loop-count-init c = (goes_same c.args.meta.now, take_steps_none c.args.c c.args.meta.now, refl)
+loop-count-init c = (
+  goes_same c.args.meta.now,
+  take_steps_none c.args.c c.args.meta.now,
+  refl,
+  driven_same c.args.c c.args.meta.now,
+)
 
 pub returns-then-not-branch-clause-on : goal.returns-then-not-branch-clause-on
 returns-then-not-branch-clause-on c =
@@ -36,6 +42,9 @@ loop-count-preserved c = (
       (subst (λ b. TakeOneStep c.args.c b c.loop-count.meta c.take_one.new.meta) c.if-not-branch.false
       c.in_ok-take_one.ensures.at) c.in_ok-drive.ensures.at,
   c.drive.ensures.size ∙ c.take_one.ensures.size ∙ c.loop-count.invariant.2,
+  driven_trans c.args.c c.args.meta.now c.take_one.new.meta c.drive.new.meta
+      (driven_trans c.args.c c.args.meta.now c.loop-count.meta c.take_one.new.meta c.loop-count.invariant.3
+      c.in_ok-take_one.ensures.own) c.in_ok-drive.ensures.own,
 )
 
 pub returns-clause-on : goal.returns-clause-on
@@ -49,3 +58,11 @@ returns-clause-all c =
 
 pub returns-clause-adds : goal.returns-clause-adds
 returns-clause-adds c = c.loop-count.invariant.1.adds
+
+pub returns-then-not-branch-clause-own : goal.returns-then-not-branch-clause-own
+returns-then-not-branch-clause-own c =
+    driven_trans c.args.c c.args.meta.now c.loop-count.meta c.take_one.new.meta c.loop-count.invariant.3
+    c.in_ok-take_one.ensures.own
+
+pub returns-clause-own : goal.returns-clause-own
+returns-clause-own c = c.loop-count.invariant.3

@@ -19,3 +19,14 @@ returns-clause-whole g c = λ sure. IfOk-weaker c.finish.result _ _ (λ _ whole 
     whole.on qs s ts ((c.in_ok-make_moves.ensures.stays sure).on qs s ts
     (started_fine qs s ts c.drive_all.new.meta c.args.peers.now started (peers_size ts c.args.peers.now of) equal)))
     (c.finish.ensures.whole sure)
+
+pub returns-clause-moved : goal.returns-clause-moved
+returns-clause-moved g c = IfOk-weaker c.finish.result _ _ (λ _ f. record {
+  begun = c.drive_all.new.meta;
+  later = c.make_moves.new.channel;
+  made = c.make_moves.new.meta;
+  peers = c.make_moves.new.peers;
+  driven = c.in_ok-drive_all.ensures.on;
+  moved = c.in_ok-make_moves.ensures.moved;
+  rounds = f;
+}) c.finish.ensures.ends

@@ -1,11 +1,14 @@
-use Rattle.std.proofs.Common.{true, ◌∙◌, subst, arith}
+use Rattle.std.proofs.Common.{true, ◌∙◌, subst, refl, rules, arith}
 use Rattle.zoom_pool.specs.Metas.{IsFinishedUpTo}
 use Rattle.zoom_pool.proofs.Advancing.{finished_after}
 use Rattle.zoom_sim.proofs.RunStops.{finished_halts}
 use Rattle.zoom_sim.proofs.RunUnfinished.{spares_trans}
-use Rattle.zoom_sim.proofs.RunRounds.{grown_more, finished_whole, most_whole}
-use Rattle.zoom_sim.proofs.RunWorlds.{goes_world, halts_ends, world_ends, world_trans}
+use Rattle.zoom_sim.proofs.RunFinishes.{grown_more, finished_whole, most_whole}
+use Rattle.zoom_sim.proofs.RunWorlds.{same_world, goes_world, halts_ends, world_ends, world_trans}
 use Rattle.zoom_sim.proofs.rounds.finish.Goals as goal
+
+pub loop-init : goal.loop-init
+loop-init g c = (same_world c.args.meta.now c.args.peers.now, refl, search rules)
 
 pub returns-then-finished-clause-ends : goal.returns-then-finished-clause-ends
 returns-then-finished-clause-ends g c =

@@ -1,6 +1,6 @@
 use Rattle.std.proofs.Common.{◌≡◌, true, length}
 use Rattle.zoom_sim.specs.RunSteps.{AfterMoves}
-use Rattle.zoom_sim.proofs.RunRounds.{SoundRounds}
+use Rattle.zoom_sim.proofs.RunFinishes.{SoundRounds}
 use Rattle.zoom_sim.proofs.rounds.finish.Given as goal
 
 abbrev pub invariant-loop : goal.invariant-loop

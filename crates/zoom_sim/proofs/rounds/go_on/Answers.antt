@@ -1,7 +1,7 @@
 use Rattle.std.proofs.Common.{subst}
 use Rattle.std.proofs.lemmas.Result.{IfOk-weaker}
 use Rattle.zoom_sim.specs.RunRounds.{AfterSoundRound}
-use Rattle.zoom_sim.proofs.RunRounds.{grows_moved, grows_ended}
+use Rattle.zoom_sim.proofs.RunFinishes.{grows_moved, grows_ended}
 use Rattle.zoom_sim.proofs.RunWorlds.{world_trans, goes_world}
 use Rattle.zoom_sim.proofs.rounds.go_on.Goals as goal
 
@@ -19,7 +19,6 @@ returns-else-branch-clause-goes g c = IfOk-weaker c.end_inputs.result _ _ (λ _ 
 
 pub returns-else-branch-clause-grows : goal.returns-else-branch-clause-grows
 returns-else-branch-clause-grows g c = λ sure. IfOk-weaker c.end_inputs.result _ _ (λ _ spares.
-    grows_ended c.one_transcript.ensures c.exchange_laws.ensures.longer c.exchange_laws.ensures.few c.args.meta.now
-    c.go_round.new.meta c.end_inputs.new.meta c.args.peers.now c.go_round.new.peers
+    grows_ended c.exchange_laws.ensures.few c.args.meta.now c.go_round.new.meta c.end_inputs.new.meta c.args.peers.now c.go_round.new.peers
     (subst (λ b. AfterSoundRound b c.args.meta.now c.go_round.new.meta c.args.peers.now c.go_round.new.peers)
     c.if-branch.false (c.in_ok-go_round.ensures.rounds sure)) spares) c.end_inputs.ensures.unfinished_only

@@ -1,8 +1,11 @@
-use Rattle.std.proofs.Common.{◌∙◌, arith}
+use Rattle.std.proofs.Common.{◌∙◌, refl, rules, arith}
 use Rattle.std.specs.Prelude.{◌||◌}
 use Rattle.zoom_sim.proofs.RunRounds.{round_all, round_more, or_left, or_right}
-use Rattle.zoom_sim.proofs.RunWorlds.{step_world, world_trans}
+use Rattle.zoom_sim.proofs.RunWorlds.{same_world, step_world, world_trans}
 use Rattle.zoom_sim.proofs.rounds.go_round.Goals as goal
+
+pub loop-c-init : goal.loop-c-init
+loop-c-init g c = (same_world c.args.meta.now c.args.peers.now, refl, search rules)
 
 pub loop-c-preserved : goal.loop-c-preserved
 loop-c-preserved g c = (
@@ -10,7 +13,7 @@ loop-c-preserved g c = (
       (step_world c.loop-c.c c.loop-c.meta c.go_round.new.meta c.loop-c.peers c.index-peers-c.result c.go_round.new.self
       (omega arith) c.in_ok-moved.ensures.carries),
   c.go_round.ensures.size ∙ c.loop-c.invariant.1,
-  λ sure. round_more c.one_transcript.ensures c.exchange_laws.ensures.longer c.loop-c.any c.in_ok-moved.moved
+  λ sure. round_more c.one_transcript.ensures c.loop-c.any c.in_ok-moved.moved
       (c.loop-c.any || c.in_ok-moved.moved) c.args.meta.now c.loop-c.meta c.go_round.new.meta c.args.peers.now
       c.loop-c.peers c.loop-c.c c.index-peers-c.result c.go_round.new.self (omega arith)
       (or_right c.loop-c.any c.in_ok-moved.moved) (or_left c.loop-c.any c.in_ok-moved.moved)

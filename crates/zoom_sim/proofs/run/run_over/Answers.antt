@@ -16,8 +16,9 @@ pub returns-clause-is_run : goal.returns-clause-is_run
 returns-clause-is_run g c =
     let after = subst (λ z. MetaAfter z c.args.settings [] c.in_ok-meta.meta) c.from_vec.ensures c.in_ok-meta.ensures.after in
     let of = subst (ArePeersOf c.args.targets.items) (sym c.deref_mut.ensures.value) c.in_ok-peers.ensures in
-    c.in_ok-carry_out.ensures.ends.on c.args.questions.items c.args.settings c.args.targets.items
-    (world_new c.args.questions.items c.args.settings c.args.targets.items c.in_ok-meta.meta c.deref_mut.result.now after of)
+    (c.in_ok-carry_out.ensures.ends.on c.args.questions.items c.args.settings c.args.targets.items
+    (world_new c.args.questions.items c.args.settings c.args.targets.items c.in_ok-meta.meta c.deref_mut.result.now after
+    of)).0
 
 pub returns-clause-whole : goal.returns-clause-whole
 returns-clause-whole g c = λ sure.
@@ -25,3 +26,8 @@ returns-clause-whole g c = λ sure.
     let of = subst (ArePeersOf c.args.targets.items) (sym c.deref_mut.ensures.value) c.in_ok-peers.ensures in
     c.in_ok-carry_out.ensures.whole sure c.args.questions.items c.args.settings c.args.targets.items after of
     c.requires.equal
+
+pub returns-clause-brings : goal.returns-clause-brings
+returns-clause-brings g c = λ sure.
+    c.run_law.ensures c.args.questions.items c.args.settings c.args.targets.items c.carry_out.new.meta
+    (returns-clause-whole g c sure) c.requires.equal

@@ -1,4 +1,4 @@
-use Rattle.std.proofs.Common.{◌≡◌, [], length, refl, sym, subst, rules}
+use Rattle.std.proofs.Common.{◌≡◌, ◌∙◌, [], ap, length, refl, sym, subst, rules}
 use Rattle.zoom_pool.specs.Metas.{MetaAfter}
 use Rattle.zoom_tcp.specs.Asking.{is_present}
 use Rattle.zoom_tcp.specs.HostTalks.{AreAllBegun}
@@ -9,7 +9,9 @@ pub returns : goal.returns
 returns g c =
     let after = subst (λ z. MetaAfter z c.args.settings [] c.in_ok-meta.meta) c.from_vec.ensures c.in_ok-meta.ensures.after in
     let same : c.deref_mut.result.now ≡ c.in_ok-talks.talks.items = search rules in
-    let size : length c.talk_with_all-talked.new.talks ≡ length c.args.questions.items = search rules in
+    let size : length c.talk_with_all-talked.new.talks ≡ length c.args.questions.items =
+    c.talk_with_all-talked.ensures.hosts ∙ ap length same ∙ c.in_ok-talks.ensures.size ∙ c.in_ok-attempts.ensures.size
+    ∙ c.requires.equal in
     record {
       asked = asked_at_once _ refl (λ a. refl) c.args.questions.items c.args.settings (is_present c.args.addresses.now)
           c.in_ok-attempts.attempts.items c.deref_mut.result.now c.talk_with_all-talked.new.talks

@@ -1,8 +1,11 @@
 use Rattle.std.proofs.Common.{◌≡◌, ℕ, length}
 use Rattle.zoom_tcp.specs.Asking.{is_present}
+use Rattle.zoom_tcp.specs.Connecting.{IsAttempt, AttemptsStep}
 use Rattle.zoom_tcp.proofs.connecting.await_some.Given as goal
 
 abbrev pub invariant-loop-i : goal.invariant-loop-i
 invariant-loop-i g l =
     (length l.attempts ≡ length l.initial.attempts)
     × ((c : ℕ) → is_present l.attempts c ≡ is_present l.initial.attempts c)
+    × AttemptsStep l.initial.attempts l.attempts
+    (λ name a. IsAttempt g.S.Sockets.AreFound g.S.Sockets.IsOpening g.S.Sockets.IsConnected name a.addresses.items a.stage)

@@ -1,5 +1,6 @@
 use Rattle.std.proofs.Common.{sym, subst}
 use Rattle.zoom_io.specs.TalksAmong.{view_of}
+use Rattle.zoom_tcp.specs.Asking.{IsAnyLink}
 use Rattle.zoom_tcp.specs.HostTalks.{Talking, Out, host_view, HostStep}
 use Rattle.zoom_tcp.proofs.Openings.{opens_unreached}
 use Rattle.zoom_tcp.proofs.HostTalks.{begun_step, leave_step, goes_on, ok_one}
@@ -12,7 +13,7 @@ returns-in-Connecting-clause-ends g c n few =
     (host_view g.R.NonBlocking.state g.R.NonBlocking.polls g.W.Sink.state z) Out)
     (sym c.in-Connecting.is)
     (begun_step c.args.c n n c.args.meta.now c.stop.new.self Out
-    (opens_unreached c.args.c c.args.meta.now c.stop.new.self c.stop.ensures.after) tt)
+    (opens_unreached IsAnyLink c.args.c c.args.meta.now c.stop.new.self c.stop.ensures.after) tt)
 
 pub returns-else-eq-clause-ends : goal.returns-else-eq-clause-ends
 returns-else-eq-clause-ends g c =

@@ -9,5 +9,5 @@ pub returns : goal.returns
 returns g c = record {
   talks = talks_stopped c.args.c c.in-Err.error c.args.meta.now c.talk.new.meta _ _ _ _ c.in-Err.ensures.talks
       c.in_default.not-Memory;
-  size = c.talk.ensures.size;
+  size = c.talk.ensures.others.size;
 }

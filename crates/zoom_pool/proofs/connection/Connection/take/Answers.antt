@@ -19,7 +19,7 @@ lack-requires-clause-sound c = let i = rw c.in-Ok-None.field-0-is at c.in-Ok-Non
 
 pub returns-in-Ok-Some-clause-done : goal.returns-in-Ok-Some-clause-done
 returns-in-Ok-Some-clause-done c = λ p m d.
-    let s : is_stopped (state_at p) ≡ false = sym (ap is_stopped (c.state.ensures p m)) ∙ sym c.is_stopped.ensures
+    let s : is_stopped (state_at p) ≡ false = sym (ap is_stopped (c.state.ensures.state p m)) ∙ sym c.is_stopped.ensures
     ∙ c.if-is_stopped.false in
     let n = subst (AreConsistent p) (sym c.self.view_is) m in
     let draws = rw c.in-Ok-Some.field-0-is at (c.in-Ok-Some.ensures.answer p (going _ p.stop s) n.frames) in
@@ -41,7 +41,7 @@ returns-in-Ok-Some-clause-done c = λ p m d.
 
 pub returns-in-Ok-Some-clause-memory : goal.returns-in-Ok-Some-clause-memory
 returns-in-Ok-Some-clause-memory c = λ p m e.
-    let s : is_stopped (state_at p) ≡ false = sym (ap is_stopped (c.state.ensures p m)) ∙ sym c.is_stopped.ensures
+    let s : is_stopped (state_at p) ≡ false = sym (ap is_stopped (c.state.ensures.state p m)) ∙ sym c.is_stopped.ensures
     ∙ c.if-is_stopped.false in
     let n = subst (AreConsistent p) (sym c.self.view_is) m in
     let draws = rw c.in-Ok-Some.field-0-is at (c.in-Ok-Some.ensures.answer p (going _ p.stop s) n.frames) in
@@ -62,7 +62,7 @@ returns-in-Ok-Some-clause-memory c = λ p m e.
 
 pub returns-in-Ok-Some-clause-part : goal.returns-in-Ok-Some-clause-part
 returns-in-Ok-Some-clause-part c = λ p m e.
-    let s : is_stopped (state_at p) ≡ false = sym (ap is_stopped (c.state.ensures p m)) ∙ sym c.is_stopped.ensures
+    let s : is_stopped (state_at p) ≡ false = sym (ap is_stopped (c.state.ensures.state p m)) ∙ sym c.is_stopped.ensures
     ∙ c.if-is_stopped.false in
     let n = subst (AreConsistent p) (sym c.self.view_is) m in
     let draws = rw c.in-Ok-Some.field-0-is at (c.in-Ok-Some.ensures.answer p (going _ p.stop s) n.frames) in
@@ -70,7 +70,7 @@ returns-in-Ok-Some-clause-part c = λ p m e.
 
 pub returns-in-Ok-None-clause-done : goal.returns-in-Ok-None-clause-done
 returns-in-Ok-None-clause-done c = λ p m d.
-    let s : is_stopped (state_at p) ≡ false = sym (ap is_stopped (c.state.ensures p m)) ∙ sym c.is_stopped.ensures
+    let s : is_stopped (state_at p) ≡ false = sym (ap is_stopped (c.state.ensures.state p m)) ∙ sym c.is_stopped.ensures
     ∙ c.if-is_stopped.false in
     let n = subst (AreConsistent p) (sym c.self.view_is) m in
     let draws = rw c.in-Ok-None.field-0-is at (c.in-Ok-None.ensures.answer p (going _ p.stop s) n.frames) in
@@ -96,7 +96,7 @@ returns-in-Ok-None-clause-done c = λ p m d.
 
 pub returns-in-Fault-clause-done : goal.returns-in-Fault-clause-done
 returns-in-Fault-clause-done c = λ p m d.
-    let s : is_stopped (state_at p) ≡ false = sym (ap is_stopped (c.state.ensures p m)) ∙ sym c.is_stopped.ensures
+    let s : is_stopped (state_at p) ≡ false = sym (ap is_stopped (c.state.ensures.state p m)) ∙ sym c.is_stopped.ensures
     ∙ c.if-is_stopped.false in
     let n = subst (AreConsistent p) (sym c.self.view_is) m in
     let draws = rw c.in-Fault.is at (c.in-Err.ensures.answer p (going _ p.stop s) n.frames) in

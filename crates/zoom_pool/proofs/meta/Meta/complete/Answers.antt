@@ -7,7 +7,7 @@ pub returns : goal.returns
 returns c =
     let old : MetaLinks = record { pool = c.self.inside.pool; drivers = c.self.inside.drivers.items } in
     let lt = rw (← c.self.view_is) at c.requires in
-    rw (← c.self.view_is) (λ questions s d h p a transcript. c.is_complete.ensures
+    rw (← c.self.view_is) (λ questions s partial h p a transcript. c.is_complete.ensures
     ∙ complete_tells old c.args.c c.index.result.now lt
     (driver_at old.drivers old.pool.connections c.args.c _ c.index.result.now c.self.invariant lt c.index.ensures)
-    questions s d h p a transcript)
+    questions s partial h p a transcript)

@@ -8,6 +8,6 @@ pub returns-clause-after : goal.returns-clause-after
 returns-clause-after c =
     let old : MetaLinks = record { pool = c.self.inside.pool; drivers = c.self.inside.drivers.items } in
     let new : MetaLinks = record { pool = c.end.new.self; drivers = c.self.inside.drivers.items } in
-    rw (← c.self.view_is) (λ questions s h a.
-    quiet_after questions s h old new c.args.c InputEnded tt a (c.end.ensures.after (settings_of s) h a.pool) refl
-    c.end.ensures.size)
+    rw (← c.self.view_is) (λ questions s partial h a.
+    quiet_after questions s partial h old new c.args.c InputEnded tt a (c.end.ensures.after (settings_of s) partial h a.pool) refl
+    c.end.ensures.rest.size)

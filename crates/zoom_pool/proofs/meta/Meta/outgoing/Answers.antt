@@ -10,7 +10,7 @@ pub returns-clause-after : goal.returns-clause-after
 returns-clause-after c =
     let old : MetaLinks = record { pool = c.self.inside.pool; drivers = c.self.inside.drivers.items } in
     let new : MetaLinks = record { pool = c.outgoing.new.self; drivers = c.self.inside.drivers.items } in
-    rw (← c.self.view_is) (IfOk-weaker c.outgoing.result _ _ (λ _ f questions s h a.
-    quiet_after questions s h old new c.args.c (HandedOut (waiting_at old.pool c.args.c)) tt a (f (settings_of s) h a.pool) refl
-    c.outgoing.ensures.size)
+    rw (← c.self.view_is) (IfOk-weaker c.outgoing.result _ _ (λ _ f questions s partial h a.
+    quiet_after questions s partial h old new c.args.c (HandedOut (waiting_at old.pool c.args.c)) tt a (f (settings_of s) partial h a.pool) refl
+    c.outgoing.ensures.rest.size)
     c.outgoing.ensures.after)

@@ -24,7 +24,7 @@ returns-in-Ok-clause-after c =
     (c.in-Ok.ensures.after tt) lt
     (driver_at old.drivers old.pool.connections c.args.c _ c.index_mut.result.now c.self.invariant lt c.index_mut.ensures.value)
     (learns c.refused_law.ensures c.in-Ok.outcome c.index_mut.result.now c.note_take.new.driver c.note_take.ensures) refl
-    c.in-Ok.ensures.size)
+    c.in-Ok.ensures.others.size)
 
 pub returns-in-Err-clause-answer : goal.returns-in-Err-clause-answer
 returns-in-Err-clause-answer c = rw (← c.self.view_is)
@@ -36,7 +36,7 @@ returns-in-Err-clause-after c =
     let lt = rw (← c.self.view_is) at c.requires in
     let new : MetaLinks = record { pool = c.take_outcome.new.self; drivers = c.self.inside.drivers.items } in
     rw (← c.self.view_is) (λ done. refused_meta c.one_input.ensures c.one_transcript.ensures c.refused_law.ensures c.args.c
-    old new c.in-Err.error c.in-Err.ensures.answer done (c.in-Err.ensures.after done) lt refl c.in-Err.ensures.size)
+    old new c.in-Err.error c.in-Err.ensures.answer done (c.in-Err.ensures.after done) lt refl c.in-Err.ensures.others.size)
 
 pub returns-in-Ok-clause-waiting : goal.returns-in-Ok-clause-waiting
 returns-in-Ok-clause-waiting c = rw (← c.self.view_is) c.in-Ok.ensures.waiting

@@ -13,7 +13,7 @@ loop-connection-preserved c =
     let lt : c.loop-connection.connection-index < length items = search rules in
     stopped_one c.loop-connection.connection-index items c.connection-item.result c.loop-connection.invariant
     (got items c.loop-connection.connection-index _ c.connection-item.result lt c.connection-item.is)
-    (λ p m. sym (ap is_stopped (c.state.ensures p m)) ∙ sym c.is_stopped.ensures ∙ c.if-not-is_stopped.false)
+    (λ p m. sym (ap is_stopped (c.state.ensures.state p m)) ∙ sym c.is_stopped.ensures ∙ c.if-not-is_stopped.false)
 
 pub returns-then-not-is_stopped : goal.returns-then-not-is_stopped
 returns-then-not-is_stopped c =
@@ -25,7 +25,7 @@ returns-then-not-is_stopped c =
     (subst (λ (l : List Link). c.loop-connection.connection-index < length l) c.deref-connection-items.ensures.value lt)
     (subst (λ (l : List Link). slice_get l c.loop-connection.connection-index ≡ Some c.connection-item.result)
     c.deref-connection-items.ensures.value at)
-    (λ p m. sym (ap is_stopped (c.state.ensures p m)) ∙ sym c.is_stopped.ensures ∙ c.if-not-is_stopped.true))
+    (λ p m. sym (ap is_stopped (c.state.ensures.state p m)) ∙ sym c.is_stopped.ensures ∙ c.if-not-is_stopped.true))
 
 pub returns : goal.returns
 returns c =

@@ -1,5 +1,5 @@
 use Rattle.zorigin.specs.Standings.{Close}
-use Rattle.zorigin.proofs.CallSteps.{called_after, call_answered}
+use Rattle.zorigin.proofs.CallSteps.{called_after, call_answered, call_admissible}
 use Rattle.zorigin.proofs.origin.Origin.close.Goals as goal
 
 pub returns-clause-answer : goal.returns-clause-answer
@@ -7,3 +7,6 @@ returns-clause-answer c = λ settings log after called. call_answered settings l
 
 pub returns-clause-after : goal.returns-clause-after
 returns-clause-after c = λ settings log after called. called_after settings log Close after (c.make_close.ensures.after called)
+
+pub returns-clause-memory : goal.returns-clause-memory
+returns-clause-memory c = λ e settings log after. call_admissible settings log Close after (c.make_close.ensures.memory e)

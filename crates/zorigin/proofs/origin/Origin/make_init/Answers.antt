@@ -1,6 +1,6 @@
 use Rattle.std.proofs.Common.{◌≡◌, Err, ◌∙◌, rules}
 use Rattle.zorigin.specs.Standings.{Init}
-use Rattle.zorigin.proofs.Calling.{refused_early, unsent, sent_so, ready_init}
+use Rattle.zorigin.proofs.Calling.{refused_early, unsent, sent_so, ready_init, early_other}
 use Rattle.zorigin.proofs.origin.Origin.make_init.Goals as goal
 
 pub returns-in-Some-clause-answer : goal.returns-in-Some-clause-answer
@@ -30,3 +30,6 @@ pub returns-in-Ok-clause-after : goal.returns-in-Ok-clause-after
 returns-in-Ok-clause-after c =
     let ready = ready_init c.args.self.now (search rules) in
     λ _. (search rules) ∙ (sent_so c.args.self.now Init _ c.in_ok-sent.sent ready (search rules)).new
+
+pub returns-in-Some-clause-memory : goal.returns-in-Some-clause-memory
+returns-in-Some-clause-memory c = λ m. absurd (early_other c.args.self.now Init c.in-Some.reason (search rules) (cc))

@@ -1,6 +1,6 @@
 use Rattle.std.proofs.Common.{◌≡◌, Err, ◌∙◌, rules}
 use Rattle.zorigin.specs.Standings.{Present}
-use Rattle.zorigin.proofs.Calling.{refused_early, unsent, sent_so, ready_present}
+use Rattle.zorigin.proofs.Calling.{refused_early, unsent, sent_so, ready_present, early_other}
 use Rattle.zorigin.proofs.origin.Origin.make_present.Goals as goal
 
 pub returns-in-Some-clause-answer : goal.returns-in-Some-clause-answer
@@ -30,3 +30,6 @@ pub returns-in-Ok-clause-after : goal.returns-in-Ok-clause-after
 returns-in-Ok-clause-after c =
     let ready = ready_present c.args.self.now c.args.op c.args.set c.args.ranges.now (search rules) in
     λ _. (search rules) ∙ (sent_so c.args.self.now (Present c.args.op c.args.set c.args.ranges.now) ready.0 c.in_ok-sent.sent ready.1 (search rules)).new
+
+pub returns-in-Some-clause-memory : goal.returns-in-Some-clause-memory
+returns-in-Some-clause-memory c = λ m. absurd (early_other c.args.self.now (Present c.args.op c.args.set c.args.ranges.now) c.in-Some.reason (search rules) (cc))

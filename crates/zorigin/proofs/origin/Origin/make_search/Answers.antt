@@ -1,6 +1,6 @@
 use Rattle.std.proofs.Common.{◌≡◌, Err, ◌∙◌, rules}
 use Rattle.zorigin.specs.Standings.{Search}
-use Rattle.zorigin.proofs.Calling.{refused_early, unsent, sent_so, ready_search}
+use Rattle.zorigin.proofs.Calling.{refused_early, unsent, sent_so, ready_search, early_other}
 use Rattle.zorigin.proofs.origin.Origin.make_search.Goals as goal
 
 pub returns-in-Some-clause-answer : goal.returns-in-Some-clause-answer
@@ -30,3 +30,6 @@ pub returns-in-Ok-clause-after : goal.returns-in-Ok-clause-after
 returns-in-Ok-clause-after c =
     let ready = ready_search c.args.self.now c.args.op c.args.set c.args.ask.now (search rules) in
     λ _. (search rules) ∙ (sent_so c.args.self.now (Search c.args.op c.args.set c.args.ask.now) _ c.in_ok-sent.sent ready (search rules)).new
+
+pub returns-in-Some-clause-memory : goal.returns-in-Some-clause-memory
+returns-in-Some-clause-memory c = λ m. absurd (early_other c.args.self.now (Search c.args.op c.args.set c.args.ask.now) c.in-Some.reason (search rules) (cc))

@@ -1,5 +1,5 @@
 use Rattle.zorigin.specs.Standings.{Search}
-use Rattle.zorigin.proofs.CallSteps.{called_after, call_answered}
+use Rattle.zorigin.proofs.CallSteps.{called_after, call_answered, call_admissible}
 use Rattle.zorigin.proofs.origin.Origin.search.Goals as goal
 
 pub returns-clause-answer : goal.returns-clause-answer
@@ -7,3 +7,6 @@ returns-clause-answer c = λ settings log after called. call_answered settings l
 
 pub returns-clause-after : goal.returns-clause-after
 returns-clause-after c = λ settings log after called. called_after settings log (Search c.args.op c.args.set c.args.ask.now) after (c.make_search.ensures.after called)
+
+pub returns-clause-memory : goal.returns-clause-memory
+returns-clause-memory c = λ e settings log after. call_admissible settings log (Search c.args.op c.args.set c.args.ask.now) after (c.make_search.ensures.memory e)

@@ -1,0 +1,10 @@
+use Rattle.std.proofs.Common.{false}
+use Rattle.zoom_tcp.specs.Asking.{is_present}
+use Rattle.zoom_tcp.proofs.InOrder.{ok_over_any}
+use Rattle.zoom_tcp.proofs.in_order.ask.Goals as goal
+
+pub returns : goal.returns
+returns g c = record {
+  asked = ok_over_any c.ask_over.result _ c.args.questions.items c.args.settings false (is_present c.args.addresses.now)
+      c.ask_over.ensures.asked;
+}
